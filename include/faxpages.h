@@ -5,15 +5,21 @@
  * numbered from 0. A call answers a status, and tells the rest in the caller's memory.
  *
  * What a caller owes:
- * - A pointer is not null and is aligned as C has it, also where the length beside it is 0.
+ * - A pointer is not null and is aligned as C has it. Where the length beside it is 0 nothing is
+ *   read or written there: pass the address of any variable of the type, and not NULL.
  * - The length beside a pointer says how many items it points to: bytes of `file`, and of the
- *   others the type that is pointed to.
+ *   others the type that is pointed to. As any array in C they have at most PTRDIFF_MAX bytes.
  * - Nothing that a call writes overlaps anything else that it is given, and nobody changes it, or
  *   the file, while the call runs.
  * - No call is made from a signal handler, nor in a child of a fork of a process with threads.
  *
- * The calls use malloc, realloc and free of the program, and nothing else of the system. They need
- * some 12 KB of stack. They run on x86-64 processors with SSE4.2.
+ * The calls use malloc, realloc and free of the program, memcpy, memmove and memset, and nothing
+ * else of the system. They need some 12 KB of stack. They run on x86-64 processors with SSE4.2 and
+ * POPCNT (x86-64-v2).
+ *
+ * A call looks at nothing that stands before the place where it begins, but for the header, the
+ * directories up to its page, and the rows above it in its strip. So a fault that it tells is the
+ * first from there on, and not always the first of the file.
  *
  * What may grow: new calls, statuses and numbers of faults. What is here keeps its meaning and its
  * size in all libfaxpages.so.1. */
@@ -32,9 +38,10 @@ enum faxpages_status {
     FAXPAGES_DONE = 0,    /* all that was asked for is there; there may be more */
     FAXPAGES_END = 1,     /* the file has no more than was written */
     FAXPAGES_FAULT = 2,   /* what was written ends at a fault of the file, which is told */
-    FAXPAGES_OUTSIDE = 3, /* the file has no such page, row or place */
-    FAXPAGES_MEMORY = 4,  /* malloc refused; the call may go on from the place that is told */
-    FAXPAGES_NO_ROOM = 5, /* what comes next does not fit in what is left of `out` */
+    FAXPAGES_OUTSIDE = 3, /* the file has no such page, row or place, or a place lacks its runs */
+    FAXPAGES_MEMORY = 4,  /* malloc refused; the call may be made again, where rows are read from
+                           * the place that is told */
+    FAXPAGES_NO_ROOM = 5, /* what comes next does not fit in what is left of a buffer */
     FAXPAGES_NO_PLACE = 6, /* the text is no place's */
     FAXPAGES_NO_OPTIONS = 7 /* the numbers are no options */
 };
@@ -103,8 +110,9 @@ struct faxpages_form {
 };
 
 /* Writes the forms of pages from `page` on, at most `forms_room`. `count` of `told` says how many:
- * forms[i] is that of page `page` + i. DONE, END, FAULT or OUTSIDE. Each call follows the file's
- * chain of directories from its beginning: list many pages a call, not one. */
+ * forms[i] is that of page `page` + i. DONE, END, FAULT or OUTSIDE. With room for none it is DONE,
+ * and nothing is read: also where there is no such page. Each call follows the file's chain of
+ * directories from its beginning: list many pages a call, not one. */
 uint32_t faxpages_forms(const uint8_t *file, size_t file_len, uint32_t page,
                         struct faxpages_form *forms, size_t forms_room,
                         struct faxpages_told *told);
@@ -126,13 +134,11 @@ struct faxpages_row {
  * first, 1 for black, with zeros after the last pel; one row after another, with nothing between
  * them. rows[i] says where each lies. The row after a page's last is the next page's first, so
  * page 3, row 0 begins at page 3, and so does page 2 with the number of its rows. DONE, END, FAULT,
- * OUTSIDE, MEMORY or NO_ROOM. A loop goes on after DONE and NO_ROOM, and ends in any file where
- * rows_room is not 0 and `out` holds a row.
+ * OUTSIDE, MEMORY or NO_ROOM. With rows_room 0 it is DONE, and nothing is read: also where there is
+ * no such page or row.
  *
  * A strip is read from its beginning: where a call begins inside one, its rows before that are read
- * once more; and each call follows the chain of directories up to its page. So a file is read in a
- * time in proportion to its length by faxpages_rows_from, with thousands of rows a call, over as
- * many pages as they have; a page alone is read by this call. */
+ * once more. So a loop goes by faxpages_rows_from, and a page alone is read by this call. */
 uint32_t faxpages_rows(const uint8_t *file, size_t file_len, uint32_t page, uint32_t row,
                        struct faxpages_row *rows, size_t rows_room, uint8_t *out, size_t out_room,
                        struct faxpages_told *told);
@@ -150,12 +156,22 @@ struct faxpages_place {
 /* So many runs hold those of any row. */
 #define FAXPAGES_RUNS 65536
 
-/* The same from a place on, which is then the one after the rows that were written, so that the
- * next call reads no row again: begin with {0, 0, 0, 0}, and call until END or FAULT. `runs` has
- * the runs of the place, before the call and after it; let runs_room be FAXPAGES_RUNS. Where no row
- * was written, the place stays. Else it is a page and a row alone just where a strip begins there
- * or has more than 4294967295 bits before it, where its runs have no room, and after NO_ROOM. A
- * place that no call told, for the same file, may be OUTSIDE, or give other rows. */
+/* The same from a place on, which is then the one after the rows that were written, after DONE and
+ * NO_ROOM alike, so that no row that was written is read again: begin with {0, 0, 0, 0}, and call
+ * while it is DONE or NO_ROOM. That ends in any file where rows_room is not 0 and `out` holds a row. Each call follows the chain of directories up to its page, and takes
+ * memory for rows of the page's width, so ask for thousands of rows a call, over as many pages as
+ * they have: then a file is read in a time in proportion to its length and its rows.
+ *
+ * `runs` has the runs of the place, before the call and after it; let runs_room be FAXPAGES_RUNS.
+ * No run after the first FAXPAGES_RUNS is changed. Where no row was written, a place inside a strip
+ * stays. Else the place is a page and a row alone just where a strip begins there, where its runs
+ * have no room, or where more than 4294967295 bits of the strip stand before it. In the last two
+ * cases the next call reads the strip from its beginning once more, so that a loop over such a
+ * strip, of over 512 MB, takes a time in proportion to the square of its rows.
+ *
+ * Where runs_room is less than the runs of the place, the call is OUTSIDE, and changes nothing but
+ * `told`. A place that no call told, for the same file, may be OUTSIDE or FAULT, or give other
+ * rows. */
 uint32_t faxpages_rows_from(const uint8_t *file, size_t file_len, struct faxpages_place *place,
                             uint32_t *runs, size_t runs_room, struct faxpages_row *rows,
                             size_t rows_room, uint8_t *out, size_t out_room,
@@ -163,9 +179,7 @@ uint32_t faxpages_rows_from(const uint8_t *file, size_t file_len, struct faxpage
 
 /* The runs of rows, in place of their bytes: out[at], out[at + 1] .. are the lengths in pels of a
  * row's longest runs of one colour, white first; the first is 0 where a row begins black, and no
- * other is. A row has at most `width` + 1 runs, so FAXPAGES_RUNS numbers hold any row. With room
- * for so many of each row there is no NO_ROOM, after which the next call reads a part of a strip
- * again. */
+ * other is. A row has at most `width` + 1 runs, so FAXPAGES_RUNS numbers hold any row. */
 uint32_t faxpages_runs(const uint8_t *file, size_t file_len, uint32_t page, uint32_t row,
                        struct faxpages_row *rows, size_t rows_room, uint32_t *out, size_t out_room,
                        struct faxpages_told *told);
@@ -186,13 +200,15 @@ uint32_t faxpages_changes_from(const uint8_t *file, size_t file_len, struct faxp
 
 /* Writes a place as text where it has room, and tells in `len` how many bytes the text has: a page
  * and a row as 1:P:R, a place inside a strip as 2:P:R:B:n,n,.. with its bits and its runs, as the
- * program faxpages prints them. DONE; NO_ROOM, where it is longer than text_room; or MEMORY. The
- * text of a place that a call told has at most 131102 bytes, that of a page and a row 23. */
+ * program faxpages prints them. DONE; NO_ROOM, where it is longer than text_room; OUTSIDE, where
+ * runs_room is less than the runs of the place, or MEMORY: then `len` is 0. The text of a place
+ * that a call told has at most 131102 bytes, that of a page and a row 23. */
 uint32_t faxpages_place_text(const struct faxpages_place *place, const uint32_t *runs,
                              size_t runs_room, uint8_t *text, size_t text_room, size_t *len);
 
-/* Reads a place from such a text. DONE; NO_PLACE; NO_ROOM, where `runs` has no room for its runs;
- * or MEMORY. Where it is not DONE nothing is changed. */
+/* Reads a place from such a text. DONE; NO_PLACE, also where it has more than FAXPAGES_RUNS runs;
+ * NO_ROOM, where `runs` has no room for its runs; or MEMORY. Where it is not DONE nothing is
+ * changed. Of a page and a row no run is changed, else no run after those of the place. */
 uint32_t faxpages_place_parse(const uint8_t *text, size_t text_len, struct faxpages_place *place,
                               uint32_t *runs, size_t runs_room);
 
@@ -245,8 +261,9 @@ struct faxpages_converted {
 };
 
 /* Turns a file into another: raw PBM where it begins with P4, and TIFF-F where it begins with II or
- * MM, into raw PBM or TIFF-F. DONE; NO_ROOM, where `len` tells how much is wanted; FAULT, where
- * there is no output; NO_OPTIONS; or MEMORY. The output has at most 268435456 bytes. */
+ * MM, into raw PBM or TIFF-F. DONE; NO_ROOM, where `len` tells how much is wanted, and nothing is
+ * written; FAULT, where there is no output; NO_OPTIONS or MEMORY, where all that is told is 0. The
+ * output has at most 268435456 bytes. To ask for its length alone, let out_room be 0. */
 uint32_t faxpages_convert(const uint8_t *file, size_t file_len,
                           const struct faxpages_options *options, uint8_t *out, size_t out_room,
                           struct faxpages_converted *converted);
@@ -254,6 +271,11 @@ uint32_t faxpages_convert(const uint8_t *file, size_t file_len,
 /* Writes the name of a fault by its number, as `DataEnds`, without a 0 after it, where it has room:
  * 16 bytes are enough. Answers how many bytes the name has, 0 where no fault has this number. */
 size_t faxpages_fault_name(uint32_t number, uint8_t *name, size_t name_room);
+
+/* The same of a status, as `NoRoom`, and of a note's kind, as `ReturnToControl`: 17 bytes are
+ * enough. */
+size_t faxpages_status_name(uint32_t status, uint8_t *name, size_t name_room);
+size_t faxpages_note_name(uint32_t kind, uint8_t *name, size_t name_room);
 
 /* The version as a number, 10205 for 1.2.5; and as text, as faxpages_fault_name writes names. */
 uint32_t faxpages_version(void);

@@ -4,12 +4,13 @@ use Rattle.fax_walk.specs.declared.options.ConvertFault.{ConvertFault}
 use Rattle.fax_walk.specs.declared.options.ConvertFault.TheVariants as Refused
 use Rattle.fax_walk.specs.declared.options.Options.{Options}
 use Rattle.fax_walk.specs.Converted.{IsNotConverted}
+use Rattle.fax_c.specs.Converted.{no_output, refusal_of}
 use Rattle.fax_c.specs.code.Conversion.{refusal_status}
 
 -- a fault is told, or memory was refused
 abbrev pub IsRefusalTold : List ℕ → Options → ConvertFault → Type 0
 IsRefusalTold file options fault =
-    ((refusal_status fault ≡ 2) × IsNotConverted file options fault) ⊎ (refusal_status fault ≡ 4)
+    ((refusal_status fault ≡ 2) × IsNotConverted file options fault) ⊎ ((refusal_status fault ≡ 4) × (refusal_of fault ≡ no_output))
 
 pub refusal : (file : List ℕ) (options : Options) (fault : ConvertFault) → (fault ≢ Refused.Memory → IsNotConverted file options fault)
     → IsRefusalTold file options fault
@@ -17,4 +18,4 @@ refusal file options Refused.UnknownInput why = inl (refl, why (λ is. absurd cc
 refusal file options (Refused.Pbm image fault) why = inl (refl, why (λ is. absurd cc))
 refusal file options (Refused.Source page row cause) why = inl (refl, why (λ is. absurd cc))
 refusal file options Refused.OutputTooLarge why = inl (refl, why (λ is. absurd cc))
-refusal file options Refused.Memory why = inr refl
+refusal file options Refused.Memory why = inr (refl, refl)

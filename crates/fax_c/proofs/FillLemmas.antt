@@ -2,6 +2,7 @@
 use Rattle.std.proofs.Common.{◌≡◌, ℕ, suc, ◌+◌, ◌<◌, ◌≤◌, List, [], ◌∷◌, ◌++◌, length, set, take, drop, refl, ap, sym, ◌∙◌, subst}
 use Rattle.std.proofs.Common.{append_assoc, append-nil, arith, inl, inr, length-append, Ok, Err}
 use Rattle.std.specs.Prelude.{Some, slice_get}
+use Rattle.std.proofs.lemmas.Bool.{cases_lt}
 use Rattle.std.proofs.lemmas.List.{length-drop, length-take-le}
 use Rattle.std.proofs.lemmas.Option.{slice_get_within}
 use Rattle.fax_rows.specs.Rows.{Colour}
@@ -158,24 +159,24 @@ module _ {N : Type 0} (numbers : List Colour → List N) (file : List ℕ) (begu
         written = written ∙ ap (λ (l : List N). l ++ drop (used + length more) old) (sym all) ∙ ap (λ n. all_numbers numbers (take (count + 1) so_far.items) ++ drop n old) (sym to_is);
       }
 
-  stops : (stop : Stop) (new : WalkView) (new_out : List N) → IsPut numbers walk out used (Err stop) new new_out
+  stops : (stop : Stop) (new : WalkView) (new_out : List N) → count < length old_rows → IsPut numbers walk out used (Err stop) new new_out
       → StopsAfterRows numbers file begun so_far.items so_far.end (length old_rows) (length old) count used stop × (new_out ≡ out)
-  stops Done new new_out put = absurd put
-  stops (Ended end) new new_out ((ends, no_other, new_is), same) =
+  stops Done new new_out below put = absurd put
+  stops (Ended end) new new_out below ((ends, no_other, new_is), same) =
       let are = end_is (IsTailFrom walk.file walk.begun) (law walk.file walk.begun) so_far.items so_far.end tail_here walk.given end ends in
-      ((sym so_far.given ∙ are.0, are.1), same)
-  stops NoRoom new new_out (item, hands, (same, small)) =
-      ((item, next_is item hands.number, omega (arith, small, so_far.same_len)), same)
-  stops Memory new new_out (enters, new_is, same) =
+      ((below, sym so_far.given ∙ are.0, are.1), same)
+  stops NoRoom new new_out below (item, hands, (same, small)) =
+      ((below, (item, next_is item hands.number, omega (arith, small, so_far.same_len))), same)
+  stops Memory new new_out below (enters, new_is, same) =
       let of_file = subst (λ f. EntersPage f walk.begun walk.given) so_far.same_file enters in
       let of_begun = subst (λ b. EntersPage file b walk.given) so_far.same_begun of_file in
-      (subst (λ n. EntersPage file begun n) so_far.given of_begun, same)
+      ((below, subst (λ n. EntersPage file begun n) so_far.given of_begun), same)
 
-  pub stopped : (stop : Stop) (new : WalkView) (new_out : List N) (at : Cursor) → IsPut numbers walk out used (Err stop) new new_out
-      → IsCursorOf walk at
+  pub stopped : (stop : Stop) (new : WalkView) (new_out : List N) (at : Cursor) → count < length old_rows
+      → IsPut numbers walk out used (Err stop) new new_out → IsCursorOf walk at
       → AreRowsFilled numbers file begun old_rows old (record { cursor = at; count = count; used = used; stop = stop }) rows new_out
-  stopped stop new new_out at put is =
-      let so = stops stop new new_out put in
+  stopped stop new new_out at below put is =
+      let so = stops stop new new_out below put in
       record {
         items = so_far.items;
         end = so_far.end;
@@ -224,19 +225,11 @@ module _ {N : Type 0} (numbers : List Colour → List N) (file : List ℕ) (begu
     given = λ other. ap (λ (w : WalkView). w.given) new_is ∙ so_far.given;
   }
 
-  pub walk_asked : (first : WalkView) (at : Cursor) → file ≡ first.file → begun ≡ first.begun
-      → IsWalkAfter first (record { cursor = at; count = count; used = used; stop = Done }) walk
-  walk_asked first at of begins = record {
-    same_file = so_far.same_file ∙ of;
-    same_begun = so_far.same_begun ∙ begins;
-    given = λ other. so_far.given;
-  }
-
 -- where memory is refused before a walk begins, nothing is written
 pub refused_at_once : {N : Type 0} (numbers : List Colour → List N) (file : List ℕ) (begun : Begun) (at : Cursor) (rows : List FaxRow) (out : List N)
-    → BeginningsHaveOneTail → at ≡ begun_cursor begun
-    → AreRowsFilled numbers file begun rows out (record { cursor = at; count = 0; used = 0; stop = Memory }) rows out
-refused_at_once numbers file begun at rows out one is =
+    (stop : Stop) → BeginningsHaveOneTail → at ≡ begun_cursor begun → (length rows ≡ 0 → stop ≡ Done) → (0 < length rows → stop ≡ Memory)
+    → AreRowsFilled numbers file begun rows out (record { cursor = at; count = 0; used = 0; stop = stop }) rows out
+refused_at_once numbers file begun at rows out stop one is done refused =
     let tail = one file begun in
     record {
       items = tail.items;
@@ -248,5 +241,12 @@ refused_at_once numbers file begun at rows out one is =
       lie = refl;
       written = refl;
       cursor = is;
-      stops = inl refl;
+      stops = elim (cases_lt 0 (length rows)) [
+        | inl some ↦
+            subst (λ (s : Stop). StopsAfterRows numbers file begun tail.items tail.end (length rows) (length out) 0 0 s) (sym (refused some))
+            (some, inl refl)
+        | inr none ↦
+            let zero : length rows ≡ 0 = omega (arith, none) in
+            subst (λ (s : Stop). StopsAfterRows numbers file begun tail.items tail.end (length rows) (length out) 0 0 s) (sym (done zero)) (sym zero)
+      ];
     }

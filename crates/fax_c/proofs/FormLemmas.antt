@@ -102,9 +102,9 @@ module _ (file : List ℕ) (from : Cursor) (pages : PagesView) (count : ℕ) (ol
             one_set front old forms count (form_of item.form) len below so_far.written ∙ ap (λ (l : List FaxForm). l ++ drop (count + 1) old) (sym all);
       }
 
-  pub ended : (end : End) (new : PagesView) (at : Cursor) → HasEndedAs IsFormTail pages end new → IsCursorOf pages at
+  pub ended : (end : End) (new : PagesView) (at : Cursor) → count < length old → HasEndedAs IsFormTail pages end new → IsCursorOf pages at
       → AreFormsFilled file from old (record { cursor = at; count = count; used = 0; stop = Ended end }) forms
-  ended end new at ends is =
+  ended end new at below ends is =
       let are = end_is (IsFormTail pages.file pages.begun) one_here so_far.items so_far.end tail_here pages.given end ends.0 in
       record {
         items = so_far.items;
@@ -115,7 +115,7 @@ module _ (file : List ℕ) (from : Cursor) (pages : PagesView) (count : ℕ) (ol
         written = so_far.written;
         cursor = cursor_is at is;
         none_used = refl;
-        stops = (sym so_far.given ∙ are.0, are.1);
+        stops = (below, sym so_far.given ∙ are.0, are.1);
       }
 
   pub all_asked : (at : Cursor) → length old ≤ count → IsCursorOf pages at

@@ -1,18 +1,19 @@
 -- The place after rows that were written.
-use Rattle.std.proofs.Common.{Bool, ◌≡◌, ℕ, ◌+◌, ◌<◌, List, [], ◌∷◌, length, take, drop, true, false, inl, inr, refl, ap, sym}
-use Rattle.std.proofs.Common.{subst, ◌∙◌, arith}
-use Rattle.std.specs.Prelude.{Some, None, ◌&&◌, if◌then◌else◌, nat_le, nat_lt}
-use Rattle.std.proofs.lemmas.Bool.{ltb-true}
-use Rattle.std.proofs.lemmas.List.{take_at, drop_at}
+use Rattle.std.proofs.Common.{◌≡◌, ℕ, ◌+◌, ◌-◌, ◌<◌, ◌≤◌, List, [], ◌∷◌, length, take, drop, true, false, inl, inr, refl, ap, sym}
+use Rattle.std.proofs.Common.{subst, ◌∙◌, arith, length-append, length-drop}
+use Rattle.std.specs.Prelude.{Some, None, if◌then◌else◌, nat_lt}
+use Rattle.std.proofs.lemmas.Bool.Decides.{nat_tests}
+use Rattle.std.proofs.lemmas.List.{take_at, drop_at, drop-drop}
 use Rattle.fax_rows.specs.Rows.{Colour, other, same_colour, runs_after, runs_of}
+use Rattle.fax_walk.specs.declared.begun.Begun.{Begun}
 use Rattle.fax_walk.specs.declared.begun.Begun.TheVariants.{At, Inside}
+use Rattle.fax_walk.specs.declared.cursor.Cursor.{Cursor}
 use Rattle.fax_walk.specs.declared.walk.PlaceInside.{PlaceInside}
 use Rattle.fax_walk.specs.Items.{begun_cursor}
 use Rattle.fax_walk.specs.Pages.{LongPlace}
 use Rattle.fax_walk.specs.views.Walk.{IsLongOf, WalkView, begun_place, place_inside}
-use Rattle.fax_c.specs.declared.filled.Filled.{Filled}
 use Rattle.fax_c.specs.declared.places.FaxPlace.{FaxPlace}
-use Rattle.fax_c.specs.views.Places.{IsAfter, begun_of, cursor_of, has_runs, long_place_of}
+use Rattle.fax_c.specs.views.Places.{HasRuns, IsAfterRows, KeepsRuns, begun_of, cursor_of, long_place_of, most_runs, place_at}
 use Rattle.fax_c.specs.code.Put.{IsInsideTold, IsPutAt}
 
 -- a row has a run
@@ -26,19 +27,29 @@ has_a_run colour n (first ∷ pels) =
       | false ↦ omega arith
     ]
 
+-- what is kept past a place is kept past a later one
+kept_past : (n m : ℕ) (runs old : List ℕ) → n ≤ m → drop n runs ≡ drop n old → drop m runs ≡ drop m old
+kept_past n m runs old before same =
+    let more : m ≡ n + (m - n) = omega (arith, before) in
+    ap (λ k. drop k runs) more ∙ sym (drop-drop (m - n) n runs) ∙ ap (drop (m - n)) same ∙ drop-drop (m - n) n old ∙ sym (ap (λ k. drop k old) more)
+
 -- a place that is lent, and whose runs are written, is told
 pub inside_told : (walk : WalkView) (lent : PlaceInside) (count : ℕ) (old : FaxPlace) (old_runs runs : List ℕ)
-    → IsLongOf walk (place_inside (Some lent)) → IsPutAt (runs_of lent.reference.now) old_runs 0 (Some count) runs
+    → IsLongOf walk (place_inside (Some lent)) → length (runs_of lent.reference.now) ≤ most_runs
+    → IsPutAt (runs_of lent.reference.now) old_runs 0 (Some count) runs
     → IsInsideTold walk old old_runs (record { page = lent.at.page; row = lent.at.row; bits = lent.bits; runs = count }) runs
-inside_told walk lent count old old_runs runs long (count_is, within, runs_are) =
+inside_told walk lent count old old_runs runs long few (count_is, within, runs_are) =
     let numbers = runs_of lent.reference.now in
     let some = has_a_run Colour.White 0 lent.reference.now in
     let same : take count runs ≡ numbers = ap (take count) runs_are ∙ take_at numbers (drop count old_runs) count (omega (arith, count_is)) in
     let rest : drop count runs ≡ drop count old_runs = ap (drop count) runs_are ∙ drop_at numbers (drop count old_runs) count (omega (arith, count_is)) in
-    inr (
-      omega (arith, count_is, some),
-      subst (λ ns. IsLongOf walk (Some (record { at = lent.at; bits = lent.bits; runs = ns }))) (sym same) long,
-      rest,
+    let len : length runs ≡ length old_runs =
+    omega (arith, ap (λ (l : List ℕ). length l) runs_are, length-append numbers (drop count old_runs), length-drop count old_runs, count_is, within) in (
+      (kept_past count most_runs runs old_runs (omega (arith, few, count_is)) rest, len),
+      inr (
+        (omega (arith, count_is, some), omega (arith, within, len)),
+        subst (λ ns. IsLongOf walk (Some (record { at = lent.at; bits = lent.bits; runs = ns }))) (sym same) long,
+      ),
     )
 
 -- a place that is lent, and whose runs have no room, is not told
@@ -47,27 +58,41 @@ pub inside_kept : (walk : WalkView) (lent : PlaceInside) (old : FaxPlace) (old_r
     → IsInsideTold walk old old_runs old runs
 inside_kept walk lent old old_runs runs long (same, few) =
     let found : LongPlace = record { at = lent.at; bits = lent.bits; runs = runs_of lent.reference.now } in
-    inl (refl, same, inr (found, long, omega (arith, few)))
+    let len = ap (λ (l : List ℕ). length l) same in
+    ((ap (drop most_runs) same, len), inl (refl, inr (found, long, omega (arith, few, len))))
 
 -- a walk from a place begins at its cursor
 pub begun_cursor-begun_of : (place : FaxPlace) (runs : List ℕ) → cursor_of place ≡ begun_cursor (begun_of place runs)
 begun_cursor-begun_of place runs =
-    elim (has_runs place runs) as (λ b. cursor_of place ≡ begun_cursor (if b then Inside (long_place_of place runs) else At (cursor_of place))) [
+    elim (nat_lt 0 place.runs) as (λ b. cursor_of place ≡ begun_cursor (if b then Inside (long_place_of place runs) else At (cursor_of place))) [
       | true ↦ refl
       | false ↦ refl
     ]
 
-begun_inside : (place : FaxPlace) (runs : List ℕ) (b : Bool) → has_runs place runs ≡ b
-    → begun_of place runs ≡ (if b then Inside (long_place_of place runs) else At (cursor_of place))
-begun_inside place runs b is = ap (λ b. if b then Inside (long_place_of place runs) else At (cursor_of place)) is
-
-first_true : (a b : Bool) → a && b ≡ true → a ≡ true
-first_true true b h = refl
-first_true false b h = cc
-
 -- where nothing was written, a place inside a strip stays
-pub stays : (file : List ℕ) (place : FaxPlace) (runs : List ℕ) (filled : Filled) → filled.count ≡ 0 → has_runs place runs ≡ true
-    → IsAfter file (begun_of place runs) filled runs place runs
-stays file place runs filled none has =
-    let is = begun_inside place runs true has in
-    (refl, inl (ltb-true 0 place.runs (first_true (nat_lt 0 place.runs) (nat_le place.runs (length runs)) has), inl (none, sym (ap begun_place is))))
+pub stays : (file : List ℕ) (place : FaxPlace) (runs : List ℕ) (cursor : Cursor) → HasRuns place runs
+    → IsAfterRows file (begun_of place runs) cursor 0 place runs
+stays file place runs cursor (some, within) =
+    let test : nat_lt 0 place.runs ≡ true = grind (arith, nat_tests, some) in
+    let is : begun_of place runs ≡ Inside (long_place_of place runs) =
+    ap (λ b. if b then Inside (long_place_of place runs) else At (cursor_of place)) test in
+    inl ((some, within), inl (refl, sym (ap begun_place is)))
+
+-- the place after the rows that a walk has handed out is told
+pub after_told : (walk : WalkView) (cursor : Cursor) (count : ℕ) (old place : FaxPlace) (old_runs runs : List ℕ) → walk.given ≡ count
+    → old ≡ place_at cursor → IsInsideTold walk old old_runs place runs → IsAfterRows walk.file walk.begun cursor count place runs
+after_told walk cursor count old place old_runs runs given at (kept, told) =
+    subst (λ n. IsAfterRows walk.file walk.begun cursor n place runs) given
+    (elim told [
+      | inl (same, why) ↦ inr (same ∙ at, why)
+      | inr (has, long) ↦ inl (has, long)
+    ])
+
+-- a place is the one after the rows of the same walk, however it is named
+pub after_of : (file other : List ℕ) (begun another : Begun) (cursor : Cursor) (count : ℕ) (place : FaxPlace) (runs : List ℕ)
+    → file ≡ other → begun ≡ another → IsAfterRows file begun cursor count place runs → IsAfterRows other another cursor count place runs
+after_of file other begun another cursor count place runs same begins is = rw (same, begins) at is
+
+-- what one step keeps, and then the next
+pub kept_on : (first middle last : List ℕ) → KeepsRuns first middle → KeepsRuns middle last → KeepsRuns first last
+kept_on first middle last one two = (two.0 ∙ one.0, two.1 ∙ one.1)

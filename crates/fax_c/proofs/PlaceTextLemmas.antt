@@ -1,5 +1,5 @@
 -- The texts of places are UTF-8, and what they are read as.
-use Rattle.std.proofs.Common.{◌≢◌, ℕ, ◌^◌, ◌<◌, List, [], ◌∷◌, ◌++◌, subst, sym, arith}
+use Rattle.std.proofs.Common.{◌≡◌, ◌≢◌, ℕ, ◌^◌, ◌<◌, List, [], ◌∷◌, ◌++◌, length, ap, inl, inr, subst, sym, ◌∙◌, arith}
 use Rattle.std.specs.Prelude.{codes, decimal, flat_map}
 use Rattle.std.specs.List.{All}
 use Rattle.std.specs.Str.{IsUtf8}
@@ -9,6 +9,11 @@ use Rattle.std.proofs.lemmas.Str.{IsUtf8-append, IsUtf8-from_ascii, IsUtf8-nil}
 use Rattle.std.proofs.lemmas.Str.Ascii.{IsAscii-from_all}
 use Rattle.fax_walk.specs.declared.cursor.Cursor.{Cursor}
 use Rattle.fax_walk.specs.Pages.{IsCursor, IsLongCursor, LongPlace, cursor_text, long_cursor_text, runs_text}
+use Rattle.fax_walk.specs.laws.Cursors.{TextsNameOne}
+use Rattle.fax_c.specs.declared.places.FaxPlace.{FaxPlace}
+use Rattle.fax_c.specs.views.Places.{most_runs}
+use Rattle.fax_c.specs.views.PlaceTexts.{NamesNoPlace, ReadsPlace}
+use Rattle.fax_c.specs.code.Put.{IsPlaceTold}
 
 decimal_utf8 : (n : ℕ) → n < 2 ^ 32 → IsUtf8 (decimal n)
 decimal_utf8 n short = IsUtf8-from_ascii (decimal n) (IsAscii-decimal n (omega (arith, short)))
@@ -58,9 +63,36 @@ long_cursor_text_utf8 place is =
     IsUtf8-append (codes "2:" ++ decimal place.at.page ++ codes ":" ++ decimal place.at.row ++ codes ":" ++ decimal place.bits ++ codes ":") (runs_text place.runs) colons
     (runs_text_utf8 place.runs is.runs)
 
--- bytes that are no UTF-8 are the text of no cursor
-pub no_cursor : (text : List ℕ) → (IsUtf8 text → ⊥) → (at : Cursor) → IsCursor at → text ≢ cursor_text at
-no_cursor text not at is same = not (subst IsUtf8 (sym same) (cursor_text_utf8 at is))
+-- bytes that are no UTF-8 are the text of no place
+pub no_text : (text : List ℕ) → (IsUtf8 text → ⊥) → NamesNoPlace text
+no_text text not = (
+  λ at is same. not (subst IsUtf8 (sym same) (cursor_text_utf8 at is)),
+  λ place is same. absurd (not (subst IsUtf8 (sym same) (long_cursor_text_utf8 place is))),
+)
 
-pub no_long_cursor : (text : List ℕ) → (IsUtf8 text → ⊥) → (place : LongPlace) → IsLongCursor place → text ≢ long_cursor_text place
-no_long_cursor text not place is same = not (subst IsUtf8 (sym same) (long_cursor_text_utf8 place is))
+-- a text that is neither a cursor's nor a long cursor's
+pub no_place : (text : List ℕ) → ((at : Cursor) → IsCursor at → text ≢ cursor_text at)
+    → ((place : LongPlace) → IsLongCursor place → text ≢ long_cursor_text place) → NamesNoPlace text
+no_place text no_cursor no_long = (no_cursor, λ place is same. absurd (no_long place is same))
+
+-- the place inside a strip that a text names is told, or it is not, and why
+pub place_read : (text : List ℕ) (found : LongPlace) (old place : FaxPlace) (old_runs runs : List ℕ) (status : ℕ) → TextsNameOne
+    → IsLongCursor found → text ≡ long_cursor_text found → IsPlaceTold found old old_runs status place runs
+    → ReadsPlace text old old_runs place runs status
+place_read text found old place old_runs runs status names is text_is (inl (done, has, same, kept)) =
+    inl (done, inr (has, text_is ∙ ap long_cursor_text (sym same), kept))
+place_read text found old place old_runs runs status names is text_is (inr (same, same_runs, inl (no_room, longer, few))) =
+    inr (same, same_runs, inl (no_room, (found, is, text_is, longer, few)))
+place_read text found old place old_runs runs status names is text_is (inr (same, same_runs, inr (status_is, many))) =
+    inr (
+      same,
+      same_runs,
+      inr (inl (
+        status_is,
+        (
+          λ at at_is other_text. names.apart at found (sym other_text ∙ text_is),
+          λ other other_is other_text.
+              subst (λ (p : LongPlace). most_runs < length p.runs) (names.places found other is other_is (sym text_is ∙ other_text)) many,
+        ),
+      )),
+    )

@@ -25,6 +25,10 @@ pub record AreOptions (given : FaxOptions) (options : Options) : Type 0 where
 abbrev pub fault_of_number : ℕ → FaxFault
 fault_of_number number = record { number = number; tag = 0; page = 0; row = 0 }
 
+-- no output, and no fault
+abbrev pub no_output : FaxConverted
+no_output = record { len = 0; image = 0; fault = no_fault }
+
 -- why a file is not converted
 abbrev pub refusal_of : ConvertFault → FaxConverted
 refusal_of Refused.UnknownInput =
@@ -35,7 +39,7 @@ refusal_of (Refused.Source page row cause) =
     record { len = 0; image = 0; fault = fault_of_cause page row cause }
 refusal_of Refused.OutputTooLarge =
     record { len = 0; image = 0; fault = fault_of_number output_too_large_number }
-refusal_of Refused.Memory = record { len = 0; image = 0; fault = no_fault }
+refusal_of Refused.Memory = no_output
 
 -- the output is written where it has room, which the status says, and its length is told
 abbrev pub IsOutputTold : List ℕ → List ℕ → List ℕ → FaxConverted → ℕ → Type 0
@@ -48,10 +52,11 @@ IsOutputTold output old new converted status =
 -- refused; where there is no output, nothing is written
 abbrev pub TellsConversion : List ℕ → FaxOptions → List ℕ → List ℕ → FaxConverted → ℕ → Type 0
 TellsConversion file given old new converted status =
-    ((status ≡ 7) × ((options : Options) → AreOptions given options → ⊥) × (new ≡ old))
+    ((status ≡ 7) × ((options : Options) → AreOptions given options → ⊥)
+    × (converted ≡ no_output) × (new ≡ old))
     ⊎ ((options : Options) × AreOptions given options
     × (((output : List ℕ) × IsConverted file options output
     × IsOutputTold output old new converted status)
     ⊎ ((status ≡ 2) × ((fault : ConvertFault) × IsNotConverted file options fault
     × (converted ≡ refusal_of fault)) × (new ≡ old))
-    ⊎ ((status ≡ 4) × (new ≡ old))))
+    ⊎ ((status ≡ 4) × (converted ≡ no_output) × (new ≡ old))))

@@ -1,6 +1,6 @@
 -- The forms of pages, written one after another.
 -- A definition without a citation is this project's profile.
-use Rattle.std.specs.Prelude.{◌≡◌, ℕ, ◌+◌, ◌≤◌, List, [], ◌∷◌, ◌++◌, length, map, take, drop}
+use Rattle.std.specs.Prelude.{◌≡◌, ℕ, ◌+◌, ◌<◌, ◌≤◌, List, [], ◌∷◌, ◌++◌, length, map, take, drop}
 use Rattle.fax_walk.specs.declared.cursor.Cursor.{Cursor}
 use Rattle.fax_walk.specs.declared.end.End.{End}
 use Rattle.fax_files.specs.declared.PageForm.{PageForm}
@@ -37,10 +37,11 @@ cursor_after_pages from [] = from
 cursor_after_pages from (item ∷ items) =
     cursor_after_pages (record { page = item.page + 1; row = 0 }) items
 
--- so many forms are written, with room for so many: all, or there are no more of them
+-- so many forms are written, with room for so many: all, or fewer, since there are no more of them
 abbrev pub StopsAfterForms : List FormItem → End → ℕ → ℕ → Stop → Type 0
 StopsAfterForms items end room count Done = count ≡ room
-StopsAfterForms items end room count (Ended met) = (count ≡ length items) × (met ≡ end)
+StopsAfterForms items end room count (Ended met) =
+    (count < room) × (count ≡ length items) × (met ≡ end)
 StopsAfterForms items end room count Memory = ⊥
 StopsAfterForms items end room count NoRoom = ⊥
 

@@ -110,7 +110,18 @@ fn refusal_status(fault: ConvertFault) -> u32
 }
 
 impl FaxConverted {
-    ghost use Rattle.fax_c.specs.Converted.{refusal_of};
+    ghost use Rattle.fax_c.specs.Converted.{no_output, refusal_of};
+
+    /// No output, and no fault.
+    fn none() -> Self
+        ensures { result ≡ no_output }
+    {
+        FaxConverted {
+            len: 0,
+            image: 0,
+            fault: FaxFault::none(),
+        }
+    }
 
     /// Why a file is not converted.
     fn refused(fault: ConvertFault) -> Self
@@ -161,11 +172,7 @@ pub extern "C" fn faxpages_convert(
 ) -> u32
     ensures { Spec.TellsConversion file.now options.now out.old out.new converted.new result }
 {
-    *converted = FaxConverted {
-        len: 0,
-        image: 0,
-        fault: FaxFault::none(),
-    };
+    *converted = FaxConverted::none();
     let Some(options) = options_of(options) else {
         return 7;
     };

@@ -27,6 +27,9 @@ pub extern "C" fn faxpages_place_text(
     ensures { Spec.TellsPlaceText place.now runs.now text.old text.new len.new result }
 {
     *len = 0;
+    if place.lacks_runs(runs) {
+        return 3;
+    }
     let mut written = String::new(alloc);
     let made = match begun_at(alloc, place, runs) {
         Some(Begun::At(cursor)) => cursor.put_text(&mut written),
@@ -49,26 +52,16 @@ pub extern "C" fn faxpages_place_parse(
 ) -> u32
     ensures { Spec.ReadsPlace text.now place.old runs.old place.new runs.new result }
 {
+    fax_walk::laws::cursors_are_named();
     let Ok(text) = str::from_utf8(text) else {
         return 6;
     };
     if let Ok(cursor) = Cursor::parse(text) {
-        *place = FaxPlace {
-            page: cursor.page,
-            row: cursor.row,
-            bits: 0,
-            runs: 0,
-        };
+        *place = FaxPlace::at(cursor);
         return 0;
     }
     match LongCursor::parse(alloc, text) {
-        Ok(found) => {
-            if tell_place(&found, place, runs) {
-                0
-            } else {
-                5
-            }
-        }
+        Ok(found) => tell_place(&found, place, runs),
         Err(LongFault::NotACursor) => 6,
         Err(LongFault::Memory) => 4,
     }

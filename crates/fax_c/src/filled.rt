@@ -1,5 +1,5 @@
 //! How far a call has written, and why it wrote no more.
-ghost use Rattle.std.specs.Prelude.{◌≡◌};
+ghost use Rattle.std.specs.Prelude.{◌≡◌, ◌≢◌, ◌<◌, false, true};
 
 use crate::faults::FaxFault;
 use crate::told::FaxTold;
@@ -42,6 +42,23 @@ impl Stop {
         }
     }
 
+    /// Why a call stops that was refused memory before its first row: it may have been asked for
+    /// none.
+    pub(crate) fn at_refusal(asked: usize) -> Self
+        ensures none { asked ≡ 0 → result ≡ Stop.Done }
+        ensures some { 0 < asked → result ≡ Stop.Memory }
+    {
+        if asked == 0 { Stop::Done } else { Stop::Memory }
+    }
+
+    /// Whether the next row has no room.
+    pub(crate) fn is_no_room(self) -> bool
+        ensures room { result ≡ false → self ≢ Stop.NoRoom }
+        ensures none { result ≡ true → self ≡ Stop.NoRoom }
+    {
+        matches!(self, Stop::NoRoom)
+    }
+
     /// The number that a call answers.
     fn status(self) -> u32
         ensures { result ≡ status_of self }
@@ -69,6 +86,18 @@ impl Stop {
 
 impl Filled {
     ghost use Rattle.fax_c.specs.Told.{IsTold};
+
+    /// Nothing was written.
+    pub(crate) fn nothing(cursor: Cursor, stop: Stop) -> Self
+        ensures { result ≡ record { cursor = cursor; count = 0; used = 0; stop = stop } }
+    {
+        Filled {
+            cursor,
+            count: 0,
+            used: 0,
+            stop,
+        }
+    }
 
     /// Tells what was written, and answers how the call ended.
     pub(crate) fn tell(&self, told: &mut FaxTold) -> u32

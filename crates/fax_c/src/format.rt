@@ -9,7 +9,7 @@ use fax_rows::{LongestRuns, Row};
 
 /// How a row is written.
 pub(crate) trait RowFormat {
-    ghost use Rattle.std.specs.Prelude.{List};
+    ghost use Rattle.std.specs.Prelude.{ℕ, List};
     ghost use Rattle.fax_bits.specs.declared.Colour.{Colour};
 
     /// What it is written in.
@@ -18,11 +18,17 @@ pub(crate) trait RowFormat {
     /// The numbers of a row.
     ghost numbers: { List Colour → List Self.Number };
 
+    ghost MOST: { ℕ };
+
+    /// How many a row has at most.
+    const MOST: usize;
+
     /// Writes those of a row at a place, where they have room, and answers where they end.
     fn put(row: &Row, out: &mut [Self::Number], at: usize) -> Option<usize>
         requires { at ≤ length out.old }
         ensures put { IsPutAt (numbers row.now) out.old at result out.new }
-        ensures few { length (numbers row.now) ≤ 2 ^ 16 };
+        ensures few { length (numbers row.now) ≤ 2 ^ 16 }
+        ensures most { length (numbers row.now) ≤ MOST };
 }
 
 /// As packed bytes: the highest bit first, 1 for black, with zeros up to a whole byte.
@@ -32,6 +38,10 @@ impl RowFormat for Packed {
     type Number = u8;
 
     ghost numbers = { packed_row };
+
+    ghost MOST = { 8192 };
+
+    const MOST: usize = 8_192;
 
     #[tactic(auto, using(crate::proofs::PackedLemmas::has_packed_len))]
     fn put(row: &Row, out: &mut [u8], at: usize) -> Option<usize> {
@@ -65,6 +75,10 @@ impl RowFormat for Runs {
 
     ghost numbers = { runs_of };
 
+    ghost MOST = { 65536 };
+
+    const MOST: usize = 65_536;
+
     fn put(row: &Row, out: &mut [u32], at: usize) -> Option<usize> {
         let mut runs = LongestRuns::of_row(row);
         let len = runs.len();
@@ -84,6 +98,10 @@ impl RowFormat for Changes {
     type Number = u32;
 
     ghost numbers = { changes_of };
+
+    ghost MOST = { 65536 };
+
+    const MOST: usize = 65_536;
 
     #[tactic(auto, using(crate::proofs::FormatLemmas::has_few_changes))]
     fn put(row: &Row, out: &mut [u32], at: usize) -> Option<usize> {

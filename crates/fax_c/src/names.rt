@@ -1,14 +1,17 @@
-//! The names of faults.
-ghost use Rattle.std.specs.Prelude.{◌≡◌, ◌≢◌, ℕ, List, MatchOption};
+//! The names of faults, statuses and notes.
+ghost use Rattle.std.specs.Prelude.{◌≡◌, ◌≢◌, ℕ, List, [], MatchOption, slice_get, unwrap_or};
 ghost use Rattle.fax_page.specs.declared.StripFault.{StripFault as TheStripFault};
 ghost use Rattle.fax_files.specs.declared.FileFault.{FileFault as TheFileFault};
 ghost use Rattle.fax_files.specs.declared.Cause.{Cause as TheCause};
 ghost use Rattle.fax_files.specs.declared.pbm.PbmFault.{PbmFault as ThePbmFault};
+ghost use Rattle.fax_walk.specs.declared.checking.NoteKind.{NoteKind as TheNoteKind};
+ghost use Rattle.fax_walk.specs.Report.{number_and_name};
 ghost use Rattle.fax_c.specs.Faults.{fault_number, pbm_fault_number};
 ghost use Rattle.fax_c.specs.Texts as Spec;
 
 use crate::text::put_text;
 use fax_files::{Cause, FileFault, PbmFault, StripFault};
+use fax_walk::NoteKind;
 
 /// The fault of a file with this number, if one has it.
 fn file_fault(number: u32) -> Option<FileFault>
@@ -103,6 +106,59 @@ pub extern "C" fn faxpages_fault_name(number: u32, name: &mut [u8]) -> usize
 {
     match name_of(number) {
         Some(text) => put_text(text.as_bytes(), name),
+        None => 0,
+    }
+}
+
+/// The name of a status, or an empty text where none has this number.
+fn status_name(number: u32) -> &'static str
+    ensures { result.now ≡ unwrap_or (slice_get Spec.status_names number) [] }
+{
+    match number {
+        0 => "Done",
+        1 => "End",
+        2 => "Fault",
+        3 => "Outside",
+        4 => "Memory",
+        5 => "NoRoom",
+        6 => "NoPlace",
+        7 => "NoOptions",
+        _ => "",
+    }
+}
+
+/// Writes the name of a status where it has room, and answers how many bytes it has: 0 where none
+/// has this number.
+#[unsafe(no_mangle)]
+pub extern "C" fn faxpages_status_name(number: u32, name: &mut [u8]) -> usize
+    ensures { Spec.NamesStatus number name.old result name.new }
+{
+    put_text(status_name(number).as_bytes(), name)
+}
+
+/// The kind of notes with this number, if one has it.
+fn note_kind(number: u32) -> Option<NoteKind>
+    ensures { MatchOption result ((kind : TheNoteKind) → (number_and_name kind).0 ≢ number)
+        (λ kind. (number_and_name kind).0 ≡ number) }
+{
+    match number {
+        1 => Some(NoteKind::NoEndOfBlock),
+        2 => Some(NoteKind::ReturnToControl),
+        3 => Some(NoteKind::DataAfterEnd),
+        4 => Some(NoteKind::NotT4Choice),
+        5 => Some(NoteKind::EntriesOutOfOrder),
+        _ => None,
+    }
+}
+
+/// Writes the name of the notes with this number where it has room, and answers how many bytes it
+/// has: 0 where no note has this number.
+#[unsafe(no_mangle)]
+pub extern "C" fn faxpages_note_name(number: u32, name: &mut [u8]) -> usize
+    ensures { Spec.NamesNote number name.old result name.new }
+{
+    match note_kind(number) {
+        Some(kind) => put_text(kind.name().as_bytes(), name),
         None => 0,
     }
 }

@@ -1,13 +1,16 @@
 //! Places inside strips, in memory of the caller.
-ghost use Rattle.std.specs.Prelude.{◌≡◌, ◌≢◌, ◌<◌, true, MatchOption};
+ghost use Rattle.std.specs.Prelude.{◌≡◌, ◌≢◌, ◌<◌, ◌≤◌, false, length, true, MatchOption};
 ghost use Rattle.fax_c.specs.declared.filled.Stop.TheVariants.{NoRoom};
 ghost use Rattle.fax_c.specs.views.Places as Spec;
 ghost use Rattle.fax_c.specs.code.Put as Code;
 
-use crate::filled::{Filled, Stop};
+use crate::filled::Filled;
 use crate::format::{RowFormat, Runs};
 use fax_walk::{Begun, Cursor, LongCursor, Walk};
 use std::alloc::Global;
+
+/// So many runs hold those of any row.
+const MOST_RUNS: usize = 65_536;
 
 /// Where to go on: a cursor; and where `runs` is not 0 a place inside a strip, after so many bits
 /// of it, whose row before it has so many runs, which stand apart.
@@ -35,12 +38,12 @@ impl FaxPlace {
         }
     }
 
-    /// Whether it is inside a strip: it has runs, and they are there.
-    fn has_runs(&self, runs: &[u32]) -> bool
-        ensures { result ≡ Spec.has_runs self.now runs.now }
+    /// Whether it has more runs than stand beside it.
+    pub(crate) fn lacks_runs(&self, runs: &[u32]) -> bool
+        ensures lacks { result ≡ true → Spec.LacksRuns self.now runs.now }
+        ensures has { result ≡ false → self.now.runs ≤ length runs.now }
     {
-        let count = self.runs as usize;
-        0 < count && count <= runs.len()
+        runs.len() < self.runs as usize
     }
 
     /// Its cursor.
@@ -56,11 +59,12 @@ impl FaxPlace {
 
 /// What a walk begins with that goes on at a place, or none where memory was refused for its runs.
 pub(crate) fn begun_at(alloc: Global, place: &FaxPlace, runs: &[u32]) -> Option<Begun>
-    ensures { MatchOption result (Spec.has_runs place.now runs.now ≡ true)
+    requires { place.now.runs ≤ length runs.now }
+    ensures { MatchOption result (0 < place.now.runs)
         (λ begun. begun ≡ Spec.begun_of place.now runs.now) }
 {
     let at = place.cursor();
-    if !place.has_runs(runs) {
+    if place.runs == 0 {
         return Some(Begun::At(at));
     }
     match Vec::from_slice(alloc, &runs[..place.runs as usize]) {
@@ -73,13 +77,17 @@ pub(crate) fn begun_at(alloc: Global, place: &FaxPlace, runs: &[u32]) -> Option<
     }
 }
 
-/// Tells a place inside a strip, where its runs have room, and answers whether they have.
-pub(crate) fn tell_place(found: &LongCursor, place: &mut FaxPlace, runs: &mut [u32]) -> bool
+/// Tells a place inside a strip, where its runs have room, and answers how it was told.
+pub(crate) fn tell_place(found: &LongCursor, place: &mut FaxPlace, runs: &mut [u32]) -> u32
+    requires { 0 < length found.now.runs }
     ensures { Code.IsPlaceTold found.now place.old runs.old result place.new runs.new }
 {
     let count = found.runs.len();
-    if count == 0 || count > runs.len() || count > 65_536 {
-        return false;
+    if count > MOST_RUNS {
+        return 6;
+    }
+    if count > runs.len() {
+        return 5;
     }
     runs[..count].copy_from_slice(&found.runs);
     *place = FaxPlace {
@@ -88,7 +96,7 @@ pub(crate) fn tell_place(found: &LongCursor, place: &mut FaxPlace, runs: &mut [u
         bits: found.bits,
         runs: count as u32,
     };
-    true
+    0
 }
 
 /// Tells the place inside a strip after the rows that a walk has handed out, where there is one and
@@ -101,34 +109,65 @@ fn tell_inside(walk: &Walk, place: &mut FaxPlace, runs: &mut [u32])
     let Some(found) = walk.inside() else {
         return;
     };
-    let Some(count) = Runs::put(found.reference, runs, 0) else {
+    let Some(to) = Runs::put(found.reference, runs, 0) else {
         return;
     };
     *place = FaxPlace {
         page: found.at.page,
         row: found.at.row,
         bits: found.bits,
-        runs: count as u32,
+        runs: to as u32,
     };
 }
 
-/// Tells the place after the rows that were written: where none was, a place inside a strip stays;
-/// where the next row had no room, the walk has passed it, and the place is the cursor.
+/// Tells the place after so many rows, which a walk has handed out and no more: where they are
+/// none, a place inside a strip stays.
+fn tell_after(walk: &Walk, cursor: Cursor, count: usize, place: &mut FaxPlace, runs: &mut [u32])
+    requires given { 0 < count → walk.now.given ≡ count }
+    requires begun { count ≡ 0 → Code.IsBegunAt walk.now.begun place.old runs.old }
+    ensures place { Spec.IsAfterRows walk.now.file walk.now.begun cursor count place.new runs.new }
+    ensures kept { Spec.KeepsRuns runs.old runs.new }
+{
+    if count > 0 {
+        *place = FaxPlace::at(cursor);
+        tell_inside(walk, place, runs);
+    } else if place.runs == 0 {
+        *place = FaxPlace::at(cursor);
+    }
+}
+
+/// Tells the place before the next row, where rows stand before it and it may have no room in so
+/// many numbers: a walk that has handed it out has passed the place.
+pub(crate) fn place_before<F: RowFormat>(
+    walk: &Walk,
+    cursor: Cursor,
+    count: usize,
+    room: usize,
+    place: &mut FaxPlace,
+    runs: &mut [u32],
+)
+    requires { walk.now.given ≡ count }
+    ensures told { 0 < count → room < F.MOST → Spec.IsAfterRows walk.now.file walk.now.begun cursor
+        count place.new runs.new }
+    ensures none { count ≡ 0 → place.new ≡ place.old }
+    ensures no_runs { count ≡ 0 → runs.new ≡ runs.old }
+    ensures kept { Spec.KeepsRuns runs.old runs.new }
+{
+    if count > 0 && room < F::MOST {
+        tell_after(walk, cursor, count, place, runs);
+    }
+}
+
+/// Tells the place after the rows that were written. Where the next one had no room, the walk has
+/// passed it, and it was told before.
 pub(crate) fn place_after(walk: &Walk, filled: &Filled, place: &mut FaxPlace, runs: &mut [u32])
     requires given { filled.now.stop ≢ NoRoom → walk.now.given ≡ filled.now.count }
-    requires begun { walk.now.begun ≡ Spec.begun_of place.old runs.old }
+    requires begun { filled.now.count ≡ 0 → Code.IsBegunAt walk.now.begun place.old runs.old }
+    requires told { 0 < filled.now.count → filled.now.stop ≡ NoRoom → Spec.IsAfterRows walk.now.file
+        walk.now.begun filled.now.cursor filled.now.count place.old runs.old }
     ensures { Spec.IsAfter walk.now.file walk.now.begun filled.now runs.old place.new runs.new }
 {
-    if filled.count == 0 && place.has_runs(runs) {
-        return;
-    }
-    *place = FaxPlace::at(filled.cursor);
-    match filled.stop {
-        Stop::NoRoom => {}
-        Stop::Done | Stop::Ended(_) | Stop::Memory => {
-            if filled.count > 0 {
-                tell_inside(walk, place, runs);
-            }
-        }
+    if filled.count == 0 || !filled.stop.is_no_room() {
+        tell_after(walk, filled.cursor, filled.count, place, runs);
     }
 }

@@ -1,5 +1,6 @@
 //! The rows of a file, written one after another.
-ghost use Rattle.std.specs.Prelude.{◌≡◌, ◌≤◌, length};
+ghost use Rattle.std.specs.Prelude.{◌≡◌, ◌+◌, ◌<◌, ◌≤◌, length, Err};
+ghost use Rattle.fax_c.specs.declared.filled.Stop.TheVariants.{NoRoom};
 ghost use Rattle.fax_rows.specs.Coded.{packed_row};
 ghost use Rattle.fax_walk.specs.declared.begun.Begun.TheVariants.{At};
 ghost use Rattle.fax_c.specs.code.Put as Code;
@@ -8,7 +9,7 @@ ghost use Rattle.fax_c.specs.views.Places as PlaceSpec;
 
 use crate::filled::{Filled, Stop};
 use crate::format::{Packed, RowFormat};
-use crate::places::{FaxPlace, begun_at, place_after};
+use crate::places::{FaxPlace, begun_at, place_after, place_before};
 use crate::told::FaxTold;
 use fax_walk::{Cursor, End, Walk};
 use std::alloc::Global;
@@ -31,7 +32,8 @@ pub struct FaxRow {
 /// Writes the next row of a walk at a place, and answers where it lies.
 fn put_next<F: RowFormat>(walk: &mut Walk, out: &mut [F::Number], at: usize) -> Result<FaxRow, Stop>
     requires { at ≤ length out.old }
-    ensures { Code.IsPut F.numbers walk.old out.old at result walk.new out.new }
+    ensures put { Code.IsPut F.numbers walk.old out.old at result walk.new out.new }
+    ensures room { result ≡ Err NoRoom → length out.old < at + F.MOST }
 {
     match walk.next_row() {
         Ok(Some((place, row))) => match F::put(row, out, at) {
@@ -50,17 +52,27 @@ fn put_next<F: RowFormat>(walk: &mut Walk, out: &mut [F::Number], at: usize) -> 
 }
 
 /// Writes the first rows of a walk, as many as are asked for and have room, and where each lies.
-fn fill<F: RowFormat>(walk: &mut Walk, rows: &mut [FaxRow], out: &mut [F::Number]) -> Filled
-    requires { walk.old.given ≡ 0 }
+/// The place, with which the walk began, is then the one after them.
+fn fill<F: RowFormat>(
+    walk: &mut Walk,
+    place: &mut FaxPlace,
+    runs: &mut [u32],
+    rows: &mut [FaxRow],
+    out: &mut [F::Number],
+) -> Filled
+    requires none { walk.old.given ≡ 0 }
+    requires begun { Code.IsBegunAt walk.old.begun place.old runs.old }
     ensures filled { Spec.AreRowsFilled F.numbers walk.old.file walk.old.begun rows.old out.old
         result rows.new out.new }
-    ensures walk { Code.IsWalkAfter walk.old result walk.new }
+    ensures place { PlaceSpec.IsAfter walk.old.file walk.old.begun result runs.old place.new
+        runs.new }
 {
     fax_walk::laws::beginnings_have_one_tail();
     let mut count = 0;
     let mut used = 0;
     while count < rows.len() {
         let cursor = walk.cursor();
+        place_before::<F>(walk, cursor, count, out.len() - used, place, runs);
         match put_next::<F>(walk, out, used) {
             Ok(row) => {
                 rows[count] = row;
@@ -68,21 +80,25 @@ fn fill<F: RowFormat>(walk: &mut Walk, rows: &mut [FaxRow], out: &mut [F::Number
                 used += row.len as usize;
             }
             Err(stop) => {
-                return Filled {
+                let filled = Filled {
                     cursor,
                     count,
                     used,
                     stop,
                 };
+                place_after(walk, &filled, place, runs);
+                return filled;
             }
         }
     }
-    Filled {
+    let filled = Filled {
         cursor: walk.cursor(),
         count,
         used,
         stop: Stop::Done,
-    }
+    };
+    place_after(walk, &filled, place, runs);
+    filled
 }
 
 /// Writes the rows of a file from a cursor on.
@@ -97,11 +113,13 @@ pub(crate) fn fill_at<F: RowFormat>(
     ensures { Spec.TellsRows F.numbers file.now (At cursor) rows.old out.old rows.new out.new
         told.new result }
 {
+    let mut place = FaxPlace::at(cursor);
     let mut walk = Walk::resume(alloc, file, cursor);
-    fill::<F>(&mut walk, rows, out).tell(told)
+    fill::<F>(&mut walk, &mut place, &mut [], rows, out).tell(told)
 }
 
-/// Writes the rows of a file from a place on, which is then the one after them.
+/// Writes the rows of a file from a place on, which is then the one after them. A place that lacks
+/// runs is told as one outside the file.
 pub(crate) fn fill_from<F: RowFormat>(
     alloc: Global,
     file: &[u8],
@@ -116,19 +134,14 @@ pub(crate) fn fill_from<F: RowFormat>(
 {
     fax_walk::laws::beginnings_have_one_tail();
     let cursor = place.cursor();
+    if place.lacks_runs(runs) {
+        return Filled::nothing(cursor, Stop::Ended(End::Outside)).tell(told);
+    }
     let Some(begun) = begun_at(alloc, place, runs) else {
-        let refused = Filled {
-            cursor,
-            count: 0,
-            used: 0,
-            stop: Stop::Memory,
-        };
-        return refused.tell(told);
+        return Filled::nothing(cursor, Stop::at_refusal(rows.len())).tell(told);
     };
     let mut walk = Walk::begin(alloc, file, begun);
-    let filled = fill::<F>(&mut walk, rows, out);
-    place_after(&walk, &filled, place, runs);
-    filled.tell(told)
+    fill::<F>(&mut walk, place, runs, rows, out).tell(told)
 }
 
 /// Writes rows of a file from a cursor on as packed bytes, one after another, at most as many as

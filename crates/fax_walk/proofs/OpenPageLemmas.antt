@@ -36,6 +36,7 @@ use Rattle.fax_walk.specs.code.Places.{place_on}
 use Rattle.fax_walk.specs.Pages.{IsPageAt}
 use Rattle.fax_walk.specs.laws.InOrder.{LeadTo}
 use Rattle.fax_walk.specs.code.Opening.{IsFilePage, PageDue, page_with}
+use Rattle.fax_walk.specs.views.Walk.{HasPage}
 use Rattle.fax_walk.specs.code.Stages.{GivesRow, HasSkipped, IsNoInner, IsNoPlace, IsNoStrip, IsRefusal, IsOpen, IsOpenedAt, IsSamePage}
 use Rattle.fax_walk.specs.code.Stages.{IsStripOf, KeepsPlace}
 use Rattle.fax_walk.specs.code.Stages.{PageState, ReadsPageRow, StopsAtRow, item_of, place_of, row_of, skipped}
@@ -423,6 +424,10 @@ page_first due p is =
     let none : strip_at due.form 0 * due.form.rows_per_strip ≡ 0 =
     ap (λ (s : ℕ). s * due.form.rows_per_strip) (zero-div due.form.rows_per_strip) ∙ omega arith in
     rw (is, none) refl
+
+-- a page that is due is there
+pub due_there : (due : PageDue) → IsFilePage due.page due.chain due.directory due.form → HasPage due.directory.file due.page
+due_there due its = (Ok (page_with due.directory due.form), its.here 0, tt)
 
 pub opened_after : (file : List ℕ) (due : PageDue) (p read : ℕ) (result : Result PageState OpenFault) → due.page ≡ p
     → due.directory.file ≡ file

@@ -99,18 +99,18 @@ module _ (file : List ℕ) (begun : Begun) (given : ℕ) (cursor : Cursor) where
   pub refused : (old new : Option PageState) (end : End) → IsEntered file begun old (Err (Ended end)) new
       → GoesOnFrom file begun given cursor old → HasEndedOn file begun given cursor new end
   refused None new end (none, new_is) from = rw new_is (from.0, from.1, none)
-  refused (Some old) new end (all, stop, new_is) (is_open, reads) =
+  refused (Some old) new end (all, stop, there, new_is) (is_open, reads) =
       rw new_is (reads, rw (reads.file_is) at stop, inl (none_skipped old is_open all))
 
   -- memory was refused for it
   at_page_end : (old : PageState) (last : IsAfterItem file begun given cursor (place_of old)) → row_of old ≡ old.form.rows
-      → last.item.row + 1 ≡ last.item.form.rows
+      → (last.item.row + 1 ≡ last.item.form.rows) × (old.page + 1 ≡ last.item.page + 1)
   at_page_end old last all =
       let within = last.within in
       let next : first_at (old.page + 1) 0 ≡ place_over last.item.form last.item =
       sym (at_end old.form old.page (row_of old) _ all) ∙ last.to_is in
       elim (cases_after last.item.form last.item) [
-        | inl (past, is) ↦ omega (arith, past, within)
+        | inl (past, is) ↦ (omega (arith, past, within), ap (λ (t : RowPlace). t.page) (next ∙ is))
         | inr (inl (less, first, is)) ↦ let rows = ap (λ (t : RowPlace). t.row) (next ∙ is) in absurd (omega (arith, rows))
         | inr (inr (less, inside, is)) ↦ let rows = ap (λ (t : RowPlace). t.row) (next ∙ is) in absurd (omega (arith, rows))
       ]
@@ -118,20 +118,16 @@ module _ (file : List ℕ) (begun : Begun) (given : ℕ) (cursor : Cursor) where
   pub enters : (old new : Option PageState) → IsEntered file begun old (Err Memory) new → GoesOnFrom file begun given cursor old
       → EntersPage file begun given
   enters None new refused from = inl from.0
-  enters (Some old) new (all, refused, same) (is_open, reads) = elim reads.stands [
+  enters (Some old) new (all, refused, there, same) (is_open, reads) = elim reads.stands [
     | inl none ↦ inl none.0
-    | inr last ↦ inr (
-      last.before,
-      last.item,
-      last.count,
-      last.number,
-      at_page_end old last all,
-    )
+    | inr last ↦
+        let (row, page) = at_page_end old last all in
+        inr (last.before, last.item, last.count, last.number, row, rw (reads.file_is, page) at there refl)
   ]
 
   pub same_page : (old new : Option PageState) → IsEntered file begun old (Err Memory) new → new ≡ old
   same_page None new refused = refused.1
-  same_page (Some old) new refused = refused.2
+  same_page (Some old) new refused = refused.3
 
 -- no page was entered
 pub refused_next : (file : List ℕ) (begun : Begun) (old new : Option PageState) (fault : OpenFault)

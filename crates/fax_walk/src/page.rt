@@ -1,7 +1,7 @@
 //! A page whose rows are read, strip by strip.
 ghost use Rattle.fax_walk.specs.Pages.{ends_as};
 ghost use Rattle.fax_files.specs.Page.{most_rows};
-ghost use Rattle.std.specs.Prelude.{◌≡◌, ◌*◌, ◌<◌, ◌≤◌, false, length, map, true, IfErr, IfOk};
+ghost use Rattle.std.specs.Prelude.{◌≡◌, ◌+◌, ◌*◌, ◌<◌, ◌≤◌, false, length, map, true, IfErr, IfOk};
 ghost use Rattle.std.specs.Prelude.{OnErr, OnOk, Err};
 ghost use Rattle.fax_rows.specs.Rows.{other};
 ghost use Rattle.fax_page.specs.views.Strip.{IsStripForm};
@@ -12,7 +12,8 @@ ghost use Rattle.fax_walk.specs.code.Places.{long_at};
 ghost use Rattle.fax_walk.specs.Items.{IsInnerOn};
 ghost use Rattle.fax_walk.specs.code.Places.{strip_at};
 ghost use Rattle.fax_walk.specs.code.Opening.{IsFileChain, page_with};
-ghost use Rattle.fax_walk.specs.views.Walk.{place_inside};
+ghost use Rattle.fax_walk.specs.views.Walk.{HasPage, place_inside};
+ghost use Rattle.fax_walk.specs.declared.opening.OpenFault.TheVariants.{Memory as NoMemory};
 ghost use Rattle.fax_files.specs.declared.Cause.TheVariants.{File};
 ghost use Rattle.fax_files.specs.declared.FileFault.TheVariants.{StripOutside};
 ghost use Rattle.fax_walk.specs.declared.end.End.TheVariants.{Fault};
@@ -107,6 +108,7 @@ pub(crate) fn open<'a>(
     ensures page { IfOk result (λ page. page.page ≡ due.entry.page) }
     ensures first { IfOk result (λ page. page.first ≡ first) }
     ensures refused { IfErr result (Spec.IsRefusal (Spec.IsNoStrip due.entry first)) }
+    ensures there { HasPage due.entry.directory.file due.entry.page }
 {
     let form = due.form;
     let strips = due.directory.strips(&form);
@@ -144,6 +146,7 @@ pub(crate) fn open_after<'a>(
         (Spec.IsOpenedAt chain.now.tiff.file (first_at chain.now.given 0) 0 before) }
     ensures refused { IfErr result (Spec.IsRefusal (λ end.
         IsRow chain.now.tiff.file (first_at chain.now.given 0) (ends_as end))) }
+    ensures there { result ≡ Err NoMemory → HasPage chain.now.tiff.file chain.now.given }
 {
     match DuePage::after(chain.again())? {
         Some(due) => open(alloc, due, 0, before),
@@ -235,6 +238,8 @@ impl<'a> OpenPage<'a> {
             (Spec.IsOpenedAt self.now.directory.file (place_of self.now) 0 self.now.read) }
         ensures refused { IfErr result (Spec.IsRefusal (λ end.
             IsRow self.now.directory.file (place_of self.now) (ends_as end))) }
+        ensures there { result ≡ Err NoMemory
+            → HasPage self.now.directory.file (self.now.page + 1) }
     {
         open_after(alloc, &self.chain, self.read())
     }

@@ -1,7 +1,8 @@
 -- One step of a call: an item is written, or why it is not.
 use Rattle.std.specs.Prelude.{◌≡◌, ◌≢◌, ℕ, ◌+◌, ◌<◌, ◌≤◌, ◌⊎◌, List, ◌++◌, length, take, drop}
-use Rattle.std.specs.Prelude.{Option, Some, None, Result, Ok, Err, Bool, true, false}
+use Rattle.std.specs.Prelude.{Option, Some, None, Result, Ok, Err}
 use Rattle.fax_rows.specs.Rows.{Colour}
+use Rattle.fax_walk.specs.declared.begun.Begun.{Begun}
 use Rattle.fax_walk.specs.declared.end.End.{End}
 use Rattle.fax_files.specs.declared.PageForm.{PageForm}
 use Rattle.fax_walk.specs.Pages.{FormItem, IsFormTail, LongPlace}
@@ -19,8 +20,7 @@ use Rattle.fax_c.specs.declared.filled.Stop.TheVariants.{Done, Ended, Memory, No
 use Rattle.fax_c.specs.declared.places.FaxPlace.{FaxPlace}
 use Rattle.fax_c.specs.declared.rows.FaxRow.{FaxRow}
 use Rattle.fax_c.specs.views.Filled.{row_at}
-use Rattle.fax_c.specs.views.Places.{long_place_of}
-use Rattle.fax_c.specs.views.PlaceTexts.{HasNoRoom}
+use Rattle.fax_c.specs.views.Places.{HasRuns, KeepsRuns, begun_of, long_place_of, most_runs}
 
 -- why a reader hands out nothing more
 abbrev pub stop_of : WalkFault → Stop
@@ -62,25 +62,27 @@ pub record IsWalkAfter (old : WalkView) (filled : Filled) (new : WalkView) : Typ
   pub same_begun : new.begun ≡ old.begun
   pub given : filled.stop ≢ NoRoom → new.given ≡ filled.count
 
--- a place has runs, and they are there
-abbrev pub HasRuns : FaxPlace → List ℕ → Type 0
-HasRuns place runs = (0 < place.runs) × (place.runs ≤ length runs)
+-- a walk begins at a place, which lacks no runs
+abbrev pub IsBegunAt : Begun → FaxPlace → List ℕ → Type 0
+IsBegunAt begun place runs = (begun ≡ begun_of place runs) × (place.runs ≤ length runs)
 
 -- the place inside a strip after the rows that a walk has handed out is told, or there is none, or
--- its runs have no room; no other run is changed
+-- its runs have no room; no run is changed that the place of no row would take
 abbrev pub IsInsideTold : WalkView → FaxPlace → List ℕ → FaxPlace → List ℕ → Type 0
 IsInsideTold walk old old_runs new runs =
-    ((new ≡ old) × (runs ≡ old_runs)
+    KeepsRuns old_runs runs
+    × (((new ≡ old)
     × (IsLongOf walk None
-    ⊎ ((found : LongPlace) × IsLongOf walk (Some found) × (length old_runs < length found.runs))))
-    ⊎ ((0 < new.runs) × IsLongOf walk (Some (long_place_of new runs))
-    × (drop new.runs runs ≡ drop new.runs old_runs))
+    ⊎ ((found : LongPlace) × IsLongOf walk (Some found) × (length runs < length found.runs))))
+    ⊎ (HasRuns new runs × IsLongOf walk (Some (long_place_of new runs))))
 
--- a place inside a strip is told with its runs, or these are none or have no room; no other run is
--- changed
-abbrev pub IsPlaceTold : LongPlace → FaxPlace → List ℕ → Bool → FaxPlace → List ℕ → Type 0
-IsPlaceTold found old old_runs told new runs =
-    ((told ≡ false) × (new ≡ old) × (runs ≡ old_runs)
-    × ((length found.runs ≡ 0) ⊎ HasNoRoom found old_runs))
-    ⊎ ((told ≡ true) × HasRuns new runs × (long_place_of new runs ≡ found)
+-- a place inside a strip is told with its runs, and no other run is changed; or these have no room,
+-- or are more than a row can have
+abbrev pub IsPlaceTold : LongPlace → FaxPlace → List ℕ → ℕ → FaxPlace → List ℕ → Type 0
+IsPlaceTold found old old_runs status new runs =
+    ((status ≡ 0) × HasRuns new runs × (long_place_of new runs ≡ found)
     × (drop new.runs runs ≡ drop new.runs old_runs))
+    ⊎ ((new ≡ old) × (runs ≡ old_runs)
+    × (((status ≡ 5) × (length old_runs < length found.runs)
+    × (length found.runs ≤ most_runs))
+    ⊎ ((status ≡ 6) × (most_runs < length found.runs))))

@@ -41,18 +41,19 @@ cursor_after_rows from [] = from
 cursor_after_rows from (item ∷ items) = cursor_after_rows (cursor_after item) items
 
 -- so many of these rows are written, of which so many were asked for, in so many numbers of so
--- many: all of them, or there are no more, or the next one has no room, or memory was refused
--- where a page is entered
+-- many: all of them; or fewer, since there are no more, or the next one has no room, or memory was
+-- refused where a page is entered
 abbrev pub StopsAfterRows : {N : Type 0} → (List Colour → List N) → List ℕ → Begun → List RowItem
     → End → ℕ → ℕ → ℕ → ℕ → Stop → Type 0
 StopsAfterRows numbers file begun items end asked room count used Done = count ≡ asked
 StopsAfterRows numbers file begun items end asked room count used (Ended met) =
-    (count ≡ length items) × (met ≡ end)
+    (count < asked) × (count ≡ length items) × (met ≡ end)
 StopsAfterRows numbers file begun items end asked room count used NoRoom =
-    (item : RowItem) × (slice_get items count ≡ Some item)
-    × (room < used + length (numbers item.pels))
+    (count < asked)
+    × ((item : RowItem) × (slice_get items count ≡ Some item)
+    × (room < used + length (numbers item.pels)))
 StopsAfterRows numbers file begun items end asked room count used Memory =
-    EntersPage file begun count
+    (count < asked) × EntersPage file begun count
 
 -- the first rows of what a walk hands out that begins so are written, one after another, and where
 -- each lies, and nothing else is changed

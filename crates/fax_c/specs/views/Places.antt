@@ -1,15 +1,16 @@
 -- Places inside strips, in memory of the caller.
 -- A definition without a citation is this project's profile.
-use Rattle.std.specs.Prelude.{◌≡◌, ℕ, ◌<◌, ◌⊎◌, Bool, ◌&&◌, nat_le, nat_lt, if◌then◌else◌}
+use Rattle.std.specs.Prelude.{◌≡◌, ℕ, ◌<◌, ◌≤◌, ◌⊎◌, nat_lt, if◌then◌else◌}
 use Rattle.std.specs.Prelude.{List, length, take, drop, Some, None}
 use Rattle.fax_rows.specs.Rows.{Colour}
 use Rattle.fax_walk.specs.declared.begun.Begun.{Begun}
 use Rattle.fax_walk.specs.declared.begun.Begun.TheVariants.{At, Inside}
 use Rattle.fax_walk.specs.declared.cursor.Cursor.{Cursor}
+use Rattle.fax_walk.specs.declared.end.End.TheVariants.{Outside}
 use Rattle.fax_walk.specs.Pages.{LongPlace}
 use Rattle.fax_walk.specs.views.Walk.{IsLongOf, WalkView}
 use Rattle.fax_c.specs.declared.filled.Filled.{Filled}
-use Rattle.fax_c.specs.declared.filled.Stop.TheVariants.{NoRoom}
+use Rattle.fax_c.specs.declared.filled.Stop.TheVariants.{Ended}
 use Rattle.fax_c.specs.declared.places.FaxPlace.{FaxPlace}
 use Rattle.fax_c.specs.declared.rows.FaxRow.{FaxRow}
 use Rattle.fax_c.specs.declared.told.FaxTold.{FaxTold}
@@ -29,43 +30,66 @@ long_place_of place runs =
 abbrev pub place_at : Cursor → FaxPlace
 place_at at = record { page = at.page; row = at.row; bits = 0; runs = 0 }
 
--- a place is inside a strip: it has runs, and they are there
-abbrev pub has_runs : FaxPlace → List ℕ → Bool
-has_runs place runs = nat_lt 0 place.runs && nat_le place.runs (length runs)
+-- a place is inside a strip, and its runs stand beside it
+abbrev pub HasRuns : FaxPlace → List ℕ → Type 0
+HasRuns place runs = (0 < place.runs) × (place.runs ≤ length runs)
 
--- what a walk begins with that goes on at a place: inside a strip, or at the cursor
+-- a place has more runs than stand beside it
+abbrev pub LacksRuns : FaxPlace → List ℕ → Type 0
+LacksRuns place runs = length runs < place.runs
+
+-- what a walk begins with that goes on at a place: inside a strip where it has runs, else at the
+-- cursor
 abbrev pub begun_of : FaxPlace → List ℕ → Begun
 begun_of place runs =
-    if has_runs place runs then Inside (long_place_of place runs) else At (cursor_of place)
+    if nat_lt 0 place.runs then Inside (long_place_of place runs) else At (cursor_of place)
 
--- a walk that began so, after the rows that were written
-abbrev pub walk_after : List ℕ → Begun → Filled → WalkView
-walk_after file begun filled =
-    record { file = file; begun = begun; given = filled.count; told = None }
+-- a walk that began so, after so many rows
+abbrev pub walk_after : List ℕ → Begun → ℕ → WalkView
+walk_after file begun count = record { file = file; begun = begun; given = count; told = None }
 
--- why the cursor alone is told: the next row had no room, or there is no place inside a strip, or
--- its runs have no room
-abbrev pub IsCursorAlone : List ℕ → Begun → Filled → ℕ → Type 0
-IsCursorAlone file begun filled room =
-    (filled.stop ≡ NoRoom) ⊎ IsLongOf (walk_after file begun filled) None
-    ⊎ ((found : LongPlace) × IsLongOf (walk_after file begun filled) (Some found)
+-- why the cursor alone is told: there is no place inside a strip, or its runs have no room
+abbrev pub IsCursorAlone : List ℕ → Begun → ℕ → ℕ → Type 0
+IsCursorAlone file begun count room =
+    IsLongOf (walk_after file begun count) None
+    ⊎ ((found : LongPlace) × IsLongOf (walk_after file begun count) (Some found)
     × (room < length found.runs))
 
--- the place after the rows that were written of what a walk hands out that began so: inside a
--- strip, or the cursor alone where there is a reason; and no other run is changed
+-- the place after so many rows of what a walk hands out that began so, with this cursor after them:
+-- inside a strip, with its runs, or the cursor alone where there is a reason
+abbrev pub IsAfterRows : List ℕ → Begun → Cursor → ℕ → FaxPlace → List ℕ → Type 0
+IsAfterRows file begun cursor count place runs =
+    (HasRuns place runs
+    × IsLongOf (walk_after file begun count) (Some (long_place_of place runs)))
+    ⊎ ((place ≡ place_at cursor) × IsCursorAlone file begun count (length runs))
+
+-- so many runs hold those of any row
+abbrev pub most_runs : ℕ
+most_runs = 65536
+
+-- no run is changed that the place of no row would take
+abbrev pub KeepsRuns : List ℕ → List ℕ → Type 0
+KeepsRuns old_runs runs =
+    (drop most_runs runs ≡ drop most_runs old_runs) × (length runs ≡ length old_runs)
+
+-- the place after the rows that were written
 abbrev pub IsAfter : List ℕ → Begun → Filled → List ℕ → FaxPlace → List ℕ → Type 0
 IsAfter file begun filled old_runs place runs =
-    (drop place.runs runs ≡ drop place.runs old_runs)
-    × (((0 < place.runs)
-    × IsLongOf (walk_after file begun filled) (Some (long_place_of place runs)))
-    ⊎ ((place ≡ place_at filled.cursor)
-    × IsCursorAlone file begun filled (length old_runs)))
+    KeepsRuns old_runs runs × IsAfterRows file begun filled.cursor filled.count place runs
 
--- rows from a place on are written and told, and the place is the one after them
+-- nothing was written, since there is no such place
+abbrev pub outside_at : Cursor → Filled
+outside_at cursor = record { cursor = cursor; count = 0; used = 0; stop = Ended Outside }
+
+-- rows from a place on are written and told, and the place is the one after them; or the place lacks
+-- runs, which is told as a place outside the file, and nothing is changed
 abbrev pub GoesOn : {N : Type 0} → (List Colour → List N) → List ℕ → FaxPlace → List ℕ
     → List FaxRow → List N → FaxPlace → List ℕ → List FaxRow → List N → FaxTold → ℕ → Type 0
 GoesOn numbers file old_place old_runs old_rows old_out place runs rows out told status =
-    (filled : Filled)
+    ((old_place.runs ≤ length old_runs) × (filled : Filled)
     × AreRowsFilled numbers file (begun_of old_place old_runs) old_rows old_out filled rows out
     × IsAfter file (begun_of old_place old_runs) filled old_runs place runs
-    × IsTold filled told status
+    × IsTold filled told status)
+    ⊎ (LacksRuns old_place old_runs × (place ≡ old_place) × (runs ≡ old_runs)
+    × (rows ≡ old_rows) × (out ≡ old_out)
+    × IsTold (outside_at (cursor_of old_place)) told status)

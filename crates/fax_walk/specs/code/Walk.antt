@@ -15,7 +15,7 @@ use Rattle.fax_walk.specs.Items.{RowItem, RowPlace, IsRow, IsTailFrom, begun_cur
 use Rattle.fax_walk.specs.code.Places.{Begins}
 use Rattle.fax_walk.specs.code.Places.{place_over}
 use Rattle.fax_walk.specs.views.InOrder.{HasEndedAs}
-use Rattle.fax_walk.specs.views.Walk.{WalkView, IsItemNumber, EntersPage, AreRead}
+use Rattle.fax_walk.specs.views.Walk.{WalkView, IsItemNumber, EntersPage, HasPage, AreRead}
 use Rattle.fax_walk.specs.views.Walk.{EndsBefore}
 use Rattle.fax_walk.specs.views.Walk.{walk_from}
 use Rattle.fax_walk.specs.code.Stages.{PageState, row_of, skipped, place_of, IsOpen, IsOpenedAt}
@@ -65,7 +65,7 @@ IsEntered file begun (Some old) (Ok tt) (Some new) =
 IsEntered file begun (Some old) (Err fault) new =
     (row_of old ≡ old.form.rows)
     × IsRefusal (λ end. IsRow old.directory.file (place_of old) (ends_as end)) fault
-    × (new ≡ Some old)
+    × (fault ≡ NoMemory → HasPage old.directory.file (old.page + 1)) × (new ≡ Some old)
 IsEntered file begun old (Ok tt) None = ⊥
 
 -- these items lead to a place from where a walk began: those that it handed out, and those before

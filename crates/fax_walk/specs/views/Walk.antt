@@ -1,6 +1,6 @@
 -- A walk, as contracts see it.
 use Rattle.std.specs.Prelude.{◌≡◌, ℕ, ◌+◌, ◌^◌, ◌<◌, ◌≤◌, ◌⊎◌, List, Option, Some, None, Result, Ok}
-use Rattle.std.specs.Prelude.{Err, ◌%◌, if◌then◌else◌, nat_lt}
+use Rattle.std.specs.Prelude.{Err, ◌%◌, if◌then◌else◌, nat_lt, ⊤}
 use Rattle.std.specs.Borrow.{Bor}
 use Rattle.fax_bits.specs.declared.Colour.{Colour}
 use Rattle.fax_walk.specs.declared.begun.Begun.{Begun}
@@ -37,13 +37,18 @@ walk_start file = walk_from file (At start)
 abbrev pub IsItemNumber : List ℕ → Begun → ℕ → RowItem → Type 0
 IsItemNumber file begun n item = IsNumber (IsTailFrom file begun) n item
 
--- a page is entered with item number n: it is the first one, or the one before it was its page's
--- last row
+-- a file has a page of this number, whose fields have no fault
+abbrev pub HasPage : List ℕ → ℕ → Type 0
+HasPage file p = IsOnPage file (record { page = p; row = 0 }) (λ here. ⊤) (λ end. ⊥)
+
+-- a page is entered with item number n: it is the first one; or the one before it was its page's
+-- last row, and the file has a page after that
 abbrev pub EntersPage : List ℕ → Begun → ℕ → Type 0
 EntersPage file begun n =
     (n ≡ 0)
     ⊎ ((before : ℕ) × (item : RowItem) × (n ≡ before + 1)
-    × IsItemNumber file begun before item × (item.row + 1 ≡ item.form.rows))
+    × IsItemNumber file begun before item × (item.row + 1 ≡ item.form.rows)
+    × HasPage file (item.page + 1))
 
 -- fewer rows than these are handed out: a file has no more pages than bytes, and a page at most
 -- 1,000,000 rows

@@ -18,6 +18,6 @@ returns-in-Err c =
       c.in-Some.ensures,
       inr (elim told [
         | inl (is, why) ↦ inl (status ∙ is, (fault, why, c.refused.ensures), refl)
-        | inr is ↦ inr (status ∙ is, refl)
+        | inr (is, none) ↦ inr (status ∙ is, c.refused.ensures ∙ none, refl)
       ]),
     )

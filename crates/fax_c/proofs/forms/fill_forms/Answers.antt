@@ -27,7 +27,7 @@ pub returns-in-Err : goal.returns-in-Err
 returns-in-Err c =
     ended c.args.pages.now.file c.args.pages.now.begun c.loop-count.pages c.loop-count.count c.args.forms.now c.loop-count.forms
     c.loop-count.invariant.law c.loop-count.invariant.so_far c.in-Err.end c.next_form.new.pages c.cursor-cursor.result
-    c.in-Err.ensures c.cursor-cursor.ensures
+    (omega (arith, c.loop-count-test.true)) c.in-Err.ensures c.cursor-cursor.ensures
 
 pub returns : goal.returns
 returns c =

@@ -1,6 +1,6 @@
 use Rattle.std.proofs.Common.{ap, sym}
 use Rattle.fax_page.specs.views.Reader.{StripState}
-use Rattle.fax_walk.proofs.OpenPageLemmas.{is_opened, refused_strip}
+use Rattle.fax_walk.proofs.OpenPageLemmas.{due_there, is_opened, refused_strip}
 use Rattle.fax_walk.proofs.page.open.Goals as goal
 
 pub returns-in-Err-clause-refused : goal.returns-in-Err-clause-refused
@@ -20,3 +20,23 @@ returns-clause-opened c =
     (is_opened (record { page = d.page; chain = d.chain; directory = d.directory; form = d.form }) c.args.first c.due.invariant.its
     c.due.invariant.limits there c.in_ok-strip.strip _ c.args.before (ap (λ (s : StripState). s.row) c.in_ok-strip.ensures)
     (ap (λ (s : StripState). s.fault) c.in_ok-strip.ensures) (ap (λ (s : StripState). s.read) c.in_ok-strip.ensures))
+
+pub returns-in-Err-clause-there : goal.returns-in-Err-clause-there
+returns-in-Err-clause-there c =
+    let d = c.due.inside in
+    rw (← c.due.view_is) (due_there (record { page = d.page; chain = d.chain; directory = d.directory; form = d.form }) c.due.invariant.its)
+
+pub returns-in_err-strip-clause-there : goal.returns-in_err-strip-clause-there
+returns-in_err-strip-clause-there c =
+    let d = c.due.inside in
+    rw (← c.due.view_is) (due_there (record { page = d.page; chain = d.chain; directory = d.directory; form = d.form }) c.due.invariant.its)
+
+pub returns-in_err-exchanged-clause-there : goal.returns-in_err-exchanged-clause-there
+returns-in_err-exchanged-clause-there c =
+    let d = c.due.inside in
+    rw (← c.due.view_is) (due_there (record { page = d.page; chain = d.chain; directory = d.directory; form = d.form }) c.due.invariant.its)
+
+pub returns-clause-there : goal.returns-clause-there
+returns-clause-there c =
+    let d = c.due.inside in
+    rw (← c.due.view_is) (due_there (record { page = d.page; chain = d.chain; directory = d.directory; form = d.form }) c.due.invariant.its)
