@@ -7,25 +7,77 @@
 #include <stdlib.h>
 #include <string.h>
 
-enum { STACK = 1 << 18, MARK = 0xA5, TEXT = 131102, CURSOR = 23 };
+enum { STACK = 1 << 18, MARK = 0xA5, TEXT = 131102, CURSOR = 23, FAULT_NAME = 16, OTHER_NAME = 17 };
+
+enum { NUMBERS = 1 << 18 };
 
 static uint8_t file[1 << 20], out[1 << 20];
-static uint32_t runs[FAXPAGES_RUNS];
+static uint32_t runs[FAXPAGES_RUNS], numbers[NUMBERS];
 static size_t len;
 
 static void *nothing(void *unused) { return unused; }
 
-static void *calls(void *unused) {
+/* All rows in one way, from the first place on. */
+static void read_rows(uint32_t (*first)(struct faxpages_row *rows, struct faxpages_told *told),
+                      uint32_t (*from)(struct faxpages_place *place, struct faxpages_row *rows,
+                                       struct faxpages_told *told)) {
     static struct faxpages_row rows[4096];
+    static struct faxpages_told told;
+    struct faxpages_place place = {0, 0, 0, 0};
+    first(rows, &told);
+    from(&place, rows, &told);
+    from(&place, rows, &told);
+}
+
+static uint32_t packed(struct faxpages_row *rows, struct faxpages_told *told) {
+    return faxpages_rows(file, len, 0, 1, rows, 4096, out, sizeof out, told);
+}
+
+static uint32_t packed_from(struct faxpages_place *place, struct faxpages_row *rows, struct faxpages_told *told) {
+    return faxpages_rows_from(file, len, place, runs, FAXPAGES_RUNS, rows, 3, out, sizeof out, told);
+}
+
+static uint32_t as_runs(struct faxpages_row *rows, struct faxpages_told *told) {
+    return faxpages_runs(file, len, 0, 1, rows, 4096, numbers, NUMBERS, told);
+}
+
+static uint32_t as_runs_from(struct faxpages_place *place, struct faxpages_row *rows, struct faxpages_told *told) {
+    return faxpages_runs_from(file, len, place, runs, FAXPAGES_RUNS, rows, 3, numbers, NUMBERS, told);
+}
+
+static uint32_t as_changes(struct faxpages_row *rows, struct faxpages_told *told) {
+    return faxpages_changes(file, len, 0, 1, rows, 4096, numbers, NUMBERS, told);
+}
+
+static uint32_t as_changes_from(struct faxpages_place *place, struct faxpages_row *rows, struct faxpages_told *told) {
+    return faxpages_changes_from(file, len, place, runs, FAXPAGES_RUNS, rows, 3, numbers, NUMBERS, told);
+}
+
+/* The texts: of a place inside a strip, and it read again, and each name. */
+static void read_texts(void) {
+    static uint8_t text[TEXT];
+    struct faxpages_place place = {0, 1, 1, 2};
+    size_t text_len;
+    faxpages_place_text(&place, runs, FAXPAGES_RUNS, text, TEXT, &text_len);
+    faxpages_place_parse(text, text_len, &place, runs, FAXPAGES_RUNS);
+    faxpages_fault_name(101, text, TEXT);
+    faxpages_status_name(5, text, TEXT);
+    faxpages_note_name(2, text, TEXT);
+    faxpages_version_text(text, TEXT);
+}
+
+static void *calls(void *unused) {
     static struct faxpages_note notes[64];
     static struct faxpages_form forms[64];
     static struct faxpages_told told;
     static struct faxpages_report report;
     static struct faxpages_converted converted;
-    static struct faxpages_place place;
     struct faxpages_options options = {3, 1, 4, 0, 0};
     faxpages_forms(file, len, 0, forms, 64, &told);
-    faxpages_rows_from(file, len, &place, runs, FAXPAGES_RUNS, rows, 4096, out, sizeof out, &told);
+    read_rows(packed, packed_from);
+    read_rows(as_runs, as_runs_from);
+    read_rows(as_changes, as_changes_from);
+    read_texts();
     faxpages_check(file, len, notes, 64, &report);
     for (options.target = 0; options.target < 4; options.target++)
         faxpages_convert(file, len, &options, out, sizeof out, &converted);
@@ -58,9 +110,24 @@ static int longest_texts(void) {
            text_len == TEXT && FAXPAGES_ROW_BYTES == (65535 + 7) / 8;
 }
 
+/* The longest name that a call writes. */
+static size_t longest(size_t (*name_of)(uint32_t number, uint8_t *name, size_t name_room)) {
+    uint8_t name[1];
+    uint32_t number;
+    size_t most = 0, name_len;
+    for (number = 0; number < 1000; number++)
+        if ((name_len = name_of(number, name, 0)) > most) most = name_len;
+    return most;
+}
+
+static int longest_names(void) {
+    return longest(faxpages_fault_name) == FAULT_NAME && longest(faxpages_note_name) == OTHER_NAME &&
+           longest(faxpages_status_name) <= OTHER_NAME;
+}
+
 int main(int count, char **words) {
     FILE *in = count == 2 ? fopen(words[1], "rb") : NULL;
-    if (!in || !longest_texts()) return 3;
+    if (!in || !longest_texts() || !longest_names()) return 3;
     len = fread(file, 1, sizeof file, in);
     fclose(in);
     printf("%zu\n", stack_of(calls) - stack_of(nothing));
