@@ -115,10 +115,10 @@ command_or_no_cursor name given Check in_range is none = elim none.command [
   | inr rows ↦ one_name name (codes "check") (codes "rows") is rows.0 refl
 ]
 
-job_or_no_cursor : (words : List Text) (job : Job) → HasCursors job.command → IsJob words job → IsFault words NotACursor → ⊥
-job_or_no_cursor words job in_range is none =
+job_or_no_cursor : (words : List Text) (job : Job) → IsJob words job → IsFault words NotACursor → ⊥
+job_or_no_cursor words job is none =
     let same = same_uses words none.name is.name none.uses is.uses none.named is.named in
-    command_or_no_cursor is.name (text_in is.uses) job.command in_range is.command
+    command_or_no_cursor is.name (text_in is.uses) job.command is.cursors is.command
     (subst (λ (c : Text × List Use). HasNoCursor c.0 (text_in c.1)) same none.command)
 
 -- two parts that begin with the same text begin at the same place
@@ -225,14 +225,13 @@ one_command names name given Check (Convert other) in_range in_range' first seco
     absurd (one_name name (codes "check") (codes "convert") first second.0 refl)
 one_command names name given Check Check in_range in_range' first second = refl
 
-one_job : TextsNameOne → (words : List Text) (job other : Job) → HasCursors job.command → HasCursors other.command → IsJob words job
-    → IsJob words other → AskTheSame job other
-one_job names words job other in_range in_range' first second =
+one_job : TextsNameOne → (words : List Text) (job other : Job) → IsJob words job → IsJob words other → AskTheSame job other
+one_job names words job other first second =
     let same = same_uses words second.name first.name second.uses first.uses second.named first.named in
     let command = subst (λ (c : Text × List Use). IsCommand c.0 (text_in c.1) other.command) same second.command in
     let file = subst (λ (c : Text × List Use). file_name other ≡ text_in c.1 (codes "FILE")) same second.file in
     record {
-      command = one_command names first.name (text_in first.uses) job.command other.command in_range in_range' first.command command;
+      command = one_command names first.name (text_in first.uses) job.command other.command first.cursors second.cursors first.command command;
       file = first.file ∙ sym file;
     }
 

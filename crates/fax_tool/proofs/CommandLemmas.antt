@@ -20,7 +20,7 @@ use Rattle.fax_tool.specs.code.Outcome.{HasPrintReason, HasReadReason, IsDone, I
 use Rattle.fax_tool.specs.code.Outcome.{WritesOutput}
 use Rattle.fax_tool.specs.code.Transfers.{IsGivenInPart}
 use Rattle.fax_tool.proofs.LineLemmas.{one_pages, row_lines}
-use Rattle.fax_tool.proofs.StopLemmas.{NoText, if_same, if_some, leaves_more, stops_in_part}
+use Rattle.fax_tool.proofs.StopLemmas.{NoText, leaves_more, of_some_file, stops_in_part}
 use Rattle.fax_tool.proofs.TextLemmas.{first_text}
 
 reason_of : (refusal : Refusal) (input : Input) (output : Output) → IsRead input → HasPrintReason refusal output.counts
@@ -62,7 +62,7 @@ module _ (command : Command) (bytes : Option (List ℕ)) (taken : ℕ) (counts :
       → StopsAtBeginning text refusal input output → IsStopped command refusal input output
   stopped_first text refusal first stops = record {
     reason = stops.reason;
-    leaves = if_some _ bytes (λ file.
+    leaves = of_some_file _ bytes (λ file.
         leaves_more NoText (IsTextOf command file) (λ t. t ≡ text) (IsTextAfterMemory command file) refusal output
         (λ printed none. absurd none) (first file) stops.leaves);
   }
@@ -72,18 +72,13 @@ module _ (command : Command) (bytes : Option (List ℕ)) (taken : ℕ) (counts :
         → OnOk answer (HasWorked output.counts) → IfOk answer (IsDone command input output)
     command_done (Err refusal) writes worked = tt
     command_done (Ok line) writes worked =
-        record {
-          read = read;
-          written = worked;
-          writes = if_same (λ f. WritesOutput
-              (IsTextOf command f) output line) bytes file same writes;
-        }
+        record { read = read; written = worked; writes = (file, same, writes) }
 
     pub command_stops : (refusal : Refusal)
         → StopsPrinting (IsTextOf command file) (IsTextAfterMemory command file) refusal output → IsStopped command refusal input output
     command_stops refusal stops = record {
       reason = reason_of refusal input output read stops.reason;
-      leaves = if_same _ bytes file same stops.leaves;
+      leaves = (file, same, stops.leaves);
     }
 
     pub command_stopped : (answer : Result (Option (List ℕ)) Refusal)
@@ -127,14 +122,14 @@ module _ (command : Command) (none : (file : List ℕ) → IsTextAfterMemory com
   pub without_memory : IsRead (input_after bytes taken counts)
       → IsStopped command Memory (input_after bytes taken counts) (output_after old old given)
   without_memory read =
-      record { reason = (read, worked); leaves = if_some _ bytes (λ file. ([], none file, Appends-nil old)) }
+      record { reason = (read, worked); leaves = of_some_file _ bytes (λ file. ([], none file, Appends-nil old)) }
 
   -- the input was not read
   pub whole_unread : (refusal : Refusal) → HasReadReason refusal (input_after bytes taken counts)
       → IsStopped command refusal (input_after bytes taken counts) (output_after old old given)
   whole_unread Memory read = without_memory read
   whole_unread Read unread =
-      record { reason = (unread, worked); leaves = if_some _ bytes (λ file. ([], refl, Appends-nil old)) }
+      record { reason = (unread, worked); leaves = of_some_file _ bytes (λ file. ([], refl, Appends-nil old)) }
   whole_unread Write none = absurd none
 
 -- a text was given in part

@@ -12,13 +12,11 @@ use Rattle.fax_tool.specs.Run.{LeavesText}
 use Rattle.fax_tool.specs.code.Outcome.{StopsPrinting}
 use Rattle.fax_tool.specs.code.Transfers.{IsGivenInPart}
 
-pub if_some : {A : Type 0} (P : A → Type 0) (left : Option A) → ((x : A) → P x) → IfSome left P
-if_some P None all = tt
-if_some P (Some x) all = all x
-
-pub if_same : {A : Type 0} (P : A → Type 0) (left : Option A) (file : A) → IfSome left (λ x. file ≡ x) → P file → IfSome left P
-if_same P None file same holds = tt
-if_same P (Some x) file same holds = rw (← same) holds
+-- some file, which is these bytes where they are known
+pub of_some_file : (P : List ℕ → Type 0) (bytes : Option (List ℕ)) → ((file : List ℕ) → P file)
+    → (file : List ℕ) × IfSome bytes (λ b. file ≡ b) × P file
+of_some_file P None all = ([], tt, all [])
+of_some_file P (Some file) all = (file, refl, all file)
 
 -- no text at all
 abbrev pub NoText : Printed → Type 0

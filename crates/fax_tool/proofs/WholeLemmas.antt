@@ -11,15 +11,14 @@ use Rattle.fax_walk.specs.declared.options.ConvertFault.{ConvertFault}
 use Rattle.fax_walk.specs.declared.options.ConvertFault.TheVariants.{Memory as NoMemory}
 use Rattle.fax_tool.specs.declared.refusal.Refusal.{Refusal}
 use Rattle.fax_tool.specs.declared.words.Command.TheVariants.{Convert, Check}
-use Rattle.fax_tool.specs.Run.{Counts, HasWorked, IsRead, IsTextOf}
+use Rattle.fax_tool.specs.Run.{Counts, HasWorked, IsRead}
 use Rattle.fax_tool.specs.Streams.{input_after, output_after}
 use Rattle.fax_tool.specs.Text.{Printed}
 use Rattle.fax_tool.specs.ReportText.{convert_fault_line, report_text}
 use Rattle.fax_tool.specs.code.ReportParts.{report_output}
-use Rattle.fax_tool.specs.code.Outcome.{IsDone, IsLineOf, IsStopped, WritesOutput, error_of, status_of}
+use Rattle.fax_tool.specs.code.Outcome.{IsDone, IsLineOf, IsStopped, error_of, status_of}
 use Rattle.fax_tool.specs.code.Transfers.{IsGivenInPart}
 use Rattle.fax_tool.proofs.CommandLemmas.{text_stopped}
-use Rattle.fax_tool.proofs.StopLemmas.{if_same}
 
 module _ (bytes : Option (List ℕ)) (file : List ℕ) (same : IfSome bytes (λ b. file ≡ b)) (taken : ℕ) (counts : Counts)
     (read : IsRead (input_after bytes taken counts)) (options : Options) (old new : Option (List ℕ)) (given : Counts) where
@@ -39,13 +38,17 @@ module _ (bytes : Option (List ℕ)) (file : List ℕ) (same : IfSome bytes (λ 
   converted output is moved worked = record {
     read = read;
     written = worked;
-    writes = if_same (λ f. WritesOutput (IsTextOf (Convert options) f) (output_after old new given) None) bytes file same (record {
-      printed = converted_text output;
-      is = inl (output, is, refl);
-      output_is = moved;
-      error_is = refl;
-      status_is = refl;
-    });
+    writes = (
+      file,
+      same,
+      record {
+        printed = converted_text output;
+        is = inl (output, is, refl);
+        output_is = moved;
+        error_is = refl;
+        status_is = refl;
+      },
+    );
   }
 
   pub not_converted : (fault : ConvertFault) (line : List ℕ) → (fault ≢ NoMemory → IsNotConverted file options fault) → IsLineOf fault line
@@ -54,13 +57,17 @@ module _ (bytes : Option (List ℕ)) (file : List ℕ) (same : IfSome bytes (λ 
   not_converted fault line refused is worked = record {
     read = read;
     written = worked;
-    writes = if_same (λ f. WritesOutput (IsTextOf (Convert options) f) (output_after old old given) (Some line)) bytes file same (record {
-      printed = record { output = []; error = convert_fault_line fault; status = 1 };
-      is = inr (fault, refused is.0, refl);
-      output_is = Appends-nil old;
-      error_is = sym is.1;
-      status_is = refl;
-    });
+    writes = (
+      file,
+      same,
+      record {
+        printed = record { output = []; error = convert_fault_line fault; status = 1 };
+        is = inr (fault, refused is.0, refl);
+        output_is = Appends-nil old;
+        error_is = sym is.1;
+        status_is = refl;
+      },
+    );
   }
 
 report_output_is : (report : Report) → (report_text report).output ≡ report_output report
@@ -81,11 +88,15 @@ module _ (bytes : Option (List ℕ)) (file : List ℕ) (same : IfSome bytes (λ 
   checked line moved worked error status = record {
     read = read;
     written = worked;
-    writes = if_same (λ f. WritesOutput (IsTextOf Check f) (output_after old new given) line) bytes file same (record {
-      printed = report_text report;
-      is = (report, is, refl);
-      output_is = rw (text_is ∙ sym (report_output_is report)) at moved;
-      error_is = error;
-      status_is = status;
-    });
+    writes = (
+      file,
+      same,
+      record {
+        printed = report_text report;
+        is = (report, is, refl);
+        output_is = rw (text_is ∙ sym (report_output_is report)) at moved;
+        error_is = error;
+        status_is = status;
+      },
+    );
   }

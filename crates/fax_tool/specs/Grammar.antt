@@ -1,5 +1,4 @@
--- The words of a command line: how the uses of a command's items are written. Bytes are those of
--- UTF-8.
+-- The words of a command line: how uses of a command's items are written, in bytes of UTF-8.
 -- A definition without a citation is this project's profile.
 use Rattle.std.specs.Prelude.{◌≡◌, ◌≢◌, ◌⊎◌, ◌<◌, ◌≤◌, ℕ, List, [], ◌∷◌, ◌++◌, codes, map}
 use Rattle.std.specs.Prelude.{Option, Some, find, option_map, slice_get}

@@ -81,12 +81,19 @@ IsCommand name given (Rows part) =
 IsCommand name given (Convert options) = (name ≡ codes "convert") × AreOptions given options
 IsCommand name given Check = name ≡ codes "check"
 
+-- a command's cursor is one, as not each `Cursor` is, and so is its `LongPlace`, which has a run
+abbrev pub HasCursors : Command → Type 0
+HasCursors (Forms part) = IsCursor part.cursor
+HasCursors (Rows part) = IsCursor part.cursor × IfSome part.from IsLongCursor
+HasCursors other = Unit {0}
+
 -- the words give this job
 pub record IsJob (words : List Text) (job : Job) : Type 0 where
   pub name : Text
   pub uses : List Use
   pub named : AreOfCommand words name uses
   pub command : IsCommand name (text_in uses) job.command
+  pub cursors : HasCursors job.command
   pub file : option_map string_bytes job.file ≡ text_in uses (codes "FILE")
 
 -- what is given after `convert` names no target, or one without EOLs where these are to be aligned
@@ -128,9 +135,3 @@ HasRanges (Rows part) = IfSome part.max (IsInRange most_lines)
 HasRanges (Convert options) =
     IsInRange most_rows options.k × IfSome options.strip (IsInRange most_rows)
 HasRanges Check = Unit {0}
-
--- a command's cursor is one, as not each `Cursor` is, and so is its `LongPlace`, which has a run
-abbrev pub HasCursors : Command → Type 0
-HasCursors (Forms part) = IsCursor part.cursor
-HasCursors (Rows part) = IsCursor part.cursor × IfSome part.from IsLongCursor
-HasCursors other = Unit {0}

@@ -21,15 +21,13 @@ pub record Counts : Type 0 where
   pub interrupted : ℕ
   pub failed : ℕ
 
--- an input after a run: its bytes before it, where they are known, how many were taken, and its
--- counts
+-- an input after a run: its bytes before it, where known, how many were taken, and its counts
 pub record Input : Type 0 where
   pub bytes : Option (List ℕ)
   pub taken : ℕ
   pub counts : Counts
 
--- an output after a run: what was written before it and after it, where that is known, and its
--- counts
+-- an output after a run: what was written before it and after it, where known, and its counts
 pub record Output : Type 0 where
   pub before : Option (List ℕ)
   pub after : Option (List ℕ)
@@ -127,13 +125,15 @@ LeavesText is after_memory refusal output =
     (text : List ℕ) × IsTextLeft is after_memory refusal text
     × Appends output.before output.after text
 
--- a run that was not refused: it wrote the output of its command's text, and this is so of it
+-- a run that was not refused: it wrote the output of its command's text, which is that of the
+-- input, or of some file where its bytes are not known, and this is so of the text
 pub record WritesOutputOf (command : Command) (input : Input) (output : Output)
     (is_said : Printed → Type 0) : Type 0 where
   pub read : IsRead input
   pub written : HasWorked output.counts
-  pub text : IfSome input.bytes (λ file. (printed : Printed) × IsTextOf command file printed
-      × Appends output.before output.after printed.output × is_said printed)
+  pub text : (file : List ℕ) × IfSome input.bytes (λ bytes. file ≡ bytes)
+      × (printed : Printed) × IsTextOf command file printed
+      × Appends output.before output.after printed.output × is_said printed
 
 -- and its error stream worked too: it wrote the text's error line, and the status is the text's
 abbrev pub WritesText : Command → Input → Output → Output → ℕ → Type 0
@@ -145,8 +145,8 @@ WritesText command input output error status = HasWorked error.counts
 pub record SaysRefusal (command : Command) (refusal : Refusal) (input : Input)
     (output error : Output) : Type 0 where
   pub reason : HasReason refusal input output
-  pub leaves : IfSome input.bytes (λ file. LeavesText (IsTextOf command file)
-      (IsTextAfterMemory command file) refusal output)
+  pub leaves : (file : List ℕ) × IfSome input.bytes (λ bytes. file ≡ bytes)
+      × LeavesText (IsTextOf command file) (IsTextAfterMemory command file) refusal output
   pub said : HasFailed error.counts ⊎ Appends error.before error.after (refusal_line refusal)
 
 -- a run with status 3: its error stream failed alone, or it was refused

@@ -1,6 +1,7 @@
 //! The streams that a run reads and writes.
 ghost use Rattle.std.specs.Prelude.{◌≡◌, ℕ, ◌<◌, ◌≤◌, length, take, Option, List, IfOk, IfErr};
-ghost use Rattle.std.specs.Prelude.{OnOk, Result};
+ghost use Rattle.std.specs.Prelude.{Err, OnOk, Result};
+ghost use Rattle.fax_tool.specs.declared.streams.StreamFault.TheVariants.{Failed};
 ghost use Rattle.std.specs.Io.KnownBytes.{Appends, Consumes, IsAtEnd, Keeps};
 ghost use Rattle.fax_tool.specs.Run.{Counts};
 ghost use Rattle.fax_tool.specs.Streams.{GivesBytes, TakesBytes, counts_after, no_faults};
@@ -123,6 +124,19 @@ impl<R: io::Read> FromRead<R> {
             taken: 0,
             faults: FaultCounts::NONE,
         }
+    }
+
+    /// Counts a call that failed apart from the reader.
+    pub fn count_failure(&mut self)
+        ensures reader { reader_of self.new ≡ reader_of self.old }
+        ensures left { ⟦<FromRead<R> as Source>⟧.left self.new
+            ≡ ⟦<FromRead<R> as Source>⟧.left self.old }
+        ensures taken { ⟦<FromRead<R> as Source>⟧.taken self.new
+            ≡ ⟦<FromRead<R> as Source>⟧.taken self.old }
+        ensures counts { ⟦<FromRead<R> as Source>⟧.counts self.new
+            ≡ counts_after (Err Failed) (⟦<FromRead<R> as Source>⟧.counts self.old) }
+    {
+        let _counted = self.faults.count(StreamFault::Failed);
     }
 
     /// The reader, after the bytes that were taken.

@@ -442,7 +442,6 @@ fn see_texts(words: &[&str])
 pub fn parse_words(alloc: Global, words: &[&str]) -> Result<Job, WordsFault>
     ensures job { IfOk result (λ job. IsJob (texts words.now) job) }
     ensures ranges { IfOk result (λ job. HasRanges job.command) }
-    ensures cursors { IfOk result (λ job. HasCursors job.command) }
     ensures fault { IfErr result (λ fault. IsFault (texts words.now) fault) }
 {
     see_texts(words);

@@ -50,14 +50,15 @@ pub record IsDone (command : Command) (input : Input) (output : Output)
     (line : Option (List ℕ)) : Type 0 where
   pub read : IsRead input
   pub written : HasWorked output.counts
-  pub writes : IfSome input.bytes (λ file. WritesOutput (IsTextOf command file) output line)
+  pub writes : (file : List ℕ) × IfSome input.bytes (λ bytes. file ≡ bytes)
+      × WritesOutput (IsTextOf command file) output line
 
 -- a command was refused, for a reason, and has left what it has to
 pub record IsStopped (command : Command) (refusal : Refusal) (input : Input)
     (output : Output) : Type 0 where
   pub reason : HasReason refusal input output
-  pub leaves : IfSome input.bytes (λ file. LeavesText (IsTextOf command file)
-      (IsTextAfterMemory command file) refusal output)
+  pub leaves : (file : List ℕ) × IfSome input.bytes (λ bytes. file ≡ bytes)
+      × LeavesText (IsTextOf command file) (IsTextAfterMemory command file) refusal output
 
 -- the input failed, or is too long
 abbrev pub IsUnread : Input → Type 0

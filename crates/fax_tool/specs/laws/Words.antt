@@ -2,7 +2,7 @@
 -- A definition without a citation is this project's profile.
 use Rattle.std.specs.Prelude.{◌≡◌, List}
 use Rattle.fax_tool.specs.Grammar.{Text}
-use Rattle.fax_tool.specs.Job.{HasCursors, IsFault, IsJob}
+use Rattle.fax_tool.specs.Job.{IsFault, IsJob}
 use Rattle.fax_tool.specs.Program.{file_name}
 use Rattle.fax_tool.specs.declared.words.Job.{Job}
 use Rattle.fax_tool.specs.declared.words.WordsFault.TheVariants.{NotACursor, Usage}
@@ -15,11 +15,9 @@ pub record AskTheSame (job other : Job) : Type 0 where
 -- the words give a job, or are those of no command, or name no cursor: no two of these, and no two
 -- jobs that differ
 pub record HaveOneAnswer (words : List Text) : Type 0 where
-  pub one_job : (job other : Job) → HasCursors job.command → HasCursors other.command
-      → IsJob words job → IsJob words other → AskTheSame job other
+  pub one_job : (job other : Job) → IsJob words job → IsJob words other → AskTheSame job other
   pub job_or_usage : (job : Job) → IsJob words job → ¬ IsFault words Usage
-  pub job_or_no_cursor : (job : Job) → HasCursors job.command → IsJob words job
-      → ¬ IsFault words NotACursor
+  pub job_or_no_cursor : (job : Job) → IsJob words job → ¬ IsFault words NotACursor
   pub usage_or_no_cursor : IsFault words Usage → ¬ IsFault words NotACursor
 
 abbrev pub WordsHaveOneAnswer : Type 0

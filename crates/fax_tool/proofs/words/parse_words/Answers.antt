@@ -75,6 +75,7 @@ returns-clause-job c =
       uses = of.0;
       named = read_is_of_command (texts c.args.words.now) c.in-Some.name.now of.0 (utf8 (goal.at.returns-clause-job c).In-Some) of.1;
       command = command_agrees entries of.0 of.2 c.in-Some.name.now c.in_ok-command_of.field-0 c.in_ok-command_of.ensures.command;
+      cursors = c.in_ok-command_of.ensures.cursors;
       file = c.in_ok-file_of.ensures ∙ of.2.name;
     }
 
