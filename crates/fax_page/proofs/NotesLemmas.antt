@@ -14,7 +14,8 @@ use Rattle.fax_page.specs.declared.notes.NotesFault.{NotesFault}
 use Rattle.fax_page.specs.declared.notes.NotesFault.TheVariants.{Memory, Strip}
 use Rattle.fax_page.specs.declared.notes.StripNotes.{StripNotes}
 use Rattle.fax_page.specs.Lines.{BeginsBelowEleven, IsCause, IsLine, IsRowIn, white_row}
-use Rattle.fax_page.specs.Strip.{AreLines, IsStrip}
+use Rattle.fax_page.specs.Strip.{AreLines}
+use Rattle.fax_page.specs.views.Strip.{IsStrip}
 use Rattle.fax_page.proofs.StripLaws.{EndsAt, no_rows}
 use Rattle.fax_page.specs.Strip.{row_bits}
 use Rattle.fax_page.specs.laws.Strips.{ReadsLinesOneWay}

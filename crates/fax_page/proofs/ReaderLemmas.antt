@@ -6,7 +6,8 @@ use Rattle.fax_bits.specs.Bits.{bits}
 use Rattle.fax_page.specs.declared.StripForm.{StripForm}
 use Rattle.fax_page.specs.declared.StripFault.{StripFault}
 use Rattle.fax_page.specs.Lines.{IsLine, IsCause}
-use Rattle.fax_page.specs.Strip.{AreLines, IsStrip}
+use Rattle.fax_page.specs.Strip.{AreLines}
+use Rattle.fax_page.specs.views.Strip.{IsStrip}
 use Rattle.fax_page.proofs.StripLaws.{EndsAt, no_rows}
 use Rattle.fax_page.specs.views.Reader.{StripState, bits_left, strip_after, ReadsRow, IsAtEnd, MeetsFault, IsAdvance}
 use Rattle.fax_page.specs.laws.Reader.{HasRead, HasReadFrom}

@@ -23,12 +23,6 @@ AreLines form i reference b (row ∷ rows) end left =
     (rest : List Bool) × (i < form.rows) × IsLine form i reference b row rest
     × AreLines form (i + 1) row rest rows end left
 
--- the bits are a strip with these rows and this end
-pub record IsStrip (form : StripForm) (b : List Bool) (rows : List (List Colour))
-    (end : Option StripFault) : Type 0 where
-  pub left : List Bool
-  pub lines : AreLines form 0 (white_row form.width) b rows end left
-
 -- EOL: eleven zeros and a 1 (T.4, section 4.1.2)
 abbrev pub end_of_line : List Bool
 end_of_line = replicate 11 false ++ true ∷ []

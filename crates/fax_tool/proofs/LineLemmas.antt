@@ -3,7 +3,7 @@ use Rattle.std.proofs.Common.{◌≡◌, ℕ, zero, suc, ◌+◌, inl, inr, Bool
 use Rattle.std.proofs.Common.{Option, Some, None, Result, Ok, Err, refl, sym, ap, ◌∙◌, arith, subst}
 use Rattle.std.proofs.lemmas.Option.{slice_get_within, slice_get-map}
 use Rattle.std.proofs.lemmas.List.{length-map}
-use Rattle.std.specs.Prelude.{slice_get, if◌then◌else◌, nat_lt, nat_le, ◌==◌, ◌%◌}
+use Rattle.std.specs.Prelude.{slice_get, if◌then◌else◌, nat_lt, ◌^◌, ◌==◌, ◌%◌}
 use Rattle.std.specs.Prelude.{option_map, IfOk}
 use Rattle.fax_bits.specs.declared.Colour.{Colour}
 use Rattle.fax_bits.specs.declared.Memory.{Memory as NoMemory}
@@ -53,7 +53,7 @@ none_given begun one given none = rw none (record { lines = one.items; end = one
 abbrev long_at : ℕ → ℕ → Option Inner → Option LongPlace
 long_at p r None = None
 long_at p r (Some inner) =
-    if nat_le inner.bits 4294967295 then (Some (record {
+    if nat_lt inner.bits (2 ^ 32) then (Some (record {
       at = record { page = p; row = r };
       bits = inner.bits;
       runs = runs_of inner.reference;

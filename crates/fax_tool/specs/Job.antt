@@ -1,6 +1,6 @@
 -- Which job the words of a command line give.
 -- A definition without a citation is this project's profile.
-use Rattle.std.specs.Prelude.{◌≡◌, ◌≢◌, ◌⊎◌, ◌==◌, ◌<◌, ◌≤◌, ℕ, Bool, true, false, List, Option}
+use Rattle.std.specs.Prelude.{◌≡◌, ◌≢◌, ◌⊎◌, ◌==◌, ℕ, Bool, true, false, List, Option}
 use Rattle.std.specs.Prelude.{Some, None, IfSome, codes, if◌then◌else◌, unwrap_or, option_and_then}
 use Rattle.std.specs.Prelude.{option_map, MatchOption}
 use Rattle.std.specs.Option.{option_map_or}
@@ -9,7 +9,6 @@ use Rattle.std.specs.Str.Parse.{digits_value, without_leading_plus}
 use Rattle.std.specs.String.{string_bytes}
 use Rattle.fax_bits.specs.declared.FillOrder.{FillOrder}
 use Rattle.fax_bits.specs.declared.FillOrder.TheVariants.{LsbFirst, MsbFirst}
-use Rattle.fax_files.specs.Page.{most_rows}
 use Rattle.fax_tool.specs.Run.{begun_of}
 use Rattle.fax_tool.specs.Text.{At, Cursor}
 use Rattle.fax_walk.specs.Items.{begun_cursor, begun_text}
@@ -18,7 +17,7 @@ use Rattle.fax_walk.specs.declared.options.Target.{Target}
 use Rattle.fax_walk.specs.declared.options.Target.TheVariants.{Mh, Mmr, Mr, Pbm}
 use Rattle.fax_walk.specs.Pages.{IsCursor, cursor_text, start, IsLongCursor, LongPlace}
 use Rattle.fax_walk.specs.Pages.{long_cursor_text}
-use Rattle.fax_tool.specs.Grammar.{AreOfCommand, AreOfNoCommand, Text, Use, most_lines, text_in}
+use Rattle.fax_tool.specs.Grammar.{AreOfCommand, AreOfNoCommand, Text, Use, text_in}
 use Rattle.fax_tool.specs.declared.words.Command.{Command}
 use Rattle.fax_tool.specs.declared.words.Command.TheVariants.{Check, Convert, List as Forms, Rows}
 use Rattle.fax_tool.specs.declared.words.Job.{Job}
@@ -124,14 +123,3 @@ IsFault words Usage = AreOfNoCommand words
     ⊎ AreRefused words (λ name given. (name ≡ codes "convert") × HasNoTarget given)
 IsFault words NotACursor = AreRefused words HasNoCursor
 IsFault words Memory = Unit {0}
-
--- the numbers of a command are in their ranges
-abbrev pub IsInRange : ℕ → ℕ → Type 0
-IsInRange most number = (0 < number) × (number ≤ most)
-
-abbrev pub HasRanges : Command → Type 0
-HasRanges (Forms part) = IfSome part.max (IsInRange most_lines)
-HasRanges (Rows part) = IfSome part.max (IsInRange most_lines)
-HasRanges (Convert options) =
-    IsInRange most_rows options.k × IfSome options.strip (IsInRange most_rows)
-HasRanges Check = Unit {0}

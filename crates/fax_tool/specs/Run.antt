@@ -7,8 +7,8 @@ use Rattle.std.specs.Io.KnownBytes.{Appends}
 use Rattle.fax_files.specs.Directory.{max_file}
 use Rattle.fax_tool.specs.Text.{Begun, At, Inside, Cursor, End, Line, Printed}
 use Rattle.fax_tool.specs.Text.{line_of_page, line_of_row, text_of}
-use Rattle.fax_walk.specs.Pages.{FormItem, IsFormTail}
-use Rattle.fax_walk.specs.Items.{RowItem, IsTailFrom}
+use Rattle.fax_walk.specs.Pages.{IsFormTail}
+use Rattle.fax_walk.specs.Items.{IsTailFrom}
 use Rattle.fax_tool.specs.declared.refusal.Refusal.{Refusal}
 use Rattle.fax_tool.specs.declared.refusal.Refusal.TheVariants.{Memory, Read, Write}
 use Rattle.fax_tool.specs.declared.words.Command.{Command}
@@ -61,18 +61,19 @@ HasReason Read input output =
     (HasFailed input.counts ⊎ (max_file < input.taken)) × HasWorked output.counts
 HasReason Write input output = IsRead input × HasFailed output.counts
 
--- these lines and this end are what a walk hands out that begins so: the lines of its rows
-pub record AreRowLines (file : List ℕ) (begun : Begun) (lines : List Line)
-    (end : End) : Type 0 where
-  pub items : List RowItem
-  pub tail : IsTailFrom file begun items end
-  pub lines_are : lines ≡ map line_of_row items
+-- these lines and this end are those of what is handed out so: the lines of its items
+pub record AreLinesOf {A : Type 0} (line_of : A → Line) (are : List A → End → Type 0)
+    (lines : List Line) (end : End) : Type 0 where
+  pub items : List A
+  pub tail : are items end
+  pub lines_are : lines ≡ map line_of items
 
--- these lines and this end are what follows a cursor in a file: the lines of its pages
-pub record ArePageLines (file : List ℕ) (at : Cursor) (lines : List Line) (end : End) : Type 0 where
-  pub items : List FormItem
-  pub tail : IsFormTail file at items end
-  pub lines_are : lines ≡ map line_of_page items
+-- the lines of a file's pages from a cursor on, and those of its rows from any beginning on
+abbrev pub ArePageLines : List ℕ → Cursor → List Line → End → Type 0
+ArePageLines file at = AreLinesOf line_of_page (IsFormTail file at)
+
+abbrev pub AreRowLines : List ℕ → Begun → List Line → End → Type 0
+AreRowLines file begun = AreLinesOf line_of_row (IsTailFrom file begun)
 
 -- the text of such lines, which began so, up to a limit, and of their end, with long cursors or
 -- without

@@ -10,7 +10,7 @@ ghost use Rattle.fax_walk.specs.declared.options.Target.TheVariants.{Mmr, Pbm};
 ghost use Rattle.fax_tool.specs.declared.words.WordsFault.TheVariants.{Usage as BadWords};
 ghost use Rattle.fax_tool.specs.Grammar.{Text, most_lines, texts};
 ghost use Rattle.fax_walk.specs.Pages.{IsCursor, IsLongCursor};
-ghost use Rattle.fax_tool.specs.Job.{AreOptions, HasCursors, HasNoTarget, HasRanges, IsCommand};
+ghost use Rattle.fax_tool.specs.Job.{AreOptions, HasCursors, HasNoTarget, IsCommand};
 ghost use Rattle.fax_tool.specs.Job.{IsFault, IsJob, IsPart, is_set};
 ghost use Rattle.fax_tool.specs.Job.{number_in, order_by, target_in};
 ghost use Rattle.fax_tool.specs.Run.{HasFailed};
@@ -406,7 +406,6 @@ fn command_of(alloc: Global, name: &str, matches: &ArgMatches) -> Result<Command
     requires { HasEntries name.now (entries_of matches.now) }
     ensures command { IfOk result (λ command.
         IsCommand name.now (given_by (entries_of matches.now)) command) }
-    ensures ranges { IfOk result (λ command. HasRanges command) }
     ensures cursors { IfOk result (λ command. HasCursors command) }
     ensures fault { IfErr result (λ fault.
         IsCommandFault name.now (given_by (entries_of matches.now)) fault) }
@@ -441,7 +440,6 @@ fn see_texts(words: &[&str])
 /// are those of a command, but for the text of `--cursor`. `Memory` where a growth was refused.
 pub fn parse_words(alloc: Global, words: &[&str]) -> Result<Job, WordsFault>
     ensures job { IfOk result (λ job. IsJob (texts words.now) job) }
-    ensures ranges { IfOk result (λ job. HasRanges job.command) }
     ensures fault { IfErr result (λ fault. IsFault (texts words.now) fault) }
 {
     see_texts(words);

@@ -19,7 +19,8 @@ use Rattle.fax_files.specs.laws.Pbm.{ImagesAreReadInOneWay}
 use Rattle.fax_page.specs.declared.StripFault.{StripFault}
 use Rattle.fax_page.specs.declared.StripForm.{StripForm}
 use Rattle.fax_page.specs.declared.notes.StripNotes.{StripNotes}
-use Rattle.fax_page.specs.Strip.{IsNotedAs, IsStrip}
+use Rattle.fax_page.specs.Strip.{IsNotedAs}
+use Rattle.fax_page.specs.views.Strip.{IsStrip}
 use Rattle.fax_page.specs.laws.Strips.{ReadsStripsOneWay, StripsAreNotedInOneWay}
 use Rattle.fax_walk.specs.declared.cursor.Cursor.{Cursor}
 use Rattle.fax_walk.specs.declared.end.End.{End}
@@ -251,12 +252,15 @@ module _ (strips_once : (form : StripForm) → ReadsStripsOneWay form) (noted_on
       let lists : notes ≡ others = is ∙ ap (notes_on_strip p s) same ∙ sym is' in
       let places : to ≡ place = to_is ∙ sym to_is' in
       ap (λ l. goes_on l to) lists ∙ ap (λ t. goes_on others t) places
-  single_strip form p s (Some bytes) (goes_on notes to) (ends_as end) (rows, found, noted, is, to_is) (rows', fault, strip, is') =
-      absurd (noted_or_fault (strip_form form s) (bits form.order bytes) rows rows' found fault noted strip)
-  single_strip form p s (Some bytes) (ends_as end) (goes_on others place) (rows', fault, strip, is') (rows, found, noted, is, to_is) =
-      absurd (noted_or_fault (strip_form form s) (bits form.order bytes) rows rows' found fault noted strip)
-  single_strip form p s (Some bytes) (ends_as end) (ends_as other) (rows, fault, strip, is) (rows', fault', strip', is') =
-      let same = two_of (strips_once (strip_form form s) (bits form.order bytes)) rows rows' (Some fault) (Some fault') strip strip' in
+  single_strip form p s (Some bytes) (goes_on notes to) (ends_as end) (rows, found, noted, is, to_is) (rows', fault, left, lines, is') =
+      absurd (noted_or_fault (strip_form form s) (bits form.order bytes) rows rows' found fault noted (record { left = left; lines = lines }))
+  single_strip form p s (Some bytes) (ends_as end) (goes_on others place) (rows', fault, left, lines, is') (rows, found, noted, is, to_is) =
+      absurd (noted_or_fault (strip_form form s) (bits form.order bytes) rows rows' found fault noted (record { left = left; lines = lines }))
+  single_strip form p s (Some bytes) (ends_as end) (ends_as other) (rows, fault, left, lines, is) (rows', fault', left', lines', is') =
+      let b = bits form.order bytes in
+      let strip : IsStrip (strip_form form s) b rows (Some fault) = record { left = left; lines = lines } in
+      let strip' : IsStrip (strip_form form s) b rows' (Some fault') = record { left = left'; lines = lines' } in
+      let same = two_of (strips_once (strip_form form s) b) rows rows' (Some fault) (Some fault') strip strip' in
       let faults : fault ≡ fault' = cc (same.1) in
       let ends : end ≡ other =
       is ∙ ap (λ (l : List (List Colour)). Fault p (s * form.rows_per_strip + length l) (Strip fault)) same.0

@@ -1,7 +1,7 @@
 -- Cursors after items have numbers of 32 bits.
 use Rattle.std.proofs.Common.{◌≡◌, ℕ, ◌+◌, ◌^◌, ◌<◌, true, false, List, [], ◌∷◌, length, drop, Option, Some, None, Ok, Err}
 use Rattle.std.proofs.Common.{Result, refl, sym, ap, ◌∙◌, subst, arith}
-use Rattle.std.specs.Prelude.{if◌then◌else◌, nat_le, slice_get}
+use Rattle.std.specs.Prelude.{if◌then◌else◌, nat_lt, slice_get}
 use Rattle.std.specs.List.{All}
 use Rattle.std.proofs.lemmas.Bool.Decides.{nat_tests}
 use Rattle.std.proofs.lemmas.List.Elements.{All-cons, All-nil}
@@ -96,5 +96,5 @@ places_are_short forms chains file begun all end n item place short tail there l
     } in
     subst IsLongCursor fact.is found
   where
-    by_test : nat_le item.bits 4294967295 ≡ true → item.bits < 2 ^ 32
+    by_test : nat_lt item.bits (2 ^ 32) ≡ true → item.bits < 2 ^ 32
     by_test is = grind (arith, nat_tests)

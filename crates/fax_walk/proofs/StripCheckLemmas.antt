@@ -12,7 +12,7 @@ use Rattle.fax_page.specs.declared.StripFault.{StripFault}
 use Rattle.fax_page.specs.declared.notes.NotesFault.{NotesFault}
 use Rattle.fax_page.specs.declared.notes.NotesFault.TheVariants.{Memory, Strip as RowOfStrip}
 use Rattle.fax_page.specs.declared.notes.StripNotes.{StripNotes}
-use Rattle.fax_page.specs.Strip.{IsStrip}
+use Rattle.fax_page.specs.views.Strip.{IsStrip}
 use Rattle.fax_page.specs.Strip.{IsNotedAs}
 use Rattle.fax_page.specs.views.Strip.{IsNotesFault}
 use Rattle.fax_files.specs.declared.Cause.{Cause}
@@ -202,7 +202,7 @@ module _ (by_place : AreBitsByPlace) (directory : TiffDirectory) (form : PageFor
       fault_after few s (length rows) (Strip fault) old new due (inside_page s bytes rows fault due strip) so_far
       (rw (at_strip s due) (record {
         found = [];
-        are = noted_on s (ends_as end) (rw there (rows, fault, strip, refl));
+        are = noted_on s (ends_as end) (rw there (rows, fault, strip.left, strip.lines, refl));
         notes_are = refl;
         items = read.items;
         are_rows = ended_at (IsRow file) (first_at p (s * n)) read.to read.items end read.lead read.there;

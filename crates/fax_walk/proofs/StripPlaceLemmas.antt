@@ -8,7 +8,8 @@ use Rattle.fax_bits.specs.declared.Colour.{Colour}
 use Rattle.fax_rows.specs.Rows.{other}
 use Rattle.fax_page.specs.declared.StripForm.{StripForm}
 use Rattle.fax_page.specs.declared.StripFault.{StripFault}
-use Rattle.fax_page.specs.Strip.{AreLines, IsStrip}
+use Rattle.fax_page.specs.Strip.{AreLines}
+use Rattle.fax_page.specs.views.Strip.{IsStrip}
 use Rattle.fax_files.specs.declared.PageForm.{PageForm}
 use Rattle.fax_files.specs.laws.Files.{shown}
 use Rattle.fax_walk.specs.Items.{exchanged}

@@ -6,7 +6,8 @@ use Rattle.fax_bits.specs.Bits.{bits}
 use Rattle.fax_page.specs.declared.StripForm.{StripForm}
 use Rattle.fax_page.specs.declared.StripFault.{StripFault}
 use Rattle.fax_page.specs.Lines.{white_row}
-use Rattle.fax_page.specs.Strip.{AreLines, IsStrip}
+use Rattle.fax_page.specs.Strip.{AreLines}
+use Rattle.fax_page.specs.views.Strip.{IsStrip}
 use Rattle.fax_page.specs.views.Reader.{IsAdvance, IsAtEnd, MeetsFault, ReadsRow, StripState}
 use Rattle.fax_page.specs.views.Reader.{bits_left, strip_after}
 

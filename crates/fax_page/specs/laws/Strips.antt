@@ -9,7 +9,8 @@ use Rattle.fax_bits.specs.Bits.{bits}
 use Rattle.fax_bits.specs.laws.Codes.{IsReadInOneWay, IsOne}
 use Rattle.fax_page.specs.declared.StripFault.{StripFault}
 use Rattle.fax_page.specs.views.Strip.{IsStripForm}
-use Rattle.fax_page.specs.Strip.{IsNotedAs, IsStrip}
+use Rattle.fax_page.specs.Strip.{IsNotedAs}
+use Rattle.fax_page.specs.views.Strip.{IsStrip}
 use Rattle.fax_page.specs.declared.notes.StripNotes.{StripNotes}
 use Rattle.fax_page.specs.Strip.{end_of_line, fill_zeros, coded_bits, coded_strip}
 

@@ -1,12 +1,14 @@
 -- The limits of a strip, and how a strip without notes is told.
 -- A definition without a citation is this project's profile.
-use Rattle.std.specs.Prelude.{◌≡◌, ◌≢◌, ◌<◌, ◌≤◌, ◌^◌, Bool, true, List, length, Some, ⊤}
+use Rattle.std.specs.Prelude.{◌≡◌, ◌≢◌, ◌<◌, ◌≤◌, ◌^◌, Bool, true, List, length, Option, Some, ⊤}
 use Rattle.fax_bits.specs.declared.Colour.{Colour}
 use Rattle.fax_page.specs.declared.Coding.TheVariants.{Mmr}
 use Rattle.fax_page.specs.declared.StripForm.{StripForm}
 use Rattle.fax_page.specs.declared.notes.NotesFault.{NotesFault}
 use Rattle.fax_page.specs.declared.notes.NotesFault.TheVariants.{Memory, Strip}
-use Rattle.fax_page.specs.Strip.{IsStrip}
+use Rattle.fax_page.specs.declared.StripFault.{StripFault}
+use Rattle.fax_page.specs.Lines.{white_row}
+use Rattle.fax_page.specs.Strip.{AreLines}
 
 -- a strip's limits: rows of 1 to 65,535 pels, and 1 to 1,000,000 of them; EOLs are aligned only
 -- where rows have them
@@ -16,6 +18,12 @@ pub record IsStripForm (form : StripForm) : Type 0 where
   pub some_rows : 0 < form.rows
   pub few_rows : form.rows ≤ 1000000
   pub aligned : form.aligned ≡ true → form.coding ≢ Mmr
+
+-- the bits are a strip with these rows and this end
+pub record IsStrip (form : StripForm) (b : List Bool) (rows : List (List Colour))
+    (end : Option StripFault) : Type 0 where
+  pub left : List Bool
+  pub lines : AreLines form 0 (white_row form.width) b rows end left
 
 -- a strip has no notes: this row of it cannot be read. Of want of memory nothing is said
 abbrev pub IsNotesFault : StripForm → List Bool → NotesFault → Type 0

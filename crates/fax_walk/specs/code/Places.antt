@@ -1,6 +1,6 @@
 -- Places of rows.
 -- A definition without a citation is this project's profile.
-use Rattle.std.specs.Prelude.{◌≡◌, ℕ, ◌+◌, ◌*◌, ◌/◌, ◌%◌, ◌≤◌, ◌==◌, nat_lt, nat_le, if◌then◌else◌}
+use Rattle.std.specs.Prelude.{◌≡◌, ℕ, ◌+◌, ◌*◌, ◌/◌, ◌%◌, ◌^◌, ◌≤◌, ◌==◌, nat_lt, if◌then◌else◌}
 use Rattle.std.specs.Prelude.{List, [], ◌⊎◌, length}
 use Rattle.std.specs.Prelude.{drop, Option, Some, None, Result, Ok, Err, IfSome}
 use Rattle.fax_bits.specs.Bits.{bits}
@@ -16,7 +16,7 @@ use Rattle.fax_walk.specs.declared.end.End.TheVariants.{Outside}
 use Rattle.fax_walk.specs.Pages.{LongPlace}
 use Rattle.fax_walk.specs.Pages.{AreFrom, FilePage, IsOnPage, Step}
 use Rattle.fax_walk.specs.Items.{IsInnerOn, IsRow, inner_at, Inner, RowItem, RowPlace, before, begun_cursor, exchanged}
-use Rattle.fax_walk.specs.Items.{first_at, most_bits}
+use Rattle.fax_walk.specs.Items.{first_at}
 
 -- the cursor of a place
 abbrev pub cursor_at : RowPlace → Cursor
@@ -109,7 +109,7 @@ place_over form item =
 abbrev pub long_at : ℕ → ℕ → Option Inner → Option LongPlace
 long_at p r None = None
 long_at p r (Some inner) =
-    if nat_le inner.bits most_bits then (Some (record {
+    if nat_lt inner.bits (2 ^ 32) then (Some (record {
       at = record { page = p; row = r };
       bits = inner.bits;
       runs = runs_of inner.reference;
