@@ -27,5 +27,6 @@ pub mod PackedLemmas
 pub mod LaneLemmas
 pub mod WrittenRunLemmas
 pub mod PairLemmas
+pub mod VerticalLemmas
 pub mod LookUpLemmas
 pub mod LookedAtLemmas

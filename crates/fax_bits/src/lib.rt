@@ -13,6 +13,8 @@ mod put;
 mod runs;
 mod sink;
 mod source;
+mod vertical_indexes;
+mod verticals;
 mod window;
 
 pub use codes::{CodeEntry, CodeFault, CodeTable, read_code};
@@ -25,6 +27,7 @@ pub use runs::{BlackRuns, LONGEST_MAKE_UP, RunCode, WhiteRuns};
 pub use sink::BitSink;
 pub use source::BitSource;
 use thiserror::Error;
+pub use verticals::Verticals;
 
 /// The colour of a pel.
 #[derive(Clone, Copy, Debug, PartialEq, Eq)]

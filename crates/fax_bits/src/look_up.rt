@@ -6,6 +6,7 @@ ghost use Rattle.fax_bits.specs.Tables.{modes};
 ghost use Rattle.fax_bits.specs.Written.{run_bits};
 ghost use Rattle.fax_bits.specs.views.Pairs.{IsPairRead};
 ghost use Rattle.fax_bits.specs.views.Source.{KeepsEnd};
+ghost use Rattle.fax_bits.specs.views.Verticals.{AreVerticalsRead};
 ghost use Rattle.fax_bits.specs.Bits.{code_bits};
 ghost use Rattle.fax_bits.specs.code.LookUp.{IsBegun, IsOneRun};
 
@@ -13,6 +14,7 @@ use crate::codes::LONGEST_CODE;
 use crate::modes::{ModeCode, find_mode};
 use crate::pairs::{Pair, find_pair};
 use crate::runs::{RunCode, find_run_code};
+use crate::verticals::{Verticals, find_verticals};
 use crate::{BitSource, Colour};
 
 /// How many bits are looked at: those of a make-up code and a terminating code, and some more.
@@ -108,6 +110,23 @@ impl<'a> BitSource<'a> {
         let (len, mode) = find_mode(self.window.number(LOOKED_AT) >> AFTER_CODE)?;
         self.window = self.window.after(len);
         Some(mode)
+    }
+
+    /// Reads vertical modes by one look-up: two to four of them, of twelve bits at most (T.4, table
+    /// 4). Where it finds no two, the source is as it was.
+    #[inline(always)]
+    pub fn verticals(&mut self) -> Option<Verticals>
+        ensures read { IfSome result (λ found. AreVerticalsRead self.old.left found self.new.left) }
+        ensures unchanged { result ≡ None → self.new ≡ self.old }
+
+        // The source goes on in the same bits.
+        ensures same_end { KeepsEnd self.old self.new }
+        ensures shorter { IsSome result → length self.new.left < length self.old.left }
+    {
+        self.window = self.window.loaded(self.bytes, self.order)?;
+        let (len, found) = find_verticals(self.window.number(LOOKED_AT) >> AFTER_CODE)?;
+        self.window = self.window.after(len);
+        Some(found)
     }
 
     /// So many ones are next. More of them may follow.

@@ -16,6 +16,7 @@ pub fn answer(alloc: Global, words: &[&str]) -> Result<Option<String>, WrongLine
         ["pair_within", total, width, bits] => pair_within(alloc, total, width, bits)?,
         ["run_within", colour, bits, most] => run_within(alloc, colour, bits, most)?,
         ["mode", bits] => looked_up_mode(alloc, bits)?,
+        ["verticals", bits] => verticals(alloc, bits)?,
         ["past_ones", bits, most] => past_ones(alloc, bits, most)?,
         ["put_run", colour, pels] => run(alloc, colour, pels)?,
         ["put_short_pair", colour, first, second] => short_pair(alloc, colour, first, second)?,
@@ -113,6 +114,20 @@ fn looked_up_mode(alloc: Global, bits: &str) -> Result<String, WrongLine> {
     let mut source = BitSource::new(&bytes, FillOrder::MsbFirst);
     let mode = source.mode();
     Ok(format!(in alloc; "{mode:?} {}", source.place())?)
+}
+
+/// How many vertical modes one look-up reads, how many pels right of the pel three left of b1 a1 is
+/// in each, 0 after the last of them, and the place then.
+fn verticals(alloc: Global, bits: &str) -> Result<String, WrongLine> {
+    let bytes = words::bytes(alloc, bits)?;
+    let mut source = BitSource::new(&bytes, FillOrder::MsbFirst);
+    match source.verticals() {
+        Some(found) => {
+            let place = source.place();
+            Ok(format!(in alloc; "{} {:?} {place}", found.count, found.raises)?)
+        }
+        None => Ok(format!(in alloc; "none {}", source.place())?),
+    }
 }
 
 /// After a mode, which loads bits: how many ones are next, how many of them are gone past, and the

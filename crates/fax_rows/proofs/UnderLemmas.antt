@@ -55,7 +55,7 @@ chosen_goes_on {reference} {places} {at} here b new rest step = record {
 }
 
 -- a place that stands where the next one is to be put
-turned_more : (places : List ℕ) (end place : ℕ) → end < length places → get_or places end 0 ≡ place
+pub turned_more : (places : List ℕ) (end place : ℕ) → end < length places → get_or places end 0 ≡ place
     → IsTurnedFrom (take end places) (take (end + 1) places) place
 turned_more places end place room is = grind (arith, common_steps, turned-push_left, turned-push_right, take_more)
 
@@ -170,7 +170,7 @@ under_all_is (suc k) reference at =
     (let e : at.b1 + suc k ≡ at.b1 + 1 + k = omega arith in ap (λ n. get_or reference.places.now n 0) e)
     refl (omega arith) (omega arith) ∙ under_all_is k reference next
 
-alternate-add : (c : Colour) (b k : ℕ) → alternate (alternate c b) k ≡ alternate c (b + k)
+pub alternate-add : (c : Colour) (b k : ℕ) → alternate (alternate c b) k ≡ alternate c (b + k)
 alternate-add c b zero = let e : b ≡ b + 0 = omega arith in ap (alternate c) e
 alternate-add c b (suc k) =
     let e : suc (b + k) ≡ b + suc k = omega arith in
@@ -212,7 +212,7 @@ so_far_kept reference places new at so_far len kept = record {
     kept_at k h = sym (get_or-take at.end new k 0 h) ∙ ap (λ xs. get_or xs k 0) kept ∙ get_or-take at.end places k 0 h
 
 -- a 1 is the code of a1 under b1
-one_is_taken : ModeBitsAreRead → (rest : List Bool) → Takes modes (true ∷ rest) (Vertical (pos 0)) rest
+pub one_is_taken : ModeBitsAreRead → (rest : List Bool) → Takes modes (true ∷ rest) (Vertical (pos 0)) rest
 unfolding modes mode_bits code_bits
 one_is_taken law rest = law (Vertical (pos 0)) rest (search rules)
 

@@ -1,7 +1,8 @@
 //! Rows in two-dimensional coding (ITU-T T.4, section 4.2.1.3, and T.6, section 2.2), read into
 //! places of change over a reference row's places.
 ghost use Rattle.std.specs.Prelude.{◌≡◌, ◌+◌, ◌-◌};
-ghost use Rattle.std.specs.Prelude.{◌++◌, length, OnOk, OnErr, IfOk, IfErr, IsTrue};
+ghost use Rattle.std.specs.Prelude.{◌++◌, length, OnOk, OnErr, IfOk, IfErr, IfSome, IsTrue, None};
+ghost use Rattle.std.specs.Prelude.{true};
 ghost use Rattle.fax_bits.specs.views.Source.{KeepsEnd};
 ghost use Rattle.fax_rows.specs.Coded.{two_dimensional_bits};
 ghost use Rattle.fax_rows.specs.Rows as Spec;
@@ -19,13 +20,19 @@ use codes::{Due, Stop};
 use due::read_on;
 use fax_bits::BitSource;
 use modes::read_by_look_ups;
+use steps::{PlacedReached, under_b1};
 
 mod choices;
 mod codes;
 mod copied;
 mod due;
 mod modes;
+mod several;
 mod steps;
+
+/// Over a reference row of fewer changes than one for so many pels, several vertical modes are read
+/// by one look-up.
+const FEW_CHANGES: usize = 6;
 
 /// A row that is read into places of change.
 #[derive(Clone, Copy)]
@@ -34,6 +41,26 @@ struct ReadRow {
     end: usize,
     /// Whether its codes are seen to be those that T.4 chooses.
     is_chosen: bool,
+}
+
+/// Reads a row over a white one by one step with a1 under b1, where a 1 is next: the row is white
+/// too. It answers where its places end. Where it is not so, the source is as it was.
+#[inline(always)]
+fn under_white(source: &mut BitSource, reference: PlacedRow, places: &mut [u32]) -> Option<usize>
+    requires room { HasRoom reference.width places.old }
+    ensures read { IfSome result (λ end. IsReadRow true reference.entry source.old.left places.new
+        end source.new.left) }
+    ensures unchanged { result ≡ None → source.new ≡ source.old }
+    ensures room { HasRoom reference.entry.width places.new }
+    ensures same_end { KeepsEnd source.old source.new }
+{
+    fax_bits::laws::modes_are_read_back();
+    if reference.end != 1 || source.ones() == 0 {
+        return None;
+    }
+    source.skip(1);
+    let at = under_b1(reference, places, PlacedReached::BEGINNING);
+    Some(at.end)
 }
 
 /// Reads the modes of a row over the reference row, and answers where its places end: by look-ups,
@@ -54,7 +81,15 @@ fn read_modes<const CHOICE: bool>(
     ensures room { HasRoom reference.entry.width places.new }
     ensures same_end { KeepsEnd source.old source.new }
 {
-    match read_by_look_ups::<CHOICE>(source, reference, places) {
+    if let Some(end) = under_white(source, reference, places) {
+        return Ok(end);
+    }
+    let read = if reference.end < reference.width as usize / FEW_CHANGES {
+        read_by_look_ups::<CHOICE, true>(source, reference, places)
+    } else {
+        read_by_look_ups::<CHOICE, false>(source, reference, places)
+    };
+    match read {
         Ok(end) => Ok(end),
         Err(Stop::Due(pause)) => read_on::<CHOICE>(source, reference, places, pause),
         Err(Stop::Other) => Err(Stop::Other),

@@ -1,7 +1,7 @@
 //! The places of change of a row of packed bytes: eight pels in a byte, the leftmost in its highest
 //! bit, where 1 is black.
 ghost use Rattle.std.specs.Prelude.{◌≡◌, ◌+◌, ◌-◌, ◌*◌, ◌<◌, ◌≤◌, ◌^◌, ℕ, false, length, take};
-ghost use Rattle.std.specs.Prelude.{slice_index, slice_index_or};
+ghost use Rattle.std.specs.Prelude.{slice_index, slice_index_or, IsTrue};
 ghost use Rattle.fax_bits.specs.Bits.{bits};
 ghost use Rattle.fax_bits.specs.declared.Colour.TheVariants.{Black as TurnsFrom};
 ghost use Rattle.fax_bits.specs.declared.FillOrder.TheVariants.{MsbFirst};
@@ -84,6 +84,37 @@ fn put_word(places: &mut [u32], end: usize, from: u32, before: u64, word: u64) -
     end
 }
 
+/// Whether the four words from a place on are white.
+#[inline(always)]
+fn are_white(bytes: &[u8], at: usize) -> bool
+    requires { at + 32 ≤ length bytes.now }
+    ensures { IsTrue result → (i : ℕ) → i < 256
+        → slice_index_or (bits MsbFirst bytes.now) (8 * at + i) false ≡ false }
+{
+    let first = (word_at(bytes, at) == 0) & (word_at(bytes, at + 8) == 0);
+    let last = (word_at(bytes, at + 16) == 0) & (word_at(bytes, at + 24) == 0);
+    first & last
+}
+
+/// Goes past white words, by fours, after a word that is white.
+#[inline(always)]
+fn past_white(bytes: &[u8], word: u64, from: u32, words: u32) -> u32
+    requires short { words < 1024 }
+    requires whole { 8 * words ≤ length bytes.now }
+    requires within { from ≤ words }
+    ensures from { from ≤ result }
+    ensures within { result ≤ words }
+    ensures white { (i : ℕ) → 64 * from ≤ i → i < 64 * result
+        → Spec.colour_of_bit (slice_index_or (bits MsbFirst bytes.now) i false)
+        ≡ Spec.colour_of_bit (word_bit word 63) }
+{
+    let mut k = from;
+    while word == 0 && words - k >= 4 && are_white(bytes, 8 * k as usize) {
+        k += 4;
+    }
+    k
+}
+
 /// Puts the places of change of so many words of 64 pels, and answers where they end, and the
 /// colour of the last pel: white where there is no word.
 fn places_of_words(bytes: &[u8], places: &mut [u32], words: u32) -> (usize, Colour)
@@ -99,10 +130,12 @@ fn places_of_words(bytes: &[u8], places: &mut [u32], words: u32) -> (usize, Colo
 {
     let mut end = 1;
     let mut before = 0;
-    for k in 0..words {
+    let mut k = 0;
+    while k < words {
         let word = word_at(bytes, 8 * k as usize);
         end = put_word(places, end, WORD * k, before, word);
         before = word;
+        k = past_white(bytes, word, k + 1, words);
     }
     (end, last_colour(before))
 }

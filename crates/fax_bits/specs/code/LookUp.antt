@@ -1,11 +1,13 @@
 -- What one look-up finds of the next bits.
-use Rattle.std.specs.Prelude.{◌≡◌, ℕ, ◌<◌, ◌^◌, Bool, List, ◌++◌, length, Contains}
+use Rattle.std.specs.Prelude.{◌≡◌, ℕ, ◌<◌, ◌^◌, Bool, List, ◌++◌, length, flat_map, Contains}
 use Rattle.fax_bits.specs.declared.codes.CodeEntry.{CodeEntry}
 use Rattle.fax_bits.specs.declared.pairs.Pair.{Pair}
 use Rattle.fax_bits.specs.Bits.{Colour, White, Black, BeginsWith}
 use Rattle.fax_bits.specs.Codes.{bits_of}
-use Rattle.fax_bits.specs.Written.{run_bits}
+use Rattle.fax_bits.specs.Written.{run_bits, mode_bits}
 use Rattle.fax_bits.specs.views.Source.{Source, KeepsEnd}
+use Rattle.fax_bits.specs.declared.verticals.Verticals.{Verticals}
+use Rattle.fax_bits.specs.views.Verticals.{AreFew, raises_of, vertical}
 
 -- the first of the bits, `len` of them and at least one, mean what is found
 pub record IsBegun {F : Type 0} (means : List Bool → F → Type 0) (b : List Bool) (len : ℕ)
@@ -46,3 +48,8 @@ pub record AreTwoRuns (b : List Bool) (pair : Pair) : Type 0 where
   pub short_white : pair.white < 64
   pub short_black : pair.black < 64
   pub spelled : b ≡ run_bits White pair.white ++ run_bits Black pair.black
+
+-- the bits are the codes of these vertical modes, one after another (T.4, table 4)
+pub record AreVerticals (b : List Bool) (found : Verticals) : Type 0 where
+  pub few : AreFew found
+  pub spelled : b ≡ flat_map (λ raised. mode_bits (vertical raised)) (raises_of found)

@@ -23,6 +23,7 @@ use super::choices::{chooses_a1, chooses_b2, chooses_runs, is_taken};
 use super::codes::{Due, Stop, TwoRuns, two_runs};
 use super::copied::under_several;
 use super::due::Pause;
+use super::several::several;
 use super::steps::{PlacedReached, after_runs, left_of_b1, right_of_b1, under_b1, under_b2};
 use crate::RowFault;
 use crate::rows::PlacedRow;
@@ -176,9 +177,10 @@ fn by_mode<const CHOICE: bool>(
 }
 
 /// Reads one mode by a look-up, and goes on by what it says; where a1 is under b1 it reads more such
-/// modes too (T.4, section 4.2.1.3.3).
+/// modes too (T.4, section 4.2.1.3.3). With `SEVERAL` it reads several vertical modes by one look-up
+/// where it can.
 #[inline(always)]
-fn next_steps<const CHOICE: bool>(
+fn next_steps<const CHOICE: bool, const SEVERAL: bool>(
     source: &mut BitSource,
     reference: PlacedRow,
     places: &mut [u32],
@@ -194,6 +196,9 @@ fn next_steps<const CHOICE: bool>(
     ensures same_end { KeepsEnd source.old source.new }
     ensures shorter { OnOk result (length source.new.left < length source.old.left) }
 {
+    if let Some(next) = several::<SEVERAL>(source, reference, places, at) {
+        return Ok(next);
+    }
     let Some(mode) = source.mode() else {
         return Err(Stop::Due(Due::Mode));
     };
@@ -204,7 +209,7 @@ fn next_steps<const CHOICE: bool>(
 /// It stops where no look-up finds the next code, and with `CHOICE` at the first step that is not
 /// seen to be T.4's choice. Where it stops the source is as it was.
 #[inline(never)]
-pub(super) fn read_by_look_ups<const CHOICE: bool>(
+pub(super) fn read_by_look_ups<const CHOICE: bool, const SEVERAL: bool>(
     source: &mut BitSource,
     reference: PlacedRow,
     places: &mut [u32],
@@ -221,7 +226,7 @@ pub(super) fn read_by_look_ups<const CHOICE: bool>(
     let mut ahead = source.again();
     let mut at = PlacedReached::BEGINNING;
     while at.reached.first_pel() < reference.width {
-        match next_steps::<CHOICE>(&mut ahead, reference, places, at) {
+        match next_steps::<CHOICE, SEVERAL>(&mut ahead, reference, places, at) {
             Ok(next) => at = next,
             Err(Stop::Due(due)) => {
                 return Err(Stop::Due(Pause {
