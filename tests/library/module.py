@@ -5,6 +5,7 @@
 
 FAXPAGES_LIBRARY names the library. Ends with 'module: N passed, N failed'."""
 
+import concurrent.futures
 import os
 import random
 import subprocess
@@ -112,6 +113,12 @@ class Counted:
         return getattr(self.library, name)
 
 
+def in_threads(work):
+    """What four threads find together, each of which does the same."""
+    with concurrent.futures.ThreadPoolExecutor(4) as pool:
+        return sum(one.result() for one in [pool.submit(work) for _ in range(4)])
+
+
 def many_pages():
     """All pages of a file of many, and their rows, are read by few calls, each by its number too; pages that are read
     in part, or two at once, are the same."""
@@ -125,12 +132,15 @@ def many_pages():
         "first rows of pages": lambda: 8 * sum(next(iter(page)).number == 0 for page in fax.pages),
         "rows": lambda: sum(1 for row in fax.rows()),
         "each second page": lambda: 2 * sum(1 for page in fax.pages if page.number % 2 for row in page),
+        "rows of pages by four threads": lambda: in_threads(lambda: sum(1 for page in fax.pages for row in page)),
     }
     for name, way in ways.items():
         faxpages._c.library = counted = Counted(library)
         found = way()
         faxpages._c.library = library
-        yield f"{MANY} pages: {name} by {counted.calls} calls", found == 8 * MANY and counted.calls < 64
+        times = 4 if "four" in name else 1
+        fine = found == times * 8 * MANY and counted.calls < times * 64
+        yield f"{MANY} pages: {name} by {counted.calls} calls", fine
     first, second = fax.page(5), fax.page(6)
     both = list(zip(first, second))
     yield "two pages at once", [row for row, _ in both] == list(first) and [row for _, row in both] == list(second)
