@@ -44,10 +44,10 @@ import operator
 import os
 import struct
 import sys
-from collections import deque
+import threading
 from dataclasses import dataclass, field
 from fractions import Fraction
-from typing import TYPE_CHECKING, Any, Deque, Iterator, List, NamedTuple, Optional, SupportsIndex, Tuple, Union
+from typing import TYPE_CHECKING, Any, Dict, Iterator, List, NamedTuple, Optional, SupportsIndex, Tuple, Union
 
 from . import _library as _c
 from .faults import (
@@ -239,8 +239,8 @@ class Row:
         return self.width
 
 
-# So that threads may share a Fax, what is read stands in memory of one call, in a tuple that never changes, or with one
-# iterator: a place and its runs, or a buffer and its length, never come from two readings.
+# So that threads may share a Fax, what is read stands in memory of one call, and what is kept in one tuple that never
+# changes: a place and its runs, or a buffer and its length, never come from two readings.
 
 
 class _Batch(NamedTuple):
@@ -265,59 +265,50 @@ def _read(data: bytes, cursor: Cursor, most: int) -> _Batch:
         Cursor._of(place, runs), status not in (_c.DONE, _c.NO_ROOM), _stopped(status, told.fault))
 
 
+class _Window(NamedTuple):
+    """Rows that were read ahead, by their pages, the page that was asked for, how many rows were, and the cursor after
+    them."""
+
+    rows: Dict[int, List[Row]]
+    page: int
+    asked: int
+    after: Cursor
+
+
 class _Ahead:
-    """Rows of pages, read ahead over pages: twice as many each time, while pages are asked for in order."""
+    """Rows of pages, read ahead over pages: twice as many each time, while pages are asked for in order. Iterators share
+    what was read last. A copy keeps nothing."""
 
     def __init__(self) -> None:
-        self._rows: Deque[Row] = deque()
-        self._after = Cursor()
-        self._page, self._most = -1, 0
+        self._window = _Window({}, -1, 0, Cursor())
 
     def rows_of(self, data: bytes, page: int, count: int) -> Iterator[Row]:
         """The rows of a page, which has so many."""
-        self._turn_to(page)
-        for number in range(count):
-            if not self._rows:
-                self._read(data, count - number)
-            yield self._rows.popleft()
+        window = self._window
+        rows = window.rows.get(page, [])
+        if not rows or rows[0].number:
+            window = self._read(data, Cursor(page, 0), page, max(count, 2 * window.asked * (page > window.page)))
+            rows = window.rows[page]
+        yield from rows[:count]
+        left = count - len(rows)
+        while left > 0:
+            window = self._read(data, window.after, page, max(left, 2 * window.asked))
+            yield from window.rows[page][:left]
+            left -= len(window.rows[page])
 
-    def _turn_to(self, page: int) -> None:
-        """Keeps what was read of a page and of those after it, where that begins with its first row."""
-        self._most, self._page = self._most if page > self._page else 0, page
-        while self._rows and self._rows[0].page < page:
-            self._rows.popleft()
-        if not self._rows or (self._rows[0].page, self._rows[0].number) != (page, 0):
-            self._rows.clear()
-            self._after = Cursor(page, 0)
-
-    def _read(self, data: bytes, due: int) -> None:
-        self._most = min(max(2 * self._most, due), _ROWS)
-        batch = _read(data, self._after, self._most)
-        if not batch.rows:
+    def _read(self, data: bytes, cursor: Cursor, page: int, asked: int) -> _Window:
+        """Reads rows from a cursor on, which is on this page."""
+        batch, rows = _read(data, cursor, min(asked, _ROWS)), {}
+        for number, same in itertools.groupby(batch.rows, operator.attrgetter("page")):
+            rows[number] = list(same)
+        if page not in rows:
             raise batch.stopped or OutsideError("the file has no such row")
-        self._rows.extend(batch.rows)
-        self._after = batch.after
-
-
-class _Kept:
-    """What was read ahead last. One iterator at a time takes it, and leaves it when it ends. A copy keeps nothing."""
-
-    def __init__(self) -> None:
-        self._last: Deque[_Ahead] = deque(maxlen=1)
-
-    def rows_of(self, data: bytes, page: int, count: int) -> Iterator[Row]:
-        """The rows of a page, with those that were read ahead, unless another iterator has them."""
-        try:
-            ahead = self._last.pop()
-        except IndexError:
-            ahead = _Ahead()
-        try:
-            yield from ahead.rows_of(data, page, count)
-        finally:
-            self._last.append(ahead)
+        window = _Window(rows, page, min(asked, _ROWS), batch.after)
+        self._window = window
+        return window
 
     def __reduce__(self) -> Tuple[Any, ...]:
-        return _Kept, ()
+        return _Ahead, ()
 
 
 class _Listed(NamedTuple):
@@ -349,6 +340,14 @@ class _Forms:
         forms, told = (_c.Form * asked)(), _c.Told()
         status = _c.library.faxpages_forms(self._data, len(self._data), page, forms, asked, told)
         return _Listed(page, asked, forms[:told.count], _stopped(status, told.fault))
+
+
+class _ByNumber(threading.local):
+    """What a thread keeps of the pages that it asked for by their numbers."""
+
+    def __init__(self, data: bytes) -> None:
+        super().__init__()
+        self.forms, self.ahead = _Forms(data), _Ahead()
 
 
 @dataclass(frozen=True)
@@ -402,10 +401,10 @@ class Page:
     x: Fraction
     y: Fraction
     unit: int
-    _kept: _Kept = field(default_factory=_Kept, repr=False, compare=False)
+    _ahead: _Ahead = field(default_factory=_Ahead, repr=False, compare=False)
 
     def __iter__(self) -> Iterator[Row]:
-        return self._kept.rows_of(self.fax._data, self.number, self.rows)
+        return self._ahead.rows_of(self.fax._data, self.number, self.rows)
 
     def __len__(self) -> int:
         return self.rows
@@ -429,15 +428,13 @@ class Fax:
 
     def __init__(self, data: "Union[bytes, bytearray, memoryview, mmap.mmap]") -> None:
         self._data = _own(data)
-        self._forms = _Forms(self._data)
-        # What is read ahead for pages by their numbers.
-        self._kept = _Kept()
+        self._by_number = _ByNumber(self._data)
 
     def __enter__(self) -> "Fax":
         return self
 
     def __exit__(self, *_: object) -> None:
-        self._forms, self._kept = _Forms(self._data), _Kept()
+        self._by_number = _ByNumber(self._data)
 
     def __eq__(self, other: object) -> bool:
         return isinstance(other, Fax) and self._data == other._data
@@ -454,29 +451,29 @@ class Fax:
     @property
     def pages(self) -> Iterator[Page]:
         """The pages in order, each time by an iterator of its own. A fault is raised after the pages before it."""
-        forms, kept = _Forms(self._data), _Kept()
+        forms, ahead = _Forms(self._data), _Ahead()
         for number in itertools.count():
             form, stopped = forms.at(number)
             if form is None:
                 if stopped:
                     raise stopped
                 return
-            yield self._page(number, form, kept)
+            yield self._page(number, form, ahead)
 
     def page(self, number: SupportsIndex) -> Page:
         """A page by its number. The file's directories are followed up to it, unless it comes soon after the last one
-        that was asked for."""
-        number = _number("number", number)
-        form, stopped = self._forms.at(number)
+        that this thread has asked for."""
+        number, kept = _number("number", number), self._by_number
+        form, stopped = kept.forms.at(number)
         if form is None:
             raise stopped or OutsideError(f"the file has no page {number}")
-        return self._page(number, form, self._kept)
+        return self._page(number, form, kept.ahead)
 
-    def _page(self, number: int, form: _c.Form, kept: _Kept) -> Page:
+    def _page(self, number: int, form: _c.Form, ahead: _Ahead) -> Page:
         return Page(
             self, number, form.width, form.rows, _CODINGS[form.coding], form.order, bool(form.aligned),
             bool(form.exchanged), form.rows_per_strip, form.strips, _fraction(form.x_numerator, form.x_denominator),
-            _fraction(form.y_numerator, form.y_denominator), form.unit, kept)
+            _fraction(form.y_numerator, form.y_denominator), form.unit, ahead)
 
     def rows(self, cursor: Optional[Cursor] = None) -> Iterator[Row]:
         """All rows from a cursor on, page by page. A fault is raised after the rows before it."""

@@ -115,8 +115,13 @@ class Counted:
 
 def in_threads(work):
     """What four threads find together, each of which does the same."""
+    return by_pool(lambda _: work(), range(4))
+
+
+def by_pool(work, items):
+    """What four threads find together, which share the items."""
     with concurrent.futures.ThreadPoolExecutor(4) as pool:
-        return sum(one.result() for one in [pool.submit(work) for _ in range(4)])
+        return sum(pool.map(work, items))
 
 
 def many_pages():
@@ -133,6 +138,8 @@ def many_pages():
         "rows": lambda: sum(1 for row in fax.rows()),
         "each second page": lambda: 2 * sum(1 for page in fax.pages if page.number % 2 for row in page),
         "rows of pages by four threads": lambda: in_threads(lambda: sum(1 for page in fax.pages for row in page)),
+        "pages for four threads": lambda: 4 * by_pool(lambda page: sum(1 for row in page), fax.pages),
+        "numbers for four threads": lambda: 4 * by_pool(lambda at: sum(1 for row in fax.page(at)), range(MANY)),
     }
     for name, way in ways.items():
         faxpages._c.library = counted = Counted(library)
