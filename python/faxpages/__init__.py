@@ -19,19 +19,21 @@ page, the row, its name and the tag of the field at fault:
     except faxpages.Fault as fault:
         print(fault.name)
 
-What is no kind of number, or of text, is a TypeError, and a number that is out of range a ValueError. Numbers may be of
-any type that can be an index of a list, so True is 1.
+A number that is out of range is a ValueError, and what is no number, or no text, where one is wanted is a TypeError. A
+number is whatever can be an index of a list, so True is 1.
 
-Threads may share a Fax, its pages and everything else that is handed out, and read at the same time: the library runs
-without the lock of Python. But an iterator is used by one thread at a time, as Python has it: one that is shared may
-raise a ValueError, and never harms memory. So each thread goes over pages, or over rows, of its own:
+Threads may share a Fax, its pages, and all else that is handed out but iterators, and read at the same time: the
+library runs without Python's lock. An iterator is for one thread: one that is shared may raise a ValueError, as
+Python's do, and never harms memory. So let each thread go over pages, or rows, by an iterator of its own, or hand pages
+to threads:
 
     with concurrent.futures.ThreadPoolExecutor() as pool:
-        texts = list(pool.map(read_page, fax.pages))
+        counts = list(pool.map(count_black, fax.pages))
 
-All but iterators can be pickled and copied, and goes to other processes and comes back from them; what comes back is
-equal to what was sent. A Fax is pickled with all bytes of its file, also where it was opened by a path, and a Page with
-its Fax: where these are many, send a path and the number of a page. In place of an iterator send a Cursor.
+All that is handed out but iterators can be pickled and copied, faults too, and sent to other processes and back: what
+comes back is equal to what was sent. A Fax is pickled with all bytes of its file, whether it was opened by a path or by
+bytes, and a Page with its Fax: where these are many, send a path and the number of a page. In place of an iterator,
+send a Cursor. A process that has threads should start others by spawn or forkserver, not by fork.
 """
 
 from __future__ import annotations

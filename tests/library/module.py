@@ -153,6 +153,17 @@ def many_pages():
     yield "two pages at once", [row for row, _ in both] == list(first) and [row for _, row in both] == list(second)
 
 
+def long_page():
+    """A page whose rows pass the room of a call several times is read whole, in each way."""
+    raster = (bytes(240) + b"fax") * 6200
+    raster = raster[:250 * 6000]
+    fax = faxpages.open(faxpages.convert(b"P4\n2000 6000\n" + raster, "mmr"))
+    yield "rows of a long page", b"".join(row.packed for row in fax.rows()) == raster
+    yield "a long page", fax.page(0).packed() == raster
+    first, after = fax.read_rows(faxpages.Cursor(), 4900)
+    yield "a long page in two", b"".join(row.packed for row in first + list(fax.rows(after))) == raster
+
+
 def damaged(files):
     """Files with a few bytes changed, or cut."""
     draw = random.Random(47)
@@ -180,7 +191,7 @@ def main():
         see(f"batches of {name}", len(batches(data)) == said("rows", data=data)[0].count(b"row "))
         for target, words in TARGETS:
             see(f"{name} as {target}", is_converted(data, target, words))
-    for claim in many_pages():
+    for claim in [*many_pages(), *long_page()]:
         see(*claim)
     small = [data for data in files.values() if len(data) < 3000]
     for name, data in damaged(small):
