@@ -27,13 +27,16 @@ read_crates() {
         crates+=("$name")
         paths+=("crates/$name/"{src,specs,proofs})
     done <"$root/crates.txt"
-    [ "$top" != fax_c ] || paths+=(include/faxpages.h share/build-library)
+    case $top in
+    fax_tool) paths+=(share/build-program) ;;
+    fax_c) paths+=(include/faxpages.h share/build-library) ;;
+    esac
 }
 
 # Finds the files at these paths that count, with these last words of find. Tests do not.
 find_sources() {
     (cd -- "$root" && find "${paths[@]}" \( -name tests -o -name tests.rt \) -prune -o -type f \
-        \( -name '*.rt' -o -name '*.antt' -o -name crates.txt -o -name faxpages.h -o -name build-library \) "$@")
+        \( -name '*.rt' -o -name '*.antt' -o -name crates.txt -o -name faxpages.h -o -name 'build-*' \) "$@")
 }
 
 digest_of() {
