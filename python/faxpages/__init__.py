@@ -134,7 +134,7 @@ _fraction = functools.lru_cache(maxsize=64)(Fraction)
 
 
 def version() -> str:
-    """The version of libfaxpages, as "1.2.5"."""
+    """The version of libfaxpages, as "1.3.0"."""
     text = ctypes.create_string_buffer(32)
     length = _c.library.faxpages_version_text(text, 32)
     return text.raw[:length].decode()
