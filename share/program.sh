@@ -2,9 +2,11 @@
 # which set root before.
 #
 # Two folders may have them: shipped/, which the repository brings, and built/, where ./build puts what it built.
-# Beside a program stands faxpages.txt: the version, the kit, the SHA-256 of the program, one SHA-256 over what it was
-# built from, and at last the SHA-256 of these lines. Beside a library stands libfaxpages.txt, which says the same of
-# the shared library and of the archive, and has the version of objcopy.
+# Beside a program stands faxpages.txt: the version, the kit, the SHA-256 of the object file that rt made, the C library
+# in the program and one SHA-256 over what was taken of it, the SHA-256 of the program, one over what it was built from,
+# and at last the SHA-256 of these lines. Where a machine has no C library to put in, ./build makes a program that takes
+# the machine's when it is run; its text has no line `parts`. Beside a library stands libfaxpages.txt, which says the
+# same of the shared library and of the archive, and has the version of objcopy.
 
 # Where it is kept that a program was seen to be of these sources, so that the next call need not read them all.
 readonly seen_here=$root/built/seen
@@ -25,13 +27,16 @@ read_crates() {
         crates+=("$name")
         paths+=("crates/$name/"{src,specs,proofs})
     done <"$root/crates.txt"
-    [ "$top" != fax_c ] || paths+=(include/faxpages.h share/build-library)
+    case $top in
+    fax_tool) paths+=(share/build-program) ;;
+    fax_c) paths+=(include/faxpages.h share/build-library) ;;
+    esac
 }
 
 # Finds the files at these paths that count, with these last words of find. Tests do not.
 find_sources() {
     (cd -- "$root" && find "${paths[@]}" \( -name tests -o -name tests.rt \) -prune -o -type f \
-        \( -name '*.rt' -o -name '*.antt' -o -name crates.txt -o -name faxpages.h -o -name build-library \) "$@")
+        \( -name '*.rt' -o -name '*.antt' -o -name crates.txt -o -name faxpages.h -o -name 'build-*' \) "$@")
 }
 
 digest_of() {
@@ -56,6 +61,11 @@ objcopy_version() {
 # What a text says: `field NAME FILE`.
 field() {
     sed -n "s/^$1 //p" "$2"
+}
+
+# Whether the program of a folder has the C library inside, by its text.
+is_static() {
+    [ -n "$(field parts "$1/faxpages.txt")" ]
 }
 
 # The oldest GNU C library that has what a program or a library calls, by the versions of its symbols.

@@ -18,19 +18,38 @@ page, the row, its name and the tag of the field at fault:
         print(fault, "at page", fault.page, "row", fault.row)
     except faxpages.Fault as fault:
         print(fault.name)
+
+A number that is out of range is a ValueError, and what is no number, or no text, where one is wanted is a TypeError. A
+number is whatever can be an index of a list, so True is 1.
+
+Threads may share a Fax, its pages, and all else that is handed out but iterators, and read at the same time: the
+library runs without Python's lock. An iterator is for one thread: one that is shared may raise a ValueError, as
+Python's do, and never harms memory. So let each thread go over pages, or rows, by an iterator of its own, or hand pages
+to threads:
+
+    with concurrent.futures.ThreadPoolExecutor() as pool:
+        counts = list(pool.map(count_black, fax.pages))
+
+All that is handed out but iterators can be pickled and copied, faults too, and sent to other processes and back: what
+comes back is equal to what was sent. A Fax is pickled with all bytes of its file, whether it was opened by a path or by
+bytes, and a Page with its Fax: where these are many, send a path and the number of a page. In place of an iterator,
+send a Cursor. A process that has threads should start others by spawn or forkserver, not by fork.
 """
 
 from __future__ import annotations
 
 import ctypes
 import functools
+import io
 import itertools
+import operator
 import os
 import struct
-from collections import deque
-from dataclasses import dataclass
+import sys
+import threading
+from dataclasses import dataclass, field
 from fractions import Fraction
-from typing import Deque, Iterator, List, Optional, Tuple, Union
+from typing import TYPE_CHECKING, Any, Dict, Iterator, List, NamedTuple, Optional, SupportsIndex, Tuple, Union
 
 from . import _library as _c
 from .faults import (
@@ -39,15 +58,26 @@ from .faults import (
     OutOfRow, OutputTooLarge, OutsideError, PbmFault, RunTooLong, ShortHeader, StripFault, StripOutside, UnknownInput,
     Unsupported)
 
+if TYPE_CHECKING:
+    import mmap
+
+    from ._image import Image
+
 __all__ = [
-    "open", "check", "convert", "version", "Fax", "Page", "Row", "Cursor", "Note", "Report", "FaxError", "Fault",
-    "FileFault", "StripFault", "OutsideError", "NotACursorError", "ConversionError", "PbmFault", "UnknownInput",
-    "OutputTooLarge"] + sorted(fault.__name__ for fault in BY_NUMBER.values())
+    "open", "check", "convert", "version", "Source", "Fax", "Page", "Row", "Cursor", "Note", "Report", "FaxError",
+    "Fault", "FileFault", "StripFault", "OutsideError", "NotACursorError", "ConversionError", "PbmFault",
+    "UnknownInput", "OutputTooLarge",
+    "BadCode", "BadField", "ByteOrder", "DataEnds", "DirectoryLoop", "DirectoryOutside", "EndMarker", "Extension",
+    "Magic", "MissingEol", "MissingField", "NoDirectory", "OutOfLimits", "OutOfRow", "RunTooLong", "ShortHeader",
+    "StripOutside", "Unsupported"]
 
-Source = Union[bytes, bytearray, memoryview, str, "os.PathLike[str]"]
+# A file: its bytes, or its path. At run time anything that lends its bytes will do.
+Source = Union[bytes, bytearray, memoryview, "mmap.mmap", str, "os.PathLike[str]"]
 
-# How many rows and bytes are read at a time, and how many forms at most.
+# How many rows and bytes are read at a time, and how many forms, at most.
 _ROWS, _BYTES, _FORMS = 8192, 1 << 20, 65536
+# The longest row, and the greatest number of the library and output of a conversion.
+_ROW_BYTES, _MOST, _OUTPUT = 8192, 0xFFFFFFFF, 1 << 28
 # A row's place in the buffer and on its page, as _c.Row.
 _ROW = struct.Struct("@N4I")
 _CODINGS = {1: "mh", 2: "mr", 3: "mmr"}
@@ -67,31 +97,44 @@ def _fault(fault: "_c.Fault") -> Fault:
 
 
 def _stopped(status: int, fault: "_c.Fault") -> Optional[Exception]:
-    """What is raised after what a call has written, or None at the end of the file."""
+    """What is raised after what a call has written, or None where it is the file's end, or may go on."""
+    if status in (_c.DONE, _c.END, _c.NO_ROOM):
+        return None
     if status == _c.FAULT:
         return _fault(fault)
     if status == _c.OUTSIDE:
         return OutsideError("the cursor is outside the file")
     if status == _c.MEMORY:
         return MemoryError("libfaxpages was refused memory")
-    return None
+    return FaxError(f"libfaxpages answered with status {status}")
+
+
+def _own(data: "Union[bytes, bytearray, memoryview, mmap.mmap]") -> bytes:
+    """Bytes that nobody changes."""
+    return bytes(data) if isinstance(data, bytes) else bytes(memoryview(data))
 
 
 def _bytes_of(source: Source) -> bytes:
-    if isinstance(source, (bytes, bytearray, memoryview)):
-        return bytes(source)
-    with _open(source, "rb") as file:
+    if not isinstance(source, (str, os.PathLike)):
+        return _own(source)
+    with io.open(source, "rb") as file:
         return file.read()
 
 
-_open = open
+def _number(name: str, value: SupportsIndex, least: int = 0, most: int = _MOST) -> int:
+    """A number that is handed in, before the library has it, which would take it modulo 2 ** 32."""
+    number = operator.index(value)
+    if not least <= number <= most:
+        raise ValueError(f"{name} is to be from {least} to {most}")
+    return number
+
 
 # Pages of a file have few resolutions.
 _fraction = functools.lru_cache(maxsize=64)(Fraction)
 
 
 def version() -> str:
-    """The version of libfaxpages, as "1.2.5"."""
+    """The version of libfaxpages, as "1.3.0"."""
     text = ctypes.create_string_buffer(32)
     length = _c.library.faxpages_version_text(text, 32)
     return text.raw[:length].decode()
@@ -100,61 +143,76 @@ def version() -> str:
 class Cursor:
     """Where to go on: a page and a row, or a place inside a strip, after which no row is read again.
 
-    str(cursor) is its text, as the program faxpages prints it after `next`, and Cursor.parse reads it."""
+    str(cursor) is its text, as the program faxpages prints it after `next`, and Cursor.parse reads it. A cursor never
+    changes, and is pickled as its text."""
 
-    def __init__(self, page: int = 0, row: int = 0) -> None:
-        self._place = _c.Place(page, row, 0, 0)
-        self._runs = (ctypes.c_uint32 * 0)()
+    def __init__(self, page: SupportsIndex = 0, row: SupportsIndex = 0) -> None:
+        self._row = _number("page", page), _number("row", row)
+        # Inside a strip, how many bits are before the place, and the runs of the row before it, as numbers of C.
+        self._bits, self._runs = 0, b""
 
     @classmethod
     def parse(cls, text: str) -> "Cursor":
         """The cursor of a text `1:P:R` or `2:P:R:B:n,n,..`. Raises NotACursorError."""
-        cursor, runs, data = cls(), (ctypes.c_uint32 * _c.RUNS)(), text.encode()
-        status = _c.library.faxpages_place_parse(data, len(data), cursor._place, runs, _c.RUNS)
+        place, runs, data = _c.Place(), (_c.U32 * _c.RUNS)(), str.encode(text, "utf-8", "surrogatepass")
+        status = _c.library.faxpages_place_parse(data, len(data), place, runs, _c.RUNS)
         if status == _c.MEMORY:
             raise MemoryError("libfaxpages was refused memory")
         if status != _c.DONE:
             raise NotACursorError(f"not a cursor: {text!r}")
-        cursor._keep(runs)
+        return cls._of(place, runs)
+
+    @classmethod
+    def _of(cls, place: _c.Place, runs: "ctypes.Array[_c.U32]") -> "Cursor":
+        """The cursor of a place, whose runs a buffer of so many as any row may have begins with."""
+        cursor = cls(place.page, place.row)
+        if place.runs:
+            cursor._bits, cursor._runs = place.bits, ctypes.string_at(runs, place.runs * _c.U32_BYTES)
         return cursor
+
+    def _place(self) -> "Tuple[_c.Place, ctypes.Array[_c.U32]]":
+        """Its place and its runs, with room for those of any row, in memory of the caller's own."""
+        count = len(self._runs) // _c.U32_BYTES
+        runs = (_c.U32 * _c.RUNS)()
+        ctypes.memmove(runs, self._runs, len(self._runs))
+        return _c.Place(self._row[0], self._row[1], self._bits, count), runs
 
     @property
     def page(self) -> int:
         """The page of the row that is due."""
-        return self._place.page
+        return self._row[0]
 
     @property
     def row(self) -> int:
         """The row that is due."""
-        return self._place.row
+        return self._row[1]
 
     @property
     def inside_strip(self) -> bool:
         """Whether it is a place inside a strip."""
-        return self._place.runs != 0
-
-    def _keep(self, runs: "ctypes.Array[ctypes.c_uint32]") -> None:
-        count = self._place.runs
-        self._runs = (ctypes.c_uint32 * count)(*runs[:count])
+        return bool(self._runs)
 
     def __str__(self) -> str:
-        length = ctypes.c_size_t()
-        room = 32 + 11 * len(self._runs) + 32
+        place, runs = self._place()
+        length, room = _c.SIZE(), 64 + 11 * place.runs
         text = ctypes.create_string_buffer(room)
-        status = _c.library.faxpages_place_text(
-            self._place, self._runs, len(self._runs), text, room, ctypes.byref(length))
-        if status == _c.MEMORY:
+        status = _c.library.faxpages_place_text(place, runs, _c.RUNS, text, room, ctypes.byref(length))
+        if status != _c.DONE:
             raise MemoryError("libfaxpages was refused memory")
-        return text.raw[:length.value].decode()
+        return ctypes.string_at(text, length.value).decode()
 
     def __repr__(self) -> str:
         return f"Cursor.parse({str(self)!r})"
 
     def __eq__(self, other: object) -> bool:
-        return isinstance(other, Cursor) and str(self) == str(other)
+        return isinstance(other, Cursor) and (
+            (self._row, self._bits, self._runs) == (other._row, other._bits, other._runs))
 
     def __hash__(self) -> int:
-        return hash((self.page, self.row))
+        return hash((self._row, self._bits, self._runs))
+
+    def __reduce__(self) -> Tuple[Any, ...]:
+        return type(self).parse, (str(self),)
 
 
 @dataclass(frozen=True)
@@ -183,66 +241,85 @@ class Row:
         return self.width
 
 
-class _Reader:
-    """Rows from a cursor on, some at a time, over pages."""
+# So that threads may share a Fax, what is read stands in memory of one call, and what is kept in one tuple that never
+# changes: a place and its runs, or a buffer and its length, never come from two readings.
 
-    def __init__(self, data: bytes, cursor: Cursor) -> None:
-        self._data = data
-        self._place = _c.Place(cursor.page, cursor.row, cursor._place.bits, cursor._place.runs)
-        self._runs = (ctypes.c_uint32 * _c.RUNS)(*cursor._runs)
-        self._rows = (_c.Row * _ROWS)()
-        self._out = ctypes.create_string_buffer(_BYTES)
-        self.ended: Optional[int] = None
-        self.stopped: Optional[Exception] = None
 
-    def read(self, most: int = _ROWS) -> List[Row]:
-        """The next rows, at most so many; none once they have ended."""
-        if self.ended is not None:
-            return []
-        told = _c.Told()
-        status = _c.library.faxpages_rows_from(
-            self._data, len(self._data), self._place, self._runs, _c.RUNS, self._rows, min(most, _ROWS), self._out,
-            _BYTES, told)
-        if status not in (_c.DONE, _c.NO_ROOM):
-            self.ended, self.stopped = status, _stopped(status, told.fault)
-        raw, table = ctypes.string_at(self._out, told.used), ctypes.string_at(self._rows, told.count * _ROW.size)
-        return [Row(page, row, width, raw[at:at + length]) for at, length, page, row, width in _ROW.iter_unpack(table)]
+class _Batch(NamedTuple):
+    """Rows that one call has read, the cursor after them, and whether and why no more follow."""
 
-    def cursor(self) -> Cursor:
-        """The cursor after the rows that were read."""
-        cursor = Cursor()
-        cursor._place = _c.Place(self._place.page, self._place.row, self._place.bits, self._place.runs)
-        cursor._keep(self._runs)
-        return cursor
+    rows: List[Row]
+    after: Cursor
+    ended: bool
+    stopped: Optional[Exception]
+
+
+def _read(data: bytes, cursor: Cursor, most: int) -> _Batch:
+    """Rows from a cursor on, over pages, at most so many."""
+    most = min(most, _ROWS)
+    room = min(most * _ROW_BYTES, _BYTES)
+    (place, runs), told = cursor._place(), _c.Told()
+    rows, out = (_c.Row * most)(), ctypes.create_string_buffer(room)
+    status = _c.library.faxpages_rows_from(data, len(data), place, runs, _c.RUNS, rows, most, out, room, told)
+    raw, table = ctypes.string_at(out, told.used), ctypes.string_at(rows, told.count * _ROW.size)
+    return _Batch(
+        [Row(page, row, width, raw[at:at + length]) for at, length, page, row, width in _ROW.iter_unpack(table)],
+        Cursor._of(place, runs), status not in (_c.DONE, _c.NO_ROOM), _stopped(status, told.fault))
+
+
+class _Window(NamedTuple):
+    """Rows that were read ahead, by their pages, the page that was asked for, how many rows were, and the cursor after
+    them."""
+
+    rows: Dict[int, List[Row]]
+    page: int
+    asked: int
+    after: Cursor
 
 
 class _Ahead:
-    """Rows from a page on, read many at a time, over pages."""
+    """Rows of pages, read ahead over pages: twice as many each time, while pages are asked for in order. Iterators share
+    what was read last. A copy keeps nothing."""
 
-    def __init__(self, data: bytes, page: int) -> None:
-        self._reader = _Reader(data, Cursor(page, 0))
-        self._rows: Deque[Row] = deque()
-        # The page whose first row comes next, or -1 inside a page.
-        self._due = page
+    def __init__(self) -> None:
+        self._window = _Window({}, -1, 0, Cursor())
 
-    def goes_on_at(self, page: int) -> bool:
-        """Whether a page's first row is the next, without the rows of pages before it, which are dropped."""
-        while self._rows and self._rows[0].page < page:
-            self._rows.popleft()
-        if self._rows:
-            return (self._rows[0].page, self._rows[0].number) == (page, 0)
-        return self._due == page
+    def rows_of(self, data: bytes, page: int, count: int) -> Iterator[Row]:
+        """The rows of a page, which has so many."""
+        window = self._window
+        rows = window.rows.get(page, [])
+        if not rows or rows[0].number:
+            window = self._read(data, Cursor(page, 0), page, max(count, 2 * window.asked * (page > window.page)))
+            rows = window.rows[page]
+        yield from rows[:count]
+        left = count - len(rows)
+        while left > 0:
+            window = self._read(data, window.after, page, max(left, 2 * window.asked))
+            yield from window.rows[page][:left]
+            left -= len(window.rows[page])
 
-    def rows_of(self, page: int, count: int) -> Iterator[Row]:
-        """The rows of the page that is next."""
-        self._due = -1
-        for _ in range(count):
-            if not self._rows:
-                self._rows.extend(self._reader.read())
-            if not self._rows:
-                raise self._reader.stopped or OutsideError("the file has no such row")
-            yield self._rows.popleft()
-        self._due = page + 1
+    def _read(self, data: bytes, cursor: Cursor, page: int, asked: int) -> _Window:
+        """Reads rows from a cursor on, which is on this page."""
+        batch, rows = _read(data, cursor, min(asked, _ROWS)), {}
+        for number, same in itertools.groupby(batch.rows, operator.attrgetter("page")):
+            rows[number] = list(same)
+        if page not in rows:
+            raise batch.stopped or OutsideError("the file has no such row")
+        window = _Window(rows, page, min(asked, _ROWS), batch.after)
+        self._window = window
+        return window
+
+    def __reduce__(self) -> Tuple[Any, ...]:
+        return _Ahead, ()
+
+
+class _Listed(NamedTuple):
+    """Forms of pages in order from a page on, that one call has read, how many were asked for, and why no more came."""
+
+    first: int
+    asked: int
+    forms: "List[_c.Form]"
+    stopped: Optional[Exception]
 
 
 class _Forms:
@@ -250,27 +327,29 @@ class _Forms:
 
     def __init__(self, data: bytes) -> None:
         self._data = data
-        self._first, self._most = 0, 1
-        self._read: List[_c.Form] = []
-        self._stopped: Optional[Exception] = None
+        self._listed = _Listed(0, 0, [], None)
 
-    def at(self, page: int) -> "Optional[_c.Form]":
-        """The form of a page, or None where it has none."""
-        if not 0 <= page - self._first < len(self._read):
-            self._read_from(page)
-        return self._read[page - self._first] if self._read else None
+    def at(self, page: int) -> "Tuple[Optional[_c.Form], Optional[Exception]]":
+        """The form of a page; or None, and why there is none, which is None too after the file's last page."""
+        listed = self._listed
+        if not 0 <= page - listed.first < len(listed.forms):
+            in_order = listed.forms and page >= listed.first + len(listed.forms)
+            listed = self._read(page, min(2 * listed.asked, _FORMS) if in_order else 1)
+            self._listed = listed
+        return (listed.forms[page - listed.first], None) if listed.forms else (None, listed.stopped)
 
-    def why_none(self) -> Optional[Exception]:
-        """Why the page that was asked for last has no form, or None at the end of the file."""
-        return self._stopped
+    def _read(self, page: int, asked: int) -> _Listed:
+        forms, told = (_c.Form * asked)(), _c.Told()
+        status = _c.library.faxpages_forms(self._data, len(self._data), page, forms, asked, told)
+        return _Listed(page, asked, forms[:told.count], _stopped(status, told.fault))
 
-    def _read_from(self, page: int) -> None:
-        in_order = self._read and page == self._first + len(self._read)
-        self._most = min(2 * self._most, _FORMS) if in_order else 1
-        forms, told = (_c.Form * self._most)(), _c.Told()
-        status = _c.library.faxpages_forms(self._data, len(self._data), page, forms, self._most, told)
-        self._first, self._read = page, forms[:told.count]
-        self._stopped = _stopped(status, told.fault)
+
+class _ByNumber(threading.local):
+    """What a thread keeps of the pages that it asked for by their numbers."""
+
+    def __init__(self, data: bytes) -> None:
+        super().__init__()
+        self.forms, self.ahead = _Forms(data), _Ahead()
 
 
 @dataclass(frozen=True)
@@ -308,7 +387,8 @@ class Page:
     """A page: its form, and its rows by iteration.
 
     coding is "mh", "mr" or "mmr"; order is 1 where the highest bit of a byte is first, and 2 where the lowest is;
-    x and y are the resolution, in pels of a row and rows in a unit: 1 none, 2 inch, 3 centimetre."""
+    x and y are the resolution, in pels of a row and rows in a unit: 1 none, 2 inch, 3 centimetre. Threads may share a
+    page, each with an iterator of its own."""
 
     fax: "Fax"
     number: int
@@ -323,9 +403,10 @@ class Page:
     x: Fraction
     y: Fraction
     unit: int
+    _ahead: _Ahead = field(default_factory=_Ahead, repr=False, compare=False)
 
     def __iter__(self) -> Iterator[Row]:
-        return self.fax._rows_of(self.number, self.rows)
+        return self._ahead.rows_of(self.fax._data, self.number, self.rows)
 
     def __len__(self) -> int:
         return self.rows
@@ -334,94 +415,95 @@ class Page:
         """The bytes of all rows, one after another."""
         return b"".join(row.packed for row in self)
 
-    def image(self) -> "object":
+    def image(self) -> "Image":
         """The page as an image of Pillow, which has to be installed: mode 1, black on white."""
-        from PIL import Image  # type: ignore[import-not-found]
+        from ._image import image_of
 
-        return Image.frombytes("1", (self.width, self.rows), self.packed(), "raw", "1;I")
+        return image_of(self.width, self.rows, self.packed())
 
 
 class Fax:
-    """A file of fax pages, in memory. Use open."""
+    """A file of fax pages, in memory. Use open.
 
-    def __init__(self, data: bytes) -> None:
-        self._data = data
-        self._forms = _Forms(data)
-        # What was read ahead by the last page whose rows were asked for.
-        self._ahead: Optional[_Ahead] = None
+    Its bytes never change, and threads may share it, each with iterators of its own. Two are equal where their bytes
+    are; it is pickled with them."""
+
+    def __init__(self, data: "Union[bytes, bytearray, memoryview, mmap.mmap]") -> None:
+        self._data = _own(data)
+        self._by_number = _ByNumber(self._data)
 
     def __enter__(self) -> "Fax":
         return self
 
     def __exit__(self, *_: object) -> None:
-        self._ahead = None
+        self._by_number = _ByNumber(self._data)
+
+    def __eq__(self, other: object) -> bool:
+        return isinstance(other, Fax) and self._data == other._data
+
+    def __hash__(self) -> int:
+        return hash(self._data)
+
+    def __repr__(self) -> str:
+        return f"<faxpages.Fax of {len(self._data)} bytes>"
+
+    def __reduce__(self) -> Tuple[Any, ...]:
+        return type(self), (self._data,)
 
     @property
     def pages(self) -> Iterator[Page]:
-        """The pages in order. A fault is raised after the pages before it."""
+        """The pages in order, each time by an iterator of its own. A fault is raised after the pages before it."""
+        forms, ahead = _Forms(self._data), _Ahead()
         for number in itertools.count():
-            form = self._forms.at(number)
+            form, stopped = forms.at(number)
             if form is None:
-                stopped = self._forms.why_none()
                 if stopped:
                     raise stopped
                 return
-            yield self._page(number, form)
+            yield self._page(number, form, ahead)
 
-    def page(self, number: int) -> Page:
-        """A page by its number."""
-        form = self._forms.at(number)
+    def page(self, number: SupportsIndex) -> Page:
+        """A page by its number. The file's directories are followed up to it, unless it comes soon after the last one
+        that this thread has asked for."""
+        number, kept = _number("number", number), self._by_number
+        form, stopped = kept.forms.at(number)
         if form is None:
-            raise self._forms.why_none() or OutsideError(f"the file has no page {number}")
-        return self._page(number, form)
+            raise stopped or OutsideError(f"the file has no page {number}")
+        return self._page(number, form, kept.ahead)
 
-    def _page(self, number: int, form: "_c.Form") -> Page:
+    def _page(self, number: int, form: _c.Form, ahead: _Ahead) -> Page:
         return Page(
             self, number, form.width, form.rows, _CODINGS[form.coding], form.order, bool(form.aligned),
             bool(form.exchanged), form.rows_per_strip, form.strips, _fraction(form.x_numerator, form.x_denominator),
-            _fraction(form.y_numerator, form.y_denominator), form.unit)
-
-    def _rows_of(self, page: int, rows: int) -> Iterator[Row]:
-        """The rows of a page. Where pages are read in order, those that were read ahead are taken; meanwhile another
-        page's rows are read by themselves."""
-        ahead, self._ahead = self._ahead, None
-        if ahead is None or not ahead.goes_on_at(page):
-            ahead = _Ahead(self._data, page)
-        try:
-            yield from ahead.rows_of(page, rows)
-        finally:
-            self._ahead = ahead
+            _fraction(form.y_numerator, form.y_denominator), form.unit, ahead)
 
     def rows(self, cursor: Optional[Cursor] = None) -> Iterator[Row]:
         """All rows from a cursor on, page by page. A fault is raised after the rows before it."""
-        reader = _Reader(self._data, cursor or Cursor())
-        while True:
-            rows = reader.read()
+        after, ended = cursor or Cursor(), False
+        while not ended:
+            rows, after, ended, stopped = _read(self._data, after, _ROWS)
             yield from rows
-            if reader.ended is not None:
-                if reader.stopped:
-                    raise reader.stopped
-                return
+            if stopped:
+                raise stopped
 
-    def read_rows(self, cursor: Cursor, most: int) -> Tuple[List[Row], Cursor]:
+    def read_rows(self, cursor: Cursor, most: SupportsIndex) -> Tuple[List[Row], Cursor]:
         """At most so many rows from a cursor on, and the cursor after them, from which no row is read again. A fault
         is raised where no row was read before it."""
-        reader, found = _Reader(self._data, cursor), []
-        while len(found) < most:
-            rows = reader.read(most - len(found))
-            if not rows:
-                break
+        left, found, ended = _number("most", most, most=sys.maxsize), [], False
+        while left and not ended:
+            rows, cursor, ended, stopped = _read(self._data, cursor, left)
             found += rows
-        if not found and reader.stopped:
-            raise reader.stopped
-        return found, reader.cursor()
+            left -= len(rows)
+            if stopped and not found:
+                raise stopped
+        return found, cursor
 
     def check(self) -> Report:
         """Reads all rows, and reports on the file."""
         return check(self._data)
 
-    def convert(self, target: str, order: int = 1, k: int = 4, strip: Optional[int] = None,
-                align: bool = False) -> bytes:
+    def convert(self, target: str, order: SupportsIndex = 1, k: SupportsIndex = 4,
+                strip: Optional[SupportsIndex] = None, align: bool = False) -> bytes:
         """The file turned into another: see the function convert."""
         return convert(self._data, target, order, k, strip, align)
 
@@ -447,19 +529,19 @@ def check(source: Source) -> Report:
     return Report(report.pages, report.rows, found, _fault(report.fault) if status == _c.FAULT else None)
 
 
-def convert(source: Source, target: str, order: int = 1, k: int = 4, strip: Optional[int] = None,
-            align: bool = False) -> bytes:
+def convert(source: Source, target: str, order: SupportsIndex = 1, k: SupportsIndex = 4,
+            strip: Optional[SupportsIndex] = None, align: bool = False) -> bytes:
     """Turns a file of pages, TIFF-F or raw PBM, into another: target is "pbm", "mh", "mr" or "mmr".
 
     order is 1 where the highest bit of a byte is to be first, else 2; in "mr" a row in k is coded by itself; a strip
     has so many rows, or a page is one strip; align ends each EOL of "mh" and "mr" on a byte boundary."""
     if target not in _TARGETS:
         raise ValueError(f"no target: {target!r}")
+    options = _c.Options(
+        _TARGETS[target], _number("order", order, 1, 2), _number("k", k, 1),
+        0 if strip is None else _number("strip", strip, 1), bool(align))
     data, converted = _bytes_of(source), _c.Converted()
-    options = _c.Options(_TARGETS[target], order, k, 0 if strip is None else strip, int(align))
-    if strip == 0:
-        raise ValueError("a strip has a row at least")
-    room = 2 * len(data) + 4096
+    room = min(2 * len(data) + 4096, _OUTPUT)
     while True:
         out = ctypes.create_string_buffer(room)
         status = _c.library.faxpages_convert(data, len(data), options, out, room, converted)
@@ -467,16 +549,18 @@ def convert(source: Source, target: str, order: int = 1, k: int = 4, strip: Opti
             break
         room = converted.len
     if status == _c.DONE:
-        return out.raw[:converted.len]
-    if status == _c.MEMORY:
-        raise MemoryError("libfaxpages was refused memory")
-    if status != _c.FAULT:
-        raise ValueError("no such order, k, strip or align for this target")
+        return ctypes.string_at(out, converted.len)
+    if status == _c.BAD_OPTIONS:
+        raise ValueError("align is for targets with EOLs: mh and mr")
+    raise _not_converted(status, converted)
+
+
+def _not_converted(status: int, converted: _c.Converted) -> Exception:
     number = converted.fault.number
     if number == 301:
-        raise UnknownInput("the input is neither raw PBM nor TIFF")
+        return UnknownInput("the input is neither raw PBM nor TIFF")
     if number == 302:
-        raise OutputTooLarge("the output is too large")
+        return OutputTooLarge("the output is too large")
     if number > 200:
-        raise PbmFault(_name_of(number), converted.image)
-    raise _fault(converted.fault)
+        return PbmFault(_name_of(number), converted.image)
+    return _stopped(status, converted.fault) or FaxError("libfaxpages converted nothing")

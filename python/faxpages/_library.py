@@ -9,36 +9,77 @@ DONE, END, FAULT, OUTSIDE, MEMORY, NO_ROOM, NOT_A_PLACE, BAD_OPTIONS = range(8)
 NO_STRIP = 0xFFFFFFFF
 RUNS = 65536
 
-U32, U64, SIZE = ctypes.c_uint32, ctypes.c_uint64, ctypes.c_size_t
+U32 = ctypes.c_uint32
+U64 = ctypes.c_uint64
+SIZE = ctypes.c_size_t
+U32_BYTES = 4
 
 
 class Fault(ctypes.Structure):
+    number: int
+    tag: int
+    page: int
+    row: int
     _fields_ = [("number", U32), ("tag", U32), ("page", U32), ("row", U32)]
 
 
 class Told(ctypes.Structure):
+    count: int
+    used: int
+    page: int
+    row: int
+    fault: Fault
     _fields_ = [("count", SIZE), ("used", SIZE), ("page", U32), ("row", U32), ("fault", Fault)]
 
 
 class Form(ctypes.Structure):
+    width: int
+    rows: int
+    coding: int
+    order: int
+    aligned: int
+    exchanged: int
+    rows_per_strip: int
+    strips: int
+    x_numerator: int
+    x_denominator: int
+    y_numerator: int
+    y_denominator: int
+    unit: int
     _fields_ = [(name, U32) for name in (
         "width", "rows", "coding", "order", "aligned", "exchanged", "rows_per_strip", "strips", "x_numerator",
         "x_denominator", "y_numerator", "y_denominator", "unit")]
 
 
 class Row(ctypes.Structure):
+    at: int
+    len: int
+    page: int
+    row: int
+    width: int
     _fields_ = [("at", SIZE), ("len", U32), ("page", U32), ("row", U32), ("width", U32)]
 
 
 class Place(ctypes.Structure):
+    page: int
+    row: int
+    bits: int
+    runs: int
     _fields_ = [("page", U32), ("row", U32), ("bits", U32), ("runs", U32)]
 
 
 class Note(ctypes.Structure):
+    page: int
+    strip: int
+    kind: int
     _fields_ = [("page", U32), ("strip", U32), ("kind", U32)]
 
 
 class Report(ctypes.Structure):
+    pages: int
+    rows: int
+    notes: int
+    fault: Fault
     _fields_ = [("pages", U64), ("rows", U64), ("notes", SIZE), ("fault", Fault)]
 
 
@@ -47,6 +88,9 @@ class Options(ctypes.Structure):
 
 
 class Converted(ctypes.Structure):
+    len: int
+    image: int
+    fault: Fault
     _fields_ = [("len", SIZE), ("image", U64), ("fault", Fault)]
 
 

@@ -2,11 +2,12 @@
 
 from __future__ import annotations
 
-from typing import Dict, Optional, Type
+from typing import Any, Dict, Optional, Tuple, Type
 
 
 class FaxError(Exception):
-    """What faxpages raises, but for MemoryError and what Python raises of files."""
+    """What faxpages raises, but for MemoryError, what Python raises of files, and the ValueError or TypeError of a
+    number or a text that is handed in."""
 
 
 class OutsideError(FaxError):
@@ -32,16 +33,29 @@ class OutputTooLarge(ConversionError):
 class PbmFault(ConversionError):
     """An image of a raw PBM is refused.
 
-    image is its number, from 0; name is the fault's."""
+    image is its number, from 0; name is the fault's. Two of one name and image are equal."""
 
     def __init__(self, name: str, image: int) -> None:
         super().__init__(f"image {image}: {name}")
         self.name = name
         self.image = image
 
+    def _words(self) -> Tuple[Any, ...]:
+        return self.name, self.image
+
+    def __reduce__(self) -> Tuple[Any, ...]:
+        return type(self), self._words(), self.__dict__
+
+    def __eq__(self, other: object) -> bool:
+        return isinstance(other, PbmFault) and (type(self), self._words()) == (type(other), other._words())
+
+    def __hash__(self) -> int:
+        return hash(self._words())
+
 
 class Fault(FaxError):
-    """The first fault of a file, which ends its rows. Each kind has a class of its own.
+    """The first fault of a file, which ends its rows. Each kind has a class of its own. Two of one kind, page, row and
+    tag are equal.
 
     page and row, both from 0, are those that were due at the fault: row 0 for a fault of the header, of a directory
     or of a field. name is the fault's, and tag that of the field at fault (TIFF 6.0), or None."""
@@ -52,6 +66,18 @@ class Fault(FaxError):
         self.page = page
         self.row = row
         self.tag = tag
+
+    def _words(self) -> Tuple[Any, ...]:
+        return self.name, self.page, self.row, self.tag
+
+    def __reduce__(self) -> Tuple[Any, ...]:
+        return type(self), self._words(), self.__dict__
+
+    def __eq__(self, other: object) -> bool:
+        return isinstance(other, Fault) and (type(self), self._words()) == (type(other), other._words())
+
+    def __hash__(self) -> int:
+        return hash(self._words())
 
 
 class FileFault(Fault):

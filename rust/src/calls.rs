@@ -89,6 +89,34 @@ pub struct Converted {
     pub fault: Fault,
 }
 
+/// How a call ended.
+pub const DONE: u32 = 0;
+pub const END: u32 = 1;
+pub const FAULT: u32 = 2;
+pub const OUTSIDE: u32 = 3;
+pub const MEMORY: u32 = 4;
+pub const NO_ROOM: u32 = 5;
+pub const NO_PLACE: u32 = 6;
+pub const NO_OPTIONS: u32 = 7;
+
+/// So many runs hold those of any row, and so many bytes a row.
+pub const RUNS: usize = 65_536;
+pub const ROW_BYTES: usize = 8192;
+
+/// A call that hands out rows from a place on, each as some numbers.
+pub type RowsFrom<Number> = unsafe extern "C" fn(
+    file: *const u8,
+    len: usize,
+    place: *mut Place,
+    runs: *mut u32,
+    runs_room: usize,
+    rows: *mut Row,
+    rows_room: usize,
+    out: *mut Number,
+    out_room: usize,
+    told: *mut Told,
+) -> u32;
+
 extern "C" {
     pub fn faxpages_forms(
         file: *const u8,
@@ -109,6 +137,45 @@ extern "C" {
         out: *mut u8,
         out_room: usize,
         told: *mut Told,
+    ) -> u32;
+    pub fn faxpages_runs_from(
+        file: *const u8,
+        len: usize,
+        place: *mut Place,
+        runs: *mut u32,
+        runs_room: usize,
+        rows: *mut Row,
+        rows_room: usize,
+        out: *mut u32,
+        out_room: usize,
+        told: *mut Told,
+    ) -> u32;
+    pub fn faxpages_changes_from(
+        file: *const u8,
+        len: usize,
+        place: *mut Place,
+        runs: *mut u32,
+        runs_room: usize,
+        rows: *mut Row,
+        rows_room: usize,
+        out: *mut u32,
+        out_room: usize,
+        told: *mut Told,
+    ) -> u32;
+    pub fn faxpages_place_text(
+        place: *const Place,
+        runs: *const u32,
+        runs_room: usize,
+        text: *mut u8,
+        text_room: usize,
+        len: *mut usize,
+    ) -> u32;
+    pub fn faxpages_place_parse(
+        text: *const u8,
+        text_len: usize,
+        place: *mut Place,
+        runs: *mut u32,
+        runs_room: usize,
     ) -> u32;
     pub fn faxpages_check(file: *const u8, len: usize, notes: *mut Note, room: usize, report: *mut Report) -> u32;
     pub fn faxpages_convert(

@@ -12,21 +12,30 @@
 //! ```
 //!
 //! A fax is a slice of the bytes of a file, which nothing is copied of. Pages and rows are numbered from 0. What comes
-//! before an error is right; the error is the last item.
+//! before an error is right; the error is the last item. Rows come as packed bytes ([`Fax::rows`]), as runs
+//! ([`Fax::runs`]) or as changing elements ([`Fax::changes`]), from the beginning or from a [`Cursor`] on.
+//!
+//! All types are `Send` and `Sync`, so threads may share a fax, each with iterators of its own. Bytes of a stranger
+//! cause no panic.
+#![deny(missing_docs)]
 
 mod calls;
+mod cursor;
+mod rows;
+
+pub use cursor::Cursor;
+pub use rows::{Row, RowChanges, RowFormat, RowRuns, Rows};
 
 use std::collections::VecDeque;
 use std::error;
 use std::fmt;
+use std::iter::FusedIterator;
 
-/// How many rows and bytes are read at a time, and how many forms at first and at most.
-const ROWS: usize = 8192;
-const BYTES: usize = 1 << 20;
+/// How many forms are read at a time, at first and at most.
 const FORMS: usize = 64;
 const MOST_FORMS: usize = 65_536;
-/// So many runs hold those of any row.
-const RUNS: usize = 65_536;
+/// So many bytes the output of a conversion has at most.
+const MOST_OUTPUT: usize = 1 << 28;
 
 /// Why nothing more is handed out.
 #[derive(Clone, Debug, PartialEq, Eq)]
@@ -34,7 +43,9 @@ const RUNS: usize = 65_536;
 pub enum Error {
     /// The first fault of the file, where this row of a page was due.
     Fault {
+        /// The page that was due.
         page: u32,
+        /// The row that was due; 0 for a fault of the header, of a directory or of a field.
         row: u32,
         /// Its number, which never changes, as in `faxpages.h`.
         number: u32,
@@ -46,15 +57,24 @@ pub enum Error {
     /// The file has no such page, row or place.
     Outside,
     /// An image of a raw PBM is refused.
-    Pbm { image: u64, name: String },
+    Pbm {
+        /// The image, from 0.
+        image: u64,
+        /// The fault's name.
+        name: String,
+    },
     /// The bytes are neither raw PBM nor TIFF.
     UnknownInput,
     /// The output would have more than 268,435,456 bytes, or more than 65,535 pages.
     OutputTooLarge,
     /// K is 0, a strip has no row, or EOLs are to be aligned in a target that has none.
     BadOptions,
+    /// A text or numbers are no cursor's.
+    NotACursor,
     /// Memory was refused.
     Memory,
+    /// The library answered with a status that this crate does not know.
+    Status(u32),
 }
 
 impl fmt::Display for Error {
@@ -67,7 +87,9 @@ impl fmt::Display for Error {
             Error::UnknownInput => write!(f, "the input is neither raw PBM nor TIFF"),
             Error::OutputTooLarge => write!(f, "the output is too large"),
             Error::BadOptions => write!(f, "there are no such options"),
+            Error::NotACursor => write!(f, "this is no cursor"),
             Error::Memory => write!(f, "out of memory"),
+            Error::Status(status) => write!(f, "the library answered with status {status}"),
         }
     }
 }
@@ -77,15 +99,20 @@ impl error::Error for Error {}
 /// How rows are coded.
 #[derive(Clone, Copy, Debug, PartialEq, Eq)]
 pub enum Coding {
+    /// T.4, one-dimensional.
     Mh,
+    /// T.4, two-dimensional.
     Mr,
+    /// T.6.
     Mmr,
 }
 
 /// Which bit of a byte is first.
 #[derive(Clone, Copy, Debug, PartialEq, Eq)]
 pub enum FillOrder {
+    /// The highest, as TIFF's fill order 1.
     MsbFirst,
+    /// The lowest, as TIFF's fill order 2.
     LsbFirst,
 }
 
@@ -98,7 +125,9 @@ pub struct Form {
     pub width: u32,
     /// 1 to 1,000,000.
     pub rows: u32,
+    /// How its rows are coded.
     pub coding: Coding,
+    /// Which bit of a byte is first in its strips.
     pub order: FillOrder,
     /// Whether each EOL ends on a byte boundary.
     pub aligned: bool,
@@ -106,6 +135,7 @@ pub struct Form {
     pub exchanged: bool,
     /// The rows of each strip but the last, which may have fewer.
     pub rows_per_strip: u32,
+    /// How many strips there are.
     pub strips: u32,
     /// Pels of a row in a unit, as a fraction.
     pub x: (u32, u32),
@@ -115,43 +145,10 @@ pub struct Form {
     pub unit: u32,
 }
 
-/// A row: its place, its pels, and its packed bytes, the highest bit first, 1 for black.
-#[derive(Clone, Debug, PartialEq, Eq)]
-pub struct Row {
-    pub page: u32,
-    pub number: u32,
-    pub width: u32,
-    pub packed: Vec<u8>,
-}
-
-impl Row {
-    /// Whether a pel, from 0, is black.
-    ///
-    /// # Panics
-    ///
-    /// Where the row has no such pel.
-    pub fn is_black(&self, pel: u32) -> bool {
-        assert!(pel < self.width);
-        self.packed[pel as usize / 8] >> (7 - pel % 8) & 1 == 1
-    }
-
-    /// The lengths in pels of its runs, white first: the first is 0 where the row begins black.
-    pub fn runs(&self) -> Vec<u32> {
-        let (mut runs, mut colour, mut begin) = (Vec::new(), false, 0);
-        for pel in 0..self.width {
-            if self.is_black(pel) != colour {
-                runs.push(pel - begin);
-                (colour, begin) = (!colour, pel);
-            }
-        }
-        runs.push(self.width - begin);
-        runs
-    }
-}
-
 /// What may trouble other readers of a page, or of a strip of it.
 #[derive(Clone, Copy, Debug, PartialEq, Eq)]
 pub struct Note {
+    /// The page's number.
     pub page: u32,
     /// The strip, or none where the note is on the page's directory.
     pub strip: Option<u32>,
@@ -166,23 +163,31 @@ pub struct Report {
     pub pages: u64,
     /// How many rows were read.
     pub rows: u64,
+    /// What may trouble other readers, page by page.
     pub notes: Vec<Note>,
+    /// The first fault, after which nothing was read.
     pub fault: Option<Error>,
 }
 
 /// What a file is turned into.
 #[derive(Clone, Copy, Debug, PartialEq, Eq)]
 pub enum Target {
+    /// Raw PBM, an image a page.
     Pbm,
+    /// TIFF-F in MH.
     Mh,
+    /// TIFF-F in MR.
     Mr,
+    /// TIFF-F in MMR.
     Mmr,
 }
 
 /// How a file is written.
 #[derive(Clone, Copy, Debug, PartialEq, Eq)]
 pub struct Options {
+    /// What the file is turned into.
     pub target: Target,
+    /// Which bit of a byte is to be first.
     pub order: FillOrder,
     /// In MR, a row in this many is coded by itself; at least 1.
     pub k: u32,
@@ -219,11 +224,20 @@ fn fault_of(fault: &calls::Fault) -> Error {
 /// Why a call wrote no more, by its status; none at the end of the file.
 fn stopped(status: u32, fault: &calls::Fault) -> Option<Error> {
     match status {
-        2 => Some(fault_of(fault)),
-        3 => Some(Error::Outside),
-        4 => Some(Error::Memory),
-        _ => None,
+        calls::END => None,
+        calls::FAULT => Some(fault_of(fault)),
+        calls::OUTSIDE => Some(Error::Outside),
+        calls::MEMORY => Some(Error::Memory),
+        status => Some(Error::Status(status)),
     }
+}
+
+/// Memory that the length of a file decides on: it is refused, where there is not so much.
+fn zeros<T: Clone + Default>(len: usize) -> Result<Vec<T>, Error> {
+    let mut made = Vec::new();
+    made.try_reserve_exact(len).map_err(|_| Error::Memory)?;
+    made.resize(len, T::default());
+    Ok(made)
 }
 
 /// A file of fax pages.
@@ -240,7 +254,12 @@ impl<'a> Fax<'a> {
 
     /// The forms of its pages.
     pub fn forms(&self) -> Forms<'a> {
-        Forms { file: self.file, page: 0, most: FORMS, ready: VecDeque::new(), ended: None }
+        self.forms_from(0)
+    }
+
+    /// The forms of its pages from a page on. Pages before it are not looked at, so that those after a fault are found.
+    pub fn forms_from(&self, page: u32) -> Forms<'a> {
+        Forms { file: self.file, page, most: FORMS, ready: VecDeque::new(), ended: None }
     }
 
     /// All its rows, page by page.
@@ -250,15 +269,60 @@ impl<'a> Fax<'a> {
 
     /// Its rows from a page and a row on.
     pub fn rows_from(&self, page: u32, row: u32) -> Rows<'a> {
-        Rows {
-            file: self.file,
-            place: calls::Place { page, row, bits: 0, runs: 0 },
-            runs: vec![0; RUNS],
-            table: vec![calls::Row::default(); ROWS],
-            out: vec![0; BYTES],
-            ready: 0..0,
-            ended: None,
-        }
+        self.rows_at(&Cursor::new(page, row))
+    }
+
+    /// Its rows from a cursor on.
+    pub fn rows_at(&self, cursor: &Cursor) -> Rows<'a> {
+        Rows::new(self.file, cursor)
+    }
+
+    /// The runs of all its rows, page by page.
+    pub fn runs(&self) -> Rows<'a, RowRuns> {
+        self.runs_at(&Cursor::default())
+    }
+
+    /// The runs of its rows from a cursor on.
+    pub fn runs_at(&self, cursor: &Cursor) -> Rows<'a, RowRuns> {
+        Rows::new(self.file, cursor)
+    }
+
+    /// The changing elements of all its rows, page by page.
+    pub fn changes(&self) -> Rows<'a, RowChanges> {
+        self.changes_at(&Cursor::default())
+    }
+
+    /// The changing elements of its rows from a cursor on.
+    pub fn changes_at(&self, cursor: &Cursor) -> Rows<'a, RowChanges> {
+        Rows::new(self.file, cursor)
+    }
+
+    /// At most so many rows from a cursor on, and the cursor after them, from which no row is read again. There are
+    /// fewer before a fault, and none at the end of the file.
+    ///
+    /// # Errors
+    ///
+    /// Why no row can be read at the cursor. What comes after a row is the error of the next call.
+    pub fn read_rows(&self, cursor: &Cursor, most: usize) -> Result<(Vec<Row>, Cursor), Error> {
+        rows::read(self.file, cursor, most)
+    }
+
+    /// The same for the runs of rows.
+    ///
+    /// # Errors
+    ///
+    /// As [`Fax::read_rows`].
+    pub fn read_runs(&self, cursor: &Cursor, most: usize) -> Result<(Vec<RowRuns>, Cursor), Error> {
+        rows::read(self.file, cursor, most)
+    }
+
+    /// The same for the changing elements of rows.
+    ///
+    /// # Errors
+    ///
+    /// As [`Fax::read_rows`].
+    pub fn read_changes(&self, cursor: &Cursor, most: usize) -> Result<(Vec<RowChanges>, Cursor), Error> {
+        rows::read(self.file, cursor, most)
     }
 
     /// Reads all rows up to the first fault, and reports on the file.
@@ -276,8 +340,8 @@ impl<'a> Fax<'a> {
                     &mut report,
                 )
             };
-            if status == 4 {
-                return Err(Error::Memory);
+            if status != calls::END && status != calls::FAULT {
+                return Err(stopped(status, &report.fault).unwrap_or(Error::Memory));
             }
             if report.notes <= notes.len() {
                 notes.truncate(report.notes);
@@ -288,7 +352,7 @@ impl<'a> Fax<'a> {
                     fault: stopped(status, &report.fault),
                 });
             }
-            notes.resize(report.notes, calls::Note::default());
+            notes = zeros(report.notes)?;
         }
     }
 
@@ -315,7 +379,7 @@ pub fn convert(file: &[u8], options: &Options) -> Result<Vec<u8>, Error> {
         aligned: options.aligned.into(),
     };
     let mut converted = calls::Converted::default();
-    let mut out = vec![0; 2 * file.len() + 4096];
+    let mut out = zeros(file.len().saturating_mul(2).saturating_add(4096).min(MOST_OUTPUT))?;
     loop {
         // SAFETY: each pointer is to as many items as the length beside it says, of its own slice.
         let status = unsafe {
@@ -329,22 +393,23 @@ pub fn convert(file: &[u8], options: &Options) -> Result<Vec<u8>, Error> {
             )
         };
         match (status, converted.fault.number) {
-            (0, _) => {
+            (calls::DONE, _) => {
                 out.truncate(converted.len);
                 return Ok(out);
             }
-            (5, _) => out.resize(converted.len, 0),
-            (2, 301) => return Err(Error::UnknownInput),
-            (2, 302) => return Err(Error::OutputTooLarge),
-            (2, number @ 201..) => return Err(Error::Pbm { image: converted.image, name: name_of(number) }),
-            (2, _) => return Err(fault_of(&converted.fault)),
-            (4, _) => return Err(Error::Memory),
-            _ => return Err(Error::BadOptions),
+            (calls::NO_ROOM, _) => out = zeros(converted.len)?,
+            (calls::NO_OPTIONS, _) => return Err(Error::BadOptions),
+            (calls::FAULT, 301) => return Err(Error::UnknownInput),
+            (calls::FAULT, 302) => return Err(Error::OutputTooLarge),
+            (calls::FAULT, number @ 201..) => {
+                return Err(Error::Pbm { image: converted.image, name: name_of(number) })
+            }
+            (status, _) => return Err(stopped(status, &converted.fault).unwrap_or(Error::Status(status))),
         }
     }
 }
 
-/// The version of libfaxpages, as 10205 for 1.2.5.
+/// The version of libfaxpages, as 10300 for 1.3.0.
 pub fn version() -> u32 {
     // SAFETY: it takes nothing.
     unsafe { calls::faxpages_version() }
@@ -381,7 +446,7 @@ impl Forms<'_> {
             self.ready.push_back(form_of(self.page, form));
             self.page += 1;
         }
-        if status != 0 {
+        if status != calls::DONE {
             self.ended = Some(stopped(status, &told.fault));
         }
     }
@@ -422,61 +487,4 @@ impl Iterator for Forms<'_> {
     }
 }
 
-/// Rows, page by page, and the error that ends them.
-#[derive(Debug)]
-pub struct Rows<'a> {
-    file: &'a [u8],
-    place: calls::Place,
-    runs: Vec<u32>,
-    table: Vec<calls::Row>,
-    out: Vec<u8>,
-    ready: std::ops::Range<usize>,
-    ended: Option<Option<Error>>,
-}
-
-impl Rows<'_> {
-    fn read(&mut self) {
-        let mut told = calls::Told::default();
-        // SAFETY: each pointer is to as many items as the length beside it says, of its own vector.
-        let status = unsafe {
-            calls::faxpages_rows_from(
-                self.file.as_ptr(),
-                self.file.len(),
-                &mut self.place,
-                self.runs.as_mut_ptr(),
-                self.runs.len(),
-                self.table.as_mut_ptr(),
-                self.table.len(),
-                self.out.as_mut_ptr(),
-                self.out.len(),
-                &mut told,
-            )
-        };
-        self.ready = 0..told.count;
-        if status != 0 && status != 5 {
-            self.ended = Some(stopped(status, &told.fault));
-        }
-    }
-}
-
-impl Iterator for Rows<'_> {
-    type Item = Result<Row, Error>;
-
-    fn next(&mut self) -> Option<Self::Item> {
-        if self.ready.is_empty() && self.ended.is_none() {
-            self.read();
-        }
-        match self.ready.next() {
-            Some(i) => {
-                let row = self.table[i];
-                Some(Ok(Row {
-                    page: row.page,
-                    number: row.row,
-                    width: row.width,
-                    packed: self.out[row.at..][..row.len as usize].to_vec(),
-                }))
-            }
-            None => self.ended.as_mut()?.take().map(Err),
-        }
-    }
-}
+impl FusedIterator for Forms<'_> {}

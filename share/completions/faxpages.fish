@@ -6,14 +6,14 @@ complete -c faxpages -n "not __fish_seen_subcommand_from $commands" -f
 complete -c faxpages -n "not __fish_seen_subcommand_from $commands" -a list -d 'print a line for each page'
 complete -c faxpages -n "not __fish_seen_subcommand_from $commands" -a rows -d 'print a line for each row'
 complete -c faxpages -n "not __fish_seen_subcommand_from $commands" -a convert -d 'write the pages in another form'
-complete -c faxpages -n "not __fish_seen_subcommand_from $commands" -a check -d 'print what is worth a note'
+complete -c faxpages -n "not __fish_seen_subcommand_from $commands" -a check -d 'report faults and notes'
 
-complete -c faxpages -n '__fish_seen_subcommand_from list rows' -l cursor -x -d 'go on at this cursor'
-complete -c faxpages -n '__fish_seen_subcommand_from list rows' -l max -x -d 'print at most so many lines'
+complete -c faxpages -n '__fish_seen_subcommand_from list rows' -l cursor -x -d 'resume at this cursor'
+complete -c faxpages -n '__fish_seen_subcommand_from list rows' -l max -x -d 'print at most this many lines'
 complete -c faxpages -n '__fish_seen_subcommand_from rows' -l long -d 'name a long cursor after next'
 
 complete -c faxpages -n '__fish_seen_subcommand_from convert' -s o -x -a 'pbm mh mr mmr' -d 'the form to write'
 complete -c faxpages -n '__fish_seen_subcommand_from convert' -l order -x -a '1 2' -d 'which bit of a byte is first'
-complete -c faxpages -n '__fish_seen_subcommand_from convert' -l k -x -d 'code one row in so many by itself, in MR'
+complete -c faxpages -n '__fish_seen_subcommand_from convert' -l k -x -d 'in MR, code every Kth row one-dimensionally'
 complete -c faxpages -n '__fish_seen_subcommand_from convert' -l strip -x -d 'rows of a strip'
 complete -c faxpages -n '__fish_seen_subcommand_from convert' -l align -d 'end each EOL on a byte, in MH and MR'

@@ -5,6 +5,7 @@
 
 FAXPAGES_LIBRARY names the library. Ends with 'module: N passed, N failed'."""
 
+import concurrent.futures
 import os
 import random
 import subprocess
@@ -112,6 +113,17 @@ class Counted:
         return getattr(self.library, name)
 
 
+def in_threads(work):
+    """What four threads find together, each of which does the same."""
+    return by_pool(lambda _: work(), range(4))
+
+
+def by_pool(work, items):
+    """What four threads find together, which share the items."""
+    with concurrent.futures.ThreadPoolExecutor(4) as pool:
+        return sum(pool.map(work, items))
+
+
 def many_pages():
     """All pages of a file of many, and their rows, are read by few calls, each by its number too; pages that are read
     in part, or two at once, are the same."""
@@ -125,15 +137,31 @@ def many_pages():
         "first rows of pages": lambda: 8 * sum(next(iter(page)).number == 0 for page in fax.pages),
         "rows": lambda: sum(1 for row in fax.rows()),
         "each second page": lambda: 2 * sum(1 for page in fax.pages if page.number % 2 for row in page),
+        "rows of pages by four threads": lambda: in_threads(lambda: sum(1 for page in fax.pages for row in page)),
+        "pages for four threads": lambda: 4 * by_pool(lambda page: sum(1 for row in page), fax.pages),
+        "numbers for four threads": lambda: 4 * by_pool(lambda at: sum(1 for row in fax.page(at)), range(MANY)),
     }
     for name, way in ways.items():
         faxpages._c.library = counted = Counted(library)
         found = way()
         faxpages._c.library = library
-        yield f"{MANY} pages: {name} by {counted.calls} calls", found == 8 * MANY and counted.calls < 64
+        times = 4 if "four" in name else 1
+        fine = found == times * 8 * MANY and counted.calls < times * 64
+        yield f"{MANY} pages: {name} by {counted.calls} calls", fine
     first, second = fax.page(5), fax.page(6)
     both = list(zip(first, second))
     yield "two pages at once", [row for row, _ in both] == list(first) and [row for _, row in both] == list(second)
+
+
+def long_page():
+    """A page whose rows pass the room of a call several times is read whole, in each way."""
+    raster = (bytes(240) + b"fax") * 6200
+    raster = raster[:250 * 6000]
+    fax = faxpages.open(faxpages.convert(b"P4\n2000 6000\n" + raster, "mmr"))
+    yield "rows of a long page", b"".join(row.packed for row in fax.rows()) == raster
+    yield "a long page", fax.page(0).packed() == raster
+    first, after = fax.read_rows(faxpages.Cursor(), 4900)
+    yield "a long page in two", b"".join(row.packed for row in first + list(fax.rows(after))) == raster
 
 
 def damaged(files):
@@ -163,7 +191,7 @@ def main():
         see(f"batches of {name}", len(batches(data)) == said("rows", data=data)[0].count(b"row "))
         for target, words in TARGETS:
             see(f"{name} as {target}", is_converted(data, target, words))
-    for claim in many_pages():
+    for claim in [*many_pages(), *long_page()]:
         see(*claim)
     small = [data for data in files.values() if len(data) < 3000]
     for name, data in damaged(small):

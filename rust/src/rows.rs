@@ -1,0 +1,291 @@
+//! Rows from cursors on: their bytes, their runs or their changing elements.
+
+use crate::calls::{self, Place, Told};
+use crate::{stopped, Cursor, Error};
+use std::fmt;
+use std::iter::FusedIterator;
+use std::mem::size_of;
+use std::ops::Range;
+
+/// How many rows are read at a time, and how many bytes of them.
+const ROWS: usize = 8192;
+const BYTES: usize = 1 << 20;
+
+/// A row: its place, its pels, and its packed bytes, the highest bit first, 1 for black.
+#[derive(Clone, Debug, PartialEq, Eq, Hash)]
+pub struct Row {
+    /// The page's number.
+    pub page: u32,
+    /// The row's number on its page.
+    pub number: u32,
+    /// The pels, 1 to 65,535.
+    pub width: u32,
+    /// (width + 7) / 8 bytes, with zeros after the last pel.
+    pub packed: Vec<u8>,
+}
+
+impl Row {
+    /// Whether a pel, from 0, is black.
+    ///
+    /// # Panics
+    ///
+    /// Where the row has no such pel. [`Row::pel`] does not.
+    pub fn is_black(&self, pel: u32) -> bool {
+        assert!(pel < self.width);
+        self.packed[pel as usize / 8] >> (7 - pel % 8) & 1 == 1
+    }
+
+    /// Whether a pel, from 0, is black; none where the row has no such pel.
+    pub fn pel(&self, pel: u32) -> Option<bool> {
+        let byte = self.packed.get(pel as usize / 8).filter(|_| pel < self.width)?;
+        Some(byte >> (7 - pel % 8) & 1 == 1)
+    }
+
+    /// The lengths in pels of its runs, white first: the first is 0 where the row begins black.
+    pub fn runs(&self) -> Vec<u32> {
+        let (mut runs, mut colour, mut begin) = (Vec::new(), false, 0);
+        for (pel, black) in (0..self.width).map_while(|pel| Some((pel, self.pel(pel)?))) {
+            if black != colour {
+                runs.push(pel - begin);
+                (colour, begin) = (!colour, pel);
+            }
+        }
+        runs.push(self.width - begin);
+        runs
+    }
+}
+
+/// A row by its runs.
+#[derive(Clone, Debug, PartialEq, Eq, Hash)]
+pub struct RowRuns {
+    /// The page's number.
+    pub page: u32,
+    /// The row's number on its page.
+    pub number: u32,
+    /// The pels, 1 to 65,535, which is the sum of the runs.
+    pub width: u32,
+    /// The lengths in pels of its longest runs of one colour, white first: the first is 0 where the row begins black,
+    /// and no other is.
+    pub runs: Vec<u32>,
+}
+
+/// A row by its changing elements (T.4, 4.2.1.3.1).
+#[derive(Clone, Debug, PartialEq, Eq, Hash)]
+pub struct RowChanges {
+    /// The page's number.
+    pub page: u32,
+    /// The row's number on its page.
+    pub number: u32,
+    /// The pels, 1 to 65,535.
+    pub width: u32,
+    /// The pels, from 0, that have another colour than the pel before them, where white stands before the first.
+    pub changes: Vec<u32>,
+}
+
+/// How rows are handed out: [`Row`], [`RowRuns`] or [`RowChanges`].
+pub trait RowFormat: format::Format {}
+
+impl RowFormat for Row {}
+impl RowFormat for RowRuns {}
+impl RowFormat for RowChanges {}
+
+mod format {
+    use super::{Row, RowChanges, RowRuns};
+    use crate::calls;
+    use std::fmt;
+
+    /// How a call hands out a row.
+    pub trait Format: Sized {
+        /// The type of its numbers.
+        type Number: Copy + Default + fmt::Debug;
+        /// The call.
+        const CALL: calls::RowsFrom<Self::Number>;
+        /// So many numbers hold any row.
+        const MOST: usize;
+
+        /// The row of these numbers.
+        fn of(row: &calls::Row, numbers: &[Self::Number]) -> Self;
+    }
+
+    impl Format for Row {
+        type Number = u8;
+        const CALL: calls::RowsFrom<u8> = calls::faxpages_rows_from;
+        const MOST: usize = calls::ROW_BYTES;
+
+        fn of(row: &calls::Row, packed: &[u8]) -> Self {
+            Row { page: row.page, number: row.row, width: row.width, packed: packed.to_vec() }
+        }
+    }
+
+    impl Format for RowRuns {
+        type Number = u32;
+        const CALL: calls::RowsFrom<u32> = calls::faxpages_runs_from;
+        const MOST: usize = calls::RUNS;
+
+        fn of(row: &calls::Row, runs: &[u32]) -> Self {
+            RowRuns { page: row.page, number: row.row, width: row.width, runs: runs.to_vec() }
+        }
+    }
+
+    impl Format for RowChanges {
+        type Number = u32;
+        const CALL: calls::RowsFrom<u32> = calls::faxpages_changes_from;
+        const MOST: usize = calls::RUNS;
+
+        fn of(row: &calls::Row, changes: &[u32]) -> Self {
+            RowChanges { page: row.page, number: row.row, width: row.width, changes: changes.to_vec() }
+        }
+    }
+}
+
+/// A file, the place to go on at, and the rows before it that were read last.
+struct Reader<'a, T: RowFormat> {
+    file: &'a [u8],
+    place: Place,
+    runs: Vec<u32>,
+    table: Vec<calls::Row>,
+    out: Vec<T::Number>,
+}
+
+impl<'a, T: RowFormat> Reader<'a, T> {
+    /// A reader of so many rows at a time.
+    fn new(file: &'a [u8], cursor: &Cursor, most: usize) -> Self {
+        let (place, runs) = cursor.place();
+        let most = most.min(ROWS);
+        let room = most.saturating_mul(T::MOST).min(BYTES / size_of::<T::Number>());
+        Reader { file, place, runs, table: vec![calls::Row::default(); most], out: vec![T::Number::default(); room] }
+    }
+
+    /// Reads the next rows, at most so many. Answers how many there are, and where they ended, the error.
+    fn read(&mut self, most: usize) -> (usize, Option<Option<Error>>) {
+        let mut told = Told::default();
+        // SAFETY: each pointer is to as many items as the length beside it says, of its own vector.
+        let status = unsafe {
+            (T::CALL)(
+                self.file.as_ptr(),
+                self.file.len(),
+                &mut self.place,
+                self.runs.as_mut_ptr(),
+                self.runs.len(),
+                self.table.as_mut_ptr(),
+                self.table.len().min(most),
+                self.out.as_mut_ptr(),
+                self.out.len(),
+                &mut told,
+            )
+        };
+        let goes_on = status == calls::DONE || status == calls::NO_ROOM;
+        (told.count, (!goes_on).then(|| stopped(status, &told.fault)))
+    }
+
+    /// A row of those that were read last.
+    fn row(&self, number: usize) -> T {
+        let row = &self.table[number];
+        T::of(row, &self.out[row.at..][..row.len as usize])
+    }
+
+    fn cursor(&self) -> Cursor {
+        Cursor::of(&self.place, &self.runs)
+    }
+}
+
+impl<T: RowFormat> fmt::Debug for Reader<'_, T> {
+    fn fmt(&self, f: &mut fmt::Formatter<'_>) -> fmt::Result {
+        f.debug_struct("Reader").field("place", &self.place).finish_non_exhaustive()
+    }
+}
+
+/// Rows, page by page, and the error that ends them.
+///
+/// Rows are read some thousands at a time.
+#[derive(Debug)]
+pub struct Rows<'a, T: RowFormat = Row> {
+    reader: Reader<'a, T>,
+    /// Where the rows that were read last begin.
+    begin: Cursor,
+    /// Those of them that are not handed out yet.
+    ready: Range<usize>,
+    ended: Option<Option<Error>>,
+}
+
+impl<'a, T: RowFormat> Rows<'a, T> {
+    pub(crate) fn new(file: &'a [u8], cursor: &Cursor) -> Self {
+        Rows { reader: Reader::new(file, cursor, ROWS), begin: cursor.clone(), ready: 0..0, ended: None }
+    }
+
+    /// The cursor after the rows that were handed out: rows from it on are the ones that would have come next, and no
+    /// row of a strip is read again for them. Where the iterator has read ahead, this reads the rows before the cursor
+    /// once more, some thousands at most.
+    ///
+    /// ```
+    /// # let file = std::fs::read("../samples/three-mmr-rows.tif").unwrap();
+    /// let fax = faxpages::Fax::new(&file);
+    /// let mut rows = fax.runs();
+    /// let first = rows.next();
+    /// let rest: Vec<_> = fax.runs_at(&rows.cursor()).collect();
+    /// assert_eq!(rest, rows.collect::<Vec<_>>());
+    /// # assert!(first.is_some() && rest.len() == 2);
+    /// ```
+    pub fn cursor(&self) -> Cursor {
+        if self.ready.is_empty() {
+            return self.reader.cursor();
+        }
+        if self.ready.start == 0 {
+            return self.begin.clone();
+        }
+        let mut reader = Reader::<T>::new(self.reader.file, &self.begin, self.ready.start);
+        let due = &self.reader.table[self.ready.start];
+        match reader.read_all(self.ready.start) {
+            Ok(()) => reader.cursor(),
+            Err(()) => Cursor::new(due.page, due.row),
+        }
+    }
+}
+
+impl<T: RowFormat> Reader<'_, T> {
+    /// Reads just so many rows, and drops them.
+    fn read_all(&mut self, mut due: usize) -> Result<(), ()> {
+        while due > 0 {
+            let (count, _) = self.read(due);
+            if count == 0 {
+                return Err(());
+            }
+            due -= count;
+        }
+        Ok(())
+    }
+}
+
+impl<T: RowFormat> Iterator for Rows<'_, T> {
+    type Item = Result<T, Error>;
+
+    fn next(&mut self) -> Option<Self::Item> {
+        if self.ready.is_empty() && self.ended.is_none() {
+            self.begin = self.reader.cursor();
+            let (count, ended) = self.reader.read(ROWS);
+            (self.ready, self.ended) = (0..count, ended);
+        }
+        match self.ready.next() {
+            Some(number) => Some(Ok(self.reader.row(number))),
+            None => self.ended.as_mut()?.take().map(Err),
+        }
+    }
+}
+
+impl<T: RowFormat> FusedIterator for Rows<'_, T> {}
+
+/// At most so many rows from a cursor on, and the cursor after them; an error where no row was read before it.
+pub(crate) fn read<T: RowFormat>(file: &[u8], cursor: &Cursor, most: usize) -> Result<(Vec<T>, Cursor), Error> {
+    let mut reader = Reader::<T>::new(file, cursor, most);
+    let mut found = Vec::new();
+    while found.len() < most {
+        let (count, ended) = reader.read(most - found.len());
+        found.extend((0..count).map(|number| reader.row(number)));
+        match ended {
+            Some(Some(error)) if found.is_empty() => return Err(error),
+            Some(_) => break,
+            None => {}
+        }
+    }
+    Ok((found, reader.cursor()))
+}

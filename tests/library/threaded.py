@@ -1,0 +1,164 @@
+#!/usr/bin/env python3
+"""Reads faxes that threads share, switching between threads each microsecond.
+
+    threaded.py SECONDS
+
+Each thread has to find what one alone finds, and memory stays whole: one that is written over ends the process. An
+iterator that is shared too may raise a ValueError, and hands out no wrong row. FAXPAGES_LIBRARY names the library. Ends
+with 'threaded: N passed, N failed'."""
+
+import itertools
+import sys
+import threading
+import time
+
+from counted import SMALL, TOP, Claims, faxpages
+
+THREADS = 6
+# How many pages a fax has, and how many rows a batch.
+PAGES, BATCH = 60, 7
+DAMAGED = "damaged-fourth-page.tif"
+
+
+def open_samples():
+    """A fax of many small pages, and a damaged one, of which nothing is kept yet."""
+    return [faxpages.open(faxpages.convert(SMALL * PAGES, "mmr")), faxpages.open(f"{TOP}/samples/{DAMAGED}")]
+
+
+def until_fault(items):
+    """All items, and the fault that ends them."""
+    found = []
+    try:
+        for item in items:
+            found.append(item)
+    except faxpages.Fault as fault:
+        return found, fault
+    return found, None
+
+
+def by_pages(fax):
+    """The rows of pages in order."""
+    return until_fault(row for page in fax.pages for row in page)
+
+
+def by_numbers(fax):
+    """The forms and the rows of pages by their numbers."""
+    def rows():
+        for number in itertools.count():
+            try:
+                page = fax.page(number)
+            except faxpages.OutsideError:
+                return
+            yield from page
+    return until_fault(rows())
+
+
+def by_rows(fax):
+    """The rows of all pages."""
+    return until_fault(fax.rows())
+
+
+def by_batches(fax):
+    """The rows by cursors that went through their text."""
+    def rows():
+        cursor = faxpages.Cursor()
+        while True:
+            found, after = fax.read_rows(cursor, BATCH)
+            if not found:
+                return
+            yield from found
+            cursor = faxpages.Cursor.parse(str(after))
+    return until_fault(rows())
+
+
+def by_calls(fax):
+    """A check, and a conversion."""
+    try:
+        made = fax.convert("mr", k=2, strip=3)
+    except faxpages.Fault as fault:
+        made = fault
+    return fax.check(), made
+
+
+WAYS = [by_pages, by_numbers, by_rows, by_batches, by_calls]
+
+
+def together(works):
+    """Does each work in a thread of its own, at the same time, and answers what they gave or raised."""
+    found = [None] * len(works)
+    begin = threading.Barrier(len(works))
+
+    def work(number):
+        begin.wait()
+        try:
+            found[number] = works[number]()
+        except BaseException as raised:  # pylint: disable=broad-except
+            found[number] = raised
+
+    threads = [threading.Thread(target=work, args=(number,)) for number in range(len(works))]
+    for thread in threads:
+        thread.start()
+    for thread in threads:
+        thread.join()
+    return found
+
+
+def share_faxes(claims, wanted):
+    """Threads that each go over one fax, in the same way, and in several."""
+    for way in WAYS:
+        for fax, right in zip(open_samples(), wanted[way]):
+            found = together([lambda fax=fax, way=way: way(fax)] * THREADS)
+            claims.see(f"a fax that is shared, {way.__name__}", found == [right] * THREADS)
+    for number, fax in enumerate(open_samples()):
+        found = together([lambda fax=fax, way=way: way(fax) for way in WAYS])
+        claims.see("a fax that is shared, in all ways", found == [wanted[way][number] for way in WAYS])
+
+
+def share_pages(claims, wanted):
+    """Threads that share pages and a cursor, each with an iterator of its own."""
+    rows = wanted[by_pages][0][0]
+    fax = open_samples()[0]
+    pages = list(fax.pages)
+    found = together([lambda: [row for page in pages for row in page]] * THREADS)
+    claims.see("pages that are shared", found == [rows] * THREADS)
+    after = fax.read_rows(faxpages.Cursor(), BATCH)[1]
+    found = together([lambda: list(fax.rows(after))] * THREADS)
+    claims.see("a cursor that is shared", found == [rows[BATCH:]] * THREADS)
+
+
+def share_iterators(claims, wanted):
+    """Threads that share an iterator: each row is right, and none is handed out twice."""
+    rows = wanted[by_pages][0][0]
+    for name, make in (("rows", lambda fax: fax.rows()), ("pages", lambda fax: fax.pages)):
+        shared, found = make(open_samples()[0]), []
+
+        def work(shared=shared, found=found):
+            for _ in range(len(rows)):
+                try:
+                    found.append(next(shared))
+                except (ValueError, StopIteration):
+                    pass
+
+        ended = together([work] * THREADS)
+        if name == "pages":
+            numbers = [page.number for page in found]
+            fine = all(page.rows == 8 for page in found) and len(numbers) == len(set(numbers))
+        else:
+            fine = set(found) <= set(rows) and len(found) == len(set(found))
+        claims.see(f"an iterator of {name} that is shared", fine and ended == [None] * THREADS)
+
+
+def main():
+    claims, wanted = Claims(), {way: [way(fax) for fax in open_samples()] for way in WAYS}
+    claims.see("the ways are one", all(wanted[way][0] == wanted[by_pages][0] for way in WAYS[:4]))
+    claims.see("rows are there", len(wanted[by_pages][0][0]) == 8 * PAGES and wanted[by_rows][1][1] is not None)
+    sys.setswitchinterval(1e-6)
+    end = time.monotonic() + float(sys.argv[1])
+    while time.monotonic() < end:
+        for share in (share_faxes, share_pages, share_iterators):
+            share(claims, wanted)
+    return claims.ends("threaded")
+
+
+if __name__ == "__main__":
+    sys.exit(main())
