@@ -289,20 +289,20 @@ class _Ahead:
         window = self._window
         rows = window.rows.get(page, [])
         if not rows or rows[0].number:
-            window = self._read(data, Cursor(page, 0), page, max(count, 2 * window.asked * (page > window.page)))
+            most = 2 * window.asked if page > window.page else 0
+            window = self._go_on(data, Cursor(page, 0), page, max(count, most))
             rows = window.rows[page]
         yield from rows[:count]
         left = count - len(rows)
         while left > 0:
-            window = self._read(data, window.after, page, max(left, 2 * window.asked))
+            window = self._go_on(data, window.after, page, max(left, 2 * window.asked))
             yield from window.rows[page][:left]
             left -= len(window.rows[page])
 
-    def _read(self, data: bytes, cursor: Cursor, page: int, asked: int) -> _Window:
+    def _go_on(self, data: bytes, cursor: Cursor, page: int, asked: int) -> _Window:
         """Reads rows from a cursor on, which is on this page."""
-        batch, rows = _read(data, cursor, min(asked, _ROWS)), {}
-        for number, same in itertools.groupby(batch.rows, operator.attrgetter("page")):
-            rows[number] = list(same)
+        batch = _read(data, cursor, min(asked, _ROWS))
+        rows = {number: list(same) for number, same in itertools.groupby(batch.rows, operator.attrgetter("page"))}
         if page not in rows:
             raise batch.stopped or OutsideError("the file has no such row")
         window = _Window(rows, page, min(asked, _ROWS), batch.after)
@@ -489,7 +489,8 @@ class Fax:
     def read_rows(self, cursor: Cursor, most: SupportsIndex) -> Tuple[List[Row], Cursor]:
         """At most so many rows from a cursor on, and the cursor after them, from which no row is read again. A fault
         is raised where no row was read before it."""
-        left, found, ended = _number("most", most, most=sys.maxsize), [], False
+        found: List[Row] = []
+        left, ended = _number("most", most, most=sys.maxsize), False
         while left and not ended:
             rows, cursor, ended, stopped = _read(self._data, cursor, left)
             found += rows

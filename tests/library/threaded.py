@@ -12,17 +12,18 @@ import sys
 import threading
 import time
 
-from counted import SMALL, TOP, Claims, faxpages
+from counted import TOP, Claims, faxpages
 
 THREADS = 6
-# How many pages a fax has, and how many rows a batch.
-PAGES, BATCH = 60, 7
+# The rows of pages, of which some end amid what is read ahead, and how many rows are in a batch.
+HEIGHTS, BATCH = [8, 5, 11] * 20, 7
 DAMAGED = "damaged-fourth-page.tif"
 
 
 def open_samples():
     """A fax of many small pages, and a damaged one, of which nothing is kept yet."""
-    return [faxpages.open(faxpages.convert(SMALL * PAGES, "mmr")), faxpages.open(f"{TOP}/samples/{DAMAGED}")]
+    images = [b"P4\n64 %d\n" % rows + bytes(range(8 * rows)) for rows in HEIGHTS]
+    return [faxpages.open(faxpages.convert(b"".join(images), "mmr")), faxpages.open(f"{TOP}/samples/{DAMAGED}")]
 
 
 def until_fault(items):
@@ -142,16 +143,29 @@ def share_iterators(claims, wanted):
         ended = together([work] * THREADS)
         if name == "pages":
             numbers = [page.number for page in found]
-            fine = all(page.rows == 8 for page in found) and len(numbers) == len(set(numbers))
+            fine = all(page.rows == HEIGHTS[page.number] for page in found) and len(numbers) == len(set(numbers))
         else:
             fine = set(found) <= set(rows) and len(found) == len(set(found))
         claims.see(f"an iterator of {name} that is shared", fine and ended == [None] * THREADS)
 
 
+def take_turns(claims):
+    """An iterator goes on where it was, after others have read other pages: also inside a page that was read in part."""
+    fax = open_samples()[0]
+    pages = list(fax.pages)
+    for page in pages[3:]:
+        for before in range(page.number - 3, page.number):
+            whole = list(fax.page(page.number))
+            _, _, rows = list(pages[0]), list(pages[before]), iter(page)
+            found = [next(rows), *pages[0], *rows]
+            claims.see(f"page {page.number} in turns", found == whole[:1] + list(fax.page(0)) + whole[1:])
+
+
 def main():
     claims, wanted = Claims(), {way: [way(fax) for fax in open_samples()] for way in WAYS}
     claims.see("the ways are one", all(wanted[way][0] == wanted[by_pages][0] for way in WAYS[:4]))
-    claims.see("rows are there", len(wanted[by_pages][0][0]) == 8 * PAGES and wanted[by_rows][1][1] is not None)
+    claims.see("rows are there", len(wanted[by_pages][0][0]) == sum(HEIGHTS) and wanted[by_rows][1][1] is not None)
+    take_turns(claims)
     sys.setswitchinterval(1e-6)
     end = time.monotonic() + float(sys.argv[1])
     while time.monotonic() < end:
