@@ -15,6 +15,8 @@ HOSTILE = [os.fsdecode(name) for name in (
     b"a b  c.tif", b"it's \"one\".tif", b"new\nline.tif", b"-o.tif", b"$(touch owned)`touch owned`;.tif", b"*[a]?.tif",
     b"a,1.tif", b"a=b %s\\n<&>.tif", b"caf\xe9 \xff.tif",
 )]  # fmt: skip
+# A file that anyone may open, and whose first byte cannot be read: the memory of this process.
+UNREADABLE = f"/proc/{os.getpid()}/mem"
 
 
 class Room:
