@@ -4,6 +4,7 @@ import email
 import email.policy
 import os
 import re
+import shlex
 import shutil
 import signal
 import time
@@ -13,6 +14,16 @@ from room import HOSTILE
 MAILER = """#!/bin/sh
 cat >"$HOME/mailed"
 echo "$*" >"$HOME/mailed-by"
+"""
+# cat, where the disk has no fax.
+BAD_DISK = """#!/bin/sh
+case $(readlink /proc/self/fd/0) in
+*.tif)
+    echo 'cat: -: Input/output error' >&2
+    exit 1
+    ;;
+esac
+exec /bin/cat "$@"
 """
 HYLAFAX = "/var/spool/hylafax"
 # What Debian's faxsetup finds out, as far as faxrcvd asks for it.
@@ -242,6 +253,8 @@ def sweep(room, commands):
     status, shown, _ = room.bash(commands)
     yield "one is new, one is gone", (status, shown.splitlines()[-1].endswith(b"in all: %d" % (good + 1))), (1, True)
     yield from swept_again(room, commands, good)
+    yield from swept_links(room, commands)
+    yield from swept_forbidden(room, commands)
     yield "nothing is left", (room.left(), room.names(".faxpages-sweep")), ([], ["lock", "seen"])
 
 
@@ -273,6 +286,61 @@ def swept_again(room, commands, good):
     for _ in range(2):
         status, shown, _ = room.bash(commands)
         yield "not read", (status, shown.splitlines()[-1]), (1, b"new: %d faxes, 0 good, 0 faulty, %d not read; in all: 0" % (good + 2, good + 2))
+
+
+def swept_links(room, commands):
+    """A tree, a folder in it and faxes that are reached by symbolic links; links that lead round, or nowhere."""
+    room.tool("faxpages", f'#!/bin/sh\nexec {room.program} "$@"\n')
+    shutil.rmtree(room("faxes"))
+    shutil.rmtree(room(".faxpages-sweep"))
+    room.others("disk/2025/one.tif")
+    room.others("other/two.tif")
+    room.others("third.tif")
+    os.mkdir(room("disk/linked"))
+    for to, name in (("disk", "faxes"), ("../other", "disk/2026"), ("../../third.tif", "disk/linked/three.tif"),
+                     ("../2025/one.tif", "disk/linked/again.tif"), ("..", "disk/2025/round")):  # fmt: skip
+        os.symlink(to, room(name))
+    os.link(room("third.tif"), room("other/third.tif"))
+    for folder in ("disk", "other"):
+        old(room, folder)
+    yield "links", room.bash(commands), (0, b"new: 3 faxes, 3 good, 0 faulty, 0 not read; in all: 3\n", "")
+    yield "links: figures", figures(room)['faxpages_faxes{result="good"}'], 3
+    yield "links: nothing is new", room.bash(commands), (0, b"", "")
+    os.symlink("nowhere", room("disk/gone.tif"))
+    room.bash("touch -h -d '1 hour ago' disk/gone.tif")
+    there = f"{room('')}faxes"
+    shown = f"not read: {there}/gone.tif: No such file or directory\nnew: 1 faxes, 0 good, 0 faulty, 1 not read; in all: 3\n"
+    yield "not read", room.bash(commands), (1, shown.encode(), "")
+    os.remove(room("disk/gone.tif"))
+    room.fax("disk/bad.tif", "mh", "marks")
+    old(room, "disk")
+    room.tool("faxpages", "#!/bin/sh\necho 'fault: Read' >&2\nexit 3\n")
+    room.tool("cat", BAD_DISK)
+    shown = room.bash(commands)[1].decode().splitlines()[0]
+    yield "a bad disk", shown, f"not read: {there}/bad.tif: fault: Read: Input/output error"
+    for name in ("bin/cat", "work/disk/bad.tif"):
+        os.remove(f"{room.path}/{name}")
+    room.tool("faxpages", f'#!/bin/sh\nexec {room.program} "$@"\n')
+
+
+def swept_forbidden(room, commands):
+    """A folder that may not be looked into, beside new faxes; root may look anywhere, and so becomes another user."""
+    root = os.geteuid() == 0
+    for name in ("disk/2025/new.tif", "disk/new.tif"):
+        room.fax(name, "mh", "marks")
+    os.mkdir(room("disk/closed"), 0)
+    old(room, "disk")
+    if root:
+        os.chmod(room.path, 0o711)
+        room.bash("chown -R nobody .faxpages-sweep .; chown root disk/closed")
+        commands = f"setpriv --reuid nobody --clear-groups bash -c {shlex.quote(commands)}"
+    status, shown, said = room.bash(commands)
+    lines = shown.decode().splitlines()
+    yield "a closed folder", (status, said, lines[0].endswith("closed': Permission denied")), (1, "", True)
+    yield "a closed folder: it is told", lines[1:], [f"not all of {room('')}faxes can be looked into",
+                                                     "new: 5 faxes, 5 good, 0 faulty, 1 not read; in all: 5"]  # fmt: skip
+    yield "a closed folder: figures", figures(room)['faxpages_faxes{result="not_read"}'], 1
+    yield "a closed folder: again", room.bash(commands)[:2], (1, b"\n".join(shown.splitlines()[:2]) + b"\n")
 
 
 def seen(room):
