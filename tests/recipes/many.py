@@ -50,13 +50,18 @@ def mirror(room, commands):
     program = {"PROGRAM": room.program}
     os.mkdir(room("archive"))
     yield "an empty folder", room.bash(commands), (0, b"", "")
-    given = room.faxes("archive")
+    room.faxes("archive")
+    os.rename(room("archive/faulty.tif"), room("archive/0 faulty.tif"))
+    given = room.names("archive")
     before = room.contents("archive")
-    status, _, said = room.bash(commands)
-    yield "a fault", (status, "not copied: ./archive/faulty.tif" in said), (1, True)
-    yield "a fault: nothing is deleted", room.contents("archive"), before
-    yield "a fault: no part stays", [name for name in room.names("copies") if name.endswith(".part")], []
-    os.remove(room("archive/faulty.tif"))
+    fault = room.rows("archive/0 faulty.tif")[1].decode()
+    for words in ([], ["--delete"]):
+        status, _, said = room.call("faxpages-mirror", *words, "archive", "copies")
+        yield f"a fault {words}", (status, said.splitlines(True)[0]), (1, f"not copied: ./archive/0 faulty.tif: {fault}")
+        yield f"a fault {words}: nothing is deleted", room.contents("archive"), before
+        others = sorted(name + more for name in given if name != "0 faulty.tif" for more in ("", ".fields"))
+        yield f"a fault {words}: the others are copied", room.names("copies"), others
+    os.remove(room("archive/0 faulty.tif"))
     for number, name in enumerate(HOSTILE):
         room.others(f"archive/{name}", number)
     given = room.names("archive")
@@ -77,11 +82,48 @@ def mirror(room, commands):
     yield "codings", codings, {"mmr"}
     yield "nothing is deleted", room.contents("archive"), before
     yield from mirror_fields(room, commands)
+    yield from mirror_of_tree(room)
     yield "delete", room.call("faxpages-mirror", "--delete", "archive", "copies"), (0, b"", "")
     yield "delete: what is left", (room.names("archive"), room.names("copies")), ([], wanted)
     yield from mirror_that_differs(room, program)
     yield from mirror_that_is_killed(room, program)
     yield "nothing is left", room.left(), []
+
+
+def mirror_of_tree(room):
+    """Subfolders, names in capitals, links, copies below the archive, and faxes that cannot be read."""
+    faxes = ["A.TIF", "b.tiff", "2025/a.tif", "2025/new\nline/c.TIFF"]
+    for number, name in enumerate(faxes):
+        room.others(f"tree/{name}", number)
+    room.put("tree/2025/notes.txt", b"no fax")
+    room.others("disk/d.tif")
+    os.symlink("../disk", room("tree/disk"))
+    os.symlink("..", room("tree/2025/round"))
+    copies = [*faxes, "disk/d.tif"]
+    rows = [room.rows(f"tree/{name}") for name in copies]
+    for to in ("flat", "tree/copies"):
+        for time_ in ("once", "again"):
+            yield f"{to}: {time_}", room.call("faxpages-mirror", "tree", to), (0, b"", "")
+        yield f"{to}: rows", [room.rows(f"{to}/{name}") for name in copies], rows
+        wanted = sorted(name + more for name in copies for more in ("", ".fields"))
+        yield f"{to}: names", below(room, to), wanted
+    shutil.rmtree(room("tree/copies"))
+    os.symlink("nowhere", room("tree/gone.tif"))
+    os.symlink(UNREADABLE, room("tree/unread.tif"))
+    before = below(room, "tree")
+    status, _, said = room.call("faxpages-mirror", "--delete", "tree", "flat")
+    told = ["not copied: ./tree/gone.tif: No such file or directory", "not copied: ./tree/unread.tif: fault: Read: Input/output error"]
+    yield "not read", (status, said.splitlines()[:-1], below(room, "tree")), (1, told, before)
+    for name in ("gone.tif", "unread.tif"):
+        os.remove(room(f"tree/{name}"))
+    yield "the tree is deleted", room.call("faxpages-mirror", "--delete", "tree", "flat"), (0, b"", "")
+    yield "the tree is deleted: what is left", (below(room, "tree"), room.names("disk")), (["2025/notes.txt"], [])
+
+
+def below(room, folder):
+    """The names of all files below a folder."""
+    found = [os.path.join(place, name) for place, _, names in os.walk(room(folder)) for name in names]
+    return sorted(os.path.relpath(name, room(folder)) for name in found)
 
 
 def mirror_fields(room, commands):
