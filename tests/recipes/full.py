@@ -1,5 +1,5 @@
-"""The scripts of the recipes where the disk is full: a small file system of memory has the temporary files and what is
-written."""
+"""All scripts of the recipes where the disk is full, and with files that cannot be read. Of the full disk, a small file
+system of memory has the temporary files and what is written."""
 
 import os
 import subprocess
@@ -7,7 +7,7 @@ import subprocess
 import files
 import pages
 from recipes import SCRIPTS
-from room import WIDTH
+from room import UNREADABLE, WIDTH
 
 SIZE = "64k"
 
@@ -65,6 +65,26 @@ def refused(room):
     yield "sweep, with room: figures", b'faxpages_faxes{result="good"} 1\n' in files.get(f"{small}/figures"), True
 
 
+def unread(room, _):
+    """Of a file that cannot be read each script gives the reason, and status 3."""
+    os.mkdir(room("folder.tif"))
+    os.symlink(UNREADABLE, room("unread.tif"))
+    room.fax("good.tif", "mh", "marks")
+    reasons = {"none.tif": "No such file or directory", "folder.tif": "not a regular file", "unread.tif": "fault: Read: Input/output error"}
+    for name, reason in reasons.items():
+        for script, *words in (["html"], ["cores"], ["picture", "0"], ["salvage", "salvaged"], ["mail", "a@b.c"]):
+            said = f"faxpages-{script}: {name}: {reason}\n"
+            if script == "cores" and "fault" in reason:  # as the program says it, and why
+                said = f"fault: Read\nfaxpages-{script}: {name}: Input/output error\n"
+            status, output, told = room.call(f"faxpages-{script}", name, *words, SENDMAIL="/bin/false")
+            yield f"{script} {name}", (status, output if script != "cores" else b"", told), (3, b"", said)
+        for words in ([name, "good.tif"], ["good.tif", name]):
+            yield f"compare {words}", room.call("faxpages-compare", *words), (3, b"", f"faxpages-compare: {name}: {reason}\n")
+        said = f"faxpages-receive: ./{name} stays: {reason}\n"
+        yield f"receive {name}", room.call("faxpages-receive", name, "sorted"), (3, b"", said)
+    yield "nothing is left", (room.left(), room.names("sorted/good"), room.names("sorted/faulty")), ([], [], [])
+
+
 def checked(room, _):
     """The scripts as shellcheck sees them; `a && b || c` is meant as it stands."""
     for name in sorted(os.listdir(SCRIPTS)):
@@ -72,4 +92,5 @@ def checked(room, _):
 
 
 EXTRA = {"The scripts, by shellcheck": (["shellcheck"], checked),
+         "The scripts and files that cannot be read": (["pnmtopng", "tiff2pdf", "tiffcp"], unread),
          "The scripts on a full disk": (["mount", "img2pdf", "pdftoppm", "tiff2pdf", "tiffcp", "pnmtopng"], full_disk)}  # fmt: skip

@@ -4,10 +4,12 @@ import base64
 import os
 import re
 import shutil
+import struct
 import subprocess
 
 import files
 import pages
+from recipes import SCRIPTS
 from room import HOSTILE, WIDTH
 
 PNG = b"\x89PNG"
@@ -80,8 +82,70 @@ def browser(room, commands):
         title = re.search(rb"<title>(.*)</title>\n", made)
         yield f"{name!r}", (status, said, len(pictures(made)), title is not None), (0, "", 5, True)
         yield f"{name!r}: no mark-up", re.search(rb"[<>]", title.group(1)) if title else "", None
-    yield "no file", room.call("faxpages-html", "none.tif")[:2], (3, b"")
+    yield from not_all_shown(room)
+    yield from shapes(room)
+    yield from in_narrow_window(room)
     yield "nothing is left", room.left(), []
+
+
+def not_all_shown(room):
+    """What is left out of a long fax is told, in the file and beside it."""
+    room.others("fax.tif")
+    for most, left_out in (("4", True), ("5", False), ("6", False)):
+        status, html, said = room.call("faxpages-html", "fax.tif", most)
+        told = "the pages from 4 on are not shown"
+        yield f"{most} of 5 pages", (status, len(pictures(html)), said), (0, min(int(most), 5), f"faxpages-html: {told}\n" if left_out else "")
+        yield f"{most} of 5 pages: told", told.encode() in html, left_out
+    room.put("long.tif", pages.converted(room.program, ["-o", "mmr"], pages.image(8, [0]) * 201))
+    room.tool("faxpages-picture", "#!/bin/sh\nexit 1\n")
+    status, html, said = room.call("faxpages-html", "long.tif")
+    yield "201 pages", (status, html.count(b"<h2>Page "), said), (0, 200, "faxpages-html: the pages from 200 on are not shown\n")
+    os.remove(f"{room.path}/bin/faxpages-picture")
+    os.symlink(f"{SCRIPTS}/faxpages-picture", f"{room.path}/bin/faxpages-picture")
+    yield "no number of pages", [room.call("faxpages-html", "fax.tif", it)[0] for it in ("", "0", "x", "1x", "9999999999")], [2] * 5
+
+
+def shapes(room):
+    """A page whose resolution differs across and down is drawn in its shape: its size, and its rows and pels."""
+    (image,) = room.fax("fine.tif", "mmr", "all", 3)[:1]
+    fine = drawn(image)
+    data = room.get("fine.tif")
+    for lines, across, down in (((98, 1), 1, 2), ((100, 1), 1, 2), ((196, 1), 1, 1), ((391, 1), 2, 1), ((1, 100), 1, 4), ((0, 1), 1, 1)):
+        room.put("shape.tif", data.replace(struct.pack("<2I", 196, 1), struct.pack("<2I", *lines)))
+        status, made, _ = room.call("faxpages-picture", "shape.tif", "0")
+        got = black(made) if made else None
+        wanted = [[pel for pel in row for _ in range(across)] for row in fine for _ in range(down)]
+        if room.run("list", name="shape.tif")[0]:
+            yield f"lines {lines}: refused", status, 3
+            continue
+        yield f"lines {lines}", (status, got == wanted), (0, True)
+
+
+def in_narrow_window(room):
+    """In a browser: the file is no wider than a narrow window, and its pages do not touch."""
+    if not shutil.which("chromium"):
+        print("not run: faxpages-html in a browser: chromium missing")
+        return
+    name = f"{'long-name' * 9}.tif"
+    room.fax(name, "mmr", "all", 20)
+    html = room.call("faxpages-html", name)[1]
+    yield "viewport", b'<meta name="viewport" content="width=device-width' in html, True
+    room.put("fax.html", html.replace(b"</html>", MEASURE))
+    dom = room.bash("chromium --headless --no-sandbox --disable-gpu --window-size=360,600 --virtual-time-budget=2000 "
+                    '--dump-dom "file://$PWD/fax.html"')[1]  # fmt: skip
+    found = re.search(rb"<title>measured (\d+) (\d+) (-?\d+)</title>", dom)
+    yield "narrow: measured", found is not None, True
+    wide, window, apart = map(int, found.groups())
+    yield "narrow: it is no wider", (window <= 500, wide <= window), (True, True)
+    yield "narrow: pages are apart", apart >= 10, True
+
+
+# How wide the file is, how wide the window is, and how far the pages are from each other.
+MEASURE = b"""<script>
+const pages = [...document.querySelectorAll("section")].map(it => it.getBoundingClientRect());
+const apart = Math.min(...pages.slice(1).map((it, at) => it.top - pages[at].bottom));
+document.title = `measured ${document.documentElement.scrollWidth} ${innerWidth} ${Math.round(apart)}`;
+</script></html>"""
 
 
 def black(data):
@@ -162,6 +226,7 @@ def salvage(room, commands):
     yield from salvage_damaged(room, commands)
     yield from salvage_strips(room, images)
     yield from salvage_odd(room)
+    yield from salvage_standard(room)
     for name in HOSTILE:
         room.others(name, 1)
         status, _, said = room.call("faxpages-salvage", name, f"{name}.d")
@@ -245,6 +310,18 @@ def salvage_odd(room):
     for page in pictures:
         yield f"odd: page {page} is told", f"page {page} is not in pages.tif" in room.get("odd/lost.txt").decode(), True
         yield f"odd: page {page} is whole", grey(room.get(f"odd/page-{page}.png"))[:2], size_of(room, "odd.tif", page)
+
+
+def salvage_standard(room):
+    """A damaged page of standard resolution: its picture has twice its rows."""
+    room.fax("standard.tif", "mmr", "marks", 5)
+    data = room.get("standard.tif").replace(struct.pack("<2I", 196, 1), struct.pack("<2I", 98, 1))
+    (fields,) = files.directories_of(data)
+    (place,), (size,) = fields[273], fields[279]
+    room.put("standard.tif", data[: place + size // 2] + bytes(size - size // 2) + data[place + size :])
+    yield "standard: status", room.call("faxpages-salvage", "standard.tif", "standard")[0], 1
+    width, height = size_of(room, "standard.tif", 0)
+    yield "standard: picture", grey(room.get("standard/page-0.png"))[:2], (width, 2 * height)
 
 
 def size_of(room, name, page):

@@ -198,6 +198,8 @@ def cores_by_part(room, commands):
     big(room)
     yield "run", room.bash(commands), (0, b"", "")
     yield "rows", room.get("big.txt"), room.rows("big.tif")[0]
+    for words in (["big.tif", "x"], ["big.tif", "0"], ["big.tif", ""], ["big.tif", "-1"], ["big.tif", "4", "5"], []):
+        yield f"words {words}", room.call("faxpages-cores", *words), (2, b"", "usage: faxpages-cores FAX [PROCESSES]\n")
     for processes in ("1", "3", "50"):
         ran = room.call("faxpages-cores", "big.tif", processes)
         yield f"{processes} processes", ran, (0, room.rows("big.tif")[0], "")
