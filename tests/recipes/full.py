@@ -3,10 +3,11 @@ system of memory has the temporary files and what is written."""
 
 import os
 import subprocess
+import sys
 
 import files
 import pages
-from recipes import SCRIPTS
+from recipes import ROOT, SCRIPTS
 from room import UNREADABLE, WIDTH
 
 SIZE = "64k"
@@ -85,12 +86,41 @@ def unread(room, _):
     yield "nothing is left", (room.left(), room.names("sorted/good"), room.names("sorted/faulty")), ([], [], [])
 
 
+def example(room, _):
+    """examples/sweep.py as it stands in the sources, where the library is as ./install puts it."""
+    library = f"{os.path.dirname(room.program)}/libfaxpages.so.1"
+    if not os.path.exists(library):
+        print("not run: examples/sweep.py: there is no library beside the program")
+        return
+    sweep = [sys.executable, "-B", f"{ROOT}/examples/sweep.py"]
+    for name in room.faxes("faxes"):
+        room.put(f"faxes/in/{name}", room.get(f"faxes/{name}"))
+    status, _, said = room.call(*sweep, "faxes", PYTHONPATH="", FAXPAGES_LIBRARY="nowhere")
+    yield "no library", (status, said.startswith("sweep.py: libfaxpages.so.1 is not installed"), said.count("\n")), (1, True, 1)
+    room.put(".local/lib/libfaxpages.so.1", files.get(library))
+    fault = room.rows("faxes/faulty.tif")[1].decode().replace("fault ", "", 1)
+    os.symlink(UNREADABLE, room("faxes/unread.tif"))
+    os.symlink("nowhere", room("faxes/gone.tif"))
+    status, output, said = room.call(*sweep, "faxes", PYTHONPATH="")
+    lines = output.decode().splitlines()
+    yield "status", (status, said), (1, "")
+    yield "named", sorted(lines[:4]), sorted(["faxes/gone.tif: No such file or directory", "faxes/unread.tif: Input/output error",
+                                              *(f"faxes/{it}faulty.tif: {fault}".strip() for it in ("", "in/"))])  # fmt: skip
+    yield "counts", [it for it in lines[4:] if it.endswith(("damaged", "faxes", "not read"))], ["2 damaged", "8 faxes", "2 not read"]
+    for name in ("faxes/gone.tif", "faxes/unread.tif", "faxes/faulty.tif", "faxes/in/faulty.tif"):
+        os.remove(room(name))
+    yield "all are whole", room.call(*sweep, "faxes", PYTHONPATH="")[::2], (0, "")
+    yield "no folder", room.call(*sweep, "nowhere", PYTHONPATH="")[:2], (1, b"nowhere: No such file or directory\n1 not read\n")
+    yield "no words", room.call(*sweep, PYTHONPATH="")[0], 2
+
+
 def checked(room, _):
     """The scripts as shellcheck sees them; `a && b || c` is meant as it stands."""
     for name in sorted(os.listdir(SCRIPTS)):
         yield name, room.call("shellcheck", "--exclude=SC2015", f"{SCRIPTS}/{name}"), (0, b"", "")
 
 
-EXTRA = {"The scripts, by shellcheck": (["shellcheck"], checked),
+EXTRA = {"The example in Python": (["python3"], example),
+         "The scripts, by shellcheck": (["shellcheck"], checked),
          "The scripts and files that cannot be read": (["pnmtopng", "tiff2pdf", "tiffcp"], unread),
          "The scripts on a full disk": (["mount", "img2pdf", "pdftoppm", "tiff2pdf", "tiffcp", "pnmtopng"], full_disk)}  # fmt: skip
