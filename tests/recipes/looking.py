@@ -51,11 +51,18 @@ def look_in_terminal(room, commands):
 
 
 def look_at_low(room, commands):
-    room.fax("fax.tif", "mh", "marks")
-    (rows,) = pages.draw_document(4, "marks", WIDTH)
+    images = room.fax("fax.tif", "mh", "all")
+    yield "a fax of several pages", len(images) > 3, True
     yield "run", room.bash(commands), (0, b"", "")
-    twice = pages.image(WIDTH, [row for row in rows for _ in (1, 2)])
-    yield "page", room.bash("pngtopnm page.png")[1], twice
+    for page, image in enumerate(images):
+        twice = [row for row in drawn(image) for _ in (1, 2)]
+        yield f"page {page}", black(room.get(f"fax.pages/page-{page}.png")) == twice, True
+    made = [name for name in room.names("fax.pages") if name.endswith(".png")]
+    yield "pages", len(made), len(images)
+    shutil.rmtree(room("fax.pages"))
+    room.sample("damaged-fourth-page.tif", "fax.tif")
+    status, _, said = room.bash(commands)
+    yield "a fault", (status != 0, "fault page 3 row " in said, room.names()), (True, True, ["fax.tif"])
 
 
 def pictures(html):
@@ -331,7 +338,7 @@ def size_of(room, name, page):
 TESTS = {
     "Look at a page": (["pamsplit", "pnmtopng", "pngtopnm"], look),
     "Look at a page in a terminal": (["pampick", "pnmtopng", "chafa"], look_in_terminal),
-    "Look at a page of standard resolution": (["pamenlarge", "pnmtopng", "pngtopnm"], look_at_low),
+    "Look at a page of standard resolution": (["pamsplit", "pamenlarge", "pnmtopng", "pngtopnm", "pgmtopgm"], look_at_low),
     "Look at a fax in a browser": (["pnmtopng", "pngtopnm", "pgmtopgm"], browser),
     "The same picture?": (["pnmtopng", "pngtopnm", "pgmtopbm", "tiffcp", "pnmtotiff"], compare),
     "A PDF of a fax": (["img2pdf", "tiff2pdf"], pdf),

@@ -130,19 +130,50 @@ def hylafax(room, commands):
         if kind == "faulty":
             room.sample("damaged-fourth-page.tif", name)
         data = room.get(name)
-        status = room.bash(f"cd spool && bash bin/faxrcvd recvq/{kind}.tif ttyS0 000000001 '' 12345 'A `caller`'")[0]
-        mails = [message(room.get(it)) for it in room.names() if it.startswith("mailed-") and it != "mailed-by"]
-        for it in [it for it in room.names() if it.startswith("mailed")]:
-            os.remove(room(it))
+        status, mails = received_by_hylafax(room, kind)
         texts = [text_of(mail).replace("\r", "") for mail in mails]
         report = room.report(name).decode()
         yield f"{kind}: status and mails", (status, sorted(mail["To"] for mail in mails)), (0, ["FaxMaster", "office"])
         yield f"{kind}: the report is in each", [f"faxpages check:\n{report.rstrip()}" in it for it in texts], [True, True]
-        wrong = [mail["Subject"] for mail in mails if mail["To"] == "FaxMaster" and "with errors" in mail["Subject"]]
-        yield f"{kind}: told as an error", len(wrong), int(kind == "faulty")
+        yield f"{kind}: told as an error", told_as_errors(mails), int(kind == "faulty")
         attached = [part.get_content_type() for mail in mails for part in mail.walk() if part.get_filename()]
         yield f"{kind}: the PDF is attached", attached, ["application/pdf"]
         yield f"{kind}: the fax stays", room.get(name), data
+    yield from not_checked_by_hylafax(room)
+
+
+def received_by_hylafax(room, kind):
+    """Lets faxrcvd handle a fax: its status, and the mails."""
+    status = room.bash(f"cd spool && bash bin/faxrcvd recvq/{kind}.tif ttyS0 000000001 '' 12345 'A `caller`'")[0]
+    mails = [message(room.get(it)) for it in room.names() if it.startswith("mailed-") and it != "mailed-by"]
+    for it in [it for it in room.names() if it.startswith("mailed")]:
+        os.remove(room(it))
+    return status, mails
+
+
+def told_as_errors(mails):
+    """How many mails tell the operator that a fax came with errors."""
+    return len([mail for mail in mails if mail["To"] == "FaxMaster" and "with errors" in mail["Subject"]])
+
+
+def not_checked_by_hylafax(room):
+    """A good fax that cannot be checked is none with an error, and the operator is told why."""
+    tools = {status: f"#!/bin/sh\necho 'because of {status}' >&2\nexit {status}\n" for status in (2, 3, 70, 126, 127)}
+    if not shutil.which("faxpages"):
+        tools |= {"no program": ""}
+    for status, text in tools.items():
+        room.tool("faxpages", text)
+        reason = f"because of {status}"
+        if not text:
+            os.remove(f"{room.path}/bin/faxpages")
+            reason = "faxpages: command not found"
+        ended, mails = received_by_hylafax(room, "good")
+        yield f"{status}: status and mails", (ended, sorted(mail["To"] for mail in mails)), (0, ["FaxMaster", "FaxMaster", "office"])
+        yield f"{status}: none is told as an error", (told_as_errors(mails), "Errors" in "".join(map(text_of, mails))), (0, False)
+        told = [mail for mail in mails if mail["Subject"] == "faxpages cannot check recvq/good.tif"]
+        yield f"{status}: the operator is told", [reason in text_of(mail) for mail in told], [True]
+        yield f"{status}: each mail says so", ["not checked: " in text_of(mail) for mail in mails], [True] * 3
+    room.tool("faxpages", f'#!/bin/sh\nexec {room.program} "$@"\n')
 
 
 def tool_of(name):
