@@ -374,6 +374,31 @@ def swept_forbidden(room, commands):
     yield "a closed folder: again", room.bash(commands)[:2], (1, b"\n".join(shown.splitlines()[:2]) + b"\n")
 
 
+def sweep_by_timer(room, commands):
+    """The units as systemd-analyze sees them, without systemd; and what the service calls."""
+    room.tool("systemctl", '#!/bin/sh\necho "$*" >>"$HOME/asked"\n')
+    yield "run", room.bash(commands), (0, b"", "")
+    wanted = b"--user daemon-reload\n--user enable --now faxpages-sweep.timer\n"
+    yield "systemctl", room.get("asked"), wanted
+    units = [f".config/systemd/user/faxpages-sweep.{kind}" for kind in ("service", "timer")]
+    for unit in units:
+        checked = room.call("systemd-analyze", "verify", "--user", "--man=no", room(unit), XDG_RUNTIME_DIR=room(""))
+        said = [line for line in checked[2].splitlines() if "faxpages" in line]
+        yield f"systemd-analyze: {unit}", (checked[0], said), (0, [])
+    when = room.bash(f"systemd-analyze calendar --iterations=3 \"$(sed -n s/^OnCalendar=//p {units[1]})\"")[1].decode()
+    minutes = [int(hour) * 60 + int(minute) for hour, minute in re.findall(r"(\d\d):(\d\d):00 ", when)]
+    yield "every ten minutes", {(b - a) % 1440 for a, b in zip(minutes, minutes[1:])}, {10}
+    room.sample("damaged-fourth-page.tif", "faxes/bad.tif")
+    old(room, "faxes")
+    service = room.get(units[0]).decode().replace("%h", room("").rstrip("/"))
+    (words,) = re.findall(r"^ExecStart=(.*)", service, re.M)
+    (path,) = re.findall(r"^Environment=PATH=(.*)", service, re.M)
+    os.makedirs(room(".local"))
+    os.symlink(f"{room.path}/bin", room(".local/bin"))
+    status, output, said = room.bash(f"PATH={path}; {words}")
+    yield "the service", (status, output.splitlines()[-1:], said), (1, [b"new: 1 faxes, 0 good, 1 faulty, 0 not read; in all: 1"], "")
+
+
 def seen(room):
     place = room(".faxpages-sweep/seen")
     return len(open(place, "rb").read().splitlines()) if os.path.exists(place) else 0
@@ -385,4 +410,5 @@ TESTS = {
     "Asterisk": ([], asterisk),
     "A mail gateway": (["tiff2pdf", "tiffcp", "pnmtopng", "base64"], mail_gateway),
     "Sweep an archive by cron": (["find", "flock"], sweep),
+    "Sweep an archive by a systemd timer": (["systemd-analyze", "flock"], sweep_by_timer),
 }
