@@ -172,18 +172,24 @@ def drawn(image):
 def compare(room, commands):
     room.others("sent.tif", 0)
     room.others("received.tif", 1)
-    yield "the same", room.bash(commands)[::2], (0, "")
+    yield "the same", (room.bash(commands)[::2], "difference.png" in room.names()), ((0, ""), False)
     room.fax("received.tif", "mh", "all")
     status, shown, said = room.bash(commands)
     lines = shown.decode().splitlines()
-    yield "another", (status, said, lines[0]), (1, "", "first difference:")
+    yield "another", (status, said, len(lines)), (1, "", 3)
     mine, others = (room.rows(name)[0].decode().splitlines() for name in ("sent.tif", "received.tif"))
-    wanted = next([f"< {a}", f"> {b}"] for a, b in zip(mine, others) if a != b)
-    yield "another: its rows", lines[1:], wanted
+    a, b = next((a.split(), b.split()) for a, b in zip(mine, others) if a != b)
+    at = next(at for at, (one, other) in enumerate(zip(a, b)) if one != other)
+    if at > 2:
+        pel = sum(map(int, a[3:at])) + min(int(a[at]), int(b[at]))
+        yield "another: where", lines[0], f"first difference: page {a[1]} row {a[2]} pel {pel}"
+    yield "another: its rows", [line.split()[:4] for line in lines[1:]], [[mark, "row", *it[1:3]] for mark, it in (("<", a), (">", b))]
+    yield from long_rows(room, commands)
     images = room.others("sent.tif")
     room.put("received.tif", pages.converted(room.program, ["-o", "mmr"], b"".join(images[:-1])))
     status, shown, _ = room.bash(commands)
-    yield "a page less", (status, shown.splitlines()[1:3][1]), (1, b"> end")
+    yield "a page less", (status, shown.splitlines()[0], shown.splitlines()[2]), (1, b"first difference:", b"> end")
+    yield "a page less: picture", colours(room.get("difference.png"))[:2], size_of(room, "sent.tif", len(images) - 1)
     room.sample("damaged-fourth-page.tif", "received.tif")
     shutil.copy(room("received.tif"), room("sent.tif"))
     status, _, said = room.bash(commands)
@@ -195,6 +201,46 @@ def compare(room, commands):
         yield f"{name!r}", room.call("faxpages-compare", name, name)[::2], (0, "")
     yield "no file", room.call("faxpages-compare", "sent.tif", "none.tif")[:2], (3, b"")
     yield "nothing is left", room.left(), []
+
+
+def long_rows(room, commands):
+    """Rows of many runs are cut to a line, from where they differ; and the picture of the page, in colours."""
+    stripes, width = sum(1 << at for at in range(0, WIDTH, 2)), WIDTH
+    changed = stripes ^ (0b11 << (WIDTH // 2))
+    for name, rows in (("sent.tif", [0, stripes, 0]), ("received.tif", [0, changed, 0, stripes])):
+        first = pages.image(width, [stripes] * 2)
+        room.put(name, pages.converted(room.program, ["-o", "mmr"], first + pages.image(width, rows)))
+    status, shown, said = room.bash(commands)
+    lines = shown.decode().splitlines()
+    a, b = (room.rows(name)[0].decode().splitlines()[3].split() for name in ("sent.tif", "received.tif"))
+    at = next(at for at, (one, other) in enumerate(zip(a, b)) if one != other)
+    pel = sum(map(int, a[3:at])) + min(int(a[at]), int(b[at]))
+    yield "long rows", (status, said, lines[0]), (1, "", f"first difference: page 1 row 1 pel {pel}")
+    yield "long rows: each is a line", [len(line) < 80 for line in lines], [True] * 3
+    yield "long rows: what differs", [line.split()[4] + line.split()[7] for line in lines[1:]], [f"..{it[at]}" for it in (a, b)]
+    wide, high, raster = colours(room.get("difference.png"))
+    wanted = [row_of_colours(WIDTH, *rows) for rows in ((0, 0), (stripes, changed), (0, 0), (0, stripes))]
+    yield "picture: size", (wide, high), (WIDTH, 4)
+    yield "picture: colours", [row == it for row, it in zip(raster, wanted)], [True] * 4
+    os.remove(room("difference.png"))
+    yield "no picture is asked for", room.call("faxpages-compare", "sent.tif", "received.tif")[:2], (1, shown)
+    yield "picture: no folder for it", room.call("faxpages-compare", "sent.tif", "received.tif", "no/difference.png")[0], 3
+    yield "words", room.call("faxpages-compare", "a", "b", "c", "d")[0], 2
+
+
+def colours(data):
+    """The pels of a PNG: its width, its height, and three bytes a pel."""
+    plain = subprocess.run(["pngtopnm"], input=data, capture_output=True, check=True).stdout
+    raw = subprocess.run(["pnmtoplainpnm"], input=plain, capture_output=True, check=True).stdout.split()
+    width, height = int(raw[1]), int(raw[2])
+    values = [int(it) for it in raw[4:]]
+    return width, height, [values[at : at + 3 * width] for at in range(0, len(values), 3 * width)]
+
+
+def row_of_colours(width, one, other):
+    """Black where both rows are, red where only the one is, blue where only the other is, and else white."""
+    shown = {(0, 0): [255] * 3, (1, 1): [0] * 3, (1, 0): [255, 0, 0], (0, 1): [0, 0, 255]}
+    return [it for at in range(width - 1, -1, -1) for it in shown[one >> at & 1, other >> at & 1]]
 
 
 def whole_page(room):
@@ -340,7 +386,7 @@ TESTS = {
     "Look at a page in a terminal": (["pampick", "pnmtopng", "chafa"], look_in_terminal),
     "Look at a page of standard resolution": (["pamsplit", "pamenlarge", "pnmtopng", "pngtopnm", "pgmtopgm"], look_at_low),
     "Look at a fax in a browser": (["pnmtopng", "pngtopnm", "pgmtopgm"], browser),
-    "The same picture?": (["pnmtopng", "pngtopnm", "pgmtopbm", "tiffcp", "pnmtotiff"], compare),
+    "The same picture?": (["pnmtopng", "pngtopnm", "pgmtopbm", "pnmtoplainpnm", "pnmpad", "rgb3toppm", "tiffcp", "pnmtotiff"], compare),
     "A PDF of a fax": (["img2pdf", "tiff2pdf"], pdf),
     "Salvage a damaged fax": (["tiffcp", "tiff2pdf", "pnmtopng", "pngtopnm", "pgmtopgm", "pnmtotiff"], salvage),
 }
