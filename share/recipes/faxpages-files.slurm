@@ -1,9 +1,9 @@
 #!/bin/bash
 #SBATCH --array=0-15
-# faxpages-files.slurm: prints the rows of each fax of the folder 'faxes' (*.tif and *.tiff, in capitals too) to
-# 'rows/NAME.txt', and its fault to 'rows/NAME.txt.err'. The tasks of the array share the faxes evenly. Any range serves,
-# such as 'sbatch --array=1-100' or '--array=0-30:2'. A fax whose rows are there already is skipped, so that the array
-# can be started again. Without Slurm, one process does all.
+# faxpages-files.slurm: prints the rows of each fax in the folder 'faxes' (*.tif and *.tiff, in capitals too) to
+# 'rows/NAME.txt', and its fault to 'rows/NAME.txt.err'. The tasks of the array share the faxes evenly. Any range
+# will do, such as 'sbatch --array=1-100' or '--array=0-30:2'. A fax whose rows are there already is skipped, so that
+# the array can be started again. Without Slurm, one process does all.
 #
 # Status: 0 all faxes of the task are done, those with a fault too; 3 something is not done, and is named;
 # 143 the task was ended by a signal.

@@ -1,9 +1,9 @@
 #!/bin/bash
 #SBATCH --array=0-15
 # faxpages-parts.slurm: prints the rows of each part of big.tif, as the lines of parts.txt name them, to
-# 'parts/CURSOR.txt', and its fault to 'parts/CURSOR.txt.err'. The tasks of the array share the parts evenly. Any range
-# serves, such as 'sbatch --array=1-100' or '--array=0-30:2'. A part whose rows are there already is skipped, so that the
-# array can be started again. Without Slurm, one process does all.
+# 'parts/CURSOR.txt', and its fault to 'parts/CURSOR.txt.err'. The tasks of the array share the parts evenly. Any
+# range will do, such as 'sbatch --array=1-100' or '--array=0-30:2'. A part whose rows are there already is skipped,
+# so that the array can be started again. Without Slurm, one process does all.
 #
 # Status: 0 all parts of the task are done, those with a fault too; 3 something is not done, and is named;
 # 143 the task was ended by a signal.

@@ -1,5 +1,5 @@
-"""The scripts for Slurm under a real slurmctld and slurmd of this machine, on loopback ports, with a munged, settings and
-folders of their own. Each call of sbatch has a folder of its own, and all of them run side by side."""
+"""The scripts for Slurm under a real slurmctld and slurmd of this machine, on loopback ports, with a munged, settings
+and folders of their own. Each call of sbatch has a folder of its own, and all of them run side by side."""
 
 import getpass
 import os
