@@ -3,9 +3,9 @@
 
     sweep.py FOLDER
 
-A fax or a folder that cannot be read is named with the reason. The status is 0 if all faxes were read and are whole, and
-otherwise 1. After ./install this runs as it stands here, by the module of these sources; elsewhere the module has to be
-installed, by the package python3-faxpages or by pip."""
+A fax or a folder that cannot be read is named with the reason. The status is 0 if all faxes were read and are whole,
+and otherwise 1. After ./install this runs as it stands here, with the module of these sources; elsewhere the module
+has to be installed, by the package python3-faxpages or by pip."""
 
 import collections
 import os

@@ -84,12 +84,31 @@ class Cluster:
             key.write(os.urandom(128))
         os.chmod(f"{self.path}/key", 0o400)
         at = self.path
-        words = {"munged": ["--force", "--foreground", f"--socket={at}/munge", f"--key-file={at}/key", f"--pid-file={at}/munge.pid",
-                            f"--log-file={at}/munge.log", f"--seed-file={at}/munge.seed"], "slurmctld": ["-D", "-c"], "slurmd": ["-D"]}  # fmt: skip
+        words = {
+            "munged": [
+                "--force",
+                "--foreground",
+                f"--socket={at}/munge",
+                f"--key-file={at}/key",
+                f"--pid-file={at}/munge.pid",
+                f"--log-file={at}/munge.log",
+                f"--seed-file={at}/munge.seed",
+            ],
+            "slurmctld": ["-D", "-c"],
+            "slurmd": ["-D"],
+        }
         try:
             for name in SERVERS:
                 with open(f"{at}/{name}.said", "w") as said:
-                    self.servers.append(subprocess.Popen([found(name), *words[name]], env=self.told, stdin=subprocess.DEVNULL, stdout=said, stderr=said))
+                    self.servers.append(
+                        subprocess.Popen(
+                            [found(name), *words[name]],
+                            env=self.told,
+                            stdin=subprocess.DEVNULL,
+                            stdout=said,
+                            stderr=said,
+                        )
+                    )
                 if name == "munged":
                     wait_for(lambda: os.path.exists(f"{at}/munge"))
         except OSError:
@@ -126,8 +145,14 @@ class Cluster:
     def give(self, place, commands, **more):
         """Starts commands in a folder; what they say is in files there."""
         with open(f"{place}/output", "w") as output, open(f"{place}/error", "w") as error:
-            return subprocess.Popen(["bash", "-c", commands], cwd=place, env=dict(self.told, **more), stdin=subprocess.DEVNULL,
-                                    stdout=output, stderr=error)  # fmt: skip
+            return subprocess.Popen(
+                ["bash", "-c", commands],
+                cwd=place,
+                env=dict(self.told, **more),
+                stdin=subprocess.DEVNULL,
+                stdout=output,
+                stderr=error,
+            )
 
     def rows(self, name):
         with open(name, "rb") as file:
@@ -172,9 +197,11 @@ def said_by_tasks(place):
 
 def give_all(cluster, commands):
     """Starts all calls: of each its name, its folder, and its process."""
-    with_array = "sbatch --array={} --wait \"$(command -v faxpages-files.slurm)\""
+    with_array = 'sbatch --array={} --wait "$(command -v faxpages-files.slurm)"'
     for array in ("0-3", "1-16", "0-6:2", "5"):
-        yield array, (place := cluster.folder(f"array-{array.replace(':', '-')}")), cluster.give(place, with_array.format(array))
+        yield array, (place := cluster.folder(f"array-{array.replace(':', '-')}")), cluster.give(
+            place, with_array.format(array)
+        )
     yield "1,5,7", (place := cluster.folder("list")), cluster.give(place, with_array.format("1,5,7"))
     yield "as it stands", (place := cluster.folder("default")), cluster.give(place, commands[BY_FILE])
     place = cluster.folder("unread")
@@ -201,9 +228,15 @@ def compare(cluster):
     for name in ("0-3", "1-16", "0-6:2", "5", "as it stands", "unread"):
         place = calls[name][0]
         yield f"Slurm: {name}: all is done", contents(f"{place}/rows"), wanted_rows(cluster, place, given)
-    told = ["not done: faxes/gone.tif: No such file or directory", "not done: faxes/unread.tif: fault: Read: Input/output error"]
+    told = [
+        "not done: faxes/gone.tif: No such file or directory",
+        "not done: faxes/unread.tif: fault: Read: Input/output error",
+    ]
     yield "Slurm: unread: it is told", said_by_tasks(calls["unread"][0]), told
-    yield "Slurm: 1,5,7: nothing is done", (contents(f"{calls['1,5,7'][0]}/rows"), len(said_by_tasks(calls["1,5,7"][0]))), (None, 3)
+    yield "Slurm: 1,5,7: nothing is done", (
+        contents(f"{calls['1,5,7'][0]}/rows"),
+        len(said_by_tasks(calls["1,5,7"][0])),
+    ), (None, 3)
     yield "Slurm: no folder: it is told", len(said_by_tasks(calls["no folder"][0])), 2
     place = calls["one big file"][0]
     rows = b"".join(line for line in cluster.rows(f"{place}/big.tif")[0].splitlines(True) if line.startswith(b"row "))
@@ -216,15 +249,19 @@ def ended(cluster):
     os.makedirs(f"{place}/bin")
     files.put(f"{place}/bin/faxpages", HANGING.encode())
     os.chmod(f"{place}/bin/faxpages", 0o755)
-    call = "sbatch --parsable --array=0-1 \"$(command -v faxpages-files.slurm)\""
+    call = 'sbatch --parsable --array=0-1 "$(command -v faxpages-files.slurm)"'
     slow = f"{place}/bin:{cluster.told['PATH']}"
     yield "Slurm: ended: given", cluster.give(place, call, PATH=slow).wait(PATIENCE), 0
     job = files.get(f"{place}/output").decode().strip()
-    parts = lambda: [name for name in contents(f"{place}/rows") or [] if name.startswith(".part") and not name.endswith(".err")]  # noqa: E731
+    parts = lambda: [
+        name for name in contents(f"{place}/rows") or [] if name.startswith(".part") and not name.endswith(".err")
+    ]  # noqa: E731
     yield "Slurm: ended: both are at work", wait_for(lambda: len(parts()) == 2), True
     cluster.ask("scancel", job)
     yield "Slurm: ended: they are gone", wait_for(lambda: not cluster.ask("squeue", "-h", "-j", job)), True
     yield "Slurm: ended: no part stays", contents(f"{place}/rows"), {}
     again = cluster.give(place, call.replace("--parsable", "--wait"))
     yield "Slurm: ended: again", again.wait(PATIENCE), 0
-    yield "Slurm: ended: all is done", contents(f"{place}/rows"), wanted_rows(cluster, place, os.listdir(f"{place}/faxes"))
+    yield "Slurm: ended: all is done", contents(f"{place}/rows"), wanted_rows(
+        cluster, place, os.listdir(f"{place}/faxes")
+    )

@@ -1,5 +1,5 @@
-"""All scripts of the recipes where the disk is full, and with files that cannot be read. Of the full disk, a small file
-system of memory has the temporary files and what is written."""
+"""The scripts of the recipes with a full disk, and with files that cannot be read; and the example in Python. The full
+disk is a small file system of memory, for the temporary files and what is written."""
 
 import os
 import subprocess
@@ -15,7 +15,9 @@ SIZE = "64k"
 
 def cannot_mount(room):
     """Lets the folder of temporary files be small: why it cannot be."""
-    ran = subprocess.run(["mount", "-t", "tmpfs", "-o", f"size={SIZE}", "tmpfs", f"{room.path}/tmp"], capture_output=True, text=True)
+    ran = subprocess.run(
+        ["mount", "-t", "tmpfs", "-o", f"size={SIZE}", "tmpfs", f"{room.path}/tmp"], capture_output=True, text=True
+    )
     return ran.stderr.strip()
 
 
@@ -43,16 +45,27 @@ def refused(room):
     mailer = {"SENDMAIL": f"{room.path}/bin/sendmail"}
     small, before = f"{room.path}/tmp", room.contents("archive")
     fax = "archive/fax.tif"
-    calls = [["picture", fax, "0"], ["html", fax], ["cores", fax], ["mail", fax, "a@b.c"], ["salvage", fax, "salvaged"],
-             ["salvage", fax, f"{small}/salvaged"], ["receive", fax, f"{small}/faxes"], ["mirror", "--delete", "archive", f"{small}/copies"],
-             ["from-pdf", "letter.pdf", "letter.tif"]]  # fmt: skip
+    calls = [
+        ["picture", fax, "0"],
+        ["html", fax],
+        ["cores", fax],
+        ["mail", fax, "a@b.c"],
+        ["salvage", fax, "salvaged"],
+        ["salvage", fax, f"{small}/salvaged"],
+        ["receive", fax, f"{small}/faxes"],
+        ["mirror", "--delete", "archive", f"{small}/copies"],
+        ["from-pdf", "letter.pdf", "letter.tif"],
+    ]
     room.bash("img2pdf --output letter.pdf archive/fax.tif")
     for name, *words in calls:
         status, output, said = room.call(f"faxpages-{name}", *words, **mailer)
         yield f"{name}: status", status, 1 if name in ("mirror", "from-pdf") else 3
         yield f"{name}: it says so", said != "", True
         yield f"{name}: output", output if name != "cores" else b"", b""
-        yield f"{name}: all is as before", (room.contents("archive"), room.names()), (before, ["archive", "letter.pdf"])
+        yield f"{name}: all is as before", (room.contents("archive"), room.names()), (
+            before,
+            ["archive", "letter.pdf"],
+        )
         left = [place for place, _, names in os.walk(small) if names]
         yield f"{name}: nothing is left", left, []
         room.bash(f"rm -rf {small}/*")
@@ -71,7 +84,11 @@ def unread(room, _):
     os.mkdir(room("folder.tif"))
     os.symlink(UNREADABLE, room("unread.tif"))
     room.fax("good.tif", "mh", "marks")
-    reasons = {"none.tif": "No such file or directory", "folder.tif": "not a regular file", "unread.tif": "fault: Read: Input/output error"}
+    reasons = {
+        "none.tif": "No such file or directory",
+        "folder.tif": "not a regular file",
+        "unread.tif": "fault: Read: Input/output error",
+    }
     for name, reason in reasons.items():
         for script, *words in (["html"], ["cores"], ["picture", "0"], ["salvage", "salvaged"], ["mail", "a@b.c"]):
             said = f"faxpages-{script}: {name}: {reason}\n"
@@ -80,7 +97,11 @@ def unread(room, _):
             status, output, told = room.call(f"faxpages-{script}", name, *words, SENDMAIL="/bin/false")
             yield f"{script} {name}", (status, output if script != "cores" else b"", told), (3, b"", said)
         for words in ([name, "good.tif"], ["good.tif", name]):
-            yield f"compare {words}", room.call("faxpages-compare", *words), (3, b"", f"faxpages-compare: {name}: {reason}\n")
+            yield f"compare {words}", room.call("faxpages-compare", *words), (
+                3,
+                b"",
+                f"faxpages-compare: {name}: {reason}\n",
+            )
         said = f"faxpages-receive: ./{name} stays: {reason}\n"
         yield f"receive {name}", room.call("faxpages-receive", name, "sorted"), (3, b"", said)
     yield "nothing is left", (room.left(), room.names("sorted/good"), room.names("sorted/faulty")), ([], [], [])
@@ -96,7 +117,11 @@ def example(room, _):
     for name in room.faxes("faxes"):
         room.put(f"faxes/in/{name}", room.get(f"faxes/{name}"))
     status, _, said = room.call(*sweep, "faxes", PYTHONPATH="", FAXPAGES_LIBRARY="nowhere")
-    yield "no library", (status, said.startswith("sweep.py: libfaxpages.so.1 is not installed"), said.count("\n")), (1, True, 1)
+    yield "no library", (status, said.startswith("sweep.py: libfaxpages.so.1 is not installed"), said.count("\n")), (
+        1,
+        True,
+        1,
+    )
     room.put(".local/lib/libfaxpages.so.1", files.get(library))
     fault = room.rows("faxes/faulty.tif")[1].decode().replace("fault ", "", 1)
     os.symlink(UNREADABLE, room("faxes/unread.tif"))
@@ -104,13 +129,25 @@ def example(room, _):
     status, output, said = room.call(*sweep, "faxes", PYTHONPATH="")
     lines = output.decode().splitlines()
     yield "status", (status, said), (1, "")
-    yield "named", sorted(lines[:4]), sorted(["faxes/gone.tif: No such file or directory", "faxes/unread.tif: Input/output error",
-                                              *(f"faxes/{it}faulty.tif: {fault}".strip() for it in ("", "in/"))])  # fmt: skip
-    yield "counts", [it for it in lines[4:] if it.endswith(("damaged", "faxes", "not read"))], ["2 damaged", "8 faxes", "2 not read"]
+    yield "named", sorted(lines[:4]), sorted(
+        [
+            "faxes/gone.tif: No such file or directory",
+            "faxes/unread.tif: Input/output error",
+            *(f"faxes/{it}faulty.tif: {fault}".strip() for it in ("", "in/")),
+        ]
+    )
+    yield "counts", [it for it in lines[4:] if it.endswith(("damaged", "faxes", "not read"))], [
+        "2 damaged",
+        "8 faxes",
+        "2 not read",
+    ]
     for name in ("faxes/gone.tif", "faxes/unread.tif", "faxes/faulty.tif", "faxes/in/faulty.tif"):
         os.remove(room(name))
     yield "all are whole", room.call(*sweep, "faxes", PYTHONPATH="")[::2], (0, "")
-    yield "no folder", room.call(*sweep, "nowhere", PYTHONPATH="")[:2], (1, b"nowhere: No such file or directory\n1 not read\n")
+    yield "no folder", room.call(*sweep, "nowhere", PYTHONPATH="")[:2], (
+        1,
+        b"nowhere: No such file or directory\n1 not read\n",
+    )
     yield "no words", room.call(*sweep, PYTHONPATH="")[0], 2
 
 
@@ -120,7 +157,9 @@ def checked(room, _):
         yield name, room.call("shellcheck", "--exclude=SC2015", f"{SCRIPTS}/{name}"), (0, b"", "")
 
 
-EXTRA = {"The example in Python": (["python3"], example),
-         "The scripts, by shellcheck": (["shellcheck"], checked),
-         "The scripts and files that cannot be read": (["pnmtopng", "tiff2pdf", "tiffcp"], unread),
-         "The scripts on a full disk": (["mount", "img2pdf", "pdftoppm", "tiff2pdf", "tiffcp", "pnmtopng"], full_disk)}  # fmt: skip
+EXTRA = {
+    "The example in Python": (["python3"], example),
+    "The scripts, by shellcheck": (["shellcheck"], checked),
+    "The scripts and files that cannot be read": (["pnmtopng", "tiff2pdf", "tiffcp"], unread),
+    "The scripts on a full disk": (["mount", "img2pdf", "pdftoppm", "tiff2pdf", "tiffcp", "pnmtopng"], full_disk),
+}

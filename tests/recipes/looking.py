@@ -101,15 +101,25 @@ def not_all_shown(room):
     for most, left_out in (("4", True), ("5", False), ("6", False)):
         status, html, said = room.call("faxpages-html", "fax.tif", most)
         told = "the pages from 4 on are not shown"
-        yield f"{most} of 5 pages", (status, len(pictures(html)), said), (0, min(int(most), 5), f"faxpages-html: {told}\n" if left_out else "")
+        yield f"{most} of 5 pages", (status, len(pictures(html)), said), (
+            0,
+            min(int(most), 5),
+            f"faxpages-html: {told}\n" if left_out else "",
+        )
         yield f"{most} of 5 pages: told", told.encode() in html, left_out
     room.put("long.tif", pages.converted(room.program, ["-o", "mmr"], pages.image(8, [0]) * 201))
     room.tool("faxpages-picture", "#!/bin/sh\nexit 1\n")
     status, html, said = room.call("faxpages-html", "long.tif")
-    yield "201 pages", (status, html.count(b"<h2>Page "), said), (0, 200, "faxpages-html: the pages from 200 on are not shown\n")
+    yield "201 pages", (status, html.count(b"<h2>Page "), said), (
+        0,
+        200,
+        "faxpages-html: the pages from 200 on are not shown\n",
+    )
     os.remove(f"{room.path}/bin/faxpages-picture")
     os.symlink(f"{SCRIPTS}/faxpages-picture", f"{room.path}/bin/faxpages-picture")
-    yield "no number of pages", [room.call("faxpages-html", "fax.tif", it)[0] for it in ("", "0", "x", "1x", "9999999999")], [2] * 5
+    yield "no number of pages", [
+        room.call("faxpages-html", "fax.tif", it)[0] for it in ("", "0", "x", "1x", "9999999999")
+    ], [2] * 5
 
 
 def shapes(room):
@@ -117,7 +127,14 @@ def shapes(room):
     (image,) = room.fax("fine.tif", "mmr", "all", 3)[:1]
     fine = drawn(image)
     data = room.get("fine.tif")
-    for lines, across, down in (((98, 1), 1, 2), ((100, 1), 1, 2), ((196, 1), 1, 1), ((391, 1), 2, 1), ((1, 100), 1, 4), ((0, 1), 1, 1)):
+    for lines, across, down in (
+        ((98, 1), 1, 2),
+        ((100, 1), 1, 2),
+        ((196, 1), 1, 1),
+        ((391, 1), 2, 1),
+        ((1, 100), 1, 4),
+        ((0, 1), 1, 1),
+    ):
         room.put("shape.tif", data.replace(struct.pack("<2I", 196, 1), struct.pack("<2I", *lines)))
         status, made, _ = room.call("faxpages-picture", "shape.tif", "0")
         got = black(made) if made else None
@@ -183,7 +200,9 @@ def compare(room, commands):
     if at > 2:
         pel = sum(map(int, a[3:at])) + min(int(a[at]), int(b[at]))
         yield "another: where", lines[0], f"first difference: page {a[1]} row {a[2]} pel {pel}"
-    yield "another: its rows", [line.split()[:4] for line in lines[1:]], [[mark, "row", *it[1:3]] for mark, it in (("<", a), (">", b))]
+    yield "another: its rows", [line.split()[:4] for line in lines[1:]], [
+        [mark, "row", *it[1:3]] for mark, it in (("<", a), (">", b))
+    ]
     yield from long_rows(room, commands)
     images = room.others("sent.tif")
     room.put("received.tif", pages.converted(room.program, ["-o", "mmr"], b"".join(images[:-1])))
@@ -217,14 +236,18 @@ def long_rows(room, commands):
     pel = sum(map(int, a[3:at])) + min(int(a[at]), int(b[at]))
     yield "long rows", (status, said, lines[0]), (1, "", f"first difference: page 1 row 1 pel {pel}")
     yield "long rows: each is a line", [len(line) < 80 for line in lines], [True] * 3
-    yield "long rows: what differs", [line.split()[4] + line.split()[7] for line in lines[1:]], [f"..{it[at]}" for it in (a, b)]
+    yield "long rows: what differs", [line.split()[4] + line.split()[7] for line in lines[1:]], [
+        f"..{it[at]}" for it in (a, b)
+    ]
     wide, high, raster = colours(room.get("difference.png"))
     wanted = [row_of_colours(WIDTH, *rows) for rows in ((0, 0), (stripes, changed), (0, 0), (0, stripes))]
     yield "picture: size", (wide, high), (WIDTH, 4)
     yield "picture: colours", [row == it for row, it in zip(raster, wanted)], [True] * 4
     os.remove(room("difference.png"))
     yield "no picture is asked for", room.call("faxpages-compare", "sent.tif", "received.tif")[:2], (1, shown)
-    yield "picture: no folder for it", room.call("faxpages-compare", "sent.tif", "received.tif", "no/difference.png")[0], 3
+    yield "picture: no folder for it", room.call("faxpages-compare", "sent.tif", "received.tif", "no/difference.png")[
+        0
+    ], 3
     yield "words", room.call("faxpages-compare", "a", "b", "c", "d")[0], 2
 
 
@@ -288,7 +311,11 @@ def salvage(room, commands):
     for name, data in (("no.tif", b"no fax"), ("none.tif", b""), ("cut.tif", room.get("fax.tif")[:100])):
         room.put(name, data)
         status, _, _ = room.call("faxpages-salvage", name, f"{name}.d")
-        yield f"{name}", (status, room.names(f"{name}.d"), len(room.get(f"{name}.d/lost.txt")) > 0), (1, ["lost.txt"], True)
+        yield f"{name}", (status, room.names(f"{name}.d"), len(room.get(f"{name}.d/lost.txt")) > 0), (
+            1,
+            ["lost.txt"],
+            True,
+        )
     yield "no file", room.call("faxpages-salvage", "no-such.tif", "d")[0], 3
     yield "the owner's modes", oct(os.stat(room("no.tif.d")).st_mode & 0o777), oct(0o777 & ~umask())
     yield "no folder is left", [name for name in room.names() if re.search(r"\.\w{6}$", name)], []
@@ -311,7 +338,9 @@ def salvage_damaged(room, commands):
     row = int(re.search(rb"row (\d+)", fault).group(1))
     lost = re.fullmatch(rb"page 3 rows %d to 10: (\w+)\n" % row, room.get("fax.salvaged/lost.txt"))
     yield "damaged: lost", lost is not None and fault.endswith(lost.group(1) + b"\n"), True
-    whole = [line for line in rows.splitlines() if line.split()[:2] in ([b"row", b"0"], [b"row", b"1"], [b"row", b"2"])]
+    whole = [
+        line for line in rows.splitlines() if line.split()[:2] in ([b"row", b"0"], [b"row", b"1"], [b"row", b"2"])
+    ]
     yield "damaged: rows", room.rows("fax.salvaged/pages.tif")[0].splitlines(), [*whole, b"end"]
     width, height, most, raster = grey(room.get("fax.salvaged/page-3.png"))
     yield "damaged: picture", (width, height), (32, 11)
@@ -361,7 +390,9 @@ def salvage_odd(room):
     pictures = [int(name[5:-4]) for name in room.names("odd") if name.endswith(".png")]
     yield "odd: all pages are there", len(copied) + len(pictures), 5
     for page in pictures:
-        yield f"odd: page {page} is told", f"page {page} is not in pages.tif" in room.get("odd/lost.txt").decode(), True
+        yield f"odd: page {page} is told", f"page {page} is not in pages.tif" in room.get(
+            "odd/lost.txt"
+        ).decode(), True
         yield f"odd: page {page} is whole", grey(room.get(f"odd/page-{page}.png"))[:2], size_of(room, "odd.tif", page)
 
 
@@ -384,9 +415,15 @@ def size_of(room, name, page):
 TESTS = {
     "Look at a page": (["pamsplit", "pnmtopng", "pngtopnm"], look),
     "Look at a page in a terminal": (["pampick", "pnmtopng", "chafa"], look_in_terminal),
-    "Look at a page of standard resolution": (["pamsplit", "pamenlarge", "pnmtopng", "pngtopnm", "pgmtopgm"], look_at_low),
+    "Look at a page of standard resolution": (
+        ["pamsplit", "pamenlarge", "pnmtopng", "pngtopnm", "pgmtopgm"],
+        look_at_low,
+    ),
     "Look at a fax in a browser": (["pnmtopng", "pngtopnm", "pgmtopgm"], browser),
-    "The same picture?": (["pnmtopng", "pngtopnm", "pgmtopbm", "pnmtoplainpnm", "pnmpad", "rgb3toppm", "tiffcp", "pnmtotiff"], compare),
+    "The same picture?": (
+        ["pnmtopng", "pngtopnm", "pgmtopbm", "pnmtoplainpnm", "pnmpad", "rgb3toppm", "tiffcp", "pnmtotiff"],
+        compare,
+    ),
     "A PDF of a fax": (["img2pdf", "tiff2pdf"], pdf),
     "Salvage a damaged fax": (["tiffcp", "tiff2pdf", "pnmtopng", "pngtopnm", "pgmtopgm", "pnmtotiff"], salvage),
 }

@@ -57,7 +57,10 @@ def mirror(room, commands):
     fault = room.rows("archive/0 faulty.tif")[1].decode()
     for words in ([], ["--delete"]):
         status, _, said = room.call("faxpages-mirror", *words, "archive", "copies")
-        yield f"a fault {words}", (status, said.splitlines(True)[0]), (1, f"not copied: ./archive/0 faulty.tif: {fault}")
+        yield f"a fault {words}", (status, said.splitlines(True)[0]), (
+            1,
+            f"not copied: ./archive/0 faulty.tif: {fault}",
+        )
         yield f"a fault {words}: nothing is deleted", room.contents("archive"), before
         others = sorted(name + more for name in given if name != "0 faulty.tif" for more in ("", ".fields"))
         yield f"a fault {words}: the others are copied", room.names("copies"), others
@@ -112,7 +115,10 @@ def mirror_of_tree(room):
     os.symlink(UNREADABLE, room("tree/unread.tif"))
     before = below(room, "tree")
     status, _, said = room.call("faxpages-mirror", "--delete", "tree", "flat")
-    told = ["not copied: ./tree/gone.tif: No such file or directory", "not copied: ./tree/unread.tif: fault: Read: Input/output error"]
+    told = [
+        "not copied: ./tree/gone.tif: No such file or directory",
+        "not copied: ./tree/unread.tif: fault: Read: Input/output error",
+    ]
     yield "not read", (status, said.splitlines()[:-1], below(room, "tree")), (1, told, before)
     for name in ("gone.tif", "unread.tif"):
         os.remove(room(f"tree/{name}"))
@@ -199,7 +205,11 @@ def cores_by_part(room, commands):
     yield "run", room.bash(commands), (0, b"", "")
     yield "rows", room.get("big.txt"), room.rows("big.tif")[0]
     for words in (["big.tif", "x"], ["big.tif", "0"], ["big.tif", ""], ["big.tif", "-1"], ["big.tif", "4", "5"], []):
-        yield f"words {words}", room.call("faxpages-cores", *words), (2, b"", "usage: faxpages-cores FAX [PROCESSES]\n")
+        yield f"words {words}", room.call("faxpages-cores", *words), (
+            2,
+            b"",
+            "usage: faxpages-cores FAX [PROCESSES]\n",
+        )
     for processes in ("1", "3", "50"):
         ran = room.call("faxpages-cores", "big.tif", processes)
         yield f"{processes} processes", ran, (0, room.rows("big.tif")[0], "")
@@ -284,7 +294,9 @@ def not_done(room, commands, given):
         "not done: faxes/gone.tif: No such file or directory",
         "not done: faxes/unread.tif: fault: Read: Input/output error"])  # fmt: skip
     os.remove(room("rows/gone.tif.txt.part"))
-    yield "not done: the others are", room.names("rows"), sorted(f"{name}.txt{err}" for name in given for err in ("", ".err"))
+    yield "not done: the others are", room.names("rows"), sorted(
+        f"{name}.txt{err}" for name in given for err in ("", ".err")
+    )
     os.remove(room("faxes/unread.tif"))
     os.rmdir(room("faxes/folder.tif"))
     room.fax("faxes/nowhere", "mr", "marks")
@@ -294,7 +306,7 @@ def not_done(room, commands, given):
 
 
 def slurm_task_killed(room, script, made, wanted):
-    """A task that gets SIGTERM, as scancel sends it to all that it started, leaves no part; another one does the rest."""
+    """A task that gets SIGTERM, as scancel sends it to all that it started, leaves no part; another does the rest."""
     shutil.rmtree(room(made), ignore_errors=True)
     room.tool("faxpages", '#!/bin/sh\nexec 2>&1\necho "row 0 0 8"\nsleep 20\n')
     leader = room.start(script)

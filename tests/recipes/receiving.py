@@ -55,7 +55,9 @@ def sorted_faxes(room, commands):
         yield f"{name!r}", ran, (0, b"", "")
         got = [room.get(f"faxes/good/{it}") for it in (name, f"{name}.report")]
         yield f"{name!r}: is good", (got, os.path.exists(room(name))), ([data, wanted], False)
-    yield "modes", {oct(os.stat(f"{room('faxes/good')}/{it}").st_mode) for it in room.names("faxes/good")}, {"0o100640"}
+    yield "modes", {oct(os.stat(f"{room('faxes/good')}/{it}").st_mode) for it in room.names("faxes/good")}, {
+        "0o100640"
+    }
     room.cut("fax.tif")
     data, wanted = room.get("fax.tif"), room.report("fax.tif")
     yield "a fault", room.bash(commands), (1, b"", "")
@@ -73,8 +75,12 @@ def sorted_faxes(room, commands):
     room.tool("faxpages", "#!/bin/sh\necho 'fault: Memory' >&2\nexit 3\n")
     room.put("fax.tif", before["fax.tif"])
     status, _, said = room.bash(commands)
-    yield "memory", (status, said.endswith("stays: fault: Memory\n"), room.names()), (3, True, ["fax.tif", "faxes", "folder.tif"])
-    room.tool("faxpages", f"#!/bin/sh\nexec {room.program} \"$@\"\n")
+    yield "memory", (status, said.endswith("stays: fault: Memory\n"), room.names()), (
+        3,
+        True,
+        ["fax.tif", "faxes", "folder.tif"],
+    )
+    room.tool("faxpages", f'#!/bin/sh\nexec {room.program} "$@"\n')
     yield from received_at_once(room)
     yield from received_from_elsewhere(room)
     yield "nothing else is in the folders", room.names("faxes"), ["faulty", "good"]
@@ -134,7 +140,10 @@ def hylafax(room, commands):
         texts = [text_of(mail).replace("\r", "") for mail in mails]
         report = room.report(name).decode()
         yield f"{kind}: status and mails", (status, sorted(mail["To"] for mail in mails)), (0, ["FaxMaster", "office"])
-        yield f"{kind}: the report is in each", [f"faxpages check:\n{report.rstrip()}" in it for it in texts], [True, True]
+        yield f"{kind}: the report is in each", [f"faxpages check:\n{report.rstrip()}" in it for it in texts], [
+            True,
+            True,
+        ]
         yield f"{kind}: told as an error", told_as_errors(mails), int(kind == "faulty")
         attached = [part.get_content_type() for mail in mails for part in mail.walk() if part.get_filename()]
         yield f"{kind}: the PDF is attached", attached, ["application/pdf"]
@@ -168,8 +177,14 @@ def not_checked_by_hylafax(room):
             os.remove(f"{room.path}/bin/faxpages")
             reason = "faxpages: command not found"
         ended, mails = received_by_hylafax(room, "good")
-        yield f"{status}: status and mails", (ended, sorted(mail["To"] for mail in mails)), (0, ["FaxMaster", "FaxMaster", "office"])
-        yield f"{status}: none is told as an error", (told_as_errors(mails), "Errors" in "".join(map(text_of, mails))), (0, False)
+        yield f"{status}: status and mails", (ended, sorted(mail["To"] for mail in mails)), (
+            0,
+            ["FaxMaster", "FaxMaster", "office"],
+        )
+        yield f"{status}: none is told as an error", (
+            told_as_errors(mails),
+            "Errors" in "".join(map(text_of, mails)),
+        ), (0, False)
         told = [mail for mail in mails if mail["Subject"] == "faxpages cannot check recvq/good.tif"]
         yield f"{status}: the operator is told", [reason in text_of(mail) for mail in told], [True]
         yield f"{status}: each mail says so", ["not checked: " in text_of(mail) for mail in mails], [True] * 3
@@ -266,7 +281,9 @@ def sweep(room, commands):
     good = len(HOSTILE) + 1
     summary = f"new: {good + 1} faxes, {good} good, 1 faulty, 0 not read; in all: {good + 1}"
     yield "the first", (status, said, lines[1:]), (1, "", [summary])
-    yield "the first: the fault", re.fullmatch(r"faulty: .*new\\n\\'fault\.tif'?: fault page 3 row \d+: \w+", lines[0]) is not None, True
+    yield "the first: the fault", re.fullmatch(
+        r"faulty: .*new\\n\\'fault\.tif'?: fault page 3 row \d+: \w+", lines[0]
+    ) is not None, True
     found = figures(room)
     wanted = {'faxpages_faxes{result="good"}': good, 'faxpages_faxes{result="faulty"}': 1,
               'faxpages_faxes{result="not_read"}': 0, 'faxpages_noted{note="N2"}': 1, "faxpages_swept": good + 1,
@@ -316,7 +333,10 @@ def swept_again(room, commands, good):
     room.call("rm", "-r", ".faxpages-sweep/seen")
     for _ in range(2):
         status, shown, _ = room.bash(commands)
-        yield "not read", (status, shown.splitlines()[-1]), (1, b"new: %d faxes, 0 good, 0 faulty, %d not read; in all: 0" % (good + 2, good + 2))
+        yield "not read", (status, shown.splitlines()[-1]), (
+            1,
+            b"new: %d faxes, 0 good, 0 faulty, %d not read; in all: 0" % (good + 2, good + 2),
+        )
 
 
 def swept_links(room, commands):
@@ -340,7 +360,8 @@ def swept_links(room, commands):
     os.symlink("nowhere", room("disk/gone.tif"))
     room.bash("touch -h -d '1 hour ago' disk/gone.tif")
     there = f"{room('')}faxes"
-    shown = f"not read: {there}/gone.tif: No such file or directory\nnew: 1 faxes, 0 good, 0 faulty, 1 not read; in all: 3\n"
+    shown = f"not read: {there}/gone.tif: No such file or directory\n"
+    shown += "new: 1 faxes, 0 good, 0 faulty, 1 not read; in all: 3\n"
     yield "not read", room.bash(commands), (1, shown.encode(), "")
     os.remove(room("disk/gone.tif"))
     room.fax("disk/bad.tif", "mh", "marks")
@@ -368,8 +389,10 @@ def swept_forbidden(room, commands):
     status, shown, said = room.bash(commands)
     lines = shown.decode().splitlines()
     yield "a closed folder", (status, said, lines[0].endswith("closed': Permission denied")), (1, "", True)
-    yield "a closed folder: it is told", lines[1:], [f"not all of {room('')}faxes can be looked into",
-                                                     "new: 5 faxes, 5 good, 0 faulty, 1 not read; in all: 5"]  # fmt: skip
+    yield "a closed folder: it is told", lines[1:], [
+        f"not all of {room('')}faxes can be looked into",
+        "new: 5 faxes, 5 good, 0 faulty, 1 not read; in all: 5",
+    ]
     yield "a closed folder: figures", figures(room)['faxpages_faxes{result="not_read"}'], 1
     yield "a closed folder: again", room.bash(commands)[:2], (1, b"\n".join(shown.splitlines()[:2]) + b"\n")
 
@@ -385,7 +408,7 @@ def sweep_by_timer(room, commands):
         checked = room.call("systemd-analyze", "verify", "--user", "--man=no", room(unit), XDG_RUNTIME_DIR=room(""))
         said = [line for line in checked[2].splitlines() if "faxpages" in line]
         yield f"systemd-analyze: {unit}", (checked[0], said), (0, [])
-    when = room.bash(f"systemd-analyze calendar --iterations=3 \"$(sed -n s/^OnCalendar=//p {units[1]})\"")[1].decode()
+    when = room.bash(f'systemd-analyze calendar --iterations=3 "$(sed -n s/^OnCalendar=//p {units[1]})"')[1].decode()
     minutes = [int(hour) * 60 + int(minute) for hour, minute in re.findall(r"(\d\d):(\d\d):00 ", when)]
     yield "every ten minutes", {(b - a) % 1440 for a, b in zip(minutes, minutes[1:])}, {10}
     room.sample("damaged-fourth-page.tif", "faxes/bad.tif")
@@ -396,7 +419,11 @@ def sweep_by_timer(room, commands):
     os.makedirs(room(".local"))
     os.symlink(f"{room.path}/bin", room(".local/bin"))
     status, output, said = room.bash(f"PATH={path}; {words}")
-    yield "the service", (status, output.splitlines()[-1:], said), (1, [b"new: 1 faxes, 0 good, 1 faulty, 0 not read; in all: 1"], "")
+    yield "the service", (status, output.splitlines()[-1:], said), (
+        1,
+        [b"new: 1 faxes, 0 good, 1 faulty, 0 not read; in all: 1"],
+        "",
+    )
 
 
 def seen(room):

@@ -115,7 +115,13 @@ class Room:
             files.put(f"{self.path}/image.pbm", image)
             uncoded.append(f"{self.path}/{len(uncoded)}.tif")
             files.tool(["pnmtotiff", "-none", "-miniswhite", f"{self.path}/image.pbm"], uncoded[-1])
-        forms = [["g3:1d"], ["g4", "-B"], ["g3:2d", "-f", "lsb2msb", "-r", "2"], ["g3:1d:fill", "-B"], ["g4", "-r", "3"]]
+        forms = [
+            ["g3:1d"],
+            ["g4", "-B"],
+            ["g3:2d", "-f", "lsb2msb", "-r", "2"],
+            ["g3:1d:fill", "-B"],
+            ["g4", "-r", "3"],
+        ]
         said = files.tool(["tiffcp", "-c", *forms[number % len(forms)], *uncoded, f"{self.path}/out.tif"])
         assert said is None, said
         self.put(name, files.get(f"{self.path}/out.tif"))

@@ -72,11 +72,14 @@ def in_standard_resolution(room):
 
 def pdf_with(data, rows, parameters):
     """A PDF of one page with this data of T.4 or T.6."""
-    shown = b"q %d 0 0 %d 0 0 cm /I Do Q" % (WIDTH, rows)
+    size = (WIDTH, rows)
+    shown = b"q %d 0 0 %d 0 0 cm /I Do Q" % size
     objects = [b"<< /Type /Catalog /Pages 2 0 R >>", b"<< /Type /Pages /Kids [3 0 R] /Count 1 >>",
-               b"<< /Type /Page /Parent 2 0 R /MediaBox [0 0 %d %d] /Resources << /XObject << /I 4 0 R >> >> /Contents 5 0 R >>" % (WIDTH, rows),
-               b"<< /Type /XObject /Subtype /Image /Width %d /Height %d /BitsPerComponent 1 /ColorSpace /DeviceGray /Filter /CCITTFaxDecode "
-               b"/DecodeParms << %s /Columns %d >> /Length %d >>\nstream\n%s\nendstream" % (WIDTH, rows, parameters, WIDTH, len(data), data),
+               b"<< /Type /Page /Parent 2 0 R /MediaBox [0 0 %d %d] /Contents 5 0 R "
+               b"/Resources << /XObject << /I 4 0 R >> >> >>" % size,
+               b"<< /Type /XObject /Subtype /Image /Width %d /Height %d /BitsPerComponent 1 "
+               b"/ColorSpace /DeviceGray /Filter /CCITTFaxDecode /DecodeParms << %s /Columns %d >> /Length %d >>\n"
+               b"stream\n%s\nendstream" % (*size, parameters, WIDTH, len(data), data),
                b"<< /Length %d >>\nstream\n%s\nendstream" % (len(shown), shown)]  # fmt: skip
     made, places = b"%PDF-1.4\n", []
     for number, text in enumerate(objects, 1):
@@ -111,7 +114,9 @@ def out_of_each_coding(room, commands):
     damaged = bytearray(strip)
     damaged[len(strip) // 2] ^= 0x55
     room.put("fax.pdf", pdf_with(bytes(damaged), rows, parameters))
-    yield "damaged data: no fax with other rows", room.bash(commands)[0] == 0 and room.rows("fax.tif") == room.rows("source.tif"), False
+    yield "damaged data: no fax with other rows", room.bash(commands)[0] == 0 and room.rows("fax.tif") == room.rows(
+        "source.tif"
+    ), False
 
 
 def not_out_of_pdf(room, commands):
@@ -191,7 +196,10 @@ def others(room, commands):
 
 TESTS = {
     "Send a PDF": (["pdftoppm", "img2pdf", "tiffset"], from_pdf),
-    "A fax out of a PDF": (["pdfimages", "pdfinfo", "pnminvert", "fax2tiff", "tiffset", "tiffcp", "tiff2pdf", "img2pdf", "pnmtopng"], out_of_pdf),
+    "A fax out of a PDF": (
+        ["pdfimages", "pdfinfo", "pnminvert", "fax2tiff", "tiffset", "tiffcp", "tiff2pdf", "img2pdf", "pnmtopng"],
+        out_of_pdf,
+    ),
     "Raw T.4 and T.6 data": (["fax2tiff", "tiffset"], raw_data),
     "Ready to be sent?": (["awk"], ready),
     "Tiles, BigTIFF and other compressions": (["tiffcp", "pnmtotiff"], others),
