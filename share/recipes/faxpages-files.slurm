@@ -5,7 +5,7 @@
 # will do, such as 'sbatch --array=1-100' or '--array=0-30:2'. A fax whose rows are there already is skipped, so that
 # the array can be started again. Without Slurm, one process does all.
 #
-# Status: 0 all faxes of the task are done, those with a fault too; 3 something is not done, and is named;
+# Status: 0 all faxes of the task are done, also those with a fault; 3 one is not done, and is named;
 # 143 the task was ended by a signal.
 set -u
 export LC_ALL=C # so that all tasks see the faxes in one order
@@ -25,14 +25,14 @@ first=${SLURM_ARRAY_TASK_MIN-0}
 step=${SLURM_ARRAY_TASK_STEP-1}
 tasks=${SLURM_ARRAY_TASK_COUNT-1}
 [ $((first + step * (tasks - 1))) = "${SLURM_ARRAY_TASK_MAX-0}" ] ||
-    fail 'the numbers of the array are no range, such as 0-15 or 0-30:2; nothing is done'
+    fail 'the array is not a range such as 0-15 or 0-30:2; nothing is done'
 mine=$(((${SLURM_ARRAY_TASK_ID-0} - first) / step))
 
 [ -d faxes ] || fail "there is no folder 'faxes' in $PWD"
 faxes=(faxes/*.tif faxes/*.tiff)
-[ ${#faxes[@]} != 0 ] || fail "no fax is in the folder 'faxes' of $PWD"
+[ ${#faxes[@]} != 0 ] || fail "there is no fax in the folder 'faxes' in $PWD"
 mkdir -p rows || exit 3
-# Rows that are not whole have a name of this process alone, which no other one takes for its own.
+# Rows that are not whole yet are in a file that only this process uses.
 part=rows/.part.$HOSTNAME.$$
 trap 'rm -f -- "$part" "$part.err"' EXIT
 trap 'exit 143' HUP INT TERM

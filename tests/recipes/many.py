@@ -273,7 +273,7 @@ def arrays(room, commands, made, wanted):
         yield f"--array={array}: all is done", room.contents(made), wanted
     shutil.rmtree(room(made))
     status, _, said = room.bash(given_array(commands, "1,5,7"))
-    yield "--array=1,5,7", (status, said.count("no range"), os.path.exists(room(made))), (3, 3, False)
+    yield "--array=1,5,7", (status, said.count("not a range"), os.path.exists(room(made))), (3, 3, False)
 
 
 def given_array(commands, array):
