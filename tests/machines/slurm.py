@@ -131,7 +131,7 @@ class Cluster:
         return subprocess.run(words, env=self.told, capture_output=True, text=True).stdout.strip()
 
     def is_up(self):
-        return wait_for(lambda: self.ask("sinfo", "-h", "-o", "%T") == "idle")
+        return wait_for(lambda: self.ask("sinfo", "-h", "-o", "%T") == "idle", 20)
 
     def folder(self, name, faxes=FAXES):
         """A folder from which sbatch is called, with faxes."""
@@ -166,9 +166,9 @@ def free_port():
         return asked.getsockname()[1]
 
 
-def wait_for(holds):
+def wait_for(holds, seconds=PATIENCE):
     """Waits until something holds: whether it does."""
-    until = time.monotonic() + PATIENCE
+    until = time.monotonic() + seconds
     while not holds():
         if time.monotonic() > until:
             return False

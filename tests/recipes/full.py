@@ -7,6 +7,7 @@ import sys
 
 import files
 import pages
+from manual import manual
 from recipes import ROOT, SCRIPTS
 from room import UNREADABLE, WIDTH
 
@@ -158,6 +159,7 @@ def checked(room, _):
 
 
 EXTRA = {
+    "The manual page of the scripts": (["img2pdf", "pnmtopng", "pdfimages", "fax2tiff", "tiff2pdf", "tiffcp"], manual),
     "The example in Python": (["python3"], example),
     "The scripts, by shellcheck": (["shellcheck"], checked),
     "The scripts and files that cannot be read": (["pnmtopng", "tiff2pdf", "tiffcp"], unread),
