@@ -381,10 +381,11 @@ def swept_forbidden(room, commands):
     for name in ("disk/2025/new.tif", "disk/new.tif"):
         room.fax(name, "mh", "marks")
     os.mkdir(room("disk/closed"), 0)
+    shutil.rmtree(room(".faxpages-sweep"))
     old(room, "disk")
     if root:
         os.chmod(room.path, 0o711)
-        room.bash("chown -R nobody .faxpages-sweep .; chown root disk/closed")
+        room.bash("chown -R nobody .; chown root disk/closed")
         commands = f"setpriv --reuid nobody --clear-groups bash -c {shlex.quote(commands)}"
     status, shown, said = room.bash(commands)
     lines = shown.decode().splitlines()
