@@ -1,20 +1,24 @@
-"""The scripts of the recipes where the disk is full: a small file system of memory has the temporary files and what is
-written."""
+"""The scripts of the recipes with a full disk, and with files that cannot be read; and the example in Python. The full
+disk is a small file system of memory, for the temporary files and what is written."""
 
 import os
 import subprocess
+import sys
 
 import files
 import pages
-from recipes import SCRIPTS
-from room import WIDTH
+from manual import manual
+from recipes import ROOT, SCRIPTS
+from room import UNREADABLE, WIDTH
 
 SIZE = "64k"
 
 
 def cannot_mount(room):
     """Lets the folder of temporary files be small: why it cannot be."""
-    ran = subprocess.run(["mount", "-t", "tmpfs", "-o", f"size={SIZE}", "tmpfs", f"{room.path}/tmp"], capture_output=True, text=True)
+    ran = subprocess.run(
+        ["mount", "-t", "tmpfs", "-o", f"size={SIZE}", "tmpfs", f"{room.path}/tmp"], capture_output=True, text=True
+    )
     return ran.stderr.strip()
 
 
@@ -42,16 +46,27 @@ def refused(room):
     mailer = {"SENDMAIL": f"{room.path}/bin/sendmail"}
     small, before = f"{room.path}/tmp", room.contents("archive")
     fax = "archive/fax.tif"
-    calls = [["picture", fax, "0"], ["html", fax], ["cores", fax], ["mail", fax, "a@b.c"], ["salvage", fax, "salvaged"],
-             ["salvage", fax, f"{small}/salvaged"], ["receive", fax, f"{small}/faxes"], ["mirror", "--delete", "archive", f"{small}/copies"],
-             ["from-pdf", "letter.pdf", "letter.tif"]]  # fmt: skip
+    calls = [
+        ["picture", fax, "0"],
+        ["html", fax],
+        ["cores", fax],
+        ["mail", fax, "a@b.c"],
+        ["salvage", fax, "salvaged"],
+        ["salvage", fax, f"{small}/salvaged"],
+        ["receive", fax, f"{small}/faxes"],
+        ["mirror", "--delete", "archive", f"{small}/copies"],
+        ["from-pdf", "letter.pdf", "letter.tif"],
+    ]
     room.bash("img2pdf --output letter.pdf archive/fax.tif")
     for name, *words in calls:
         status, output, said = room.call(f"faxpages-{name}", *words, **mailer)
         yield f"{name}: status", status, 1 if name in ("mirror", "from-pdf") else 3
         yield f"{name}: it says so", said != "", True
         yield f"{name}: output", output if name != "cores" else b"", b""
-        yield f"{name}: all is as before", (room.contents("archive"), room.names()), (before, ["archive", "letter.pdf"])
+        yield f"{name}: all is as before", (room.contents("archive"), room.names()), (
+            before,
+            ["archive", "letter.pdf"],
+        )
         left = [place for place, _, names in os.walk(small) if names]
         yield f"{name}: nothing is left", left, []
         room.bash(f"rm -rf {small}/*")
@@ -65,11 +80,88 @@ def refused(room):
     yield "sweep, with room: figures", b'faxpages_faxes{result="good"} 1\n' in files.get(f"{small}/figures"), True
 
 
+def unread(room, _):
+    """Of a file that cannot be read each script gives the reason, and status 3."""
+    os.mkdir(room("folder.tif"))
+    os.symlink(UNREADABLE, room("unread.tif"))
+    room.fax("good.tif", "mh", "marks")
+    reasons = {
+        "none.tif": "No such file or directory",
+        "folder.tif": "not a regular file",
+        "unread.tif": "fault: Read: Input/output error",
+    }
+    for name, reason in reasons.items():
+        for script, *words in (["html"], ["cores"], ["picture", "0"], ["salvage", "salvaged"], ["mail", "a@b.c"]):
+            said = f"faxpages-{script}: {name}: {reason}\n"
+            if script == "cores" and "fault" in reason:  # as the program says it, and why
+                said = f"fault: Read\nfaxpages-{script}: {name}: Input/output error\n"
+            status, output, told = room.call(f"faxpages-{script}", name, *words, SENDMAIL="/bin/false")
+            yield f"{script} {name}", (status, output if script != "cores" else b"", told), (3, b"", said)
+        for words in ([name, "good.tif"], ["good.tif", name]):
+            yield f"compare {words}", room.call("faxpages-compare", *words), (
+                3,
+                b"",
+                f"faxpages-compare: {name}: {reason}\n",
+            )
+        said = f"faxpages-receive: ./{name} stays: {reason}\n"
+        yield f"receive {name}", room.call("faxpages-receive", name, "sorted"), (3, b"", said)
+    yield "nothing is left", (room.left(), room.names("sorted/good"), room.names("sorted/faulty")), ([], [], [])
+
+
+def example(room, _):
+    """examples/sweep.py as it stands in the sources, where the library is as ./install puts it."""
+    library = f"{os.path.dirname(room.program)}/libfaxpages.so.1"
+    if not os.path.exists(library):
+        print("not run: examples/sweep.py: there is no library beside the program")
+        return
+    sweep = [sys.executable, "-B", f"{ROOT}/examples/sweep.py"]
+    for name in room.faxes("faxes"):
+        room.put(f"faxes/in/{name}", room.get(f"faxes/{name}"))
+    status, _, said = room.call(*sweep, "faxes", PYTHONPATH="", FAXPAGES_LIBRARY="nowhere")
+    yield "no library", (status, said.startswith("sweep.py: libfaxpages.so.1 is not installed"), said.count("\n")), (
+        1,
+        True,
+        1,
+    )
+    room.put(".local/lib/libfaxpages.so.1", files.get(library))
+    fault = room.rows("faxes/faulty.tif")[1].decode().replace("fault ", "", 1)
+    os.symlink(UNREADABLE, room("faxes/unread.tif"))
+    os.symlink("nowhere", room("faxes/gone.tif"))
+    status, output, said = room.call(*sweep, "faxes", PYTHONPATH="")
+    lines = output.decode().splitlines()
+    yield "status", (status, said), (1, "")
+    yield "named", sorted(lines[:4]), sorted(
+        [
+            "faxes/gone.tif: No such file or directory",
+            "faxes/unread.tif: Input/output error",
+            *(f"faxes/{it}faulty.tif: {fault}".strip() for it in ("", "in/")),
+        ]
+    )
+    yield "counts", [it for it in lines[4:] if it.endswith(("damaged", "faxes", "not read"))], [
+        "2 damaged",
+        "8 faxes",
+        "2 not read",
+    ]
+    for name in ("faxes/gone.tif", "faxes/unread.tif", "faxes/faulty.tif", "faxes/in/faulty.tif"):
+        os.remove(room(name))
+    yield "all are whole", room.call(*sweep, "faxes", PYTHONPATH="")[::2], (0, "")
+    yield "no folder", room.call(*sweep, "nowhere", PYTHONPATH="")[:2], (
+        1,
+        b"nowhere: No such file or directory\n1 not read\n",
+    )
+    yield "no words", room.call(*sweep, PYTHONPATH="")[0], 2
+
+
 def checked(room, _):
     """The scripts as shellcheck sees them; `a && b || c` is meant as it stands."""
     for name in sorted(os.listdir(SCRIPTS)):
         yield name, room.call("shellcheck", "--exclude=SC2015", f"{SCRIPTS}/{name}"), (0, b"", "")
 
 
-EXTRA = {"The scripts, by shellcheck": (["shellcheck"], checked),
-         "The scripts on a full disk": (["mount", "img2pdf", "pdftoppm", "tiff2pdf", "tiffcp", "pnmtopng"], full_disk)}  # fmt: skip
+EXTRA = {
+    "The manual page of the scripts": (["img2pdf", "pnmtopng", "pdfimages", "fax2tiff", "tiff2pdf", "tiffcp"], manual),
+    "The example in Python": (["python3"], example),
+    "The scripts, by shellcheck": (["shellcheck"], checked),
+    "The scripts and files that cannot be read": (["pnmtopng", "tiff2pdf", "tiffcp"], unread),
+    "The scripts on a full disk": (["mount", "img2pdf", "pdftoppm", "tiff2pdf", "tiffcp", "pnmtopng"], full_disk),
+}

@@ -4,10 +4,12 @@ import base64
 import os
 import re
 import shutil
+import struct
 import subprocess
 
 import files
 import pages
+from recipes import SCRIPTS
 from room import HOSTILE, WIDTH
 
 PNG = b"\x89PNG"
@@ -49,11 +51,18 @@ def look_in_terminal(room, commands):
 
 
 def look_at_low(room, commands):
-    room.fax("fax.tif", "mh", "marks")
-    (rows,) = pages.draw_document(4, "marks", WIDTH)
+    images = room.fax("fax.tif", "mh", "all")
+    yield "a fax of several pages", len(images) > 3, True
     yield "run", room.bash(commands), (0, b"", "")
-    twice = pages.image(WIDTH, [row for row in rows for _ in (1, 2)])
-    yield "page", room.bash("pngtopnm page.png")[1], twice
+    for page, image in enumerate(images):
+        twice = [row for row in drawn(image) for _ in (1, 2)]
+        yield f"page {page}", black(room.get(f"fax.pages/page-{page}.png")) == twice, True
+    made = [name for name in room.names("fax.pages") if name.endswith(".png")]
+    yield "pages", len(made), len(images)
+    shutil.rmtree(room("fax.pages"))
+    room.sample("damaged-fourth-page.tif", "fax.tif")
+    status, _, said = room.bash(commands)
+    yield "a fault", (status != 0, "fault page 3 row " in said, room.names()), (True, True, ["fax.tif"])
 
 
 def pictures(html):
@@ -80,8 +89,87 @@ def browser(room, commands):
         title = re.search(rb"<title>(.*)</title>\n", made)
         yield f"{name!r}", (status, said, len(pictures(made)), title is not None), (0, "", 5, True)
         yield f"{name!r}: no mark-up", re.search(rb"[<>]", title.group(1)) if title else "", None
-    yield "no file", room.call("faxpages-html", "none.tif")[:2], (3, b"")
+    yield from not_all_shown(room)
+    yield from shapes(room)
+    yield from in_narrow_window(room)
     yield "nothing is left", room.left(), []
+
+
+def not_all_shown(room):
+    """What is left out of a long fax is told, in the file and beside it."""
+    room.others("fax.tif")
+    for most, left_out in (("4", True), ("5", False), ("6", False)):
+        status, html, said = room.call("faxpages-html", "fax.tif", most)
+        told = "the pages from 4 on are not shown"
+        yield f"{most} of 5 pages", (status, len(pictures(html)), said), (
+            0,
+            min(int(most), 5),
+            f"faxpages-html: {told}\n" if left_out else "",
+        )
+        yield f"{most} of 5 pages: told", told.encode() in html, left_out
+    room.put("long.tif", pages.converted(room.program, ["-o", "mmr"], pages.image(8, [0]) * 201))
+    room.tool("faxpages-picture", "#!/bin/sh\nexit 1\n")
+    status, html, said = room.call("faxpages-html", "long.tif")
+    yield "201 pages", (status, html.count(b"<h2>Page "), said), (
+        0,
+        200,
+        "faxpages-html: the pages from 200 on are not shown\n",
+    )
+    os.remove(f"{room.path}/bin/faxpages-picture")
+    os.symlink(f"{SCRIPTS}/faxpages-picture", f"{room.path}/bin/faxpages-picture")
+    yield "no number of pages", [
+        room.call("faxpages-html", "fax.tif", it)[0] for it in ("", "0", "x", "1x", "9999999999")
+    ], [2] * 5
+
+
+def shapes(room):
+    """A page whose resolution differs across and down is drawn in its shape: its size, and its rows and pels."""
+    (image,) = room.fax("fine.tif", "mmr", "all", 3)[:1]
+    fine = drawn(image)
+    data = room.get("fine.tif")
+    for lines, across, down in (
+        ((98, 1), 1, 2),
+        ((100, 1), 1, 2),
+        ((196, 1), 1, 1),
+        ((391, 1), 2, 1),
+        ((1, 100), 1, 4),
+        ((0, 1), 1, 1),
+    ):
+        room.put("shape.tif", data.replace(struct.pack("<2I", 196, 1), struct.pack("<2I", *lines)))
+        status, made, _ = room.call("faxpages-picture", "shape.tif", "0")
+        got = black(made) if made else None
+        wanted = [[pel for pel in row for _ in range(across)] for row in fine for _ in range(down)]
+        if room.run("list", name="shape.tif")[0]:
+            yield f"lines {lines}: refused", status, 3
+            continue
+        yield f"lines {lines}", (status, got == wanted), (0, True)
+
+
+def in_narrow_window(room):
+    """In a browser: the file is no wider than a narrow window, and its pages do not touch."""
+    if not shutil.which("chromium"):
+        print("not run: faxpages-html in a browser: chromium missing")
+        return
+    name = f"{'long-name' * 9}.tif"
+    room.fax(name, "mmr", "all", 20)
+    html = room.call("faxpages-html", name)[1]
+    yield "viewport", b'<meta name="viewport" content="width=device-width' in html, True
+    room.put("fax.html", html.replace(b"</html>", MEASURE))
+    dom = room.bash("chromium --headless --no-sandbox --disable-gpu --window-size=360,600 --virtual-time-budget=2000 "
+                    '--dump-dom "file://$PWD/fax.html"')[1]  # fmt: skip
+    found = re.search(rb"<title>measured (\d+) (\d+) (-?\d+)</title>", dom)
+    yield "narrow: measured", found is not None, True
+    wide, window, apart = map(int, found.groups())
+    yield "narrow: it is no wider", (window <= 500, wide <= window), (True, True)
+    yield "narrow: pages are apart", apart >= 10, True
+
+
+# How wide the file is, how wide the window is, and how far the pages are from each other.
+MEASURE = b"""<script>
+const pages = [...document.querySelectorAll("section")].map(it => it.getBoundingClientRect());
+const apart = Math.min(...pages.slice(1).map((it, at) => it.top - pages[at].bottom));
+document.title = `measured ${document.documentElement.scrollWidth} ${innerWidth} ${Math.round(apart)}`;
+</script></html>"""
 
 
 def black(data):
@@ -101,18 +189,26 @@ def drawn(image):
 def compare(room, commands):
     room.others("sent.tif", 0)
     room.others("received.tif", 1)
-    yield "the same", room.bash(commands)[::2], (0, "")
+    yield "the same", (room.bash(commands)[::2], "difference.png" in room.names()), ((0, ""), False)
     room.fax("received.tif", "mh", "all")
     status, shown, said = room.bash(commands)
     lines = shown.decode().splitlines()
-    yield "another", (status, said, lines[0]), (1, "", "first difference:")
+    yield "another", (status, said, len(lines)), (1, "", 3)
     mine, others = (room.rows(name)[0].decode().splitlines() for name in ("sent.tif", "received.tif"))
-    wanted = next([f"< {a}", f"> {b}"] for a, b in zip(mine, others) if a != b)
-    yield "another: its rows", lines[1:], wanted
+    a, b = next((a.split(), b.split()) for a, b in zip(mine, others) if a != b)
+    at = next(at for at, (one, other) in enumerate(zip(a, b)) if one != other)
+    if at > 2:
+        pel = sum(map(int, a[3:at])) + min(int(a[at]), int(b[at]))
+        yield "another: where", lines[0], f"first difference: page {a[1]} row {a[2]} pel {pel}"
+    yield "another: its rows", [line.split()[:4] for line in lines[1:]], [
+        [mark, "row", *it[1:3]] for mark, it in (("<", a), (">", b))
+    ]
+    yield from long_rows(room, commands)
     images = room.others("sent.tif")
     room.put("received.tif", pages.converted(room.program, ["-o", "mmr"], b"".join(images[:-1])))
     status, shown, _ = room.bash(commands)
-    yield "a page less", (status, shown.splitlines()[1:3][1]), (1, b"> end")
+    yield "a page less", (status, shown.splitlines()[0], shown.splitlines()[2]), (1, b"first difference:", b"> end")
+    yield "a page less: picture", colours(room.get("difference.png"))[:2], size_of(room, "sent.tif", len(images) - 1)
     room.sample("damaged-fourth-page.tif", "received.tif")
     shutil.copy(room("received.tif"), room("sent.tif"))
     status, _, said = room.bash(commands)
@@ -124,6 +220,50 @@ def compare(room, commands):
         yield f"{name!r}", room.call("faxpages-compare", name, name)[::2], (0, "")
     yield "no file", room.call("faxpages-compare", "sent.tif", "none.tif")[:2], (3, b"")
     yield "nothing is left", room.left(), []
+
+
+def long_rows(room, commands):
+    """Rows of many runs are cut to a line, from where they differ; and the picture of the page, in colours."""
+    stripes, width = sum(1 << at for at in range(0, WIDTH, 2)), WIDTH
+    changed = stripes ^ (0b11 << (WIDTH // 2))
+    for name, rows in (("sent.tif", [0, stripes, 0]), ("received.tif", [0, changed, 0, stripes])):
+        first = pages.image(width, [stripes] * 2)
+        room.put(name, pages.converted(room.program, ["-o", "mmr"], first + pages.image(width, rows)))
+    status, shown, said = room.bash(commands)
+    lines = shown.decode().splitlines()
+    a, b = (room.rows(name)[0].decode().splitlines()[3].split() for name in ("sent.tif", "received.tif"))
+    at = next(at for at, (one, other) in enumerate(zip(a, b)) if one != other)
+    pel = sum(map(int, a[3:at])) + min(int(a[at]), int(b[at]))
+    yield "long rows", (status, said, lines[0]), (1, "", f"first difference: page 1 row 1 pel {pel}")
+    yield "long rows: each is a line", [len(line) < 80 for line in lines], [True] * 3
+    yield "long rows: what differs", [line.split()[4] + line.split()[7] for line in lines[1:]], [
+        f"..{it[at]}" for it in (a, b)
+    ]
+    wide, high, raster = colours(room.get("difference.png"))
+    wanted = [row_of_colours(WIDTH, *rows) for rows in ((0, 0), (stripes, changed), (0, 0), (0, stripes))]
+    yield "picture: size", (wide, high), (WIDTH, 4)
+    yield "picture: colours", [row == it for row, it in zip(raster, wanted)], [True] * 4
+    os.remove(room("difference.png"))
+    yield "no picture is asked for", room.call("faxpages-compare", "sent.tif", "received.tif")[:2], (1, shown)
+    yield "picture: no folder for it", room.call("faxpages-compare", "sent.tif", "received.tif", "no/difference.png")[
+        0
+    ], 3
+    yield "words", room.call("faxpages-compare", "a", "b", "c", "d")[0], 2
+
+
+def colours(data):
+    """The pels of a PNG: its width, its height, and three bytes a pel."""
+    plain = subprocess.run(["pngtopnm"], input=data, capture_output=True, check=True).stdout
+    raw = subprocess.run(["pnmtoplainpnm"], input=plain, capture_output=True, check=True).stdout.split()
+    width, height = int(raw[1]), int(raw[2])
+    values = [int(it) for it in raw[4:]]
+    return width, height, [values[at : at + 3 * width] for at in range(0, len(values), 3 * width)]
+
+
+def row_of_colours(width, one, other):
+    """Black where both rows are, red where only the one is, blue where only the other is, and else white."""
+    shown = {(0, 0): [255] * 3, (1, 1): [0] * 3, (1, 0): [255, 0, 0], (0, 1): [0, 0, 255]}
+    return [it for at in range(width - 1, -1, -1) for it in shown[one >> at & 1, other >> at & 1]]
 
 
 def whole_page(room):
@@ -162,6 +302,7 @@ def salvage(room, commands):
     yield from salvage_damaged(room, commands)
     yield from salvage_strips(room, images)
     yield from salvage_odd(room)
+    yield from salvage_standard(room)
     for name in HOSTILE:
         room.others(name, 1)
         status, _, said = room.call("faxpages-salvage", name, f"{name}.d")
@@ -170,7 +311,11 @@ def salvage(room, commands):
     for name, data in (("no.tif", b"no fax"), ("none.tif", b""), ("cut.tif", room.get("fax.tif")[:100])):
         room.put(name, data)
         status, _, _ = room.call("faxpages-salvage", name, f"{name}.d")
-        yield f"{name}", (status, room.names(f"{name}.d"), len(room.get(f"{name}.d/lost.txt")) > 0), (1, ["lost.txt"], True)
+        yield f"{name}", (status, room.names(f"{name}.d"), len(room.get(f"{name}.d/lost.txt")) > 0), (
+            1,
+            ["lost.txt"],
+            True,
+        )
     yield "no file", room.call("faxpages-salvage", "no-such.tif", "d")[0], 3
     yield "the owner's modes", oct(os.stat(room("no.tif.d")).st_mode & 0o777), oct(0o777 & ~umask())
     yield "no folder is left", [name for name in room.names() if re.search(r"\.\w{6}$", name)], []
@@ -193,7 +338,9 @@ def salvage_damaged(room, commands):
     row = int(re.search(rb"row (\d+)", fault).group(1))
     lost = re.fullmatch(rb"page 3 rows %d to 10: (\w+)\n" % row, room.get("fax.salvaged/lost.txt"))
     yield "damaged: lost", lost is not None and fault.endswith(lost.group(1) + b"\n"), True
-    whole = [line for line in rows.splitlines() if line.split()[:2] in ([b"row", b"0"], [b"row", b"1"], [b"row", b"2"])]
+    whole = [
+        line for line in rows.splitlines() if line.split()[:2] in ([b"row", b"0"], [b"row", b"1"], [b"row", b"2"])
+    ]
     yield "damaged: rows", room.rows("fax.salvaged/pages.tif")[0].splitlines(), [*whole, b"end"]
     width, height, most, raster = grey(room.get("fax.salvaged/page-3.png"))
     yield "damaged: picture", (width, height), (32, 11)
@@ -243,8 +390,22 @@ def salvage_odd(room):
     pictures = [int(name[5:-4]) for name in room.names("odd") if name.endswith(".png")]
     yield "odd: all pages are there", len(copied) + len(pictures), 5
     for page in pictures:
-        yield f"odd: page {page} is told", f"page {page} is not in pages.tif" in room.get("odd/lost.txt").decode(), True
+        yield f"odd: page {page} is told", f"page {page} is not in pages.tif" in room.get(
+            "odd/lost.txt"
+        ).decode(), True
         yield f"odd: page {page} is whole", grey(room.get(f"odd/page-{page}.png"))[:2], size_of(room, "odd.tif", page)
+
+
+def salvage_standard(room):
+    """A damaged page of standard resolution: its picture has twice its rows."""
+    room.fax("standard.tif", "mmr", "marks", 5)
+    data = room.get("standard.tif").replace(struct.pack("<2I", 196, 1), struct.pack("<2I", 98, 1))
+    (fields,) = files.directories_of(data)
+    (place,), (size,) = fields[273], fields[279]
+    room.put("standard.tif", data[: place + size // 2] + bytes(size - size // 2) + data[place + size :])
+    yield "standard: status", room.call("faxpages-salvage", "standard.tif", "standard")[0], 1
+    width, height = size_of(room, "standard.tif", 0)
+    yield "standard: picture", grey(room.get("standard/page-0.png"))[:2], (width, 2 * height)
 
 
 def size_of(room, name, page):
@@ -254,9 +415,15 @@ def size_of(room, name, page):
 TESTS = {
     "Look at a page": (["pamsplit", "pnmtopng", "pngtopnm"], look),
     "Look at a page in a terminal": (["pampick", "pnmtopng", "chafa"], look_in_terminal),
-    "Look at a page of standard resolution": (["pamenlarge", "pnmtopng", "pngtopnm"], look_at_low),
+    "Look at a page of standard resolution": (
+        ["pamsplit", "pamenlarge", "pnmtopng", "pngtopnm", "pgmtopgm"],
+        look_at_low,
+    ),
     "Look at a fax in a browser": (["pnmtopng", "pngtopnm", "pgmtopgm"], browser),
-    "The same picture?": (["pnmtopng", "pngtopnm", "pgmtopbm", "tiffcp", "pnmtotiff"], compare),
+    "The same picture?": (
+        ["pnmtopng", "pngtopnm", "pgmtopbm", "pnmtoplainpnm", "pnmpad", "rgb3toppm", "tiffcp", "pnmtotiff"],
+        compare,
+    ),
     "A PDF of a fax": (["img2pdf", "tiff2pdf"], pdf),
     "Salvage a damaged fax": (["tiffcp", "tiff2pdf", "pnmtopng", "pngtopnm", "pgmtopgm", "pnmtotiff"], salvage),
 }

@@ -4,6 +4,7 @@ import email
 import email.policy
 import os
 import re
+import shlex
 import shutil
 import signal
 import time
@@ -13,6 +14,16 @@ from room import HOSTILE
 MAILER = """#!/bin/sh
 cat >"$HOME/mailed"
 echo "$*" >"$HOME/mailed-by"
+"""
+# cat, where the disk has no fax.
+BAD_DISK = """#!/bin/sh
+case $(readlink /proc/self/fd/0) in
+*.tif)
+    echo 'cat: -: Input/output error' >&2
+    exit 1
+    ;;
+esac
+exec /bin/cat "$@"
 """
 HYLAFAX = "/var/spool/hylafax"
 # What Debian's faxsetup finds out, as far as faxrcvd asks for it.
@@ -44,7 +55,9 @@ def sorted_faxes(room, commands):
         yield f"{name!r}", ran, (0, b"", "")
         got = [room.get(f"faxes/good/{it}") for it in (name, f"{name}.report")]
         yield f"{name!r}: is good", (got, os.path.exists(room(name))), ([data, wanted], False)
-    yield "modes", {oct(os.stat(f"{room('faxes/good')}/{it}").st_mode) for it in room.names("faxes/good")}, {"0o100640"}
+    yield "modes", {oct(os.stat(f"{room('faxes/good')}/{it}").st_mode) for it in room.names("faxes/good")}, {
+        "0o100640"
+    }
     room.cut("fax.tif")
     data, wanted = room.get("fax.tif"), room.report("fax.tif")
     yield "a fault", room.bash(commands), (1, b"", "")
@@ -62,8 +75,12 @@ def sorted_faxes(room, commands):
     room.tool("faxpages", "#!/bin/sh\necho 'fault: Memory' >&2\nexit 3\n")
     room.put("fax.tif", before["fax.tif"])
     status, _, said = room.bash(commands)
-    yield "memory", (status, said.endswith("stays: fault: Memory\n"), room.names()), (3, True, ["fax.tif", "faxes", "folder.tif"])
-    room.tool("faxpages", f"#!/bin/sh\nexec {room.program} \"$@\"\n")
+    yield "memory", (status, said.endswith("stays: fault: Memory\n"), room.names()), (
+        3,
+        True,
+        ["fax.tif", "faxes", "folder.tif"],
+    )
+    room.tool("faxpages", f'#!/bin/sh\nexec {room.program} "$@"\n')
     yield from received_at_once(room)
     yield from received_from_elsewhere(room)
     yield "nothing else is in the folders", room.names("faxes"), ["faulty", "good"]
@@ -119,19 +136,59 @@ def hylafax(room, commands):
         if kind == "faulty":
             room.sample("damaged-fourth-page.tif", name)
         data = room.get(name)
-        status = room.bash(f"cd spool && bash bin/faxrcvd recvq/{kind}.tif ttyS0 000000001 '' 12345 'A `caller`'")[0]
-        mails = [message(room.get(it)) for it in room.names() if it.startswith("mailed-") and it != "mailed-by"]
-        for it in [it for it in room.names() if it.startswith("mailed")]:
-            os.remove(room(it))
+        status, mails = received_by_hylafax(room, kind)
         texts = [text_of(mail).replace("\r", "") for mail in mails]
         report = room.report(name).decode()
         yield f"{kind}: status and mails", (status, sorted(mail["To"] for mail in mails)), (0, ["FaxMaster", "office"])
-        yield f"{kind}: the report is in each", [f"faxpages check:\n{report.rstrip()}" in it for it in texts], [True, True]
-        wrong = [mail["Subject"] for mail in mails if mail["To"] == "FaxMaster" and "with errors" in mail["Subject"]]
-        yield f"{kind}: told as an error", len(wrong), int(kind == "faulty")
+        yield f"{kind}: the report is in each", [f"faxpages check:\n{report.rstrip()}" in it for it in texts], [
+            True,
+            True,
+        ]
+        yield f"{kind}: told as an error", told_as_errors(mails), int(kind == "faulty")
         attached = [part.get_content_type() for mail in mails for part in mail.walk() if part.get_filename()]
         yield f"{kind}: the PDF is attached", attached, ["application/pdf"]
         yield f"{kind}: the fax stays", room.get(name), data
+    yield from not_checked_by_hylafax(room)
+
+
+def received_by_hylafax(room, kind):
+    """Lets faxrcvd handle a fax: its status, and the mails."""
+    status = room.bash(f"cd spool && bash bin/faxrcvd recvq/{kind}.tif ttyS0 000000001 '' 12345 'A `caller`'")[0]
+    mails = [message(room.get(it)) for it in room.names() if it.startswith("mailed-") and it != "mailed-by"]
+    for it in [it for it in room.names() if it.startswith("mailed")]:
+        os.remove(room(it))
+    return status, mails
+
+
+def told_as_errors(mails):
+    """How many mails tell the operator that a fax came with errors."""
+    return len([mail for mail in mails if mail["To"] == "FaxMaster" and "with errors" in mail["Subject"]])
+
+
+def not_checked_by_hylafax(room):
+    """A good fax that cannot be checked is none with an error, and the operator is told why."""
+    tools = {status: f"#!/bin/sh\necho 'because of {status}' >&2\nexit {status}\n" for status in (2, 3, 70, 126, 127)}
+    if not shutil.which("faxpages"):
+        tools |= {"no program": ""}
+    for status, text in tools.items():
+        room.tool("faxpages", text)
+        reason = f"because of {status}"
+        if not text:
+            os.remove(f"{room.path}/bin/faxpages")
+            reason = "faxpages: command not found"
+        ended, mails = received_by_hylafax(room, "good")
+        yield f"{status}: status and mails", (ended, sorted(mail["To"] for mail in mails)), (
+            0,
+            ["FaxMaster", "FaxMaster", "office"],
+        )
+        yield f"{status}: none is told as an error", (
+            told_as_errors(mails),
+            "Errors" in "".join(map(text_of, mails)),
+        ), (0, False)
+        told = [mail for mail in mails if mail["Subject"] == "faxpages cannot check recvq/good.tif"]
+        yield f"{status}: the operator is told", [reason in text_of(mail) for mail in told], [True]
+        yield f"{status}: each mail says so", ["not checked: " in text_of(mail) for mail in mails], [True] * 3
+    room.tool("faxpages", f'#!/bin/sh\nexec {room.program} "$@"\n')
 
 
 def tool_of(name):
@@ -224,7 +281,9 @@ def sweep(room, commands):
     good = len(HOSTILE) + 1
     summary = f"new: {good + 1} faxes, {good} good, 1 faulty, 0 not read; in all: {good + 1}"
     yield "the first", (status, said, lines[1:]), (1, "", [summary])
-    yield "the first: the fault", re.fullmatch(r"faulty: .*new\\n\\'fault\.tif'?: fault page 3 row \d+: \w+", lines[0]) is not None, True
+    yield "the first: the fault", re.fullmatch(
+        r"faulty: .*new\\n\\'fault\.tif'?: fault page 3 row \d+: \w+", lines[0]
+    ) is not None, True
     found = figures(room)
     wanted = {'faxpages_faxes{result="good"}': good, 'faxpages_faxes{result="faulty"}': 1,
               'faxpages_faxes{result="not_read"}': 0, 'faxpages_noted{note="N2"}': 1, "faxpages_swept": good + 1,
@@ -242,6 +301,8 @@ def sweep(room, commands):
     status, shown, _ = room.bash(commands)
     yield "one is new, one is gone", (status, shown.splitlines()[-1].endswith(b"in all: %d" % (good + 1))), (1, True)
     yield from swept_again(room, commands, good)
+    yield from swept_links(room, commands)
+    yield from swept_forbidden(room, commands)
     yield "nothing is left", (room.left(), room.names(".faxpages-sweep")), ([], ["lock", "seen"])
 
 
@@ -272,7 +333,98 @@ def swept_again(room, commands, good):
     room.call("rm", "-r", ".faxpages-sweep/seen")
     for _ in range(2):
         status, shown, _ = room.bash(commands)
-        yield "not read", (status, shown.splitlines()[-1]), (1, b"new: %d faxes, 0 good, 0 faulty, %d not read; in all: 0" % (good + 2, good + 2))
+        yield "not read", (status, shown.splitlines()[-1]), (
+            1,
+            b"new: %d faxes, 0 good, 0 faulty, %d not read; in all: 0" % (good + 2, good + 2),
+        )
+
+
+def swept_links(room, commands):
+    """A tree, a folder in it and faxes that are reached by symbolic links; links that lead round, or nowhere."""
+    room.tool("faxpages", f'#!/bin/sh\nexec {room.program} "$@"\n')
+    shutil.rmtree(room("faxes"))
+    shutil.rmtree(room(".faxpages-sweep"))
+    room.others("disk/2025/one.tif")
+    room.others("other/two.tif")
+    room.others("third.tif")
+    os.mkdir(room("disk/linked"))
+    for to, name in (("disk", "faxes"), ("../other", "disk/2026"), ("../../third.tif", "disk/linked/three.tif"),
+                     ("../2025/one.tif", "disk/linked/again.tif"), ("..", "disk/2025/round")):  # fmt: skip
+        os.symlink(to, room(name))
+    os.link(room("third.tif"), room("other/third.tif"))
+    for folder in ("disk", "other"):
+        old(room, folder)
+    yield "links", room.bash(commands), (0, b"new: 3 faxes, 3 good, 0 faulty, 0 not read; in all: 3\n", "")
+    yield "links: figures", figures(room)['faxpages_faxes{result="good"}'], 3
+    yield "links: nothing is new", room.bash(commands), (0, b"", "")
+    os.symlink("nowhere", room("disk/gone.tif"))
+    room.bash("touch -h -d '1 hour ago' disk/gone.tif")
+    there = f"{room('')}faxes"
+    shown = f"not read: {there}/gone.tif: No such file or directory\n"
+    shown += "new: 1 faxes, 0 good, 0 faulty, 1 not read; in all: 3\n"
+    yield "not read", room.bash(commands), (1, shown.encode(), "")
+    os.remove(room("disk/gone.tif"))
+    room.fax("disk/bad.tif", "mh", "marks")
+    old(room, "disk")
+    room.tool("faxpages", "#!/bin/sh\necho 'fault: Read' >&2\nexit 3\n")
+    room.tool("cat", BAD_DISK)
+    shown = room.bash(commands)[1].decode().splitlines()[0]
+    yield "a bad disk", shown, f"not read: {there}/bad.tif: fault: Read: Input/output error"
+    for name in ("bin/cat", "work/disk/bad.tif"):
+        os.remove(f"{room.path}/{name}")
+    room.tool("faxpages", f'#!/bin/sh\nexec {room.program} "$@"\n')
+
+
+def swept_forbidden(room, commands):
+    """A folder that may not be looked into, beside new faxes; root may look anywhere, and so becomes another user."""
+    root = os.geteuid() == 0
+    for name in ("disk/2025/new.tif", "disk/new.tif"):
+        room.fax(name, "mh", "marks")
+    os.mkdir(room("disk/closed"), 0)
+    shutil.rmtree(room(".faxpages-sweep"))
+    old(room, "disk")
+    if root:
+        os.chmod(room.path, 0o711)
+        room.bash("chown -R nobody .; chown root disk/closed")
+        commands = f"setpriv --reuid nobody --clear-groups bash -c {shlex.quote(commands)}"
+    status, shown, said = room.bash(commands)
+    lines = shown.decode().splitlines()
+    yield "a closed folder", (status, said, lines[0].endswith("closed': Permission denied")), (1, "", True)
+    yield "a closed folder: it is told", lines[1:], [
+        f"not all of {room('')}faxes can be looked into",
+        "new: 5 faxes, 5 good, 0 faulty, 1 not read; in all: 5",
+    ]
+    yield "a closed folder: figures", figures(room)['faxpages_faxes{result="not_read"}'], 1
+    yield "a closed folder: again", room.bash(commands)[:2], (1, b"\n".join(shown.splitlines()[:2]) + b"\n")
+
+
+def sweep_by_timer(room, commands):
+    """The units as systemd-analyze sees them, without systemd; and what the service calls."""
+    room.tool("systemctl", '#!/bin/sh\necho "$*" >>"$HOME/asked"\n')
+    yield "run", room.bash(commands), (0, b"", "")
+    wanted = b"--user daemon-reload\n--user enable --now faxpages-sweep.timer\n"
+    yield "systemctl", room.get("asked"), wanted
+    units = [f".config/systemd/user/faxpages-sweep.{kind}" for kind in ("service", "timer")]
+    for unit in units:
+        checked = room.call("systemd-analyze", "verify", "--user", "--man=no", room(unit), XDG_RUNTIME_DIR=room(""))
+        said = [line for line in checked[2].splitlines() if "faxpages" in line]
+        yield f"systemd-analyze: {unit}", (checked[0], said), (0, [])
+    when = room.bash(f'systemd-analyze calendar --iterations=3 "$(sed -n s/^OnCalendar=//p {units[1]})"')[1].decode()
+    minutes = [int(hour) * 60 + int(minute) for hour, minute in re.findall(r"(\d\d):(\d\d):00 ", when)]
+    yield "every ten minutes", {(b - a) % 1440 for a, b in zip(minutes, minutes[1:])}, {10}
+    room.sample("damaged-fourth-page.tif", "faxes/bad.tif")
+    old(room, "faxes")
+    service = room.get(units[0]).decode().replace("%h", room("").rstrip("/"))
+    (words,) = re.findall(r"^ExecStart=(.*)", service, re.M)
+    (path,) = re.findall(r"^Environment=PATH=(.*)", service, re.M)
+    os.makedirs(room(".local"))
+    os.symlink(f"{room.path}/bin", room(".local/bin"))
+    status, output, said = room.bash(f"PATH={path}; {words}")
+    yield "the service", (status, output.splitlines()[-1:], said), (
+        1,
+        [b"new: 1 faxes, 0 good, 1 faulty, 0 not read; in all: 1"],
+        "",
+    )
 
 
 def seen(room):
@@ -286,4 +438,5 @@ TESTS = {
     "Asterisk": ([], asterisk),
     "A mail gateway": (["tiff2pdf", "tiffcp", "pnmtopng", "base64"], mail_gateway),
     "Sweep an archive by cron": (["find", "flock"], sweep),
+    "Sweep an archive by a systemd timer": (["systemd-analyze", "flock"], sweep_by_timer),
 }

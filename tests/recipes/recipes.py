@@ -11,7 +11,9 @@ def recipes():
     """The commands of each recipe, by its heading: a recipe has one block of them."""
     with open(f"{ROOT}/docs/RECIPES.md") as document, open(f"{ROOT}/README.md") as readme:
         sections = re.split(r"^## ", document.read(), flags=re.MULTILINE)[1:]
-        sections += [it for it in re.split(r"^## ", readme.read(), flags=re.MULTILINE) if it.startswith("Everyday jobs\n")]
+        sections += [
+            it for it in re.split(r"^## ", readme.read(), flags=re.MULTILINE) if it.startswith("Everyday jobs\n")
+        ]
     found = {}
     for section in sections:
         heading, _, text = section.partition("\n")

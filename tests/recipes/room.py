@@ -15,6 +15,8 @@ HOSTILE = [os.fsdecode(name) for name in (
     b"a b  c.tif", b"it's \"one\".tif", b"new\nline.tif", b"-o.tif", b"$(touch owned)`touch owned`;.tif", b"*[a]?.tif",
     b"a,1.tif", b"a=b %s\\n<&>.tif", b"caf\xe9 \xff.tif",
 )]  # fmt: skip
+# A file that anyone may open, and whose first byte cannot be read: the memory of this process.
+UNREADABLE = f"/proc/{os.getpid()}/mem"
 
 
 class Room:
@@ -113,7 +115,13 @@ class Room:
             files.put(f"{self.path}/image.pbm", image)
             uncoded.append(f"{self.path}/{len(uncoded)}.tif")
             files.tool(["pnmtotiff", "-none", "-miniswhite", f"{self.path}/image.pbm"], uncoded[-1])
-        forms = [["g3:1d"], ["g4", "-B"], ["g3:2d", "-f", "lsb2msb", "-r", "2"], ["g3:1d:fill", "-B"], ["g4", "-r", "3"]]
+        forms = [
+            ["g3:1d"],
+            ["g4", "-B"],
+            ["g3:2d", "-f", "lsb2msb", "-r", "2"],
+            ["g3:1d:fill", "-B"],
+            ["g4", "-r", "3"],
+        ]
         said = files.tool(["tiffcp", "-c", *forms[number % len(forms)], *uncoded, f"{self.path}/out.tif"])
         assert said is None, said
         self.put(name, files.get(f"{self.path}/out.tif"))

@@ -3,7 +3,9 @@
 import os
 import shutil
 
-from room import HOSTILE
+import files
+import pages
+from room import HOSTILE, WIDTH
 
 
 def pdf_of(room, name, count=2):
@@ -34,6 +36,123 @@ def from_pdf(room, commands):
     room.put("letter.pdf", b"no PDF")
     yield "no PDF", (room.bash(commands)[0], room.get("fine.tif") == before), (1, True)
     yield "nothing is left", (room.left(), [name for name in room.names() if ".part" in name]), ([], [])
+
+
+def out_of_pdf(room, commands):
+    """The PDFs that img2pdf, tiff2pdf and Ghostscript make of a fax, and ones made here with each coding."""
+    room.put("source.tif", in_standard_resolution(room))
+    makers = {"img2pdf": "img2pdf --output fax.pdf source.tif", "tiff2pdf": "tiff2pdf -o fax.pdf source.tif"}
+    if shutil.which("gs"):
+        makers["gs"] = ("img2pdf --output other.pdf source.tif && gs -q -dNOPAUSE -dBATCH -sDEVICE=pdfwrite "
+                        "-dMonoImageFilter=/CCITTFaxEncode -o fax.pdf other.pdf")  # fmt: skip
+    wanted = [[line[3], "mmr", line[8], line[9]] for line in listed(room, "source.tif")]
+    for name, words in makers.items():
+        yield f"{name}: made", room.bash(words)[0], 0
+        yield f"{name}: run", room.bash(commands), (0, b"", "")
+        yield f"{name}: rows", room.rows("fax.tif"), room.rows("source.tif")
+        yield f"{name}: forms", [[line[3], line[4], line[8], line[9]] for line in listed(room, "fax.tif")], wanted
+        yield f"{name}: check", room.report("fax.tif"), room.report("source.tif").splitlines(True)[-1]
+    yield from out_of_each_coding(room, commands)
+    yield from not_out_of_pdf(room, commands)
+    for name in HOSTILE:
+        shutil.copy(room("kept.pdf"), room(f"{name}.pdf"))
+        yield f"{name!r}", room.call("faxpages-from-pdf", "--as-is", f"{name}.pdf", name), (0, b"", "")
+    yield "nothing is left", (room.left(), [name for name in room.names() if ".part" in name]), ([], [])
+
+
+def in_standard_resolution(room):
+    """A fax of four pages and more, whose second one is in standard resolution, and the third one in MR."""
+    images = [pages.image(WIDTH, rows * 30) for rows in pages.draw_document(4, "marks", WIDTH)]
+    images += [pages.image(WIDTH, rows * 30) for rows in pages.draw_document(5, "marks", WIDTH)] * 4
+    for number, coding in enumerate(["mmr", "mh", "mr"] + ["mmr"] * (len(images) - 3)):
+        room.put(f"{number}.tif", pages.converted(room.program, ["-o", coding], images[number % len(images)]))
+    room.bash("tiffset -s YResolution 98 1.tif && tiffcp [0-9].tif all.tif && rm [0-9].tif")
+    return room.get("all.tif")
+
+
+def pdf_with(data, rows, parameters):
+    """A PDF of one page with this data of T.4 or T.6."""
+    size = (WIDTH, rows)
+    shown = b"q %d 0 0 %d 0 0 cm /I Do Q" % size
+    objects = [b"<< /Type /Catalog /Pages 2 0 R >>", b"<< /Type /Pages /Kids [3 0 R] /Count 1 >>",
+               b"<< /Type /Page /Parent 2 0 R /MediaBox [0 0 %d %d] /Contents 5 0 R "
+               b"/Resources << /XObject << /I 4 0 R >> >> >>" % size,
+               b"<< /Type /XObject /Subtype /Image /Width %d /Height %d /BitsPerComponent 1 "
+               b"/ColorSpace /DeviceGray /Filter /CCITTFaxDecode /DecodeParms << %s /Columns %d >> /Length %d >>\n"
+               b"stream\n%s\nendstream" % (*size, parameters, WIDTH, len(data), data),
+               b"<< /Length %d >>\nstream\n%s\nendstream" % (len(shown), shown)]  # fmt: skip
+    made, places = b"%PDF-1.4\n", []
+    for number, text in enumerate(objects, 1):
+        places.append(len(made))
+        made += b"%d 0 obj\n%s\nendobj\n" % (number, text)
+    table = b"".join(b"%010d 00000 n \n" % place for place in places)
+    ends = b"trailer << /Size 6 /Root 1 0 R >>\nstartxref\n%d\n%%%%EOF\n" % len(made)
+    return made + b"xref\n0 6\n0000000000 65535 f \n" + table + ends
+
+
+def raw(room, coding):
+    """The data of a page, as they stand in a strip, and how many rows it has."""
+    image = pages.image(WIDTH, pages.draw_document(5, "marks", WIDTH)[0] * 30)
+    room.put("source.tif", pages.converted(room.program, ["-o", coding], image))
+    data = room.get("source.tif")
+    (fields,) = files.directories_of(data)
+    (strip,) = files.strips_of(data, fields)
+    return strip, fields[257][0]
+
+
+def out_of_each_coding(room, commands):
+    for coding, parameters in (("mh", b"/K 0 /EndOfLine true"), ("mr", b"/K 4 /EndOfLine true"), ("mmr", b"/K -1")):
+        strip, rows = raw(room, coding)
+        room.put("fax.pdf", pdf_with(strip, rows, parameters))
+        yield f"{coding}: run", room.bash(commands), (0, b"", "")
+        yield f"{coding}: rows", room.rows("fax.tif"), room.rows("source.tif")
+    shutil.copy(room("fax.pdf"), room("kept.pdf"))
+    room.put("fax.pdf", pdf_with(strip, rows, parameters + b" /BlackIs1 true"))
+    yield "black and white are exchanged: run", room.bash(commands), (0, b"", "")
+    shown = room.bash("pdfimages fax.pdf shown && cat shown-000.pbm")[1]
+    yield "black and white are exchanged", room.bash("faxpages convert -o pbm fax.tif")[1] == shown, True
+    damaged = bytearray(strip)
+    damaged[len(strip) // 2] ^= 0x55
+    room.put("fax.pdf", pdf_with(bytes(damaged), rows, parameters))
+    yield "damaged data: no fax with other rows", room.bash(commands)[0] == 0 and room.rows("fax.tif") == room.rows(
+        "source.tif"
+    ), False
+
+
+def not_out_of_pdf(room, commands):
+    """What is no PDF of a fax is refused, and the fax that is there stays."""
+    before = room.get("fax.tif")
+    pdf_of(room, "two.pdf", 2)
+    room.bash("pbmmake 16 16 | pamdepth 255 | ppmtopgm | pnmtopng >grey.png; img2pdf --output grey.pdf grey.png")
+    room.put("text.pdf", pdf_with(b"", 8, b"").replace(b"/I Do", b"     "))
+    room.put("no.pdf", b"no PDF")
+    for name in ("grey.pdf", "text.pdf", "no.pdf", "none.pdf"):
+        if name != "none.pdf":
+            shutil.copy(room(name), room("fax.pdf"))
+        else:
+            os.remove(room("fax.pdf"))
+        status, _, said = room.bash(commands)
+        yield f"{name}", (status, said != "", room.get("fax.tif") == before), (1, True, True)
+
+
+def raw_data(room, commands):
+    """Raw data with and without their end: neither a row too many nor too few."""
+    forms = {"mh": "-3", "mr": "-3 -2", "mmr": "-4"}
+    returns = {"mh": 6 * "000000000001", "mr": 6 * "0000000000011", "mmr": ""}  # RTC
+    for coding, words in forms.items():
+        strip, rows = raw(room, coding)
+        for name, data in (("without its end", strip), ("with its end", ended(strip, returns[coding]))):
+            room.put("page.g3", data)
+            given = commands.replace("-8 -3 ", f"-8 {words} ").replace("1143", str(rows))
+            yield f"{coding} {name}: run", room.bash(given)[0], 0
+            yield f"{coding} {name}: rows", room.rows("fax.tif"), room.rows("source.tif")
+            yield f"{coding} {name}: check", room.report("fax.tif"), b"pages 1 rows %d\n" % rows
+        yield f"{coding}: too few rows", room.bash(given.replace(str(rows), str(rows + 900)))[0], 1
+
+
+def ended(strip, bits):
+    """Data with these bits at their end."""
+    return strip + int(bits.ljust(-len(bits) % 8 + len(bits), "0") or "0", 2).to_bytes((len(bits) + 7) // 8, "big")
 
 
 def ready(room, commands):
@@ -77,6 +196,11 @@ def others(room, commands):
 
 TESTS = {
     "Send a PDF": (["pdftoppm", "img2pdf", "tiffset"], from_pdf),
+    "A fax out of a PDF": (
+        ["pdfimages", "pdfinfo", "pnminvert", "fax2tiff", "tiffset", "tiffcp", "tiff2pdf", "img2pdf", "pnmtopng"],
+        out_of_pdf,
+    ),
+    "Raw T.4 and T.6 data": (["fax2tiff", "tiffset"], raw_data),
     "Ready to be sent?": (["awk"], ready),
     "Tiles, BigTIFF and other compressions": (["tiffcp", "pnmtotiff"], others),
 }

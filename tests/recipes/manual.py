@@ -1,0 +1,73 @@
+"""The manual page of the scripts, faxpages-recipes(1): what it says of their arguments, and its examples."""
+
+import os
+import re
+
+import files
+from many import SBATCH
+from recipes import ROOT, SCRIPTS
+
+MANUAL = f"{ROOT}/share/faxpages-recipes.1"
+
+
+def synopsis(page):
+    """The lines of the synopsis as a usage has them."""
+    part = page.split(".Sh SYNOPSIS\n")[1].split(".Sh ")[0]
+    said = {}
+    for call in part.split(".Nm ")[1:]:
+        name, *lines = call.splitlines()
+        words = [re.sub(r"^\.Op (.*)", r"[\1]", line).removeprefix(".Ar ") for line in lines]
+        text = re.sub(r"\bFl -", "--", " ".join(words)).replace("Ar ", "")
+        if name != "sbatch":
+            said[name] = f"usage: {name} {text}\n"
+    return said
+
+
+SAMPLES = {
+    "one-mh-page": ["sent", "archive/good", "faxes/a"],
+    "row-begins-black": ["received"],
+    "damaged-fourth-page": ["fax", "archive/bad"],
+    "three-mmr-rows": ["big"],
+}
+
+
+def prepare(room):
+    """The files that the examples take."""
+    for sample, names in SAMPLES.items():
+        for name in names:
+            room.sample(f"{sample}.tif", f"{name}.tif")
+    room.bash("touch -d '1 hour ago' archive/*.tif")
+    room.bash('faxpages list big.tif | awk \'/^page/ { print "1:" $2 ":0", $4 }\' >parts.txt')
+    room.fax("source.tif", "mmr", "marks", 100)
+    room.bash("img2pdf --output letter.pdf source.tif; cp letter.pdf received.pdf")
+    room.tool("sbatch", SBATCH)
+    room.tool("sendmail", '#!/bin/sh\ncat >"$HOME/mailed"\n')
+
+
+def examples(page):
+    """The commands of each example, and what it prints."""
+    for block in re.findall(r"^\.Bd -literal.*?\n(.*?)^\.Ed", page, re.M | re.S):
+        for command in re.split(r"^\$ ", block, flags=re.M)[1:]:
+            words, _, printed = command.partition("\n")
+            yield words.replace("\\e", "\\"), printed
+
+
+def manual(room, _):
+    page = files.get(MANUAL).decode()
+    names = sorted(os.listdir(SCRIPTS))
+    heads = re.findall(r"^\.Ss (\S+)\n(.*?)(?=^\.S[sh] )", page, re.M | re.S)
+    yield "a section for each", [name for name, _ in heads], names
+    yield "names", re.findall(r"^\.Nm (\S+)", page.split(".Sh SYNOPSIS")[0], re.M), names
+    for name, text in heads:
+        yield f"{name}: statuses and an example", ("tatus" in text, ".Bd -literal" in text), (True, True)
+    said = synopsis(page)
+    yield "synopsis", sorted(said), [name for name in names if not name.endswith(".slurm")]
+    for name, usage in said.items():
+        yield f"{name}: usage", room.call(name), (2, b"", usage)
+    prepare(room)
+    for words, printed in examples(page):
+        ran = room.bash(f"{{ {words}\n}} 2>&1", SENDMAIL=f"{room.path}/bin/sendmail")
+        yield f"example: {words}", ran[1].decode().replace(room(""), "./"), printed
+    yield "the examples were found", len(list(examples(page))) >= len(names), True
+    linted = room.bash(f"command -v mandoc >/dev/null || exit 0; mandoc -T lint -W warning {MANUAL}")
+    yield "mandoc", [line for line in linted[1].decode().splitlines() if "referenced manual" not in line], []
