@@ -1,6 +1,7 @@
 pub mod TransferLemmas
 mod NumberLemmas
-mod EightLemmas
+mod RunTextLemmas
+mod RememberedLemmas
 mod BuildLemmas
 mod BeginLemmas
 mod EntryLemmas

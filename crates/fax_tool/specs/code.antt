@@ -8,3 +8,4 @@ pub mod Outcome
 pub mod Entries
 pub mod CommandLine
 pub mod Scan
+pub mod Remembered

@@ -1,6 +1,7 @@
 //! The text that is collected before it is written.
 ghost use Rattle.std.specs.Prelude.{◌≡◌, ◌+◌, ◌≤◌, ◌++◌, [], length, take, vec_len, OnOk, OnErr};
 
+use crate::text::remembered::Texts;
 use fax_bits::Memory;
 use std::alloc::Global;
 use std::marker::Model;
@@ -12,6 +13,8 @@ pub struct Collected {
     pub(crate) bytes: Vec<u8>,
     /// Where the text ends.
     pub(crate) end: usize,
+    /// Texts of numbers that were made.
+    pub(crate) texts: Texts,
 }
 
 impl Model for Collected {
@@ -61,6 +64,7 @@ impl Collected {
         Collected {
             bytes: Vec::new(alloc),
             end: 0,
+            texts: Texts::new(),
         }
     }
 

@@ -16,6 +16,7 @@ write_number-row_end-requires c =
       length_long c.args.place.page (omega arith),
       length_long c.args.place.row (omega arith),
       c.write_number-page_end.ensures.end,
+      c.write_number-page_end.ensures.same_len,
     )
 
 pub write_runs-end-requires : goal.write_runs-end-requires
@@ -26,7 +27,9 @@ write_runs-end-requires c =
       length_long c.args.place.page (omega arith),
       length_long c.args.place.row (omega arith),
       c.write_number-page_end.ensures.end,
+      c.write_number-page_end.ensures.same_len,
       c.write_number-row_end.ensures.end,
+      c.write_number-row_end.ensures.same_len,
     )
 
 pub bounds-bytes-end : goal.bounds-bytes-end
@@ -37,7 +40,9 @@ bounds-bytes-end c =
       length_long c.args.place.page (omega arith),
       length_long c.args.place.row (omega arith),
       c.write_number-page_end.ensures.end,
+      c.write_number-page_end.ensures.same_len,
       c.write_number-row_end.ensures.end,
+      c.write_number-row_end.ensures.same_len,
     )
 
 pub returns-clause-written : goal.returns-clause-written
@@ -54,7 +59,9 @@ returns-clause-written c =
       length_long c.args.place.page (omega arith),
       length_long c.args.place.row (omega arith),
       c.write_number-page_end.ensures.end,
+      c.write_number-page_end.ensures.same_len,
       c.write_number-row_end.ensures.end,
+      c.write_number-row_end.ensures.same_len,
     )))
 
 pub returns-clause-within : goal.returns-clause-within
@@ -65,5 +72,7 @@ returns-clause-within c =
       length_long c.args.place.page (omega arith),
       length_long c.args.place.row (omega arith),
       c.write_number-page_end.ensures.end,
+      c.write_number-page_end.ensures.same_len,
       c.write_number-row_end.ensures.end,
+      c.write_number-row_end.ensures.same_len,
     )

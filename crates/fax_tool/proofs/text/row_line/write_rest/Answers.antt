@@ -1,5 +1,5 @@
 use Rattle.std.proofs.Common.{length, ap, ◌∙◌, take, arith}
-use Rattle.fax_tool.proofs.EightLemmas.{next_run}
+use Rattle.fax_tool.proofs.RunTextLemmas.{next_run}
 use Rattle.fax_tool.proofs.NumberLemmas.{length_short}
 use Rattle.fax_tool.proofs.text.row_line.write_rest.Goals as goal
 

@@ -1,0 +1,67 @@
+-- Texts of numbers that are remembered.
+use Rattle.std.proofs.Common.{◌≡◌, ℕ, zero, suc, ◌+◌, ◌*◌, ◌<◌, ◌≤◌, ◌⊎◌, List, [], ◌∷◌, ◌++◌, length, set, take, replicate, inl, inr, refl, ap, sym, ◌∙◌}
+use Rattle.std.proofs.Common.{Some, arith}
+use Rattle.std.specs.Prelude.{slice_get, slice_set}
+use Rattle.std.proofs.lemmas.List.{take-take, length-take-le}
+use Rattle.std.proofs.lemmas.Slice.{take-put_mid}
+use borrow.Rule.Slice.PartMut.{put_mid}
+use Rattle.fax_tool.specs.Text.{and_number}
+use Rattle.fax_tool.specs.code.Remembered.{AreNumbers, ArePairs, IsMadeAt, IsText}
+use Rattle.fax_tool.specs.declared.text.remembered.ShortText.{ShortText}
+
+-- what stands at a place of a list in which something was put: that, or what stood there
+put_at : {A : Type 0} (all : List A) (place i : ℕ) (new found : A) → slice_get (set all place new) i ≡ Some found
+    → ((i ≡ place) × (found ≡ new)) ⊎ (slice_get all i ≡ Some found)
+put_at [] place i new found is = inr is
+put_at (first ∷ all) zero zero new found is = inl (refl, cc)
+put_at (first ∷ all) zero (suc i) new found is = inr is
+put_at (first ∷ all) (suc place) zero new found is = inr is
+put_at (first ∷ all) (suc place) (suc i) new found is = elim (put_at all place i new found is) [
+  | inl (same, found_is) ↦ inl (ap suc same, found_is)
+  | inr there ↦ inr there
+]
+
+-- a text is made of a number
+pub numbers_put : (texts : List ShortText) (number : ℕ) (new : ShortText) → AreNumbers texts → IsText (and_number number) new
+    → AreNumbers (slice_set texts number new)
+numbers_put texts number new are is = λ n kept made.
+    elim (put_at texts number n new kept made.0) [
+      | inl (same, kept_is) ↦ rw (same, kept_is) is
+      | inr there ↦ are n kept (there, made.1)
+    ]
+
+-- a text is made of two numbers
+pub pairs_put : (texts : List ShortText) (first second : ℕ) (new : ShortText) → second < 64 → ArePairs texts
+    → IsText (and_number first ++ and_number second) new → ArePairs (slice_set texts (64 * first + second) new)
+pairs_put texts first second new small are is = λ f s kept low made.
+    elim (put_at texts (64 * first + second) (64 * f + s) new kept made.0) [
+      | inl (same, kept_is) ↦
+          let firsts : f ≡ first = omega (arith, same, small, low) in
+          let seconds : s ≡ second = omega (arith, same, small, low) in
+          rw (firsts, seconds, kept_is) is
+      | inr there ↦ are f s kept low (there, made.1)
+    ]
+
+-- none is made of texts that are not
+pub none_made : (count place : ℕ) (empty kept : ShortText) → empty.len ≡ 0 → IsMadeAt (replicate count empty) place kept → ⊥
+none_made zero place empty kept none made = cc (made.0)
+none_made (suc count) zero empty kept none made =
+    let same : empty ≡ kept = cc (made.0) in omega (arith, made.1, ap (λ (t : ShortText). t.len) same, none)
+none_made (suc count) (suc place) empty kept none made = none_made count place empty kept none made
+
+-- the first part of two lists, past the first list
+take_past : (xs ys : List ℕ) (m : ℕ) → take (length xs + m) (xs ++ ys) ≡ xs ++ take m ys
+take_past [] ys m = let same : 0 + m ≡ m = omega arith in ap (λ k. take k ys) same
+take_past (x ∷ xs) ys m =
+    let next : suc (length xs) + m ≡ suc (length xs + m) = omega arith in
+    ap (λ k. take k (x ∷ (xs ++ ys))) next ∙ ap (λ more. x ∷ more) (take_past xs ys m)
+
+-- eight bytes are written, and the text is the first of them
+pub short_put : (bytes more : List ℕ) (at k len : ℕ) → length more ≡ 8 → len ≤ 8 → at + 8 ≤ length bytes
+    → take (at + len) (put_mid at k bytes more) ≡ take at bytes ++ take len more
+short_put bytes more at k len eight few room =
+    let before : length (take at bytes) ≡ at = length-take-le at bytes (omega (arith, room)) in
+    sym (take-take (at + len) (at + 8) (put_mid at k bytes more) (omega (arith, few)))
+    ∙ ap (take (at + len)) (take-put_mid at k bytes more (at + 8) (omega (arith, eight)) (omega (arith, room)))
+    ∙ ap (λ n. take (n + len) (take at bytes ++ more)) (sym before)
+    ∙ take_past (take at bytes) more len
