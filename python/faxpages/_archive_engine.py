@@ -29,12 +29,15 @@ class _Kept(threading.local):
 
 
 _kept = _Kept()
+# All workers of this process.
+_workers: List[Worker] = []
 
 
 def run_batch(job: Job, timeout: Optional[float], batch: List[Waiting]) -> List[Found]:
     """The rows of some faxes, by the worker of this thread."""
     if _kept.worker is None or _kept.told != (job, timeout):
         _kept.told, _kept.worker = (job, timeout), Worker(job, timeout)
+        _workers.append(_kept.worker)
     return _kept.worker.run(batch)
 
 
@@ -63,6 +66,9 @@ def by_processes(job: Job, timeout: Optional[float], batches: Batches, count: in
     pool = concurrent.futures.ThreadPoolExecutor(count)
     try:
         yield from _rows(lambda batch: pool.submit(run_batch, job, timeout, batch), wait, batches, 2 * count)
+        # What they took of the processor counts as that of this process once they have ended.
+        for worker in _workers:
+            worker.close()
     finally:
         pool.shutdown(wait=False)
 

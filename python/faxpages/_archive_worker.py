@@ -46,6 +46,13 @@ class Worker:
                     tried = 0
         return found
 
+    def close(self) -> None:
+        """Ends the process, which has nothing to do."""
+        if self._process is not None and self._pipe is not None:
+            self._pipe.close()
+            self._process.wait(_END)
+        self._process = self._pipe = None
+
     def _some(self, batch: List[Waiting]) -> List[Found]:
         """The rows of these faxes up to the one whose worker died or was too slow."""
         pipe, got = self._started(), []
