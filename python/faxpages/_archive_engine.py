@@ -2,9 +2,9 @@
 
 from __future__ import annotations
 
-import concurrent.futures
 import importlib
 import threading
+from concurrent.futures import FIRST_COMPLETED, Executor, Future, ThreadPoolExecutor, wait
 from typing import Any, Callable, Iterator, List, Optional, Set, Tuple
 
 from ._archive_fax import Found, Job, Waiting
@@ -41,31 +41,26 @@ def run_batch(job: Job, timeout: Optional[float], batch: List[Waiting]) -> List[
     return _kept.worker.run(batch)
 
 
-def _rows(submit: Callable[[List[Waiting]], Any], wait: Callable[[Set[Any]], Tuple[Set[Any], Set[Any]]],
-          batches: Batches, most: int) -> Iterator[List[Found]]:
+def _rows(run: Callable[[List[Waiting]], Future[List[Found]]], batches: Batches, most: int) -> Iterator[List[Found]]:
     """The rows of all batches as they come, and none each time that nothing came within a turn. Never more than so many
     batches are with the engine."""
-    pending: Set[Any] = set()
+    pending: Set[Future[List[Found]]] = set()
     ended = False
     while pending or not ended:
         batch = None if ended or len(pending) >= most else next(batches, None)
         if batch is not None:
-            pending.add(submit(batch))
+            pending.add(run(batch))
             continue
         ended = ended or len(pending) < most
-        done, pending = wait(pending) if pending else (set(), pending)
+        done, pending = wait(pending, _TURN, FIRST_COMPLETED)
         yield [row for one in done for row in one.result()]
 
 
 def by_processes(job: Job, timeout: Optional[float], batches: Batches, count: int) -> Iterator[List[Found]]:
     """The rows by so many workers of this machine, each led by a thread."""
-    def wait(pending: Set[Any]) -> Tuple[Set[Any], Set[Any]]:
-        done, left = concurrent.futures.wait(pending, _TURN, concurrent.futures.FIRST_COMPLETED)
-        return set(done), set(left)
-
-    pool = concurrent.futures.ThreadPoolExecutor(count)
+    pool = ThreadPoolExecutor(count)
     try:
-        yield from _rows(lambda batch: pool.submit(run_batch, job, timeout, batch), wait, batches, 2 * count)
+        yield from _rows(lambda batch: pool.submit(run_batch, job, timeout, batch), batches, 2 * count)
         # What they took of the processor counts as that of this process once they have ended.
         for worker in _workers:
             worker.close()
@@ -80,19 +75,10 @@ def by_dask(job: Job, timeout: Optional[float], batches: Batches, address: Optio
         distributed: Any = importlib.import_module("distributed")
     except ImportError:
         raise NoEngine("Dask is not installed: Debian has it as python3-distributed") from None
-
-    def wait(pending: Set[Any]) -> Tuple[Set[Any], Set[Any]]:
-        try:
-            done, left = distributed.wait(pending, _TURN, "FIRST_COMPLETED")
-        except (TimeoutError, asyncio_timeout):
-            return set(), pending
-        return set(done), set(left)
-
-    asyncio_timeout = importlib.import_module("asyncio").TimeoutError
     with _client(distributed, address, count) as client:
-        threads = max(1, sum(client.nthreads().values()))
-        yield from _rows(lambda batch: client.submit(run_batch, job, timeout, batch, pure=False), wait, batches,
-                         4 * threads)
+        pool: Executor = client.get_executor(pure=False)
+        threads = sum(client.nthreads().values())
+        yield from _rows(lambda batch: pool.submit(run_batch, job, timeout, batch), batches, 4 * max(1, threads))
 
 
 def _client(distributed: Any, address: Optional[str], count: Optional[int]) -> Any:

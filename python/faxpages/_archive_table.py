@@ -190,8 +190,8 @@ class Table:
 
     def merge(self, part: "Table") -> None:
         """Takes over the rows of a part, but where a later look at a fax is here."""
-        found = part._base.execute(
-            f"SELECT {', '.join('faxes.' + name for name in COLUMNS)}, since, checked FROM faxes JOIN times USING (path)")
+        columns = ", ".join(f"faxes.{name}" for name in COLUMNS)
+        found = part._base.execute(f"SELECT {columns}, since, checked FROM faxes JOIN times USING (path)")
         for path, *rest, since, checked in found:
             mine = self._base.execute("SELECT checked FROM times WHERE path = ?", (path,)).fetchone()
             if mine is None or mine[0] < checked:

@@ -1,4 +1,5 @@
-"""Processes that do the faxes of an archive. One that dies, or takes too long, is a row of its fax, and another goes on.
+"""Processes that do the faxes of an archive. Where one dies, or takes too long, its fax has a row that says so, and
+another goes on.
 
 A worker ends by itself when the process that started it has ended, however that ended."""
 

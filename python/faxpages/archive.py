@@ -135,8 +135,8 @@ class _Run:
     def _sum_up(self) -> None:
         seconds = time.monotonic() - self._began
         counts = self._counts
-        print(f"faxes {sum(counts.values())}: {counts[GOOD]} good, {counts[FAULTY]} faulty, {counts[NOT_READ]} not read; "
-              f"{self._due} done now, {self._kept} before, {self._gone} gone; "
+        print(f"faxes {sum(counts.values())}: {counts[GOOD]} good, {counts[FAULTY]} faulty, "
+              f"{counts[NOT_READ]} not read; {self._due} done now, {self._kept} before, {self._gone} gone; "
               f"{seconds:.1f} s, {self._due / max(seconds, 1e-9):.0f} faxes a second")
 
     def _status(self) -> int:

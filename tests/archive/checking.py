@@ -58,7 +58,7 @@ def resumed(room, *_):
     with open(paths[21], "wb") as file:
         file.write(b"II*\0")
     room.run(*words)
-    query = "SELECT fault, since > checked - 1 FROM faxes JOIN times USING (path) WHERE fault = 'ShortHeader' AND size = 4"
+    query = "SELECT fault, since > checked - 1 FROM faxes JOIN times USING (path) WHERE size = 4"
     room.claim("which are faulty now, since when", ask(room, "resumed.sqlite", query), [("ShortHeader", 1)])
 
 
@@ -163,8 +163,8 @@ def progress(room, paths, _):
         return
     ours, its = pty.openpty()
     environment = dict(os.environ, PYTHONPATH=os.path.join(os.path.dirname(os.path.dirname(made.HERE)), "python"))
-    with subprocess.Popen([room.dask, "-m", "faxpages.archive", "check", "resumed", "--table", "bar.sqlite"], stderr=its,
-                          stdout=subprocess.DEVNULL, cwd=room.folder, env=environment) as process:
+    words = [room.dask, "-m", "faxpages.archive", "check", "resumed", "--table", "bar.sqlite"]
+    with subprocess.Popen(words, stderr=its, stdout=subprocess.DEVNULL, cwd=room.folder, env=environment) as process:
         process.wait(60)
     os.close(its)
     said = os.read(ours, 65536).decode(errors="replace")

@@ -65,7 +65,8 @@ def lied(room, *_):
     other = room("other.tif")
     with open(other, "wb") as file:
         file.write(before)
-    status, _, _ = room.run("convert", "lied", "lies", "--to", "mmr", "--table", "lied.sqlite", broken="lies", OTHER=other)
+    words = ["convert", "lied", "lies", "--to", "mmr", "--table", "lied.sqlite"]
+    status, _, _ = room.run(*words, broken="lies", OTHER=other)
     row = room.rows("lied.sqlite")[paths[2]]
     room.claim("a copy with other rows", (status, row["status"], row["fault"]), (3, "3", "RowsDiffer"))
     name = os.path.relpath(paths[2], os.fsencode(room("lied")))

@@ -9,7 +9,8 @@ sys.path.insert(0, os.path.join(HERE, "..", "convert"))
 
 import pages  # noqa: E402
 
-HOSTILE = [b"caf\xe9.tif", b"a\nline.tif", b"a 'quote\", and more.TIFF", b"-o.tif", b"\xff\xfe.Tif", "päge.tif".encode()]
+HOSTILE = [b"caf\xe9.tif", b"a\nline.tif", b"a 'quote\", and more.TIFF", b"-o.tif", b"\xff\xfe.Tif",
+           "päge.tif".encode()]
 
 
 def originals(faxpages, count):

@@ -74,8 +74,9 @@ class Room:
 
 def count(table):
     """How many rows a table has, where there is one."""
-    with contextlib.suppress(sqlite3.Error), contextlib.closing(sqlite3.connect(f"file:{table}?mode=ro", uri=True)) as base:
-        return base.execute("SELECT count(*) FROM faxes").fetchone()[0]
+    with contextlib.suppress(sqlite3.Error):
+        with contextlib.closing(sqlite3.connect(f"file:{table}?mode=ro", uri=True)) as base:
+            return base.execute("SELECT count(*) FROM faxes").fetchone()[0]
     return 0
 
 
