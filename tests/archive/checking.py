@@ -4,6 +4,7 @@ import contextlib
 import json
 import os
 import pty
+import re
 import shutil
 import sqlite3
 import subprocess
@@ -154,6 +155,24 @@ def wrong(room, *_):
     room.claim("one run at a time", (status, "another run" in error), (3, True))
 
 
+def documented(room, *_):
+    """faxpages-archive(1) has the options and columns of the command, and no other option."""
+    with open(os.path.join(made.HERE, "..", "..", "share", "faxpages-archive.1"), encoding="utf-8") as file:
+        manual = file.read()
+    commands = ([], ["check"], ["convert"], ["table"], ["merge"])
+    said = "".join(room.run(*command, "--help")[1].decode() for command in commands)
+    options = set(re.findall(r"--[a-z]+", said)) - {"--help"}
+    found = {f"-{it}" for it in re.findall(r"(?:Fl |\| )(-[a-z]+)", manual)}
+    room.claim("the manual page has the options", found, options)
+    for name in ("check", "convert", "table", "merge"):
+        room.claim(f"the manual page and the help have {name}", f".Cm {name}\n" in manual and f"  {name} " in said)
+    listed = " ".join(re.findall(r"^\.It (.*)$", manual, re.M)).replace(" ,", "").split()
+    with contextlib.closing(sqlite3.connect(room("one.sqlite"))) as base:
+        columns = [row[1] for row in base.execute("PRAGMA table_info(faxes)")]
+    for column in columns:
+        room.claim(f"the manual page has the column {column}", column in listed)
+
+
 def progress(room, paths, _):
     """A line now and then, or a bar on a terminal."""
     error = room.run("check", "tree", "--table", "said.sqlite", "--processes", "4", broken="slow minutes")[2]
@@ -172,4 +191,4 @@ def progress(room, paths, _):
     room.claim("a bar with the rate", f"{FEW}/{FEW}" in said and " faxes/s" in said)
 
 
-PARTS = [resumed, names, broken, wrong, progress]
+PARTS = [resumed, names, broken, wrong, documented, progress]

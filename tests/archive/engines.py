@@ -1,6 +1,7 @@
 """The same table by each engine, and killed in the middle."""
 
 import contextlib
+import fractions
 import os
 import re
 import signal
@@ -37,7 +38,8 @@ def by_table(row):
     """What a row says, as the program's check and list do."""
     fault = f"{row['fault_page']} {row['fault_row']} {row['fault']}" if row["fault"] else None
     notes = set(row["notes"].split())
-    return row["status"], row["pages"], row["rows"], fault, notes, row["width"], set(row["codings"].split())
+    form = row["width"], *(round(float(row[name]), 6) if row[name] else None for name in "xy")
+    return row["status"], row["pages"], row["rows"], fault, notes, form, set(row["codings"].split())
 
 
 def by_program(room, path):
@@ -49,9 +51,13 @@ def by_program(room, path):
         said += [ran.returncode, ran.stdout.decode(), ran.stderr.decode()]
     pages, rows = re.search(r"^pages (\d+) rows (\d+)", said[1], re.M).groups()
     fault = re.match(r"fault page (\d+) row (\d+): (\w+)", said[2])
-    listed = re.findall(r"^page \d+ (\d+) \d+ (\w+)", said[4], re.M)
+    listed = re.findall(r"^page \d+ (\d+) \d+ (\w+) .* (\d+/\d+) (\d+/\d+) (\d)$", said[4], re.M)
+    form = ("", None, None)
+    if listed:
+        inch = 2.54 if listed[0][4] == "3" else 1
+        form = listed[0][0], *(round(float(fractions.Fraction(text)) * inch, 6) for text in listed[0][2:4])
     return (str(said[0]), pages, rows, " ".join(fault.groups()) if fault else None,
-            set(re.findall(r"N\d (\w+)$", said[1], re.M)), listed[0][0] if listed else "", {it for _, it in listed})
+            set(re.findall(r"N\d (\w+)$", said[1], re.M)), form, {it[1] for it in listed})
 
 
 def same(room, name, table, reference, *words, **more):

@@ -1,7 +1,9 @@
 """Makes a tree of faxes for the tests of archives, some with names that are no UTF-8, a tenth of them damaged."""
 
+import glob
 import os
 import random
+import struct
 import sys
 
 HERE = os.path.dirname(os.path.abspath(__file__))
@@ -33,17 +35,31 @@ def damaged(rng, fax):
     return fax[:at] + bytes([fax[at] ^ 1 << rng.randrange(8)]) + fax[at + 1:]
 
 
-def make(faxpages, tree, count, of=300):
-    """Writes so many faxes into folders below the tree, and what is none. The paths of the faxes."""
+def centimetres(fax):
+    """A fax of little-endian bytes, whose resolution is to the centimetre."""
+    unit = struct.pack("<HHIH", 296, 3, 1, 2)
+    assert unit in fax
+    return fax.replace(unit, struct.pack("<HHIH", 296, 3, 1, 3))
+
+
+def inputs():
+    """The files that the runs of the program are tried with."""
+    for name in sorted(glob.glob(os.path.join(HERE, "..", "runs", "inputs", "*.tif"))):
+        with open(name, "rb") as file:
+            yield file.read()
+
+
+def make(faxpages, tree, count, of=300, first=()):
+    """Writes so many faxes into folders below the tree, first these, and what is none. The paths of the faxes."""
     tree, paths = os.fsencode(tree), []
-    kinds = list(originals(faxpages, of))
+    kinds = [*first, *originals(faxpages, of)]
     for number in range(count):
         folder = os.path.join(tree, b"%d" % (number % 7), b"sub" * (number % 3) or b".")
         name = HOSTILE[number] if number < len(HOSTILE) else b"%d.tif" % number
         paths.append(os.path.normpath(os.path.join(folder, name)))
         os.makedirs(folder, exist_ok=True)
         with open(paths[-1], "wb") as file:
-            file.write(kinds[number % of])
+            file.write(kinds[number % len(kinds)])
     os.symlink(paths[0], os.path.join(tree, b"link.tif"))
     os.makedirs(os.path.join(tree, b"folder.tif"))
     with open(os.path.join(tree, b"other.txt"), "wb") as file:

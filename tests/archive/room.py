@@ -37,7 +37,7 @@ class Room:
         told.update(FAXPAGES_LIBRARY=self.library, PYTHONPATH=os.pathsep.join([*path, os.path.join(TOP, "python")]),
                     BROKEN=broken, PYTHONDONTWRITEBYTECODE="1", LC_ALL="C", **more)
         return subprocess.Popen([python, "-m", "faxpages.archive", *words], env=told, stdin=subprocess.DEVNULL,
-                                stdout=subprocess.PIPE, stderr=subprocess.PIPE, cwd=self.folder)
+                                stdout=subprocess.PIPE, stderr=subprocess.PIPE, cwd=self.folder, start_new_session=True)
 
     def run(self, *words, **more):
         """The status, the output and the error stream of the command."""
@@ -61,13 +61,17 @@ class Room:
         return found
 
     def interrupt(self, number, table, *words, **more):
-        """Starts the command, and ends it by a signal when more rows are in the table. How many are, and its status."""
+        """Starts the command, and ends it by a signal when more rows are in the table. How many are, and its status. A
+        signal that asks for the end comes to its workers too, as from a terminal or from Slurm."""
         before = count(self(table))
         process = self.start(*words, **more)
         until = time.monotonic() + PATIENCE
         while count(self(table)) <= before and process.poll() is None and time.monotonic() < until:
             time.sleep(0.02)
-        process.send_signal(number)
+        if number == signal.SIGKILL:
+            process.kill()
+        else:
+            os.killpg(process.pid, number)
         process.communicate(timeout=PATIENCE)
         return count(self(table)), process.returncode
 
