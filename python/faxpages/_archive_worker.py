@@ -10,12 +10,12 @@ import signal
 import subprocess
 import sys
 from multiprocessing.connection import Connection, Pipe
-from typing import List, Optional
+from typing import List, Optional, Tuple
 
 from ._archive_fax import Found, Job, Waiting, not_read
 
 # The seconds in which a worker has to start, and in which one that is killed has to end.
-_START, _END = 120.0, 5.0
+_START, _END = 120.0, 2.0
 
 
 class NoWorker(Exception):
@@ -64,7 +64,7 @@ class Worker:
                     break
                 got.append(pipe.recv())
         except (EOFError, OSError):
-            pass
+            signal.setitimer(signal.ITIMER_REAL, limit)
         return got
 
     def _started(self) -> Connection:
@@ -80,11 +80,11 @@ class Worker:
                 env=dict(os.environ, PYTHONPATH=path), pass_fds=[its.fileno()])
         self._pipe = pipe
         try:
-            pipe.send(self._job)
+            pipe.send((self._job, 0.0 if self._timeout is None else self._timeout + _END))
             if pipe.poll(_START) and pipe.recv():
                 return pipe
         except (EOFError, OSError):
-            pass
+            signal.setitimer(signal.ITIMER_REAL, limit)
         self._end()
         raise NoWorker("a worker cannot be started")
 
@@ -100,7 +100,7 @@ class Worker:
         try:
             process.wait(_END)
         except subprocess.TimeoutExpired:  # it waits for a disk that does not answer
-            pass
+            signal.setitimer(signal.ITIMER_REAL, limit)
         return late
 
 
@@ -112,18 +112,27 @@ def _closed(pipe: Connection) -> bool:
         return True
 
 
+def _serve(pipe: Connection) -> None:
+    """Takes the job, and then faxes, until nobody asks any more. A fax that takes much too long ends the process, also
+    where nobody waits for it any more."""
+    told: Tuple[Job, float] = pipe.recv()
+    job, limit = told
+    pipe.send(True)
+    while True:
+        for fax in pipe.recv():
+            signal.setitimer(signal.ITIMER_REAL, limit)
+            pipe.send(job.do(fax))
+        signal.setitimer(signal.ITIMER_REAL, 0)
+
+
 def main() -> None:
-    """A worker: takes the job, and then faxes, until nobody asks any more."""
+    """A worker."""
     # A terminal and Slurm send these to all processes: the one that started this one says what comes of them.
     for number in (signal.SIGINT, signal.SIGTERM):
         signal.signal(number, signal.SIG_IGN)
     pipe = Connection(int(sys.argv[1]))
     try:
-        job: Job = pipe.recv()
-        pipe.send(True)
-        while True:
-            for fax in pipe.recv():
-                pipe.send(job.do(fax))
+        _serve(pipe)
     except (EOFError, BrokenPipeError, ConnectionResetError):
         pass
 

@@ -11,6 +11,7 @@ import subprocess
 import sys
 import time
 
+import engines
 import made
 
 FEW = 40
@@ -123,6 +124,20 @@ def broken(room, *_):
         room.claim("a fax that cannot be opened", room.rows("closed.sqlite")[paths[20]]["fault"], "Open")
 
 
+def orphaned(room, *_):
+    """A worker that hangs ends by itself where the run was killed."""
+    paths = few(room, "orphaned")
+    add(paths[0], b"hangs")
+    process = room.start("check", "orphaned", "--table", "orphaned.sqlite", "--timeout", "0.5", broken="hangs")
+    until = time.monotonic() + 10
+    while len(engines.there_in(room.folder)) < 2 and time.monotonic() < until:
+        time.sleep(0.02)
+    time.sleep(0.2)
+    process.kill()
+    process.wait()
+    room.claim("no worker is left that hangs", engines.left_in(room.folder), [])
+
+
 def wrong(room, *_):
     """Words that are refused, and tables that are none."""
     few(room, "wrong")
@@ -191,4 +206,4 @@ def progress(room, paths, _):
     room.claim("a bar with the rate", f"{FEW}/{FEW}" in said and " faxes/s" in said)
 
 
-PARTS = [resumed, names, broken, wrong, documented, progress]
+PARTS = [resumed, names, broken, orphaned, wrong, documented, progress]

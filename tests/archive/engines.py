@@ -150,18 +150,22 @@ def interrupted(room, paths, reference):
     room.claim("no worker is left", left_in(room.folder), [])
 
 
+def there_in(folder):
+    """The processes that run in a folder."""
+    found = []
+    for process in filter(str.isdecimal, os.listdir("/proc")):
+        with contextlib.suppress(OSError):
+            if os.readlink(f"/proc/{process}/cwd") == folder:
+                found.append(process)
+    return found
+
+
 def left_in(folder):
     """The processes that run in a folder, of which some need a moment to end."""
     until = time.monotonic() + 5
-    while True:
-        found = []
-        for process in filter(str.isdecimal, os.listdir("/proc")):
-            with contextlib.suppress(OSError):
-                if os.readlink(f"/proc/{process}/cwd") == folder:
-                    found.append(process)
-        if not found or time.monotonic() > until:
-            return found
+    while there_in(folder) and time.monotonic() < until:
         time.sleep(0.1)
+    return there_in(folder)
 
 
 PARTS = [processes, array, dask, interrupted]

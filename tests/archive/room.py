@@ -35,7 +35,7 @@ class Room:
         path = [os.path.join(TOP, "tests", "archive", "broken")] if broken else []
         told = {name: value for name, value in os.environ.items() if not name.startswith("SLURM_")}
         told.update(FAXPAGES_LIBRARY=self.library, PYTHONPATH=os.pathsep.join([*path, os.path.join(TOP, "python")]),
-                    BROKEN=broken, PYTHONDONTWRITEBYTECODE="1", LC_ALL="C", **more)
+                    BROKEN=broken, PYTHONDONTWRITEBYTECODE="1", LC_ALL="C", TMPDIR=self.folder, **more)
         return subprocess.Popen([python, "-m", "faxpages.archive", *words], env=told, stdin=subprocess.DEVNULL,
                                 stdout=subprocess.PIPE, stderr=subprocess.PIPE, cwd=self.folder, start_new_session=True)
 
