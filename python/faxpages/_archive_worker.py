@@ -64,7 +64,7 @@ class Worker:
                     break
                 got.append(pipe.recv())
         except (EOFError, OSError):
-            signal.setitimer(signal.ITIMER_REAL, limit)
+            pass
         return got
 
     def _started(self) -> Connection:
@@ -84,7 +84,7 @@ class Worker:
             if pipe.poll(_START) and pipe.recv():
                 return pipe
         except (EOFError, OSError):
-            signal.setitimer(signal.ITIMER_REAL, limit)
+            pass
         self._end()
         raise NoWorker("a worker cannot be started")
 
@@ -100,7 +100,7 @@ class Worker:
         try:
             process.wait(_END)
         except subprocess.TimeoutExpired:  # it waits for a disk that does not answer
-            signal.setitimer(signal.ITIMER_REAL, limit)
+            pass
         return late
 
 
