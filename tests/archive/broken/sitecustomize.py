@@ -1,0 +1,40 @@
+"""Has the workers of an archive break: each fax whose last bytes ask for it, by what BROKEN says. For tests alone."""
+
+import os
+import signal
+import time
+
+import faxpages
+
+WAYS = os.environ.get("BROKEN", "").split()
+check, convert = faxpages.check, faxpages.convert
+
+
+def broken_check(data):
+    if "slow" in WAYS:
+        time.sleep(0.004)
+    if "dies" in WAYS and data.endswith(b"dies"):
+        os.kill(os.getpid(), signal.SIGSEGV)
+    if "raises" in WAYS and data.endswith(b"raises"):
+        raise RuntimeError("broken for a test")
+    if "hangs" in WAYS and data.endswith(b"hangs"):
+        time.sleep(1000)
+    if "memory" in WAYS and data.endswith(b"memory"):
+        raise MemoryError
+    return check(data)
+
+
+def broken_convert(data, *words):
+    """A row less, or more, of some faxes."""
+    if "lies" in WAYS and data.endswith(b"lies"):
+        with open(os.environ["OTHER"], "rb") as other:
+            data = other.read()
+    return convert(data, *words)
+
+
+if WAYS:
+    faxpages.check, faxpages.convert = broken_check, broken_convert
+if "minutes" in WAYS:
+    import faxpages._archive_progress
+
+    faxpages._archive_progress._MINUTE = 0.2

@@ -1,0 +1,209 @@
+"""Resumed runs, names of any bytes, faxes that break a worker, and words."""
+
+import contextlib
+import json
+import os
+import pty
+import re
+import shutil
+import sqlite3
+import subprocess
+import sys
+import time
+
+import engines
+import made
+
+FEW = 40
+LARGEST = 268435456
+
+
+def few(room, name):
+    """A small tree, and the paths of its faxes."""
+    import faxpages
+
+    return made.make(faxpages, room(name), FEW, FEW)
+
+
+def ask(room, table, query):
+    with contextlib.closing(sqlite3.connect(room(table))) as base:
+        return base.execute(query).fetchall()
+
+
+def add(path, data):
+    with open(path, "ab") as file:
+        file.write(data)
+
+
+def resumed(room, *_):
+    """New, changed and gone faxes, and those that are asked for again."""
+    paths = few(room, "resumed")
+    words = ["check", "resumed", "--table", "resumed.sqlite"]
+    room.run(*words)
+    before = room.rows("resumed.sqlite")
+    since = dict(ask(room, "resumed.sqlite", "SELECT CAST(path AS BLOB), since FROM times"))
+    room.claim("nothing is done twice", room.summary(*words)[1].partition("; ")[2], f"0 done now, {FEW} before, 0 gone")
+    os.unlink(paths[3])
+    add(paths[20], b"more")
+    shutil.copy(paths[21], os.path.join(os.path.dirname(paths[21]), b"new.tif"))
+    room.claim("what is new or changed is done", room.summary(*words)[1].partition("; ")[2],
+               f"2 done now, {FEW - 2} before, 1 gone")
+    rows = room.rows("resumed.sqlite")
+    room.claim("what is gone is out", set(before) - set(rows), {paths[3]})
+    times = dict(ask(room, "resumed.sqlite", "SELECT CAST(path AS BLOB), since FROM times"))
+    room.claim("times go too", set(times), set(rows))
+    room.claim("since when", [times[path] == since[path] for path in paths[20:22]], [True, True])
+    faulty = sum(row["status"] == "1" for row in rows.values())
+    for again, count in (("unread", 0), ("faulty", faulty), ("all", FEW)):
+        got = room.summary(*words, "--again", again)[1].partition("; ")[2]
+        room.claim(f"again: {again}", got, f"{count} done now, {FEW - count} before, 0 gone")
+    with open(paths[21], "wb") as file:
+        file.write(b"II*\0")
+    room.run(*words)
+    query = "SELECT fault, since > checked - 1 FROM faxes JOIN times USING (path) WHERE size = 4"
+    room.claim("which are faulty now, since when", ask(room, "resumed.sqlite", query), [("ShortHeader", 1)])
+
+
+def names(room, paths, reference):
+    """CSV and JSON have each name, with all its bytes."""
+    status, out, _ = room.run("table", "one.sqlite", "--json")
+    lines = [json.loads(line) for line in out.decode("ascii").splitlines()]
+    room.claim("JSON has each name", (status, [line["path"].encode("utf-8", "surrogateescape") for line in lines]),
+               (0, sorted(paths)))
+    wanted = "path size mtime status pages rows width x y codings notes fault fault_page fault_row seconds"
+    room.claim("JSON has the columns", {tuple(line) for line in lines}, {tuple(wanted.split())})
+    room.claim("CSV has the columns", room.run("table", "one.sqlite", "--csv")[1].split(b"\n")[0].decode().split(","),
+               wanted.split())
+    texts = {line["path"].encode("utf-8", "surrogateescape"): line for line in lines}
+    room.claim("JSON says what CSV says", {path: str(line["pages"]) for path, line in texts.items()},
+               {path: line["pages"] for path, line in reference.items()})
+    mtimes = [(os.lstat(path).st_size, os.lstat(path).st_mtime) for path in paths]
+    room.claim("sizes and mtimes", [(texts[path]["size"], texts[path]["mtime"]) for path in paths], mtimes)
+    columns = [row[1] for row in ask(room, "one.sqlite", "PRAGMA table_info(faxes)")]
+    room.claim("SQLite has the columns", columns, wanted.split())
+    closed = subprocess.run(f"{sys.executable} -m faxpages.archive table one.sqlite --csv | head -n 1", shell=True,
+                            cwd=room.folder, capture_output=True, check=False, env=dict(
+                                os.environ, PYTHONPATH=os.path.join(os.path.dirname(made.HERE), "..", "python")))
+    room.claim("a pipe that closes", (closed.stderr, closed.stdout.decode().strip()), (b"", wanted.replace(" ", ",")))
+
+
+def broken(room, *_):
+    """A fax that breaks a worker, hangs, or cannot be read is a row; all others are as before."""
+    paths = few(room, "broken")
+    room.run("check", "broken", "--table", "whole.sqlite")
+    for path, how in zip(paths[10:], (b"dies", b"raises", b"hangs", b"memory")):
+        add(path, how)
+    with open(paths[15], "wb") as large:
+        large.truncate(LARGEST + 1)
+    with open(paths[16], "wb") as large:
+        large.truncate(2000)
+    room.run("check", "broken", "--table", "added.sqlite")
+    wanted = room.rows("added.sqlite")
+    for path, fault in zip(paths[10:], ("WorkerDied", "WorkerDied", "Timeout", "Memory", None, "Read")):
+        if fault:
+            wanted[path] = dict.fromkeys(wanted[path], "") | {
+                "status": "3", "fault": fault, "size": str(os.stat(path).st_size), "mtime": str(os.stat(path).st_mtime)}
+    ways = {"three workers": (["--processes", "3"], sys.executable)}
+    if room.dask:
+        ways["Dask"] = ["--dask", "--processes", "2"], room.dask
+    for name, (words, python) in ways.items():
+        table = f"broken-{len(words)}.sqlite"
+        words = ["check", "broken", "--table", table, "--timeout", "1.5", *words]
+        status, out, _ = room.run(*words, broken="dies raises hangs memory", python=python)
+        room.claim(f"{name}: broken faxes are rows", (status, b" 5 not read; " in out), (3, True))
+        rows = room.rows(table)
+        differ = {path: rows.get(path) for path in wanted if rows.get(path) != wanted[path]}
+        room.claim(f"{name}: all others are as before", differ, {})
+        got = room.summary(*words[:4], "--again", "unread", broken="")
+        room.claim(f"{name}: they are done again where it is asked", got[1].partition("; ")[2],
+                   f"5 done now, {FEW - 5} before, 0 gone")
+        room.claim(f"{name}: and then are as ever", room.rows(table) == room.rows("added.sqlite"))
+    if os.geteuid():
+        os.chmod(paths[20], 0)
+        room.run("check", "broken", "--table", "closed.sqlite")
+        room.claim("a fax that cannot be opened", room.rows("closed.sqlite")[paths[20]]["fault"], "Open")
+
+
+def orphaned(room, *_):
+    """A worker that hangs ends by itself where the run was killed."""
+    paths = few(room, "orphaned")
+    add(paths[0], b"hangs")
+    process = room.start("check", "orphaned", "--table", "orphaned.sqlite", "--timeout", "0.5", broken="hangs")
+    until = time.monotonic() + 10
+    while len(engines.there_in(room.folder)) < 2 and time.monotonic() < until:
+        time.sleep(0.02)
+    time.sleep(0.2)
+    process.kill()
+    process.wait()
+    room.claim("no worker is left that hangs", engines.left_in(room.folder), [])
+
+
+def wrong(room, *_):
+    """Words that are refused, and tables that are none."""
+    few(room, "wrong")
+    check = ["check", "wrong", "--table", "wrong.sqlite"]
+    room.run(*check)
+    for words in ([], ["chek"], ["check", "wrong"], [*check, "--processes", "0"], [*check, "--timeout", "-1"],
+                  [*check, "--dask", "--scheduler", "x"], [*check, "--share", "3/3"], [*check, "--proc", "2"],
+                  ["table", "wrong.sqlite"], ["table", "wrong.sqlite", "--csv", "--json"], ["merge", "new.sqlite"],
+                  [*check, "--scheduler", "tcp://127.0.0.1:1", "--processes", "2"], [*check, "--share", "0/2"],
+                  ["check", "tree", "--table", "wrong.sqlite"],
+                  ["convert", "wrong", "out", "--to", "gif", "--table", "wrong.sqlite"],
+                  ["convert", "wrong", "out", "--to", "mmr", "--align", "--table", "wrong.sqlite"],
+                  ["convert", "wrong", "wrong/out", "--to", "mmr", "--table", "new.sqlite"],
+                  ["convert", "wrong", ".", "--to", "mmr", "--table", "new.sqlite"],
+                  ["convert", "wrong", "out", "--to", "mmr", "--table", "wrong.sqlite"]):
+        status, out, error = room.run(*words)
+        room.claim(f"refused: {words}", (status, out, bool(error), "Traceback" in error), (2, b"", True, False))
+    with open(room("text.sqlite"), "w", encoding="utf-8") as file:
+        file.write("no table of SQLite, and long enough to be seen as none\n" * 40)
+    for words in (["check", "nowhere", "--table", "new.sqlite"], ["check", "wrong", "--table", "text.sqlite"],
+                  ["check", "wrong", "--table", "nowhere/x.sqlite"], ["table", "nowhere.sqlite", "--csv"],
+                  ["table", "text.sqlite", "--json"], ["merge", "new.sqlite", "text.sqlite"]):
+        status, out, error = room.run(*words)
+        room.claim(f"cannot be: {words}", (status, out, error.count("\n"), "Traceback" in error), (3, b"", 1, False))
+    running = room.start("check", "tree", "--table", "locked.sqlite", broken="slow")
+    time.sleep(1)
+    status, _, error = room.run("check", "tree", "--table", "locked.sqlite")
+    running.kill()
+    running.communicate()
+    room.claim("one run at a time", (status, "another run" in error), (3, True))
+
+
+def documented(room, *_):
+    """faxpages-archive(1) has the options and columns of the command, and no other option."""
+    with open(os.path.join(made.HERE, "..", "..", "share", "faxpages-archive.1"), encoding="utf-8") as file:
+        manual = file.read()
+    commands = ([], ["check"], ["convert"], ["table"], ["merge"])
+    said = "".join(room.run(*command, "--help")[1].decode() for command in commands)
+    options = set(re.findall(r"--[a-z]+", said)) - {"--help"}
+    found = {f"-{it}" for it in re.findall(r"(?:Fl |\| )(-[a-z]+)", manual)}
+    room.claim("the manual page has the options", found, options)
+    for name in ("check", "convert", "table", "merge"):
+        room.claim(f"the manual page and the help have {name}", f".Cm {name}\n" in manual and f"  {name} " in said)
+    listed = " ".join(re.findall(r"^\.It (.*)$", manual, re.M)).replace(" ,", "").split()
+    with contextlib.closing(sqlite3.connect(room("one.sqlite"))) as base:
+        columns = [row[1] for row in base.execute("PRAGMA table_info(faxes)")]
+    for column in columns:
+        room.claim(f"the manual page has the column {column}", column in listed)
+
+
+def progress(room, paths, _):
+    """A line now and then, or a bar on a terminal."""
+    error = room.run("check", "tree", "--table", "said.sqlite", "--processes", "4", broken="slow minutes")[2]
+    room.claim("a line a minute", f" of {len(paths)} faxes, " in error and " minutes left" in error)
+    if not room.dask or subprocess.run([room.dask, "-c", "import tqdm"], capture_output=True, check=False).returncode:
+        print("SKIPPED: tqdm (python3-tqdm) is not installed, so: no bar is drawn")
+        return
+    ours, its = pty.openpty()
+    environment = dict(os.environ, PYTHONPATH=os.path.join(os.path.dirname(os.path.dirname(made.HERE)), "python"))
+    words = [room.dask, "-m", "faxpages.archive", "check", "resumed", "--table", "bar.sqlite"]
+    with subprocess.Popen(words, stderr=its, stdout=subprocess.DEVNULL, cwd=room.folder, env=environment) as process:
+        process.wait(60)
+    os.close(its)
+    said = os.read(ours, 65536).decode(errors="replace")
+    os.close(ours)
+    room.claim("a bar with the rate", f"{FEW}/{FEW}" in said and " faxes/s" in said)
+
+
+PARTS = [resumed, names, broken, orphaned, wrong, documented, progress]

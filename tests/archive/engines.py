@@ -1,0 +1,171 @@
+"""The same table by each engine, and killed in the middle."""
+
+import contextlib
+import fractions
+import os
+import re
+import signal
+import socket
+import subprocess
+import time
+
+from room import TOP, started
+
+# Of how many faxes the program is asked too.
+ASKED = 200
+
+
+def told(rows):
+    """The summary's counts of these rows."""
+    counts = [sum(row["status"] == str(status) for row in rows.values()) for status in (0, 1, 3)]
+    return "{} good, {} faulty, {} not read".format(*counts)
+
+
+def one(room, paths):
+    """The rows by one worker, which are those of the program."""
+    status, out, error = room.run("check", "tree", "--table", "one.sqlite")
+    rows = room.rows("one.sqlite")
+    room.claim("status and error stream", (status, error), (1, ""))
+    room.claim("each fax is in the table", set(rows), set(paths))
+    room.claim("the summary", out.decode().partition(" s, ")[0].rpartition("; ")[0],
+               f"faxes {len(paths)}: {told(rows)}; {len(paths)} done now, 0 before, 0 gone")
+    for path in paths[:ASKED]:
+        room.claim(f"as the program: {path!r}", by_table(rows[path]), by_program(room, path))
+    return rows
+
+
+def by_table(row):
+    """What a row says, as the program's check and list do."""
+    fault = f"{row['fault_page']} {row['fault_row']} {row['fault']}" if row["fault"] else None
+    notes = set(row["notes"].split())
+    form = row["width"], *(round(float(row[name]), 6) if row[name] else None for name in "xy")
+    return row["status"], row["pages"], row["rows"], fault, notes, form, set(row["codings"].split())
+
+
+def by_program(room, path):
+    """The same by the program."""
+    said = []
+    for command in ("check", "list"):
+        with open(path, "rb") as file:
+            ran = subprocess.run([room.program, command], stdin=file, capture_output=True, check=False)
+        said += [ran.returncode, ran.stdout.decode(), ran.stderr.decode()]
+    pages, rows = re.search(r"^pages (\d+) rows (\d+)", said[1], re.M).groups()
+    fault = re.match(r"fault page (\d+) row (\d+): (\w+)", said[2])
+    listed = re.findall(r"^page \d+ (\d+) \d+ (\w+) .* (\d+/\d+) (\d+/\d+) (\d)$", said[4], re.M)
+    form = ("", None, None)
+    if listed:
+        inch = 2.54 if listed[0][4] == "3" else 1
+        form = listed[0][0], *(round(float(fractions.Fraction(text)) * inch, 6) for text in listed[0][2:4])
+    return (str(said[0]), pages, rows, " ".join(fault.groups()) if fault else None,
+            set(re.findall(r"N\d (\w+)$", said[1], re.M)), form, {it[1] for it in listed})
+
+
+def same(room, name, table, reference, *words, **more):
+    """A run whose table is the same but for the seconds."""
+    got = room.summary("check", "tree", "--table", table, *words, **more)
+    room.claim(f"{name}: status and summary", got,
+               (1, f"faxes {len(reference)}: {told(reference)}; {len(reference)} done now, 0 before, 0 gone"))
+    room.claim(f"{name}: the same table", room.rows(table) == reference)
+
+
+def processes(room, _, reference):
+    same(room, "four workers", "four.sqlite", reference, "--processes", "4")
+    same(room, "four workers in time", "timed.sqlite", reference, "--processes", "4", "--timeout", "30")
+
+
+def array(room, paths, reference):
+    """Tasks of an array, in its several forms, and one table of their parts."""
+    for least, step in ((0, 1), (5, 3)):
+        parts = []
+        for task in range(4):
+            parts.append(f"part-{step}-{task}.sqlite")
+            slurm = dict(SLURM_ARRAY_TASK_ID=least + task * step, SLURM_ARRAY_TASK_COUNT=4, SLURM_ARRAY_TASK_MIN=least,
+                         SLURM_ARRAY_TASK_STEP=step)
+            room.run("check", "tree", "--table", parts[-1], **{name: str(value) for name, value in slurm.items()})
+        sizes = [len(room.rows(part)) for part in parts]
+        room.claim(f"each task has its share: {sizes}", sum(sizes) == len(paths) and min(sizes) > len(paths) / 5)
+        lacking = room.run("merge", f"lacking-{step}.sqlite", *parts[1:])
+        room.claim("a part that is missing is named", (lacking[0], "no part of share 0/4" in lacking[2]), (3, True))
+        got = room.run("merge", f"merged-{step}.sqlite", *parts)
+        room.claim("the parts as one", got, (1, f"faxes {len(paths)}: {told(reference)}\n".encode(), ""))
+        room.claim("the parts as one table", room.rows(f"merged-{step}.sqlite") == reference)
+    uneven = room.run("check", "tree", "--table", "uneven.sqlite", SLURM_ARRAY_TASK_ID="7", SLURM_ARRAY_TASK_COUNT="3",
+                      SLURM_ARRAY_TASK_MIN="1", SLURM_ARRAY_TASK_STEP="1")
+    room.claim("uneven steps are refused", (uneven[0], "--share" in uneven[2]), (2, True))
+    got = room.summary("check", "tree", "--table", "merged-1.sqlite")
+    room.claim("a merged table goes on as one", got,
+               (1, f"faxes {len(paths)}: {told(reference)}; 0 done now, {len(paths)} before, 0 gone"))
+
+
+def dask(room, _, reference):
+    if not room.dask:
+        print("SKIPPED: Dask (python3-distributed) is not installed, so: no cluster of it is tried")
+        got = room.run("check", "tree", "--table", "none.sqlite", "--dask")
+        room.claim("without Dask it is said", (got[0], "python3-distributed" in got[2]), (3, True))
+        return
+    same(room, "Dask here", "dask.sqlite", reference, "--dask", "--processes", "2", python=room.dask)
+    with scheduler(room) as address:
+        same(room, "a scheduler of Dask", "scheduler.sqlite", reference, "--scheduler", address, python=room.dask)
+
+
+@contextlib.contextmanager
+def scheduler(room):
+    """The address of a scheduler with two workers, on loopback."""
+    with socket.socket() as asked:
+        asked.bind(("127.0.0.1", 0))
+        port = asked.getsockname()[1]
+    address = f"tcp://127.0.0.1:{port}"
+    told_python = dict(os.environ, FAXPAGES_LIBRARY=room.library, PYTHONPATH=os.path.join(TOP, "python"))
+    cli = [room.dask, "-m"]
+    with contextlib.ExitStack() as stack:
+        words = ["distributed.cli.dask_scheduler", "--host", "127.0.0.1", "--port", str(port), "--no-dashboard"]
+        stack.enter_context(started([*cli, *words], told_python))
+        until = time.monotonic() + 30
+        while socket.socket().connect_ex(("127.0.0.1", port)) and time.monotonic() < until:
+            time.sleep(0.1)
+        for number in range(2):
+            words = ["distributed.cli.dask_worker", address, "--nthreads", "1", "--no-dashboard", "--local-directory",
+                     room(f"worker-{number}")]
+            stack.enter_context(started([*cli, *words], told_python))
+        ready = f"import distributed as d; d.Client({address!r}).wait_for_workers(2)"
+        subprocess.run([room.dask, "-c", ready], timeout=60, check=True)
+        yield address
+
+
+def interrupted(room, paths, reference):
+    """Killed by each signal in the middle, again and again, and then done."""
+    for number in (signal.SIGKILL, signal.SIGTERM, signal.SIGINT):
+        table = f"killed-{number.value}.sqlite"
+        words = ["check", "tree", "--table", table, "--processes", "3"]
+        count, status = room.interrupt(number, table, *words, broken="slow")
+        room.claim(f"{number.name}: some rows are there: {count}", 0 < count < len(paths) and status == -number)
+        again, _ = room.interrupt(number, table, *words, broken="slow")
+        room.claim(f"{number.name}: none is lost: {count}, {again}", count < again < len(paths))
+        status, summary = room.summary(*words)
+        done = len(paths) - again
+        room.claim(f"{number.name}: only the others are done", summary,
+                   f"faxes {len(paths)}: {told(reference)}; {done} done now, {again} before, 0 gone")
+        room.claim(f"{number.name}: the same table", room.rows(table) == reference)
+        time.sleep(0.3)
+    room.claim("no worker is left", left_in(room.folder), [])
+
+
+def there_in(folder):
+    """The processes that run in a folder."""
+    found = []
+    for process in filter(str.isdecimal, os.listdir("/proc")):
+        with contextlib.suppress(OSError):
+            if os.readlink(f"/proc/{process}/cwd") == folder:
+                found.append(process)
+    return found
+
+
+def left_in(folder):
+    """The processes that run in a folder, of which some need a moment to end."""
+    until = time.monotonic() + 5
+    while there_in(folder) and time.monotonic() < until:
+        time.sleep(0.1)
+    return there_in(folder)
+
+
+PARTS = [processes, array, dask, interrupted]

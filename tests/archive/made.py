@@ -1,0 +1,75 @@
+"""Makes a tree of faxes for the tests of archives, some with names that are no UTF-8, a tenth of them damaged."""
+
+import glob
+import os
+import random
+import struct
+import sys
+
+HERE = os.path.dirname(os.path.abspath(__file__))
+sys.path.insert(0, os.path.join(HERE, "..", "convert"))
+
+import pages  # noqa: E402
+
+HOSTILE = [b"caf\xe9.tif", b"a\nline.tif", b"a 'quote\", and more.TIFF", b"-o.tif", b"\xff\xfe.Tif",
+           "päge.tif".encode()]
+
+
+def originals(faxpages, count):
+    """Some drawn faxes, in each coding and fill order, of one page and of five, and damaged ones."""
+    rng = pages.seeded("archive")
+    for number in range(count):
+        drawn = pages.draw_document(number, pages.DOCUMENTS[number % len(pages.DOCUMENTS)], rng.choice([8, 100, 1728]))
+        width = max(8, max(row.bit_length() for page in drawn for row in page))
+        image = b"".join(pages.image(width, rows) for rows in drawn)
+        target = ["mh", "mr", "mmr"][number % 3]
+        fax = faxpages.convert(image, target, rng.choice([1, 2]), strip=rng.choice([None, 2]))
+        yield damaged(rng, fax) if number % 10 == 9 else fax
+
+
+def damaged(rng, fax):
+    """A fax with a bit changed, or cut."""
+    if rng.random() < 0.3:
+        return fax[:rng.randrange(len(fax))]
+    at = rng.randrange(len(fax))
+    return fax[:at] + bytes([fax[at] ^ 1 << rng.randrange(8)]) + fax[at + 1:]
+
+
+def centimetres(fax):
+    """A fax of little-endian bytes, whose resolution is to the centimetre."""
+    unit = struct.pack("<HHIH", 296, 3, 1, 2)
+    assert unit in fax
+    return fax.replace(unit, struct.pack("<HHIH", 296, 3, 1, 3))
+
+
+def inputs():
+    """The files that the runs of the program are tried with."""
+    for name in sorted(glob.glob(os.path.join(HERE, "..", "runs", "inputs", "*.tif"))):
+        with open(name, "rb") as file:
+            yield file.read()
+
+
+def make(faxpages, tree, count, of=300, first=()):
+    """Writes so many faxes into folders below the tree, first these, and what is none. The paths of the faxes."""
+    tree, paths = os.fsencode(tree), []
+    kinds = [*first, *originals(faxpages, of)]
+    for number in range(count):
+        folder = os.path.join(tree, b"%d" % (number % 7), b"sub" * (number % 3) or b".")
+        name = HOSTILE[number] if number < len(HOSTILE) else b"%d.tif" % number
+        paths.append(os.path.normpath(os.path.join(folder, name)))
+        os.makedirs(folder, exist_ok=True)
+        with open(paths[-1], "wb") as file:
+            file.write(kinds[number % len(kinds)])
+    os.symlink(paths[0], os.path.join(tree, b"link.tif"))
+    os.makedirs(os.path.join(tree, b"folder.tif"))
+    with open(os.path.join(tree, b"other.txt"), "wb") as file:
+        file.write(b"no fax")
+    return paths
+
+
+if __name__ == "__main__":
+    sys.path.insert(0, os.path.join(HERE, "..", "..", "python"))
+    import faxpages as module
+
+    random.seed(0)
+    make(module, sys.argv[1], int(sys.argv[2]))

@@ -1,0 +1,108 @@
+"""A folder for the tests of archives, and calls of the command in it."""
+
+import contextlib
+import csv
+import io
+import os
+import signal
+import sqlite3
+import subprocess
+import sys
+import time
+
+TOP = os.path.dirname(os.path.dirname(os.path.dirname(os.path.abspath(__file__))))
+PATIENCE = 120
+
+
+class Room:
+    """A folder, the library and the program that are tried, and what was counted."""
+
+    def __init__(self, folder, library, program):
+        self.folder, self.library, self.program = folder, library, program
+        self.counts = {True: 0, False: 0}
+        self.dask = next(filter(has_dask, dict.fromkeys([sys.executable, "/usr/bin/python3"])), None)
+
+    def __call__(self, name):
+        return os.path.join(self.folder, name)
+
+    def claim(self, name, got, wanted=True):
+        self.counts[got == wanted] += 1
+        if got != wanted:
+            print(f"FAILED: {name}: {str(got)[:600]}, wanted {str(wanted)[:600]}".encode(errors="replace").decode())
+
+    def start(self, *words, python=sys.executable, broken="", **more):
+        """Starts the command, with what is broken for it and more variables."""
+        path = [os.path.join(TOP, "tests", "archive", "broken")] if broken else []
+        told = {name: value for name, value in os.environ.items() if not name.startswith("SLURM_")}
+        told.update(FAXPAGES_LIBRARY=self.library, PYTHONPATH=os.pathsep.join([*path, os.path.join(TOP, "python")]),
+                    BROKEN=broken, PYTHONDONTWRITEBYTECODE="1", LC_ALL="C", TMPDIR=self.folder, **more)
+        return subprocess.Popen([python, "-m", "faxpages.archive", *words], env=told, stdin=subprocess.DEVNULL,
+                                stdout=subprocess.PIPE, stderr=subprocess.PIPE, cwd=self.folder, start_new_session=True)
+
+    def run(self, *words, **more):
+        """The status, the output and the error stream of the command."""
+        process = self.start(*words, **more)
+        out, error = process.communicate(timeout=PATIENCE)
+        return process.returncode, out, error.decode(errors="replace")
+
+    def summary(self, *words, **more):
+        """The status, and the summary up to how long it took."""
+        status, out, error = self.run(*words, **more)
+        return status, out.decode().rpartition("; ")[0] or error
+
+    def rows(self, table):
+        """The rows of a table as CSV, by their paths as bytes, without the seconds."""
+        status, out, error = self.run("table", table, "--csv")
+        self.claim(f"{table} as CSV", (status, error), (0, ""))
+        lines = list(csv.DictReader(io.StringIO(out.decode("utf-8", "surrogateescape"), newline="")))
+        found = {line.pop("path").encode("utf-8", "surrogateescape"): line for line in lines}
+        for line in found.values():
+            line.pop("seconds")
+        return found
+
+    def interrupt(self, number, table, *words, **more):
+        """Starts the command, and ends it by a signal when more rows are in the table. How many are, and its status. A
+        signal that asks for the end comes to its workers too, as from a terminal or from Slurm."""
+        before = count(self(table))
+        process = self.start(*words, **more)
+        until = time.monotonic() + PATIENCE
+        while count(self(table)) <= before and process.poll() is None and time.monotonic() < until:
+            time.sleep(0.02)
+        if number == signal.SIGKILL:
+            process.kill()
+        else:
+            os.killpg(process.pid, number)
+        process.communicate(timeout=PATIENCE)
+        return count(self(table)), process.returncode
+
+
+def count(table):
+    """How many rows a table has, where there is one."""
+    with contextlib.suppress(sqlite3.Error):
+        with contextlib.closing(sqlite3.connect(f"file:{table}?mode=ro", uri=True)) as base:
+            return base.execute("SELECT count(*) FROM faxes").fetchone()[0]
+    return 0
+
+
+def has_dask(python):
+    """Whether a Python has Dask."""
+    try:
+        return subprocess.run([python, "-c", "import distributed"], capture_output=True, check=False).returncode == 0
+    except OSError:
+        return False
+
+
+@contextlib.contextmanager
+def started(words, environment):
+    """A server, which is ended."""
+    process = subprocess.Popen(words, env=environment, stdin=subprocess.DEVNULL, stdout=subprocess.DEVNULL,
+                               stderr=subprocess.DEVNULL)
+    try:
+        yield process
+    finally:
+        process.send_signal(signal.SIGTERM)
+        try:
+            process.wait(20)
+        except subprocess.TimeoutExpired:
+            process.kill()
+            process.wait()
