@@ -1,9 +1,10 @@
 -- Bits that are loaded, and codes that are read from them.
-use Rattle.std.proofs.Common.{Bool, true, replicate, ◌≡◌, ℕ, ◌+◌, ◌*◌, ◌≤◌, List, [], ◌∷◌, ◌++◌, length, take, drop, refl, ap, sym, ◌∙◌, arith}
+use Rattle.std.proofs.Common.{Bool, true, false, replicate, ◌≡◌, ℕ, ◌+◌, ◌*◌, ◌≤◌, ◌<◌, List, [], ◌∷◌, ◌++◌, length, take, drop, refl, ap, sym, ◌∙◌, arith}
 use Rattle.std.proofs.Common.{append_assoc, length-append, inl, inr, ◌⊎◌}
 use Rattle.std.proofs.lemmas.Grind.{common_steps}
 use Rattle.std.specs.Prelude.{pos}
-use Rattle.std.proofs.lemmas.List.{drop-drop, take-append-drop, take-take, take-replicate}
+use Rattle.std.proofs.Math.Seq.{drop-append-add}
+use Rattle.std.proofs.lemmas.List.{drop-drop, take-append-drop, take-take, take-replicate, length-replicate}
 use Rattle.fax_bits.specs.declared.FillOrder.{FillOrder}
 use Rattle.fax_bits.specs.declared.window.Window.{Window}
 use Rattle.fax_bits.specs.declared.modes.ModeCode.TheVariants.{Vertical}
@@ -64,8 +65,13 @@ module _ (order : FillOrder) (bytes : List ℕ) (old window : Window) (source : 
   pub loaded_left : bits_ahead order bytes window ≡ source.left
   loaded_left = same ∙ is.bits_are ∙ ap (λ (s : Source). s.left) shown
 
-  loaded-left : window.count ≤ length source.left
+  pub loaded-left : window.count ≤ length source.left
   loaded-left = grind (arith, common_steps, loaded_left, length-append, length-first_bits)
+
+  -- where all bytes are loaded, no bits are left but those of the window
+  pub all_loaded : window.at ≡ length bytes → length source.left ≡ window.count
+  all_loaded all =
+      omega (arith, is.before, is.within, place, length-left order bytes (place_before old), ap (λ (s : Source). length s.left) shown)
 
   -- after some of its bits
   module _ (n : ℕ) (after : Window) (short : n ≤ 32) (count : after.count + n ≡ window.count) (at : after.at ≡ window.at) where
@@ -88,6 +94,19 @@ module _ (order : FillOrder) (bytes : List ℕ) (old window : Window) (source : 
           ap (λ (s : Source). s.place) shown,
           ap (λ (s : Source). length s.left) shown,
         )
+
+  -- zeros and the 1 after them are gone past
+  pub zeros_taken : (zeros : ℕ) (after : Window) → zeros < 32 → HasZerosAhead (bits_ahead order bytes window) zeros
+      → after.count + (zeros + 1) ≡ window.count → after.at ≡ window.at
+      → source.left ≡ replicate zeros false ++ true ∷ drop (place_before after) (bits order bytes)
+  zeros_taken zeros after short ahead count at =
+      let front = replicate zeros false in
+      let is : source.left ≡ front ++ true ∷ ahead.0 = sym loaded_left ∙ ahead.1 in
+      let long : zeros + 1 ≡ length front + 1 = ap (λ n. n + 1) (sym (length-replicate zeros false)) in
+      let rest : drop (place_before after) (bits order bytes) ≡ ahead.0 =
+      left_after_code (zeros + 1) after (omega arith) count at ∙ ap (drop (zeros + 1)) is
+      ∙ ap (λ n. drop n (front ++ true ∷ ahead.0)) long ∙ drop-append-add front (true ∷ ahead.0) 1 in
+      is ∙ ap (λ b. front ++ true ∷ b) (sym rest)
 
   -- a 1 is gone past
   pub one_looked_up : (after : Window) → HasZerosAhead (bits_ahead order bytes window) 0 → after.count + 1 ≡ window.count

@@ -1,6 +1,6 @@
 //! What one look-up of the next bits finds: a run, a white run and the black one after it, a mode.
 ghost use Rattle.std.specs.Prelude.{◌≡◌, ◌+◌, ◌^◌, ◌<◌, ◌≤◌, ◌++◌, length};
-ghost use Rattle.std.specs.Prelude.{IfSome, IsSome, None, take, replicate, true};
+ghost use Rattle.std.specs.Prelude.{IfSome, IsSome, None, take, replicate, true, false, IsTrue, ◌∷◌, ℕ};
 ghost use Rattle.fax_bits.specs.Codes.{Takes, IsRun};
 ghost use Rattle.fax_bits.specs.Tables.{modes};
 ghost use Rattle.fax_bits.specs.Written.{run_bits};
@@ -152,5 +152,27 @@ impl<'a> BitSource<'a> {
         let count = self.window.ones().min(most);
         self.window = self.window.after(count);
         count
+    }
+
+    /// Goes past zeros that are next, `least` of them or more, and the 1 after them, by one look-up,
+    /// and answers whether it finds them so. Else the source is as it was.
+    #[inline(always)]
+    pub fn past_zeros_and_one(&mut self, least: u32) -> bool
+        ensures past { IsTrue result → (zeros : ℕ) × (least ≤ zeros)
+            × (self.old.left ≡ replicate zeros false ++ true ∷ self.new.left) }
+        ensures unchanged { result ≡ false → self.new.left ≡ self.old.left }
+
+        // The source goes on in the same bits.
+        ensures same_end { KeepsEnd self.old self.new }
+    {
+        let Some(ahead) = self.window.loaded(self.bytes, self.order) else {
+            return false;
+        };
+        let zeros = ahead.zeros();
+        if zeros < least || zeros >= LOOKED_AT {
+            return false;
+        }
+        self.window = ahead.after(zeros + 1);
+        true
     }
 }

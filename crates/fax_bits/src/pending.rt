@@ -3,8 +3,9 @@
 ghost use Rattle.std.specs.Prelude.{◌≡◌, ◌+◌, ◌<◌, ◌≤◌, ◌^◌, ◌++◌, [], length, OnOk, OnErr, IfOk};
 ghost use Rattle.fax_bits.specs.Bits.{code_bits};
 ghost use Rattle.fax_bits.specs.views.Sink.{Appends, AppendsAllBut};
+ghost use Rattle.fax_bits.specs.views.Source.{IsTaken, KeepsEnd};
 
-use crate::{BitSink, Memory};
+use crate::{BitSink, BitSource, Memory};
 use std::marker::Model;
 
 /// How many bits a word has that goes to the sink.
@@ -87,6 +88,16 @@ impl PendingBits {
             number: number & ((1 << left) - 1),
             count: left,
         })
+    }
+
+    /// Goes past these bits in a source, where they stand next, and answers whether they do. Else the
+    /// source stays.
+    #[inline(always)]
+    pub(crate) fn take(self, source: &mut BitSource) -> bool
+        ensures taken { IsTaken self source.old.left result source.new.left }
+        ensures same_end { KeepsEnd source.old source.new }
+    {
+        source.take(self.number as u32, self.count)
     }
 
     /// Puts all of these bits.

@@ -1,5 +1,5 @@
-//! The codes of runs and modes as they are written, and put into a sink or after pending bits
-//! (ITU-T T.4, sections 4.1.1 and 4.2.1.3.2).
+//! The codes of runs and modes as they are written: put into a sink or after pending bits, or looked
+//! for in a source (ITU-T T.4, sections 4.1.1 and 4.2.1.3.2).
 ghost use Rattle.std.specs.Prelude.{◌≡◌, ◌*◌, ◌<◌, ◌≤◌, ◌^◌, ◌++◌, length, OnOk, OnErr, IfOk};
 ghost use Rattle.fax_bits.specs.declared.modes.ModeCode.TheVariants.{Vertical};
 ghost use Rattle.fax_bits.specs.declared.runs.RunCode.TheVariants.{MakeUp};
@@ -7,12 +7,13 @@ ghost use Rattle.fax_bits.specs.Written.{run_codes, run_code_bits, run_bits, mod
 ghost use Rattle.fax_bits.specs.views.Codes.{IsWritten};
 ghost use Rattle.fax_bits.specs.views.Pairs.{pair_bits};
 ghost use Rattle.fax_bits.specs.views.Sink.{Appends, AppendsCodes, AppendsPrefix, AppendsAllBut};
+ghost use Rattle.fax_bits.specs.views.Source.{IsTaken, KeepsEnd};
 ghost use Rattle.fax_bits.specs.code.Codes.{run_meaning};
 
 use crate::codes::LONGEST_CODE;
 use crate::pairs::{SHORT_RUN, short_pair_code};
 use crate::runs::{TERMINATING_CODES, run_entry};
-use crate::{BitSink, Colour, Memory, ModeCode, PendingBits};
+use crate::{BitSink, BitSource, Colour, Memory, ModeCode, PendingBits};
 
 /// The codes of vertical modes, from a1 three pels left of b1 to three pels right of it (T.4,
 /// table 4): small, since most modes of a page are written by them.
@@ -196,5 +197,20 @@ impl PendingBits {
         ensures err { OnErr result (sink.new ≡ sink.old) }
     {
         self.put(sink, mode_code(mode))
+    }
+}
+
+impl BitSource<'_> {
+    /// Goes past the codes of a run of `n` pels, fewer than 2560, as they are written, where they
+    /// stand next, and answers whether they do (T.4, section 4.1.1). Else it stays.
+    #[inline(always)]
+    pub fn take_run(&mut self, colour: Colour, n: u32) -> bool
+        requires { n < 2560 }
+        ensures taken { IsTaken (run_bits colour n) self.old.left result self.new.left }
+
+        // The source goes on in the same bits.
+        ensures same_end { KeepsEnd self.old self.new }
+    {
+        codes_of_run(colour, n).take(self)
     }
 }

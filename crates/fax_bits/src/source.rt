@@ -72,10 +72,10 @@ impl<'a> BitSource<'a> {
         (byte >> bit_in_byte(self.order, at % 8)) & 1 == 1
     }
 
-    /// The number that the next `n` bits spell, 0 to 24 of them, the highest first. Past the end of
+    /// The number that the next `n` bits spell, 0 to 32 of them, the highest first. Past the end of
     /// the bytes it sees zeros, which are no bits: `remaining` says how many bits there are.
     pub fn peek(&self, n: u32) -> u32
-        requires { n ≤ 24 }
+        requires { n ≤ 32 }
         ensures { result ≡ bits_number (take n (self.now.left ++ replicate n false)) }
     {
         if n == 0 {
@@ -164,20 +164,24 @@ impl<'a> BitSource<'a> {
         self.order = other.order;
     }
 
-    /// Goes past the lowest `len` bits of `bits`, 0 to 24 of them, the highest first, where they
+    /// Goes past the lowest `len` bits of `bits`, 0 to 32 of them, the highest first, where they
     /// stand next, and answers whether they do. Else it stays.
     pub fn take(&mut self, bits: u32, len: u32) -> bool
-        requires short { len ≤ 24 }
+        requires short { len ≤ 32 }
         requires fits { bits < 2 ^ len }
         ensures taken { IsTaken (code_bits len bits) self.old.left result self.new.left }
 
         // The source goes on in the same bits.
         ensures same_end { KeepsEnd self.old self.new }
     {
-        if self.remaining() < u64::from(len) || self.peek(len) != bits {
+        if len == 0 {
+            return true;
+        }
+        let ahead = self.window.filled(self.bytes, self.order);
+        if ahead.count < len || ahead.number(len) != bits {
             return false;
         }
-        self.skip(u64::from(len));
+        self.window = ahead.after(len);
         true
     }
 

@@ -18,6 +18,8 @@ pub fn answer(alloc: Global, words: &[&str]) -> Result<Option<String>, WrongLine
         ["mode", bits] => looked_up_mode(alloc, bits)?,
         ["verticals", bits] => verticals(alloc, bits)?,
         ["past_ones", bits, most] => past_ones(alloc, bits, most)?,
+        ["take_run", colour, bits, pels] => take_run(alloc, colour, bits, pels)?,
+        ["past_zeros_and_one", bits, least] => past_zeros(alloc, bits, least)?,
         ["put_run", colour, pels] => run(alloc, colour, pels)?,
         ["put_short_pair", colour, first, second] => short_pair(alloc, colour, first, second)?,
         ["put_mode", mode] => mode_bits(alloc, mode)?,
@@ -145,6 +147,28 @@ fn past_ones(alloc: Global, bits: &str, most: &str) -> Result<String, WrongLine>
     Ok(format!(in alloc; "{ones} {count} {}", source.place())?)
 }
 
+/// Whether the codes of a run were gone past, and the place after them.
+fn take_run(alloc: Global, colour: &str, bits: &str, pels: &str) -> Result<String, WrongLine> {
+    let colour = words::colour(colour)?;
+    let pels = words::number(pels)?;
+    if pels >= 2560 {
+        return Err(WrongLine::OutOfLimits);
+    }
+    let bytes = words::bytes(alloc, bits)?;
+    let mut source = BitSource::new(&bytes, FillOrder::MsbFirst);
+    let taken = source.take_run(colour, pels);
+    Ok(format!(in alloc; "{taken} {}", source.place())?)
+}
+
+/// Whether so many zeros and the 1 after them were gone past, and the place then.
+fn past_zeros(alloc: Global, bits: &str, least: &str) -> Result<String, WrongLine> {
+    let least = words::number(least)?;
+    let bytes = words::bytes(alloc, bits)?;
+    let mut source = BitSource::new(&bytes, FillOrder::MsbFirst);
+    let past = source.past_zeros_and_one(least);
+    Ok(format!(in alloc; "{past} {}", source.place())?)
+}
+
 /// The bits of a run.
 fn run(alloc: Global, colour: &str, pels: &str) -> Result<String, WrongLine> {
     let colour = words::colour(colour)?;
@@ -216,7 +240,7 @@ fn peeked(alloc: Global, order: &str, bytes: &str, count: &str) -> Result<String
     let order = words::order(order)?;
     let bytes = words::bytes(alloc, bytes)?;
     let count = words::number(count)?;
-    if count > 24 {
+    if count > 32 {
         return Err(WrongLine::OutOfLimits);
     }
     let source = BitSource::new(&bytes, order);

@@ -5,7 +5,7 @@ use crate::table::WrongLine;
 use crate::{text, words};
 use fax_rows::{
     BitSink, BitSource, FillOrder, LongestRuns, Row, RowFault, b1_b2, first_other, put_1d, put_2d,
-    read_1d, read_2d,
+    read_1d, read_2d, take_white_1d, take_white_2d,
 };
 use std::alloc::Global;
 
@@ -23,6 +23,7 @@ pub fn answer(alloc: Global, words: &[&str]) -> Result<Option<String>, WrongLine
         ["to_packed", row] => packed(alloc, &words::row(alloc, row)?)?,
         ["set_packed", row, bytes] => set(alloc, row, bytes)?,
         ["set_runs", row, runs] => set_runs(alloc, row, runs)?,
+        ["is_white", row] => format!(in alloc; "{}", words::row(alloc, row)?.is_white())?,
         ["exchange", row] => exchanged(alloc, row)?,
         ["eight_ahead", row, skip] => eight_ahead(alloc, row, skip)?,
         ["next_runs", row, skip] => next_runs(alloc, row, skip)?,
@@ -40,6 +41,7 @@ fn coded(alloc: Global, words: &[&str]) -> Result<Option<String>, WrongLine> {
         ["read_1d", width, bits] => read_runs(alloc, width, bits)?,
         ["changes_1d", width, bits] => changes_read(alloc, width, bits)?,
         ["read_2d", reference, bits] => read_steps(alloc, reference, bits)?,
+        ["take_white", dimension, row, bits] => take_white(alloc, dimension, row, bits)?,
         ["put_1d", row] => put_runs(alloc, row)?,
         ["put_2d", reference, row] => put_steps(alloc, reference, row)?,
         ["put_each", reference] => put_each(alloc, reference)?,
@@ -59,6 +61,24 @@ fn row_or_fault(
         Ok(()) => Ok(format!(in alloc; "{} {place}", text::runs(alloc, row)?)?),
         Err(fault) => Ok(format!(in alloc; "{fault:?}")?),
     }
+}
+
+/// After one bit, which loads more: whether a row that is white as this one is was gone past, and
+/// the place after it.
+fn take_white(alloc: Global, dimension: &str, row: &str, bits: &str) -> Result<String, WrongLine> {
+    let row = words::row(alloc, row)?;
+    let bytes = words::bytes(alloc, bits)?;
+    let mut source = BitSource::new(&bytes, FillOrder::MsbFirst);
+    if source.remaining() == 0 {
+        return Err(WrongLine::OutOfLimits);
+    }
+    source.skip(1);
+    let taken = match dimension {
+        "1d" => take_white_1d(&mut source, &row),
+        "2d" => take_white_2d(&mut source, &row),
+        _ => return Err(WrongLine::BadWord),
+    };
+    Ok(format!(in alloc; "{taken} {}", source.place())?)
 }
 
 /// A row in one-dimensional coding.

@@ -325,6 +325,8 @@ pub fn put_pbm_row(out: &mut Vec<u8>, row: &Row) -> Result<(), Memory>
     let start = out.len();
     let len = row_len(row.width());
     out.resize(start + len, 0).map_err(|_| Memory)?;
-    row.to_packed(&mut out[start..]);
+    if !row.is_white() {
+        row.to_packed(&mut out[start..]);
+    }
     Ok(())
 }

@@ -13,7 +13,9 @@ use Rattle.fax_bits.specs.Tables.{run_table, modes, white_runs, white_terminatin
 use Rattle.fax_rows.specs.Rows.{AreRuns, Position, beginning, AreSteps}
 use Rattle.fax_page.specs.declared.Dimension.{Dimension}
 use Rattle.fax_page.specs.declared.Dimension.TheVariants.{OneDimensional, TwoDimensional}
-use Rattle.fax_page.specs.Lines.{BeginsBelowEleven, IsRowIn}
+use Rattle.fax_page.specs.Lines.{StripForm, BeginsBelowEleven, IsRowIn, IsLine}
+use Rattle.fax_page.specs.code.Starts.{IsStarted}
+use Rattle.fax_page.proofs.BegunLemmas.{start_is}
 
 -- a 1 is among the first n bits
 abbrev has_one : ℕ → List Bool → Bool
@@ -87,3 +89,15 @@ pub row_begins : (dimension : Dimension) (width : ℕ) (reference : List Colour)
 row_begins OneDimensional width reference b row rest some is = runs_begin width is.runs b rest some is.coded
 row_begins TwoDimensional width reference b row rest some is =
     steps_begin reference b is.positions is.last rest is.steps is.ends
+
+-- a row whose codes are read after what stands before them
+unfoldable pub line_begun : (form : StripForm) (i : ℕ) (reference row : List Colour) (b codes rest : List Bool) (dimension : Dimension)
+    → 0 < form.width → IsStarted form.coding i b dimension codes → IsRowIn dimension form.width reference codes row rest
+    → IsLine form i reference b row rest
+line_begun form i reference row b codes rest dimension some start read = record {
+  dimension = dimension;
+  codes = codes;
+  start = start_is form.coding i b dimension codes start;
+  first_code = row_begins dimension form.width reference codes row rest some read;
+  coded = read;
+}

@@ -1,5 +1,6 @@
 -- A strip that is read for its notes, row by row.
 use Rattle.std.proofs.Common.{◌≡◌, ℕ, ◌+◌, ◌<◌, ◌↔◌, List, [], ◌∷◌, ◌++◌, length, Bool, true, false, not, IsTrue, refl, ap, sym, ◌∙◌, subst}
+use Rattle.std.proofs.Common.{Result, Ok, Err, OnOk, IfErr}
 use Rattle.std.proofs.Common.{arith, append_assoc, append-nil, length-append, inl, inr, Option, Some, None}
 use Rattle.fax_bits.specs.declared.Colour.{Colour}
 use Rattle.fax_bits.specs.Bits.{BeginsWith}
@@ -13,7 +14,7 @@ use Rattle.fax_page.specs.declared.StripFault.{StripFault}
 use Rattle.fax_page.specs.declared.notes.NotesFault.{NotesFault}
 use Rattle.fax_page.specs.declared.notes.NotesFault.TheVariants.{Memory, Strip}
 use Rattle.fax_page.specs.declared.notes.StripNotes.{StripNotes}
-use Rattle.fax_page.specs.Lines.{BeginsBelowEleven, IsCause, IsLine, IsRowIn, white_row}
+use Rattle.fax_page.specs.Lines.{IsCause, IsLine, IsRowIn, white_row}
 use Rattle.fax_page.specs.Strip.{AreLines}
 use Rattle.fax_page.specs.views.Strip.{IsStrip}
 use Rattle.fax_page.proofs.StripLaws.{EndsAt, no_rows}
@@ -22,9 +23,10 @@ use Rattle.fax_page.specs.laws.Strips.{ReadsLinesOneWay}
 use Rattle.fax_page.specs.Strip.{HasOtherChoice, IsNotedAs}
 use Rattle.fax_page.specs.code.Notes.{IsChosen}
 use Rattle.fax_page.specs.views.Strip.{IsNotesFault}
-use Rattle.fax_page.specs.code.Notes.{IsLineRead, IsLineNoted, IsLineFault, AreRowsRead, AreNotesAfter}
+use Rattle.fax_page.specs.code.Notes.{AreCodesRead, IsChoiceNoted, AreCodesNoted, IsCodesFault, IsLineNoted, IsLineFault, AreRowsRead, AreNotesAfter}
 use Rattle.fax_page.specs.code.Starts.{IsStarted}
-use Rattle.fax_page.proofs.BegunLemmas.{start_is, started}
+use Rattle.fax_page.proofs.BegunLemmas.{started, cause_in_codes}
+use Rattle.fax_page.proofs.FirstCodeLemmas.{line_begun}
 use Rattle.fax_page.proofs.StartLaws.{one_start}
 
 -- what follows the codes that T.4 chooses is what follows the row
@@ -41,21 +43,13 @@ module _ (one : OneDimensionalBitsAreOneRow) (two : TwoDimensionalBitsAreOneRow)
       (two reference row row more rest fits (reference_width ∙ sym is_width)
       (subst (λ b. IsTwoDimensionalRow reference b row rest) is read)).1
 
-  -- a row that was read, and whether the codes that T.4 chooses begin where its codes do
-  pub line_read : (form : StripForm) (i : ℕ) (reference row : List Colour) (b codes rest put : List Bool) (dimension : Dimension)
-      (chosen : Bool)
-      → HasWidth row → length row ≡ form.width → length reference ≡ form.width
-      → IsStarted form.coding i b dimension codes → BeginsBelowEleven codes
-      → IsRowIn dimension form.width reference codes row rest → put ≡ row_bits dimension reference row
-      → IsTrue chosen ↔ BeginsWith codes put → IsLineRead form i reference b row rest chosen
-  line_read form i reference row b codes rest put dimension chosen fits is_width reference_width start first read put_is begins = record {
-    line = record {
-      dimension = dimension;
-      codes = codes;
-      start = start_is form.coding i b dimension codes start;
-      first_code = first;
-      coded = read;
-    };
+  -- codes that were read, and whether those that T.4 chooses begin where they do
+  pub codes_read : (form : StripForm) (reference row : List Colour) (codes rest put : List Bool) (dimension : Dimension) (chosen : Bool)
+      → HasWidth row → length row ≡ form.width → length reference ≡ form.width → IsRowIn dimension form.width reference codes row rest
+      → put ≡ row_bits dimension reference row → IsTrue chosen ↔ BeginsWith codes put
+      → AreCodesRead form dimension reference codes row rest chosen
+  codes_read form reference row codes rest put dimension chosen fits is_width reference_width read put_is begins = record {
+    coded = read;
     choice = (
       λ yes.
           let here = begins.0 yes in
@@ -99,7 +93,7 @@ module _ (reads : (form : StripForm) (i : ℕ) (reference : List Colour) → Rea
     lines = λ more end after lines.
         subst (λ rows. AreLines form 0 (white_row form.width) b rows end after) (sym (append_assoc so_far.before (row ∷ []) more))
         (so_far.lines (row ∷ more) end after (rest, due, noted.line, lines));
-    found = λ is more. onto more (elim (noted.found is) [
+    found = λ is more. onto more (elim (noted.noted.found is) [
       | inl before ↦ so_far.found before (row ∷ more)
       | inr other_choice ↦ so_far.onward (row ∷ more) (rest, noted.line, inl other_choice)
     ]);
@@ -107,11 +101,11 @@ module _ (reads : (form : StripForm) (i : ℕ) (reference : List Colour) → Rea
     back = λ more has.
         elim (so_far.back (row ∷ more) (subst (λ rows. HasOtherChoice form 0 (white_row form.width) b rows)
         (append_assoc so_far.before (row ∷ []) more) has)) [
-          | inl is ↦ inl (noted.kept is)
+          | inl is ↦ inl (noted.noted.kept is)
           | inr here ↦
               let same = same_line form i reference row left rest here.0 noted.line here.1 in
               elim here.2 [
-                | inl other_choice ↦ inl (marks now noted.none (λ is. other_choice (same.chosen is)))
+                | inl other_choice ↦ inl (marks now noted.noted.none (λ is. other_choice (same.chosen is)))
                 | inr after ↦ inr (subst (λ c. HasOtherChoice form (i + 1) row c more) (sym same.same_after) after)
               ]
         ];
@@ -127,42 +121,47 @@ module _ (reads : (form : StripForm) (i : ℕ) (reference : List Colour) → Rea
       marks true none other_choice = refl
       marks false none other_choice = absurd (other_choice (none refl))
 
--- a row that is compared
-pub line_compared : (form : StripForm) (i : ℕ) (reference row : List Colour) (b rest : List Bool) (other chosen : Bool) → other ≡ false
-    → IsLineRead form i reference b row rest chosen → IsLineNoted form i reference b row rest other (not chosen)
-line_compared form i reference row b rest other true none read = record {
-  line = read.line;
-  kept = λ h. absurd (cc (sym none ∙ h));
-  found = λ h. absurd (cc h);
-  none = λ h. read.choice.0 refl;
-}
-line_compared form i reference row b rest other false none read = record {
-  line = read.line;
-  kept = λ h. refl;
-  found = λ h. inr (λ is. let no = read.choice.1 is in cc no);
-  none = λ h. absurd (cc h);
+-- codes that are compared
+pub codes_compared : (chosen : Type 0) (other choice : Bool) → other ≡ false → IsTrue choice ↔ chosen
+    → IsChoiceNoted chosen other (not choice)
+codes_compared chosen other true none is =
+    record { kept = λ h. absurd (cc (sym none ∙ h)); found = λ h. absurd (cc h); none = λ h. is.0 refl }
+codes_compared chosen other false none is =
+    record { kept = λ h. refl; found = λ h. inr (λ c. let no = is.1 c in cc no); none = λ h. absurd (cc h) }
+
+-- codes that are only read, since those of some row before them are others than T.4 chooses
+pub codes_unasked : (chosen : Type 0) (other : Bool) → other ≡ true → IsChoiceNoted chosen other other
+codes_unasked chosen other is = record { kept = λ h. h; found = λ h. inl is; none = λ h. absurd (cc (sym is ∙ h)) }
+
+-- codes that are seen to be chosen
+pub codes_seen : (chosen : Type 0) (other : Bool) → chosen → IsChoiceNoted chosen other other
+codes_seen chosen other is = record { kept = λ h. h; found = λ h. inl h; none = λ h. is }
+
+-- a row whose codes were read after what stands before them
+pub line_noted : (form : StripForm) (i : ℕ) (reference row : List Colour) (b codes rest : List Bool) (dimension : Dimension)
+    (other now : Bool) → 0 < form.width → IsStarted form.coding i b dimension codes
+    → AreCodesNoted form dimension reference codes row rest other now → IsLineNoted form i reference b row rest other now
+unfolding line_begun
+line_noted form i reference row b codes rest dimension other now some start read = record {
+  line = line_begun form i reference row b codes rest dimension some start read.coded;
+  noted = read.noted;
 }
 
--- a row that is only read, since some row before it is coded otherwise
-pub line_only_read : (form : StripForm) (i : ℕ) (reference row : List Colour) (b rest : List Bool) (other : Bool) → other ≡ true
-    → IsLine form i reference b row rest → IsLineNoted form i reference b row rest other other
-line_only_read form i reference row b rest other is line =
-    record { line = line; kept = λ h. h; found = λ h. inl is; none = λ h. absurd (cc (sym is ∙ h)) }
+-- and one whose codes cannot be read
+pub codes_fault : (form : StripForm) (i : ℕ) (reference : List Colour) (b codes : List Bool) (dimension : Dimension) (fault : NotesFault)
+    → IsStarted form.coding i b dimension codes → IsCodesFault form i dimension reference codes fault → IsLineFault form i reference b fault
+codes_fault form i reference b codes dimension Memory start is = tt
+codes_fault form i reference b codes dimension (Strip row fault) start (here, cause, in_codes, stop) =
+    (here, cause_in_codes form i reference b dimension codes cause fault start stop in_codes)
 
--- a row whose codes are seen to be chosen
-pub line_seen : (form : StripForm) (i : ℕ) (reference row : List Colour) (b codes rest : List Bool) (dimension : Dimension)
-    → IsStarted form.coding i b dimension codes → BeginsBelowEleven codes → IsRowIn dimension form.width reference codes row rest
-    → IsChosen dimension reference codes row rest → IsLineRead form i reference b row rest true
-line_seen form i reference row b codes rest dimension start first read chosen = record {
-  line = record {
-    dimension = dimension;
-    codes = codes;
-    start = start_is form.coding i b dimension codes start;
-    first_code = first;
-    coded = read;
-  };
-  choice = (λ yes. chosen, λ is. refl);
-}
+-- what is said of an answer
+pub on_ok : {A E P Q : Type 0} (answer : Result A E) → (P → Q) → OnOk answer P → OnOk answer Q
+on_ok (Ok x) to is = to is
+on_ok (Err e) to is = tt
+
+pub if_err : {A E : Type 0} {P Q : E → Type 0} (answer : Result A E) → ((e : E) → P e → Q e) → IfErr answer P → IfErr answer Q
+if_err (Ok x) to is = tt
+if_err (Err e) to is = to e is
 
 -- before the first row
 pub none_read : (form : StripForm) (b : List Bool) → AreRowsRead form b 0 (white_row form.width) b false

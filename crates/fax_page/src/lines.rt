@@ -1,14 +1,15 @@
 //! A row of a strip: what stands before its codes, and its codes.
-ghost use Rattle.std.specs.Prelude.{◌≡◌, ◌<◌, ◌∷◌, [], List, length, OnOk, IfOk, IfErr};
+ghost use Rattle.std.specs.Prelude.{◌≡◌, ◌<◌, ◌∷◌, [], List, false, length, OnOk, IfOk, IfErr, IsTrue};
 ghost use Rattle.fax_bits.specs.declared.Colour.{Colour};
 ghost use Rattle.fax_bits.specs.views.Source.{KeepsEnd};
 ghost use Rattle.fax_page.specs.Lines as Lines;
 ghost use Rattle.fax_page.specs.code.Starts.{HasEol, HasNoEol, IsFirstCodeFault, IsStop};
 ghost use Rattle.fax_page.specs.code.Starts.{IsStarted, IsStartFault};
 ghost use Rattle.fax_page.specs.code.LineStops.{IsLineStop};
+ghost use Rattle.fax_page.specs.code.Notes.{IsChosen};
 
 use crate::{Coding, Dimension, StripFault, StripForm};
-use fax_rows::{BitSource, Row, RowFault, read_1d, read_2d};
+use fax_rows::{BitSource, Row, RowFault, read_1d, read_2d, take_white_1d, take_white_2d};
 
 /// How many zeros an EOL has before its 1 (T.4, section 4.1.2). More are fill.
 const EOL_ZEROS: u64 = 11;
@@ -20,6 +21,9 @@ pub(crate) fn read_eol(source: &mut BitSource, may_lack: bool) -> Result<(), Str
     ensures err { IfErr result (HasNoEol may_lack source.old.left) }
     ensures same_end { KeepsEnd source.old source.new }
 {
+    if source.past_zeros_and_one(EOL_ZEROS as u32) {
+        return Ok(());
+    }
     match source.zeros() {
         None => Err(StripFault::DataEnds),
         Some(zeros) if zeros >= EOL_ZEROS => {
@@ -105,9 +109,26 @@ pub(crate) fn stop(codes: &BitSource, cause: RowFault) -> StripFault
     }
 }
 
+/// Goes past the codes of a row that is white as its reference row is, where they are seen to be next
+/// and T.4's choice, and answers whether they are. Else the source stays.
+#[inline(always)]
+pub(crate) fn take_white(source: &mut BitSource, dimension: Dimension, reference: &Row) -> bool
+    ensures row { IsTrue result → Lines.IsRowIn dimension (length reference.now) reference.now
+        source.old.left reference.now source.new.left }
+    ensures chosen { IsTrue result
+        → IsChosen dimension reference.now source.old.left reference.now source.new.left }
+    ensures unchanged { result ≡ false → source.new.left ≡ source.old.left }
+    ensures same_end { KeepsEnd source.old source.new }
+{
+    match dimension {
+        Dimension::OneDimensional => take_white_1d(source, reference),
+        Dimension::TwoDimensional => take_white_2d(source, reference),
+    }
+}
+
 /// Reads the codes of a row that is coded so into `row`, of which nothing is said after a fault.
 #[inline(always)]
-fn read_codes(
+pub(crate) fn read_codes(
     source: &mut BitSource,
     dimension: Dimension,
     reference: &Row,
@@ -132,35 +153,6 @@ fn read_codes(
 pub(crate) enum LineStop {
     Start(StripFault),
     Codes(RowFault),
-}
-
-/// Reads row `i` of a strip into `row`, of which nothing is said after a fault. Its reference is
-/// the row before it, or white before the first.
-#[inline(always)]
-pub(crate) fn read_line(
-    source: &mut BitSource,
-    form: StripForm,
-    i: u32,
-    reference: &Row,
-    row: &mut Row,
-) -> Result<(), LineStop>
-    requires reference_width { length reference.now ≡ form.width }
-    requires width { length row.old ≡ form.width }
-    requires some_pels { 0 < form.width }
-    ensures ok { OnOk result
-        (Lines.IsLine form i reference.now source.old.left row.new source.new.left) }
-    ensures err { IfErr result (λ stop. IsLineStop form i reference.now source.old.left stop) }
-    ensures same_width { length row.new ≡ length row.old }
-    ensures same_end { KeepsEnd source.old source.new }
-{
-    let dimension = match read_start(source, form.coding, i) {
-        Ok(dimension) => dimension,
-        Err(fault) => return Err(LineStop::Start(fault)),
-    };
-    match read_codes(source, dimension, reference, row) {
-        Ok(()) => Ok(()),
-        Err(cause) => Err(LineStop::Codes(cause)),
-    }
 }
 
 /// The fault of row `i`, which begins at this source and could not be read. What stands before its

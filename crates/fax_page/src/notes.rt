@@ -2,12 +2,12 @@
 ghost use Rattle.std.specs.Prelude.{◌≡◌, ◌<◌, ◌≤◌, ◌^◌, List, length, IfOk, IfErr, IsTrue, OnOk};
 ghost use Rattle.fax_bits.specs.Bits.{bits};
 ghost use Rattle.fax_bits.specs.declared.Colour.{Colour};
-ghost use Rattle.fax_page.specs.Lines.{IsCause, IsLine, IsRowFaultIn, IsRowIn};
+ghost use Rattle.fax_page.specs.Lines.{IsRowFaultIn, IsRowIn};
 ghost use Rattle.fax_page.specs.Strip as Spec;
 ghost use Rattle.fax_page.specs.views.Strip.{IsNotesFault, IsStripForm};
 ghost use Rattle.fax_page.specs.code.Notes as Code;
 
-use crate::lines::{line_fault, read_eol, read_line, read_start, stop};
+use crate::lines::{read_codes, read_eol, read_start, stop, take_white};
 use crate::writer::put_codes;
 use crate::{Coding, Dimension, FillOrder, StripFault, StripForm};
 use fax_rows::{BitSink, BitSource, Memory, Row, RowFault, read_1d_choice, read_2d_choice};
@@ -106,25 +106,26 @@ struct NotedStrip<'a> {
 }
 
 impl<'a> NotedStrip<'a> {
-    /// Reads row `i`, of which nothing is said after a fault, and answers whether its codes are
-    /// those that T.4 chooses. Only where that is not seen while it is read, the row is written and
-    /// compared.
-    fn read_choice(&mut self, rows: &mut NotedRows, i: u32) -> Result<bool, NotesFault>
+    /// Reads the codes of row `i`, which are due, into `row`, of which nothing is said after a fault,
+    /// and answers whether they are those that T.4 chooses. Only where that is not seen while they
+    /// are read, the row is written and compared.
+    fn read_choice(
+        &mut self,
+        rows: &mut NotedRows,
+        dimension: Dimension,
+        i: u32,
+    ) -> Result<bool, NotesFault>
         requires { Code.IsNoting self.old rows.old }
-        ensures ok { IfOk result (Code.IsLineRead self.old.form i rows.old.reference
+        ensures ok { IfOk result (Code.AreCodesRead self.old.form dimension rows.old.reference
             self.old.source.left rows.new.row self.new.source.left) }
-        ensures err { IfErr result
-            (Code.IsLineFault self.old.form i rows.old.reference self.old.source.left) }
+        ensures err { IfErr result (Code.IsCodesFault self.old.form i dimension
+            rows.old.reference self.old.source.left) }
         ensures same_width { length rows.new.row ≡ length rows.old.row }
         ensures same_reference { rows.new.reference ≡ rows.old.reference }
         ensures same_form { self.new.form ≡ self.old.form }
     {
         fax_rows::laws::one_dimensional_rows_are_read_as_nothing_else();
         fax_rows::laws::two_dimensional_rows_are_read_as_nothing_else();
-        let dimension = match read_start(&mut self.source, self.form.coding, i) {
-            Ok(dimension) => dimension,
-            Err(fault) => return Err(NotesFault::Strip { row: i, fault }),
-        };
         let codes = self.source.again();
         match read_seen(&mut self.source, dimension, &rows.reference, &mut rows.row) {
             Ok(true) => return Ok(true),
@@ -139,35 +140,61 @@ impl<'a> NotedStrip<'a> {
         Ok(rows.sink.begins(&codes))
     }
 
-    /// Reads row `i` into `row`, of which nothing is said after a fault, and asks nothing of its
-    /// codes. It stands apart: what it keeps for a fault would be put on the stack at each row.
-    #[inline(never)]
-    fn read_unasked(&mut self, rows: &mut NotedRows, i: u32) -> Result<(), StripFault>
+    /// Reads the codes of row `i`, which are due, into `row`, of which nothing is said after a fault,
+    /// and asks nothing of them.
+    fn read_unasked(
+        &mut self,
+        rows: &mut NotedRows,
+        dimension: Dimension,
+        i: u32,
+    ) -> Result<(), NotesFault>
         requires { Code.IsNoting self.old rows.old }
-        ensures ok { OnOk result (IsLine self.old.form i rows.old.reference
+        ensures ok { OnOk result (IsRowIn dimension self.old.form.width rows.old.reference
             self.old.source.left rows.new.row self.new.source.left) }
-        ensures err { IfErr result
-            (IsCause self.old.form i rows.old.reference self.old.source.left) }
+        ensures err { IfErr result (Code.IsCodesFault self.old.form i dimension
+            rows.old.reference self.old.source.left) }
         ensures same_width { length rows.new.row ≡ length rows.old.row }
         ensures same_reference { rows.new.reference ≡ rows.old.reference }
         ensures same_form { self.new.form ≡ self.old.form }
         ensures same_choice { self.new.not_t4_choice ≡ self.old.not_t4_choice }
     {
-        let start = self.source.again();
-        match read_line(
-            &mut self.source,
-            self.form,
-            i,
-            &rows.reference,
-            &mut rows.row,
-        ) {
+        let codes = self.source.again();
+        match read_codes(&mut self.source, dimension, &rows.reference, &mut rows.row) {
             Ok(()) => Ok(()),
-            Err(why) => Err(line_fault(start, self.form, i, why)),
+            Err(cause) => {
+                let fault = stop(&codes, cause);
+                Err(NotesFault::Strip { row: i, fault })
+            }
         }
     }
 
-    /// Reads row `i`, the one that is due. Once the codes of a row are others than T.4 chooses, rows
-    /// are only read.
+    /// Reads the codes of row `i`, which are due. Once the codes of a row are others than T.4
+    /// chooses, rows are only read.
+    fn note_codes(
+        &mut self,
+        rows: &mut NotedRows,
+        dimension: Dimension,
+        i: u32,
+    ) -> Result<(), NotesFault>
+        requires { Code.IsNoting self.old rows.old }
+        ensures ok { OnOk result (Code.AreCodesNoted self.old.form dimension rows.old.reference
+            self.old.source.left rows.new.reference self.new.source.left
+            self.old.not_t4_choice self.new.not_t4_choice) }
+        ensures err { IfErr result (Code.IsCodesFault self.old.form i dimension
+            rows.old.reference self.old.source.left) }
+        ensures still { Code.IsNoting self.new rows.new }
+        ensures same_form { self.new.form ≡ self.old.form }
+    {
+        if self.not_t4_choice {
+            self.read_unasked(rows, dimension, i)?;
+        } else {
+            self.not_t4_choice = !self.read_choice(rows, dimension, i)?;
+        }
+        swap(&mut rows.reference, &mut rows.row);
+        Ok(())
+    }
+
+    /// Reads row `i`, the one that is due. A white row after a white one is gone past.
     fn read_row(&mut self, rows: &mut NotedRows, i: u32) -> Result<(), NotesFault>
         requires { Code.IsNoting self.old rows.old }
         ensures ok { OnOk result (Code.IsLineNoted self.old.form i rows.old.reference
@@ -178,16 +205,14 @@ impl<'a> NotedStrip<'a> {
         ensures still { Code.IsNoting self.new rows.new }
         ensures same_form { self.new.form ≡ self.old.form }
     {
-        if self.not_t4_choice {
-            if let Err(fault) = self.read_unasked(rows, i) {
-                return Err(NotesFault::Strip { row: i, fault });
-            }
-        } else {
-            let chosen = self.read_choice(rows, i)?;
-            self.not_t4_choice = !chosen;
+        let dimension = match read_start(&mut self.source, self.form.coding, i) {
+            Ok(dimension) => dimension,
+            Err(fault) => return Err(NotesFault::Strip { row: i, fault }),
+        };
+        if take_white(&mut self.source, dimension, &rows.reference) {
+            return Ok(());
         }
-        swap(&mut rows.reference, &mut rows.row);
-        Ok(())
+        self.note_codes(rows, dimension, i)
     }
 }
 

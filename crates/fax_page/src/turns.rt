@@ -1,12 +1,12 @@
 //! The two rows of a strip that is read: a row and the row before it.
 ghost use Rattle.std.specs.Prelude.{◌≡◌, ◌<◌, length, IfOk, IfErr, OnErr, OnOk};
 ghost use Rattle.fax_bits.specs.views.Source.{KeepsEnd};
-ghost use Rattle.fax_page.specs.Lines.{IsLine, white_row};
+ghost use Rattle.fax_page.specs.Lines.{IsLine, IsRowIn, IsRowFaultIn, white_row};
 ghost use Rattle.fax_page.specs.code.LineStops.{IsLineStop};
 
-use crate::StripForm;
-use crate::lines::{LineStop, read_line};
-use fax_rows::{BitSource, Memory, Row};
+use crate::lines::{LineStop, read_codes, read_start, take_white};
+use crate::{Dimension, StripForm};
+use fax_rows::{BitSource, Memory, Row, RowFault};
 use std::alloc::Global;
 use std::marker::Model;
 
@@ -77,8 +77,29 @@ impl RowsInTurn {
         self.first.set_from(row);
     }
 
+    /// Reads the codes of a row that is coded so, which is the reference then. Where it cannot be
+    /// read, the reference stays.
+    #[inline(always)]
+    fn read_codes(&mut self, source: &mut BitSource, dimension: Dimension) -> Result<(), RowFault>
+        ensures ok { OnOk result (IsRowIn dimension (length self.old) self.old
+            source.old.left self.new source.new.left) }
+        ensures err { IfErr result
+            (IsRowFaultIn dimension (length self.old) self.old source.old.left) }
+        ensures kept { OnErr result (self.new ≡ self.old) }
+        ensures same_width { length self.new ≡ length self.old }
+        ensures same_end { KeepsEnd source.old source.new }
+    {
+        if self.is_turned {
+            read_codes(source, dimension, &self.second, &mut self.first)?;
+        } else {
+            read_codes(source, dimension, &self.first, &mut self.second)?;
+        }
+        self.is_turned = !self.is_turned;
+        Ok(())
+    }
+
     /// Reads row `i` of a strip, which is the reference then. Where it cannot be read, the
-    /// reference stays.
+    /// reference stays. A white row after a white one is gone past, and nothing is put.
     #[inline(always)]
     pub fn read(&mut self, source: &mut BitSource, form: StripForm, i: u32) -> Result<(), LineStop>
         requires width { length self.old ≡ form.width }
@@ -90,22 +111,16 @@ impl RowsInTurn {
         ensures same_width { length self.new ≡ length self.old }
         ensures same_end { KeepsEnd source.old source.new }
     {
-        if self.is_turned {
-            match read_line(source, form, i, &self.second, &mut self.first) {
-                Ok(()) => {
-                    self.is_turned = false;
-                    Ok(())
-                }
-                Err(why) => Err(why),
-            }
-        } else {
-            match read_line(source, form, i, &self.first, &mut self.second) {
-                Ok(()) => {
-                    self.is_turned = true;
-                    Ok(())
-                }
-                Err(why) => Err(why),
-            }
+        let dimension = match read_start(source, form.coding, i) {
+            Ok(dimension) => dimension,
+            Err(fault) => return Err(LineStop::Start(fault)),
+        };
+        if take_white(source, dimension, self.reference()) {
+            return Ok(());
+        }
+        match self.read_codes(source, dimension) {
+            Ok(()) => Ok(()),
+            Err(cause) => Err(LineStop::Codes(cause)),
         }
     }
 }

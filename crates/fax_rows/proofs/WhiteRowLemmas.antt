@@ -1,51 +1,158 @@
--- A row over a white one that is read by a single 1.
-use Rattle.std.proofs.Common.{◌≡◌, ℕ, zero, suc, ◌+◌, ◌<◌, List, [], ◌∷◌, take, drop, length, replicate, Bool, true, pos, refl, ap, ◌∙◌, get_or, arith}
-use Rattle.std.specs.Prelude.{None}
+-- White rows: their places of change, and their codes.
+use Rattle.std.proofs.Common.{◌≡◌, ℕ, zero, suc, ◌+◌, ◌-◌, ◌*◌, ◌<◌, ◌↔◌, List, [], ◌∷◌, ◌++◌, length, get_or, map, replicate, Bool, true, false, not}
+use Rattle.std.proofs.Common.{refl, ap, sym, ◌∙◌, arith, IsTrue, append-nil, inl, inr}
+use Rattle.std.proofs.Math.Nat.{eq-or-lt_of_le}
+use Rattle.std.specs.Prelude.{Option, Some, None, pos, ◌&&◌, ◌-ℤ◌, nat_eq}
 use Rattle.std.proofs.lemmas.Int.{ints}
+use Rattle.std.proofs.lemmas.Bool.{and_parts}
+use Rattle.std.proofs.lemmas.Bool.Decides.{nat_tests}
+use Rattle.std.proofs.lemmas.List.{get_or-replicate, length-replicate, replicate-append-replicate, drop-replicate, take-replicate}
+use Rattle.fax_rows.specs.code.PackedByte.{packed_byte}
+use Rattle.fax_rows.proofs.PackedLemmas.{packed_at}
+use Rattle.fax_bits.specs.declared.Colour.{Colour}
 use Rattle.fax_bits.specs.declared.Colour.TheVariants.{White}
-use Rattle.fax_bits.specs.declared.modes.ModeCode.TheVariants.{Vertical}
-use Rattle.fax_bits.specs.Codes.{Takes}
+use Rattle.fax_bits.specs.Bits.{code_bits, bits_number}
 use Rattle.fax_bits.specs.Tables.{modes}
-use Rattle.fax_rows.specs.declared.rows.PlacedRow.{PlacedRow}
-use Rattle.fax_rows.specs.declared.two_dimensional.steps.PlacedReached.{PlacedReached}
-use Rattle.fax_rows.specs.Rows.{Position, IsVerticalStep}
-use Rattle.fax_rows.specs.code.PlacedReached.{placed_position, IsReadTo, IsReadInside}
-use Rattle.fax_rows.specs.code.PlacedRow.{placed_pels}
-use Rattle.fax_rows.specs.code.Put.{HasRoom}
-use Rattle.fax_rows.specs.code.ReadRow.{IsReadRow}
-use Rattle.fax_rows.proofs.ChangeLemmas.{first_of}
-use Rattle.fax_rows.proofs.PlacedB1Lemmas.{b1_is}
-use Rattle.fax_rows.proofs.PlacedStepLemmas.{nothing_read}
-use Rattle.fax_rows.proofs.ReadRowLemmas.{row_done}
-use Rattle.fax_rows.proofs.UnderLemmas.{one_read}
+use Rattle.fax_bits.specs.Written.{mode_bits, run_bits}
+use Rattle.fax_bits.specs.declared.modes.ModeCode.TheVariants.{Vertical}
+use Rattle.fax_rows.specs.Coded.{packed_len, packed_row, is_black, alternating_bits, one_dimensional_bits, two_dimensional_bits}
+use Rattle.fax_rows.specs.Rows.{same_colour, pel, is_changing, is_right_of, next_change, b1, runs_after}
+use Rattle.fax_rows.specs.code.Turns.{ArePlaces, row_of}
+use Rattle.fax_rows.proofs.ChangeLemmas.{first_place_is, next_change_is}
+use Rattle.fax_rows.proofs.PlacedRowLemmas.{all_white, width_is}
+use Rattle.fax_rows.proofs.TurnLemmas.{changing_at}
+use Rattle.fax_rows.proofs.WrittenLemmas.{step_bits-end, step_bits-more}
+use Rattle.fax_rows.specs.code.Choice.{places, chosen_mode}
 
--- just before the first pel
-abbrev pub start : PlacedReached
-start = record { reached = record { a0 = None; colour = White }; end = 1; b1 = 1 }
+-- a white row of this width
+abbrev white : ℕ → List Colour
+white width = replicate width White
 
-pub at_start : (reference : PlacedRow) (places : List ℕ) → HasRoom reference.width places → IsReadInside reference places start
-at_start reference places room = record { so_far = nothing_read room; unfinished = reference.placed.some }
+-- its pels are white
+white_pel : (width i : ℕ) → i < width → pel (white width) i ≡ White
+white_pel width i inside = get_or-replicate width i White White inside
 
--- bits that begin with ones begin with a 1
-pub begins_with_one : (b : List Bool) (n : ℕ) → 0 < n → take n b ≡ replicate n true → n < suc (length b) → b ≡ true ∷ drop 1 b
-begins_with_one b zero some ones within = absurd (omega arith)
-begins_with_one [] (suc n) some ones within = absurd (omega arith)
-begins_with_one (bit ∷ b) (suc n) some ones within = cc
+-- no pel of it is a changing element
+pub none_changes : (width i : ℕ) → i < width → is_changing (white width) i ≡ false
+none_changes width zero inside = rw (white_pel width zero inside) refl
+none_changes width (suc i) inside = rw (white_pel width (suc i) inside, white_pel width i (omega arith)) refl
 
--- the step under b1, which is the width, reads the whole row
-pub white_read : (choice : Bool) (reference : PlacedRow) (places new : List ℕ) (next : PlacedReached) (b rest : List Bool)
-    → HasRoom reference.width places → reference.end ≡ 1 → Takes modes b (Vertical (pos 0)) rest
-    → IsVerticalStep (placed_pels reference) (placed_position reference.width places start) (pos 0)
-    (placed_position reference.width new next)
-    → IsReadTo reference new next → IsReadRow choice reference b new next.end rest
-white_read choice reference places new next b rest room white taken step so_far =
-    let here = at_start reference places room in
-    let read = one_read reference places new start next b rest taken here step so_far in
-    let position_a0 : Position → ℕ = λ at. first_of at.a0 in
-    let same = b1_is reference (here.so_far.b1 here.unfinished) in
-    let at : 1 ≡ reference.end + 0 = omega (arith, white) in
-    let last : get_or reference.places.now 1 0 ≡ reference.width =
-    ap (λ n. get_or reference.places.now n 0) at ∙ reference.placed.after 0 (omega arith) in
-    let to = ap position_a0 step.new_is in
-    row_done reference b new next rest read.steps (λ asked. read.chosen refl) read.so_far
-    (omega (arith, ints, same, last, to, step.a1_is))
+module _ {places : List ℕ} {end width : ℕ} (all : ArePlaces places end width) where
+  -- a row of more places than the first changes at the second
+  more_places : 1 < end → row_of places end width ≡ white width → ⊥
+  more_places more is =
+      let inside = all.below 1 (omega arith) more in
+      let changes = changing_at all.ascending width (get_or places 1 0) 1 (omega arith) more refl inside in
+      let none = none_changes width (get_or places 1 0) inside in
+      cc (sym changes ∙ ap (λ row. is_changing row (get_or places 1 0)) is ∙ none)
+
+  -- a row is white just where it has one place
+  one_place : {row : List Colour} → row_of places end width ≡ row → row ≡ replicate (length row) White → IsTrue (nat_eq end 1)
+  one_place is white_is =
+      let same = width_is all is in
+      elim (eq-or-lt_of_le all.ascending.started) [
+        | inl one ↦ rw (sym one) refl
+        | inr more ↦ absurd (more_places more (is ∙ white_is ∙ ap white (sym same)))
+      ]
+
+  pub is_white_row : {row : List Colour} → row_of places end width ≡ row → IsTrue (nat_eq end 1) ↔ (row ≡ replicate (length row) White)
+  is_white_row is = (
+    λ (one : IsTrue (nat_eq end 1)). all_white all is (grind (arith, nat_tests)),
+    λ (white : _). one_place is white,
+  )
+
+-- a white row is one run
+white_runs : (n k : ℕ) → runs_after White n (white k) ≡ (n + k) ∷ []
+unfolding runs_after
+white_runs n zero = ap (λ m. m ∷ []) (omega arith)
+white_runs n (suc k) = white_runs (n + 1) k ∙ ap (λ m. m ∷ []) (omega arith)
+
+-- in one-dimensional coding it is written as that run
+pub white_1d : (width : ℕ) → one_dimensional_bits (white width) ≡ run_bits White width
+unfolding alternating_bits
+white_1d width = ap (alternating_bits White) (white_runs 0 width ∙ ap (λ m. m ∷ []) (omega arith)) ∙ append-nil (run_bits White width)
+
+-- no changing element lies right of a place
+no_change : (width : ℕ) (from : Option ℕ) → next_change (white width) from ≡ width
+no_change width from =
+    let next = next_change_is (white width) from in
+    let same : length (white width) ≡ width = length-replicate width White in
+    elim (eq-or-lt_of_le next.within) [
+      | inl end ↦ end ∙ same
+      | inr less ↦ cc (sym (next.there less) ∙ none_changes width (next_change (white width) from) (omega arith))
+    ]
+
+no_b1 : (width : ℕ) (from : Option ℕ) (colour : Colour) → b1 (white width) from colour ≡ width
+unfolding b1
+no_b1 width from colour =
+    let test : ℕ → Bool =
+    λ i. is_right_of from i && (is_changing (white width) i && not (same_colour (pel (white width) i) colour)) in
+    let first = first_place_is test 0 (length (white width)) in
+    let same : length (white width) ≡ width = length-replicate width White in
+    elim (eq-or-lt_of_le first.within) [
+      | inl end ↦ omega (arith, end, same)
+      | inr less ↦
+          let there = (and_parts (is_right_of from (b1 (white width) from colour)) _ (first.there less)).1 in
+          let changes = (and_parts (is_changing (white width) (b1 (white width) from colour)) _ there).0 in
+          cc (sym changes ∙ none_changes width (b1 (white width) from colour) (omega arith))
+    ]
+
+-- so that a1 is under b1, and the step ends the row
+white_mode : (width : ℕ) → chosen_mode (places (white width) (white width) None) ≡ Vertical (pos 0)
+white_mode width =
+    let none : pos width -ℤ pos width ≡ pos 0 = omega (arith, ints) in
+    rw (no_change width None, no_b1 width None White, no_change width (Some width), none) (grind (arith, nat_tests))
+
+-- over a white row it is written as a single 1
+pub white_2d : (width : ℕ) → 0 < width → two_dimensional_bits (white width) (white width) ≡ true ∷ []
+unfolding mode_bits modes code_bits
+white_2d width some =
+    let count : length (white width) + 1 ≡ suc width = omega (arith, length-replicate width White) in
+    let end = step_bits-end width (white width) (white width) (Some width) (sym (length-replicate width White)) in
+    rw (
+      count,
+      step_bits-more width (white width) (white width) None (omega (arith, length-replicate width White)),
+      white_mode width,
+      no_change width None,
+      end,
+    ) refl
+
+-- the codes of a run that were taken are those of a white row
+pub chosen_1d : (row : List Colour) (width : ℕ) (b rest : List Bool) → row ≡ replicate (length row) White → width ≡ length row
+    → b ≡ run_bits White width ++ rest → b ≡ one_dimensional_bits row ++ rest
+chosen_1d row width b rest all same taken =
+    taken ∙ ap (λ c. c ++ rest)
+    (ap (run_bits White) same ∙ sym (white_1d (length row)) ∙ ap one_dimensional_bits (sym all))
+
+-- and a 1 is that of a white row over another
+pub chosen_2d : (row : List Colour) (b rest : List Bool) → row ≡ replicate (length row) White → 0 < length row
+    → b ≡ true ∷ rest → b ≡ two_dimensional_bits row row ++ rest
+chosen_2d row b rest all some taken =
+    taken ∙ ap (λ c. c ++ rest)
+    (sym (white_2d (length row) some) ∙ ap (λ (r : List Colour). two_dimensional_bits r r) (sym all))
+
+-- its pels are zeros as bits
+white_bits : (width : ℕ) → map is_black (white width) ≡ replicate width false
+white_bits zero = refl
+white_bits (suc width) = ap (λ b. false ∷ b) (white_bits width)
+
+zeros_spell : (n : ℕ) → bits_number (replicate n false) ≡ 0
+zeros_spell zero = refl
+zeros_spell (suc n) = zeros_spell n
+
+-- and so are its bytes
+white_byte : (width from : ℕ) → from < width → packed_byte (white width) from ≡ 0
+unfolding packed_byte
+white_byte width from inside =
+    rw (white_bits width, replicate-append-replicate width 7 false, drop-replicate from (width + 7) false,
+    take-replicate 8 (width + 7 - from) false (omega arith)) (zeros_spell 8)
+
+pub white_bytes : (row : List Colour) → row ≡ replicate (length row) White → packed_row row ≡ replicate (packed_len (length row)) 0
+white_bytes row is =
+    let width = length row in
+    let bytes = replicate (packed_len width) 0 in
+    let long : length bytes ≡ packed_len width = length-replicate (packed_len width) 0 in
+    let same : length (white width) ≡ width = length-replicate width White in
+    ap packed_row is
+    ∙ sym (packed_at (white width) bytes (long ∙ ap packed_len (sym same))
+    (λ k h. get_or-replicate (packed_len width) k 0 0 (omega (arith, long)) ∙ sym (white_byte width (8 * k) (omega (arith, long)))))

@@ -1,7 +1,8 @@
 //! A row of pels.
 ghost use Rattle.std.specs.Prelude.{◌≡◌, ◌≢◌, ◌<◌, ◌^◌, false, List, length, replicate, map};
-ghost use Rattle.std.specs.Prelude.{IfOk, IsTrue};
+ghost use Rattle.std.specs.Prelude.{IfOk, IsTrue, ◌↔◌};
 ghost use Rattle.std.specs.List.{filter, range_with_len};
+ghost use Rattle.fax_rows.specs.Coded.{packed_len, packed_row};
 ghost use Rattle.fax_rows.specs.Rows.{other as other_than, runs_of, is_changing, pel as pel_of};
 
 use crate::longest_runs::{LongestRuns, are_longest, put_runs};
@@ -149,6 +150,16 @@ impl Row {
         let end = put_runs(places, runs, self.width);
         self.end = close(places, end, self.width);
         true
+    }
+
+    /// Whether all pels are white. Then its packed bytes are zeros.
+    #[inline(always)]
+    pub fn is_white(&self) -> bool
+        ensures white { IsTrue result ↔ (self.now ≡ replicate (length self.now) Colour.White) }
+        ensures zeros { IsTrue result
+            → packed_row self.now ≡ replicate (packed_len (length self.now)) 0 }
+    {
+        self.end == 1
     }
 
     /// Turns all pels white. It takes no memory.

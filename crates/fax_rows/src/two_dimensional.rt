@@ -20,7 +20,6 @@ use codes::{Due, Stop};
 use due::read_on;
 use fax_bits::BitSource;
 use modes::read_by_look_ups;
-use steps::{PlacedReached, under_b1};
 
 mod choices;
 mod codes;
@@ -43,26 +42,6 @@ struct ReadRow {
     is_chosen: bool,
 }
 
-/// Reads a row over a white one by one step with a1 under b1, where a 1 is next: the row is white
-/// too. It answers where its places end. Where it is not so, the source is as it was.
-#[inline(always)]
-fn under_white(source: &mut BitSource, reference: PlacedRow, places: &mut [u32]) -> Option<usize>
-    requires room { HasRoom reference.width places.old }
-    ensures read { IfSome result (λ end. IsReadRow true reference.entry source.old.left places.new
-        end source.new.left) }
-    ensures unchanged { result ≡ None → source.new ≡ source.old }
-    ensures room { HasRoom reference.entry.width places.new }
-    ensures same_end { KeepsEnd source.old source.new }
-{
-    fax_bits::laws::modes_are_read_back();
-    if reference.end != 1 || source.ones() == 0 {
-        return None;
-    }
-    source.skip(1);
-    let at = under_b1(reference, places, PlacedReached::BEGINNING);
-    Some(at.end)
-}
-
 /// Reads the modes of a row over the reference row, and answers where its places end: by look-ups,
 /// and from a code on that none of them finds, by the tables. With `CHOICE` it stops at the first
 /// step that is not seen to be T.4's choice; the source is then as it was.
@@ -81,9 +60,6 @@ fn read_modes<const CHOICE: bool>(
     ensures room { HasRoom reference.entry.width places.new }
     ensures same_end { KeepsEnd source.old source.new }
 {
-    if let Some(end) = under_white(source, reference, places) {
-        return Ok(end);
-    }
     let read = if reference.end < reference.width as usize / FEW_CHANGES {
         read_by_look_ups::<CHOICE, true>(source, reference, places)
     } else {

@@ -51,10 +51,10 @@ pub(super) struct TwoRuns {
 }
 
 /// Reads a run of the colour whose first pel is `from` and the run of the other one after it, each
-/// by a look-up. Else it answers the first run, where that is found. `CHOICE` parts the copies of two
-/// callers: each is written out in its one caller.
+/// by a look-up. Else it answers the first run, where that is found. `CHOICE` and `SEVERAL` part the
+/// copies of several callers: each is written out in its one caller.
 #[inline(always)]
-fn run_by_run<const CHOICE: bool>(
+fn run_by_run<const CHOICE: bool, const SEVERAL: bool>(
     source: &mut BitSource,
     colour: Colour,
     width: u32,
@@ -80,7 +80,7 @@ fn run_by_run<const CHOICE: bool>(
 
 /// What `run_by_run` does: a white run and the black one after it mostly by one look-up.
 #[inline(always)]
-pub(super) fn two_runs<const CHOICE: bool>(
+pub(super) fn two_runs<const CHOICE: bool, const SEVERAL: bool>(
     source: &mut BitSource,
     colour: Colour,
     width: u32,
@@ -102,9 +102,9 @@ pub(super) fn two_runs<const CHOICE: bool>(
                 first: pair.white,
                 second: pair.black,
             }),
-            None => run_by_run::<CHOICE>(source, Colour::White, width, from),
+            None => run_by_run::<CHOICE, SEVERAL>(source, Colour::White, width, from),
         },
-        Colour::Black => run_by_run::<CHOICE>(source, Colour::Black, width, from),
+        Colour::Black => run_by_run::<CHOICE, SEVERAL>(source, Colour::Black, width, from),
     }
 }
 

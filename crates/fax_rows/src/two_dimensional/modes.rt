@@ -58,7 +58,7 @@ pub(super) fn past_runs<const CHOICE: bool>(
 /// Horizontal mode: two runs from a0 on, the first of a0's colour, which stays (T.4, section
 /// 4.2.1.3.2). The index of b1 tells that colour.
 #[inline(always)]
-fn horizontal<const CHOICE: bool>(
+fn horizontal<const CHOICE: bool, const SEVERAL: bool>(
     source: &mut BitSource,
     reference: PlacedRow,
     places: &mut [u32],
@@ -76,7 +76,7 @@ fn horizontal<const CHOICE: bool>(
 {
     let from = at.reached.first_pel();
     let colour = colour_after(at.b1);
-    match two_runs::<CHOICE>(source, colour, reference.width, from) {
+    match two_runs::<CHOICE, SEVERAL>(source, colour, reference.width, from) {
         Ok(runs) => past_runs::<CHOICE>(reference, places, at, runs),
         Err(first) => Err(Stop::Due(Due::Runs(first))),
     }
@@ -148,7 +148,7 @@ pub(super) fn pass<const CHOICE: bool>(
 /// Goes on by a mode, after its code; where a1 is under b1 it reads more such modes too (T.4,
 /// section 4.2.1.3.3).
 #[inline(always)]
-fn by_mode<const CHOICE: bool>(
+fn by_mode<const CHOICE: bool, const SEVERAL: bool>(
     source: &mut BitSource,
     reference: PlacedRow,
     places: &mut [u32],
@@ -171,7 +171,7 @@ fn by_mode<const CHOICE: bool>(
         ModeCode::Vertical(0) => Ok(under_several(source, reference, places, at)),
         ModeCode::Vertical(d) => vertical::<CHOICE>(reference, places, at, d),
         ModeCode::Pass => pass::<CHOICE>(reference, places, at),
-        ModeCode::Horizontal => horizontal::<CHOICE>(source, reference, places, at),
+        ModeCode::Horizontal => horizontal::<CHOICE, SEVERAL>(source, reference, places, at),
         ModeCode::Extension => Err(Stop::Fault(RowFault::Extension)),
     }
 }
@@ -202,7 +202,7 @@ fn next_steps<const CHOICE: bool, const SEVERAL: bool>(
     let Some(mode) = source.mode() else {
         return Err(Stop::Due(Due::Mode));
     };
-    by_mode::<CHOICE>(source, reference, places, at, mode)
+    by_mode::<CHOICE, SEVERAL>(source, reference, places, at, mode)
 }
 
 /// Reads the modes of a row over the reference row by look-ups, and answers where its places end.

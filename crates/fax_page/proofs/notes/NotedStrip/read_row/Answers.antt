@@ -1,16 +1,35 @@
-use Rattle.fax_page.proofs.NotesLemmas.{line_compared, line_only_read}
-use Rattle.fax_page.proofs.notes.NotedStrip.read_row.Goals.{then-self+in_default, else-self+in_ok-chosen}
+use Rattle.std.proofs.Common.{refl, subst}
+use Rattle.fax_page.specs.Lines.{IsRowIn}
+use Rattle.fax_page.proofs.NotesLemmas.{line_noted, codes_fault, codes_seen, on_ok, if_err}
 use Rattle.fax_page.proofs.notes.NotedStrip.read_row.Goals as goal
+
+pub returns-then-take_white-clause-ok : goal.returns-then-take_white-clause-ok
+returns-then-take_white-clause-ok c =
+    let form = c.args.self.now.form in
+    let dimension = c.in-Ok.dimension in
+    let row = c.args.rows.now.reference in
+    let codes = c.read_start.new.source.left in
+    let rest = c.take_white.new.source.left in
+    line_noted form c.args.i row row c.args.self.now.source.left codes rest dimension _ _ c.requires.limits.some_pels c.in-Ok.ensures.ok
+    (record {
+      coded = subst (λ n. IsRowIn dimension n row codes row rest) c.requires.widths.reference_width (c.if-take_white.ensures.row refl);
+      noted = codes_seen _ _ (c.if-take_white.ensures.chosen refl);
+    })
 
 pub returns-clause-ok : goal.returns-clause-ok
 returns-clause-ok c =
-    let old = c.args.self.now in
-    rw c.swap.ensures.x_after
-    (elim c.if-self.branch [
-      | then-self+in_default w ↦
-          rw (w.self-is, w.rows-is, w.in_default.ensures.same_choice) (line_only_read old.form c.args.i c.args.rows.now.reference w.read_unasked.new.rows.row old.source.left w.read_unasked.new.self.source.left
-          old.not_t4_choice w.if-self.true w.in_default.ensures.ok)
-      | else-self+in_ok-chosen w ↦
-          rw (w.self-is, w.rows-is) (line_compared old.form c.args.i c.args.rows.now.reference w.read_choice.new.rows.row old.source.left w.read_choice.new.self.source.left
-          old.not_t4_choice w.in_ok-chosen.chosen w.if-self.false w.in_ok-chosen.ensures.ok)
-    ])
+    let form = c.args.self.now.form in
+    let reference = c.args.rows.now.reference in
+    let b = c.args.self.now.source.left in
+    on_ok c.note_codes.result
+    (λ read. line_noted form c.args.i reference c.note_codes.new.rows.reference b c.read_start.new.source.left
+    c.note_codes.new.self.source.left c.in-Ok.dimension _ _ c.requires.limits.some_pels c.in-Ok.ensures.ok read)
+    (rw (c.if-take_white.ensures.unchanged refl) at c.note_codes.ensures.ok)
+
+pub returns-clause-err : goal.returns-clause-err
+returns-clause-err c =
+    let form = c.args.self.now.form in
+    if_err c.note_codes.result
+    (λ fault is. codes_fault form c.args.i c.args.rows.now.reference c.args.self.now.source.left c.read_start.new.source.left
+    c.in-Ok.dimension fault c.in-Ok.ensures.ok is)
+    (rw (c.if-take_white.ensures.unchanged refl) at c.note_codes.ensures.err)

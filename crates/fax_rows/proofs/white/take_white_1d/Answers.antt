@@ -1,0 +1,26 @@
+use Rattle.std.proofs.Common.{length, refl, sym, subst, arith}
+use Rattle.fax_bits.specs.declared.Colour.TheVariants.{White}
+use Rattle.fax_bits.specs.Written.{run_bits}
+use Rattle.fax_bits.specs.views.Source.{IsTaken}
+use Rattle.fax_rows.specs.Rows.{IsOneDimensionalRow}
+use Rattle.fax_rows.proofs.PlacedRowLemmas.{width_is}
+use Rattle.fax_rows.proofs.WhiteRowLemmas.{chosen_1d}
+use Rattle.fax_rows.proofs.white.take_white_1d.Goals as goal
+
+pub returns-clause-chosen : goal.returns-clause-chosen
+returns-clause-chosen c is =
+    let width = c.white.inside.width in
+    let rest = c.take_run.new.self.left in
+    let taken = subst (λ r. IsTaken (run_bits White width) c.args.source.now.left r rest) is c.take_run.ensures.taken in
+    chosen_1d c.args.white.now width _ rest (c.if-not-is_white.ensures.white.0 refl) (width_is c.white.invariant c.white.view_is) taken
+
+pub returns-clause-row : goal.returns-clause-row
+returns-clause-row c is =
+    let row = c.args.white.now in
+    let rest = c.take_run.new.self.left in
+    let same = width_is c.white.invariant c.white.view_is in
+    let read = c.one_dimensional_rows_are_read_back.ensures row rest (record {
+      some = omega (arith, same, c.white.invariant.some);
+      short = omega (arith, same, c.white.invariant.short);
+    }) in
+    subst (λ b. IsOneDimensionalRow (length row) b row rest) (sym (returns-clause-chosen c is)) read
