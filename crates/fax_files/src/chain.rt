@@ -56,7 +56,7 @@ fn has_few_pages(tiff: &Tiff, file: &[u8])
 }
 
 /// The offset due after the first directories of a chain.
-fn place_after(tiff: &Tiff, pages: u64) -> u32
+fn due_after_pages(tiff: &Tiff, pages: u64) -> u32
     requires { (i : ℕ) → i < pages → LeadsOn tiff.now i }
     ensures { result ≡ place tiff.now pages }
 {
@@ -73,7 +73,7 @@ fn first_turn(tiff: &Tiff, round: Round) -> u64
     ensures turn { Spec.IsTurn tiff.now round.len result }
     ensures early { result ≤ round.start }
 {
-    let mut ahead = place_after(tiff, round.len);
+    let mut ahead = due_after_pages(tiff, round.len);
     let mut before = tiff.first();
     let mut page: u64 = 0;
     while before != ahead {

@@ -232,7 +232,7 @@ fn take_return_eol(source: &mut BitSource, coding: Coding) -> bool
 }
 
 /// What stands after a return to control, where there is one (T.4, section 4.1.4).
-fn after_return<'a>(source: &BitSource<'a>, coding: Coding) -> Option<BitSource<'a>>
+fn after_return_to_control<'a>(source: &BitSource<'a>, coding: Coding) -> Option<BitSource<'a>>
     ensures { Code.IsAfterMark (Spec.AreReturnEols coding 6 source.now.left) result }
 {
     let mut ahead = source.again();
@@ -250,7 +250,7 @@ fn after_end<'a>(source: &BitSource<'a>, coding: Coding) -> Option<BitSource<'a>
     ensures { Code.IsAfterMark (Spec.IsEndMark coding source.now.left) result }
 {
     match coding {
-        Coding::Mh | Coding::Mr => after_return(source, coding),
+        Coding::Mh | Coding::Mr => after_return_to_control(source, coding),
         Coding::Mmr => {
             let mut ahead = source.again();
             if ahead.take(END_OF_BLOCK, END_OF_BLOCK_BITS) {

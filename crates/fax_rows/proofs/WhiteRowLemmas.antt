@@ -144,8 +144,12 @@ zeros_spell (suc n) = zeros_spell n
 white_byte : (width from : ℕ) → from < width → packed_byte (white width) from ≡ 0
 unfolding packed_byte
 white_byte width from inside =
-    rw (white_bits width, replicate-append-replicate width 7 false, drop-replicate from (width + 7) false,
-    take-replicate 8 (width + 7 - from) false (omega arith)) (zeros_spell 8)
+    rw (
+      white_bits width,
+      replicate-append-replicate width 7 false,
+      drop-replicate from (width + 7) false,
+      take-replicate 8 (width + 7 - from) false (omega arith),
+    ) (zeros_spell 8)
 
 pub white_bytes : (row : List Colour) → row ≡ replicate (length row) White → packed_row row ≡ replicate (packed_len (length row)) 0
 white_bytes row is =

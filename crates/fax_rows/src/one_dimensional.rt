@@ -13,7 +13,7 @@ ghost use Rattle.fax_rows.specs.code.Put.{ArePut, HasRoom};
 use crate::RowFault;
 use crate::pels::Row;
 use crate::runs::last_run;
-use crate::turns::{close, turn_after, turn_right};
+use crate::turns::{close, put_turn, turn_after};
 use fax_bits::{BitSource, Colour};
 
 /// The runs of a row that are read so far, as places of change.
@@ -134,9 +134,9 @@ fn read_runs(source: &mut BitSource, places: &mut [u32], width: u32) -> Result<R
     while runs.total < width {
         if let Some(pair) = ahead.pair_within(runs.total, width) {
             let middle = runs.total + pair.white;
-            let next = turn_right(places, runs.end, middle);
+            let next = put_turn(places, runs.end, middle);
             runs.total = middle + pair.black;
-            runs.end = turn_right(places, next, runs.total);
+            runs.end = put_turn(places, next, runs.total);
             continue;
         }
         read_on(&mut ahead, places, width, Colour::White, &mut runs)?;

@@ -65,13 +65,13 @@ pub(crate) fn turn_after(places: &mut [u32], end: usize, place: u32, run: u32) -
     if run == 0 {
         return turn(places, end, place);
     }
-    turn_right(places, end, place)
+    put_turn(places, end, place)
 }
 
 /// Turns the colour from a place on that is right of the last one, and answers where the places
 /// end.
 #[inline(always)]
-pub(crate) fn turn_right(places: &mut [u32], end: usize, place: u32) -> usize
+pub(crate) fn put_turn(places: &mut [u32], end: usize, place: u32) -> usize
     requires ascending { Spec.IsAscending places.old end }
     requires right { 1 < end → slice_index places.old (end - 1) < place }
     requires room { end < length places.old }

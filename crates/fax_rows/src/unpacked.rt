@@ -15,7 +15,7 @@ use crate::lanes::first_other;
 use crate::ones::put_ones;
 use crate::packed::WORD;
 use crate::runs::other;
-use crate::turns::{turn, turn_right};
+use crate::turns::{put_turn, turn};
 use fax_bits::Colour;
 use fax_bits::laws::bits_stand_by_place;
 
@@ -78,7 +78,7 @@ fn put_word(places: &mut [u32], end: usize, from: u32, before: u64, word: u64) -
     let mut end = end;
     while left != 0 {
         let at = left.leading_zeros();
-        end = turn_right(places, end, from + at);
+        end = put_turn(places, end, from + at);
         left ^= 1 << (63 - at);
     }
     end

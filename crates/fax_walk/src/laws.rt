@@ -70,14 +70,14 @@ pub fn answers_are_one()
 pub fn walks_have_items(walk: &Walk)
     ensures { (items : List RowItem) × (end : End) × IsLeft walk.now items end }
 {
-    walk.has_items();
+    walk.items_are_left();
 }
 
 /// Each reader of pages has pages that are left, and an end, also where it has handed out some.
 pub fn pages_have_forms(pages: &Pages)
     ensures { (forms : List FormItem) × (end : End) × AreFormsLeft pages.now forms end }
 {
-    pages.has_forms();
+    pages.forms_are_left();
 }
 
 /// Whatever a walk begins with has a tail and an end, and one only.

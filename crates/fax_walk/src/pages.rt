@@ -125,7 +125,7 @@ impl<'a> Pages<'a> {
     }
 
     /// Pages are left, and an end. It computes nothing.
-    pub(crate) fn has_forms(&self)
+    pub(crate) fn forms_are_left(&self)
         ensures { (forms : List FormItem) × (end : End) × AreFormsLeft self.now forms end }
     {
         crate::laws::form_tails_are_one();

@@ -233,7 +233,7 @@ impl<'a> Walk<'a> {
     }
 
     /// Rows are left, and an end. It computes nothing.
-    pub(crate) fn has_items(&self)
+    pub(crate) fn items_are_left(&self)
         ensures { (items : List RowItem) × (end : End) × IsLeft self.now items end }
     {
         fax_bits::laws::bits_stand_by_place();

@@ -15,7 +15,7 @@ ghost use Rattle.fax_rows.specs.code.PlacedReached.{placed_position, IsReadTo, I
 
 use crate::rows::PlacedRow;
 use crate::runs::other;
-use crate::turns::{turn_after, turn_right};
+use crate::turns::{put_turn, turn_after};
 use fax_bits::Colour;
 
 /// How far a row is read (T.4, section 4.2.1.3.1).
@@ -140,7 +140,7 @@ fn turned_at(
         (placed_position reference.entry.width places.new result) }
     ensures so_far { IsReadTo reference.entry places.new result }
 {
-    let end = turn_right(places, at.end, a1);
+    let end = put_turn(places, at.end, a1);
     PlacedReached {
         reached: Reached {
             a0: Some(a1),

@@ -4,7 +4,7 @@ use Rattle.fax_page.proofs.EndLemmas.{eols_end, block_end, no_block_end}
 use Rattle.fax_page.proofs.notes.after_end.Goals as goal
 
 pub returns-in-Mh : goal.returns-in-Mh
-returns-in-Mh c = eols_end _ _ _ c.in-Mh.is c.after_return.ensures
+returns-in-Mh c = eols_end _ _ _ c.in-Mh.is c.after_return_to_control.ensures
 
 pub returns-then-take : goal.returns-then-take
 returns-then-take c =

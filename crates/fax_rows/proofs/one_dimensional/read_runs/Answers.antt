@@ -18,12 +18,12 @@ loop-runs-init c = rw c.again-ahead.ensures (record {
   same_end = refl;
 })
 
-pub turn_right-next-requires-clause-room : goal.turn_right-next-requires-clause-room
-turn_right-next-requires-clause-room c = omega (arith, more_room c.loop-runs.invariant.read.put)
+pub put_turn-next-requires-clause-room : goal.put_turn-next-requires-clause-room
+put_turn-next-requires-clause-room c = omega (arith, more_room c.loop-runs.invariant.read.put)
 
-pub turn_right-requires-clause-room : goal.turn_right-requires-clause-room
-turn_right-requires-clause-room c =
-    omega (arith, more_room (put_on c.loop-runs.invariant.read.put c.turn_right-next.ensures (omega (arith, c.in-Some.ensures.within))))
+pub put_turn-requires-clause-room : goal.put_turn-requires-clause-room
+put_turn-requires-clause-room c =
+    omega (arith, more_room (put_on c.loop-runs.invariant.read.put c.put_turn-next.ensures (omega (arith, c.in-Some.ensures.within))))
 
 pub loop-runs-preserved-in-Some : goal.loop-runs-preserved-in-Some
 loop-runs-preserved-in-Some c =
@@ -31,7 +31,7 @@ loop-runs-preserved-in-Some c =
     record {
       colour = White;
       read = pair_read_on so_far.read (so_far.white c.loop-runs-test.true) c.loop-runs-test.true c.in-Some.ensures.runs
-          c.in-Some.ensures.within c.turn_right-next.ensures c.turn_right.ensures;
+          c.in-Some.ensures.within c.put_turn-next.ensures c.put_turn.ensures;
       white = λ h. refl;
       same_end = omega (arith, c.in-Some.ensures.same_end, so_far.same_end);
     }

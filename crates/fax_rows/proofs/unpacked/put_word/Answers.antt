@@ -64,15 +64,15 @@ loop-left-init c = (
   },
 )
 
-pub turn_right-end-requires-clause-right : goal.turn_right-end-requires-clause-right
-turn_right-end-requires-clause-right c =
+pub put_turn-end-requires-clause-right : goal.put_turn-end-requires-clause-right
+put_turn-end-requires-clause-right c =
     let at = count_leading_zeros 64 c.loop-left.left in
     let top = highest c.loop-left.left at (omega arith) (omega (arith, c.loop-left.auto.left-fits)) refl in
     let so_far = c.loop-left.invariant.1 in
     λ h. omega (arith, so_far.last h, not_gone _ _ _ _ _ _ _ so_far.put at top)
 
-pub turn_right-end-requires-clause-room : goal.turn_right-end-requires-clause-room
-turn_right-end-requires-clause-room c =
+pub put_turn-end-requires-clause-room : goal.put_turn-end-requires-clause-room
+put_turn-end-requires-clause-room c =
     let so_far = c.loop-left.invariant.1 in
     omega (
       arith,
@@ -94,9 +94,9 @@ loop-left-preserved c =
     let so_far = c.loop-left.invariant.1 in (
       at + 1,
       record {
-        put = put_more _ _ _ _ _ _ _ so_far.put _ at (c.args.from + at) (at + 1) top refl refl c.turn_right-end.ensures.turned;
-        ascending = c.turn_right-end.ensures.ascending;
-        last = λ h. omega (arith, c.turn_right-end.ensures.last);
+        put = put_more _ _ _ _ _ _ _ so_far.put _ at (c.args.from + at) (at + 1) top refl refl c.put_turn-end.ensures.turned;
+        ascending = c.put_turn-end.ensures.ascending;
+        last = λ h. omega (arith, c.put_turn-end.ensures.last);
       },
     )
 

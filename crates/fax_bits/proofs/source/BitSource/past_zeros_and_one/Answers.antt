@@ -7,8 +7,7 @@ returns-clause-past c = λ _.
     let order = c.self.inside.order in
     let bytes = c.self.inside.bytes.now in
     let w = c.in-Some in
-    let after = c.after-self-inside in
-    (
+    let after = c.after-self-inside in (
       c.zeros-zeros.result,
       omega (arith, c.if-zeros-least.false),
       zeros_taken order bytes c.self.inside.window w.ahead c.args.self.now c.self.invariant c.self.view_is w.ensures.ahead

@@ -17,8 +17,7 @@ returns-then-ahead-len-clause-taken c =
     let more = c.filled-ahead.ensures in
     let window = c.filled-ahead.result in
     let left = loaded_left order bytes c.self.inside.window window c.args.self.now c.self.invariant c.self.view_is more.ahead more.place more.within in
-    let all = all_loaded order bytes c.self.inside.window window c.args.self.now c.self.invariant c.self.view_is more.ahead more.place more.within in
-    (
+    let all = all_loaded order bytes c.self.inside.window window c.args.self.now c.self.invariant c.self.view_is more.ahead more.place more.within in (
       refl,
       λ begins.
           elim c.then-ahead-len.branch [
@@ -42,8 +41,12 @@ returns-clause-taken c =
     let b = c.args.self.now.left in
     let left = loaded_left order bytes c.self.inside.window window c.args.self.now c.self.invariant c.self.view_is more.ahead more.place more.within in
     let long : c.args.len ≤ length b =
-    omega (arith, c.if-ahead-len.false, loaded-left order bytes c.self.inside.window window c.args.self.now c.self.invariant c.self.view_is
-    more.ahead more.place more.within) in
+    omega (
+      arith,
+      c.if-ahead-len.false,
+      loaded-left order bytes c.self.inside.window window c.args.self.now c.self.invariant c.self.view_is
+          more.ahead more.place more.within,
+    ) in
     let number = sym (ap (λ b. bits_number (take c.args.len (b ++ replicate c.args.len false))) left)
     ∙ sym (c.number.ensures.number order bytes (enough c.args.len bytes window c.requires.short more.many)) ∙ c.if-number-bits.false in
     spelled b c.args.len c.args.bits long number

@@ -2,7 +2,7 @@ use Rattle.std.proofs.Common.{◌≡◌, arith, sym, subst}
 use Rattle.fax_bits.specs.views.Source.{Source}
 use Rattle.fax_page.specs.code.Notes.{AreEolsTaken}
 use Rattle.fax_page.proofs.EndLemmas.{none_taken, one_taken, one_missing, all_taken}
-use Rattle.fax_page.proofs.notes.after_return.Goals as goal
+use Rattle.fax_page.proofs.notes.after_return_to_control.Goals as goal
 
 pub loop-eol-init : goal.loop-eol-init
 loop-eol-init c =

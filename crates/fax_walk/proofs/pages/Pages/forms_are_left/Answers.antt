@@ -1,6 +1,6 @@
 use Rattle.fax_walk.proofs.PagesLemmas.{forms_left_first, forms_left, forms_left_none}
 use Rattle.std.proofs.Common.{[]}
-use Rattle.fax_walk.proofs.pages.Pages.has_forms.Goals as goal
+use Rattle.fax_walk.proofs.pages.Pages.forms_are_left.Goals as goal
 
 pub returns-in-Before : goal.returns-in-Before
 returns-in-Before c =

@@ -1,6 +1,6 @@
 use Rattle.fax_walk.specs.views.Walk.{WalkView}
 use Rattle.fax_walk.proofs.WalkLemmas.{is_left}
-use Rattle.fax_walk.proofs.walk.Walk.has_items.Goals as goal
+use Rattle.fax_walk.proofs.walk.Walk.items_are_left.Goals as goal
 
 pub returns : goal.returns
 returns c =

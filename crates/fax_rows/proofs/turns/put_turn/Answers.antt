@@ -1,7 +1,7 @@
 use Rattle.std.proofs.Common.{rules}
 use Prim.{search}
 use Rattle.fax_rows.proofs.PlacedReadLemmas.{turned_on}
-use Rattle.fax_rows.proofs.turns.turn_right.Goals as goal
+use Rattle.fax_rows.proofs.turns.put_turn.Goals as goal
 
 pub returns : goal.returns
 returns c = record {
