@@ -4,13 +4,11 @@ from __future__ import annotations
 
 import sys
 from fractions import Fraction
-from numbers import Rational
 from typing import TYPE_CHECKING, Any, Iterable, List, Optional, Sequence, Tuple, Union
 
 from ._fax import Page
-from ._raster import Raster
+from ._raster import Number, Raster, resolution
 from ._rows import Row
-from ._told import MOST
 
 if TYPE_CHECKING:
     from _typeshed import ReadableBuffer
@@ -20,8 +18,6 @@ if TYPE_CHECKING:
 # A page to be written: a page of a file, a raster, an image of Pillow in mode 1, an array of two dimensions whose items
 # are bools (rows by pels, True for black), or its rows.
 Writable = Union[Page, Raster, "Image", "ReadableBuffer", Sequence[Row]]
-# Pels or rows in an inch.
-Number = Union[int, float, Rational]
 # The digits of a row's pels, by its bools.
 _DIGITS = bytes.maketrans(b"\0\1", b"01")
 
@@ -49,17 +45,7 @@ def with_dpi(raster: Raster, dpi: Union[None, Number, Tuple[Number, Number]]) ->
     if dpi is None:
         return raster
     x, y = dpi if isinstance(dpi, tuple) else (dpi, dpi)
-    return Raster(raster.width, raster.rows, raster.packed, _resolution(x), _resolution(y), 2)
-
-
-def _resolution(number: Number) -> Fraction:
-    """A fraction of numbers that TIFF has room for."""
-    found = Fraction(number)
-    if found.numerator > MOST or found.denominator > MOST:
-        found = found.limit_denominator(1000000)
-    if not 0 < found <= MOST or found.numerator > MOST:
-        raise ValueError("a resolution is to be above 0, and below 2 ** 32")
-    return found
+    return Raster(raster.width, raster.rows, raster.packed, resolution(x), resolution(y), 2)
 
 
 def _of_rows(rows: List[Row]) -> Raster:
@@ -86,7 +72,7 @@ def _dpi_of(image: Any) -> Optional[Tuple[Fraction, Fraction]]:
     """The resolution that an image says, if it is one."""
     try:
         x, y = image.info["dpi"]
-        return _resolution(x), _resolution(y)
+        return resolution(x), resolution(y)
     except (KeyError, TypeError, ValueError, ZeroDivisionError, OverflowError):
         return None
 

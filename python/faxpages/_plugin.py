@@ -7,9 +7,10 @@ import io
 from typing import Any, Dict, List, Optional
 
 from ._fax import Fax, Page
-from .faults import Fault, Unsupported
+from .faults import Fault, MissingField, Unsupported
 
 FORMAT = "FAX"
+_STRIP_OFFSETS = 273
 _BEGINS = (b"II*\0", b"MM\0*")
 
 
@@ -18,8 +19,8 @@ def register() -> None:
     TIFF. An image of it has the format "FAX", a frame a page, and its resolution as info["dpi"].
 
     A damaged fax is an OSError that names the page, the row and the fault, when it is opened, or when the damaged page
-    is loaded. What is TIFF and no fax, since a field has a value that faxpages does not read, as another compression, is
-    left to Pillow's reader. Image.open(name, formats=["TIFF"]) asks for that one alone.
+    is loaded. What is TIFF and no fax, since it has tiles, or a field with a value that faxpages does not read, as another
+    compression, is left to Pillow's reader. Image.open(name, formats=["TIFF"]) asks for that one alone.
 
     >>> faxpages.register()
     >>> from PIL import Image
@@ -59,9 +60,10 @@ class _Frames:
         self._fax = Fax(self.fp.read())
         try:
             self._show(self._fax.page(0))
-        except Unsupported as fault:
-            raise SyntaxError(f"no fax: {fault}") from None
         except Fault as fault:
+            # A file of tiles has no strips.
+            if isinstance(fault, Unsupported) or isinstance(fault, MissingField) and fault.tag == _STRIP_OFFSETS:
+                raise SyntaxError(f"no fax: {fault}") from None
             raise OSError(str(fault)) from fault
 
     def _show(self, page: Page) -> None:

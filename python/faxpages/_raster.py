@@ -4,9 +4,10 @@ from __future__ import annotations
 
 from dataclasses import dataclass
 from fractions import Fraction
-from typing import TYPE_CHECKING, Dict, Optional, Tuple
+from numbers import Rational
+from typing import TYPE_CHECKING, Dict, Optional, Tuple, Union
 
-from ._told import number_of
+from ._told import MOST, number_of
 from .faults import Fault
 
 if TYPE_CHECKING:
@@ -15,6 +16,21 @@ if TYPE_CHECKING:
 
 MOST_WIDTH, MOST_ROWS = 65535, 1000000
 _CENTIMETRES = 2.54
+# Pels or rows in a unit.
+Number = Union[int, float, Rational]
+
+
+def resolution(number: Number) -> Fraction:
+    """A fraction of numbers that TIFF has room for."""
+    try:
+        found = Fraction(number)
+    except OverflowError:
+        raise ValueError("a resolution is to be a number") from None
+    if found.numerator > MOST or found.denominator > MOST:
+        found = found.limit_denominator(1000000)
+    if not 0 < found <= MOST or found.numerator > MOST:
+        raise ValueError("a resolution is to be above 0, and below 2 ** 32")
+    return found
 
 
 def dpi_of(x: Fraction, y: Fraction, unit: int) -> Optional[Tuple[float, float]]:
@@ -58,6 +74,8 @@ class Raster:
         width = number_of("width", self.width, 1, MOST_WIDTH)
         rows = number_of("rows", self.rows, 0, MOST_ROWS)
         number_of("unit", self.unit, 1, 3)
+        object.__setattr__(self, "x", resolution(self.x))
+        object.__setattr__(self, "y", resolution(self.y))
         packed = self.packed if type(self.packed) is bytes else memoryview(self.packed).tobytes()
         if len(packed) != rows * self.stride:
             raise ValueError(f"{rows} rows of {width} pels have {rows * self.stride} bytes, not {len(packed)}")

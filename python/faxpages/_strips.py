@@ -57,7 +57,9 @@ class _Strip:
 
     def read(self, data: bytes) -> _Read:
         """The next rows, some thousands at most."""
-        most = 1 if self._byte_align or not self._eols else max(1, _BYTES // self.stride)
+        # A row has at least one bit.
+        left = 8 * len(data) - self.place.bits + 1
+        most = 1 if self._byte_align or not self._eols else max(1, min(left, _BYTES // self.stride))
         room = min(most, max(1, self.form.rows - self.due)) * self.stride
         out, told = ctypes.create_string_buffer(room), _c.Told()
         if self._byte_align:

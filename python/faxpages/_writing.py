@@ -8,8 +8,8 @@ import os
 from typing import TYPE_CHECKING, Collection, Iterable, NoReturn, Optional, Protocol, SupportsIndex, Tuple, Union
 
 from . import _library as _c
-from ._pages import Number, Writable, raster_of, with_dpi
-from ._raster import Raster
+from ._pages import Writable, raster_of, with_dpi
+from ._raster import Number, Raster
 from ._told import number_of, refusal
 from .faults import OutputTooLarge
 
@@ -17,8 +17,8 @@ if TYPE_CHECKING:
     Dpi = Union[None, Number, Tuple[Number, Number]]
 
 CODINGS = {"mh": 1, "mr": 2, "mmr": 3}
-# The most pages of a file.
-_PAGES = 65535
+# The most pages of a file, and the most bytes.
+_PAGES, _MOST = 65535, 1 << 28
 # Room for a page's directory, and so much for each row at first.
 _DIRECTORY, _ROOM_A_ROW = 1024, 24
 
@@ -44,17 +44,17 @@ class _File:
         while True:
             status = _c.library.faxpages_add_page(
                 form, k, raster.packed, len(raster.packed), raster.stride, self._file, self._room, self._written)
-            if status != _c.NO_ROOM:
+            if status != _c.NO_ROOM or self._room == _MOST:
                 break
             self._make_room(self._room + 1)
         if status != _c.DONE:
-            _refuse(status)
+            _refuse(_c.TOO_LARGE if status == _c.NO_ROOM else status)
 
     def _make_room(self, room: int) -> None:
         """Has room for so many bytes: at least twice as many each time."""
         if room <= self._room:
             return
-        self._room = max(room, 2 * self._room)
+        self._room = min(max(room, 2 * self._room), _MOST)
         larger = ctypes.create_string_buffer(self._room)
         ctypes.memmove(larger, self._file, self._written.len)
         self._file = larger
