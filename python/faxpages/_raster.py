@@ -4,7 +4,7 @@ from __future__ import annotations
 
 from dataclasses import dataclass
 from fractions import Fraction
-from numbers import Rational
+from numbers import Rational, Real
 from typing import TYPE_CHECKING, Dict, Optional, Tuple, Union
 
 from ._told import MOST, number_of
@@ -22,10 +22,12 @@ Number = Union[int, float, Rational]
 
 def resolution(number: Number) -> Fraction:
     """A fraction of numbers that TIFF has room for."""
+    if not isinstance(number, Real):
+        raise TypeError(f"a resolution is to be a number, not {type(number).__name__}")
     try:
-        found = Fraction(number)
+        found = Fraction(number if isinstance(number, Rational) else float(number))
     except OverflowError:
-        raise ValueError("a resolution is to be a number") from None
+        raise ValueError("a resolution is to be above 0, and below 2 ** 32") from None
     if found.numerator > MOST or found.denominator > MOST:
         found = found.limit_denominator(1000000)
     if not 0 < found <= MOST or found.numerator > MOST:

@@ -5,7 +5,7 @@ from __future__ import annotations
 import collections
 import ctypes
 from dataclasses import dataclass
-from typing import TYPE_CHECKING, Deque, Iterator, NamedTuple, Optional, SupportsIndex, Tuple
+from typing import TYPE_CHECKING, Deque, Iterator, NamedTuple, NoReturn, Optional, SupportsIndex, Tuple
 
 from . import _library as _c
 from ._raster import MOST_ROWS, MOST_WIDTH, Raster
@@ -209,6 +209,9 @@ class StripReader:
             yield self._ready.popleft()
         if self._fault:
             raise self._fault
+
+    def __reduce__(self) -> NoReturn:
+        raise TypeError("a StripReader is not copied, as an iterator is not")
 
     def _read_more(self) -> bool:
         """Reads rows of what was fed, if there are some."""

@@ -124,6 +124,9 @@ def resolutions(claims):
     for dpi, wanted in ((200, (200, 200)), ((203.2, 195.58), (203.2, 195.58)), ((0.5, 2 ** 31), (0.5, 2 ** 31))):
         found = faxpages.open(faxpages.encode([page], dpi=dpi))[0]
         claims.see(f"dpi {dpi}", found.dpi == wanted and found.unit == 2)
+    for dpi in ("200", b"200", (200, None), 1j, (1, 2, 3)):
+        claims.raises(f"dpi {dpi}", ValueError if dpi == (1, 2, 3) else TypeError,
+                      lambda dpi=dpi: faxpages.encode([page], dpi=dpi))
     for dpi in (0, -1, (200, 0), 2 ** 32, float("nan"), float("inf"), 1e-30):
         claims.raises(f"dpi {dpi}", ValueError, lambda dpi=dpi: faxpages.encode([page], dpi=dpi))
 

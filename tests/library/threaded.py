@@ -42,6 +42,18 @@ def by_pages(fax):
     return until_fault(row for page in fax.pages for row in page)
 
 
+def by_rasters(fax):
+    """The rows of pages in one piece."""
+    def rows():
+        for page in fax:
+            raster = page.raster(partial=True)
+            for at in range(raster.rows):
+                yield faxpages.Row(page.number, at, page.width, raster.packed[at * raster.stride:][:raster.stride])
+            if raster.fault:
+                raise raster.fault
+    return until_fault(rows())
+
+
 def by_numbers(fax):
     """The forms and the rows of pages by their numbers."""
     def rows():
@@ -81,7 +93,7 @@ def by_calls(fax):
     return fax.check(), made
 
 
-WAYS = [by_pages, by_numbers, by_rows, by_batches, by_calls]
+WAYS = [by_pages, by_rasters, by_numbers, by_rows, by_batches, by_calls]
 
 
 def together(works):
@@ -163,7 +175,7 @@ def take_turns(claims):
 
 def main():
     claims, wanted = Claims(), {way: [way(fax) for fax in open_samples()] for way in WAYS}
-    claims.see("the ways are one", all(wanted[way][0] == wanted[by_pages][0] for way in WAYS[:4]))
+    claims.see("the ways are one", all(wanted[way][0] == wanted[by_pages][0] for way in WAYS[:5]))
     claims.see("rows are there", len(wanted[by_pages][0][0]) == sum(HEIGHTS) and wanted[by_rows][1][1] is not None)
     take_turns(claims)
     sys.setswitchinterval(1e-6)
