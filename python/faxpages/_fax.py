@@ -94,8 +94,8 @@ class Page:
     x and y are the resolution, in pels of a row and rows in a unit: 1 none, 2 inch, 3 centimetre. Threads may share a
     page, each with an iterator of its own.
 
-    A page that is asked for whole, as packed(), raster(), array() or image(), raises the fault where it is damaged. With
-    partial=True it is what stands before the fault, which may be no row.
+    A page that is asked for whole, as packed(), raster(), array() or image(), raises the fault where it is damaged.
+    With partial=True it is what stands before the fault, which may be no row.
 
     >>> page = faxpages.open("samples/three-pages.tif").page(1)
     >>> page.width, page.rows, page.coding, page.x, page.unit
@@ -143,8 +143,8 @@ class Page:
         return self._read(partial)[0]
 
     def raster(self, partial: bool = False) -> Raster:
-        """The rows in one block of bytes, with the page's resolution. Where it is damaged and partial is True, lost says
-        how many rows it lacks, and fault why.
+        """The rows in one block of bytes, with the page's resolution. Where it is damaged and partial is True, lost
+        says how many rows it lacks, and fault why.
 
         >>> damaged = faxpages.open("samples/three-pages.tif").page(2).raster(partial=True)
         >>> damaged.rows, damaged.lost, damaged.packed, damaged.fault
@@ -163,8 +163,8 @@ class Page:
         return self.raster(partial).array()
 
     def image(self, partial: bool = False) -> "Image":
-        """The page as an image of Pillow, which has to be installed: see Raster.image. Of a damaged page it has the rows
-        before the fault alone, and info["lost"] says how many it lacks.
+        """The page as an image of Pillow, which has to be installed: see Raster.image. Of a damaged page it has the
+        rows before the fault alone, and info["lost"] says how many it lacks.
 
         >>> fax = faxpages.open("samples/three-pages.tif")
         >>> fax.page(1).image().size
@@ -195,8 +195,8 @@ class Page:
 class Fax(Sequence[Page]):
     """A file of fax pages, in memory. Use open.
 
-    It is a sequence of its pages: an iteration reads the directories as it goes, and len(), a negative index and a slice
-    without an end read them all. A fault is raised after the pages before it; a page that is not there is an
+    It is a sequence of its pages: an iteration reads the directories as it goes, and len(), a negative index and a
+    slice without an end read them all. A fault is raised after the pages before it; a page that is not there is an
     OutsideError, which is an IndexError too.
 
     Its bytes never change, and threads may share it, each with iterators of its own. Two are equal where their bytes

@@ -19,8 +19,8 @@ def register() -> None:
     TIFF. An image of it has the format "FAX", a frame a page, and its resolution as info["dpi"].
 
     A damaged fax is an OSError that names the page, the row and the fault, when it is opened, or when the damaged page
-    is loaded. What is TIFF and no fax, since it has tiles, or a field with a value that faxpages does not read, as another
-    compression, is left to Pillow's reader. Image.open(name, formats=["TIFF"]) asks for that one alone.
+    is loaded. What is TIFF and no fax, since it has tiles, or a field with a value that faxpages does not read, as
+    another compression, is left to Pillow's reader. Image.open(name, formats=["TIFF"]) asks for that one alone.
 
     >>> faxpages.register()
     >>> from PIL import Image

@@ -49,8 +49,8 @@ class Raster:
 
     Each row has stride bytes, which are (width + 7) // 8: the highest bit first, 1 for black, with zeros after the last
     pel. width is 1 to 65,535, and rows 0 to 1,000,000. x and y are the resolution, in pels of a row and rows in a unit:
-    1 none, 2 inch, 3 centimetre; where none is given it is 204 by 196 an inch, that of a fine fax. Where a page was read
-    with partial=True, lost says how many rows it lacks after these, and fault why, or None.
+    1 none, 2 inch, 3 centimetre; where none is given it is 204 by 196 an inch, that of a fine fax. Where a page was
+    read with partial=True, lost says how many rows it lacks after these, and fault why, or None.
 
     numpy.asarray(raster) is an array of the packed bytes, rows by stride, without a copy; and so is memoryview(raster)
     from Python 3.12 on.
@@ -110,8 +110,8 @@ class Raster:
         return view.cast("B", (self.rows, self.stride)) if self.rows else view
 
     def array(self) -> "Array":
-        """The packed bytes as an array of numpy, which has to be installed: rows by stride, not to be written, without a
-        copy. numpy.unpackbits(array, axis=1, count=width) are the pels, 1 for black.
+        """The packed bytes as an array of numpy, which has to be installed: rows by stride, not to be written, without
+        a copy. numpy.unpackbits(array, axis=1, count=width) are the pels, 1 for black.
 
         >>> faxpages.open("samples/three-mmr-rows.tif").page(0).raster().array().tolist()
         [[24], [252], [0]]

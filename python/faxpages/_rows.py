@@ -75,9 +75,9 @@ class Batch(NamedTuple):
 
     def rows(self, first: int = 0, end: Optional[int] = None) -> List[Row]:
         """Those from one of them on, up to another."""
-        table = self.table[first * _ROW.size:None if end is None else end * _ROW.size]
-        packed = self.packed
-        return [Row(page, row, width, packed[at:at + length]) for at, length, page, row, width in _ROW.iter_unpack(table)]
+        table, packed = self.table[first * _ROW.size:None if end is None else end * _ROW.size], self.packed
+        return [Row(page, row, width, packed[at:at + length])
+                for at, length, page, row, width in _ROW.iter_unpack(table)]
 
     def bytes_of(self, first: int, end: int) -> bytes:
         """The bytes of those."""
@@ -130,8 +130,8 @@ class _Window(NamedTuple):
 
 
 class Ahead:
-    """Rows of pages, read ahead over pages: twice as many each time, while pages are asked for in order. Iterators share
-    what was read last. A copy keeps nothing."""
+    """Rows of pages, read ahead over pages: twice as many each time, while pages are asked for in order. Iterators
+    share what was read last. A copy keeps nothing."""
 
     def __init__(self) -> None:
         self._window = _Window(Batch(0, b"", b"", Cursor(), False, None), -1, 0)

@@ -91,9 +91,10 @@ def strip(data: "ReadableBuffer", width: SupportsIndex = 1728, rows: Optional[Su
     """The rows of T.4 or T.6 data that has no file around it, as on a line or in a PDF (CCITTFaxDecode).
 
     coding is "mh", "mr" or "mmr" (K 0, above 0, below 0 in a PDF); order is 1 where the highest bit of a byte is first,
-    and 2 where the lowest is. Where rows is None they are at least one, and end at the end mark (EOFB, RTC), or where no 1
-    is left; otherwise there have to be so many. byte_align says that each row begins on a byte boundary (EncodedByteAlign), and eols=False
-    that rows in "mh" have no EOL before them. Then they are read one a call, which takes longer.
+    and 2 where the lowest is. Where rows is None they are at least one, and end at the end mark (EOFB, RTC), or where
+    no 1 is left; otherwise there have to be so many. byte_align says that each row begins on a byte boundary
+    (EncodedByteAlign), and eols=False that rows in "mh" have no EOL before them. Then they are read one a call, which
+    takes longer.
 
     Of damaged data the fault is raised, its page 0. With partial=True it is told in the raster, whose rows are those
     before it; lost says how many are missing where rows is known.

@@ -73,8 +73,8 @@ pub enum Error {
     UnknownInput,
     /// The output would have more than 268,435,456 bytes, or more than 65,535 pages.
     OutputTooLarge,
-    /// K is 0, a strip has no row, EOLs are to be aligned in a coding that has none, numbers are no form, or a raster is
-    /// too short.
+    /// K is 0, a strip has no row, EOLs are to be aligned in a coding that has none, numbers are no form, or a raster
+    /// is too short.
     BadOptions,
     /// A buffer has no room for the next row.
     NoRoom,
@@ -367,12 +367,13 @@ impl<'a> Fax<'a> {
         Pages::new(self.file)
     }
 
-    /// Reads a page into a buffer: row i into the `stride` bytes from `out[i * stride]` on, with zeros, which are white,
-    /// after its packed bytes. [`Fax::form`] says how much room it takes.
+    /// Reads a page into a buffer: row i into the `stride` bytes from `out[i * stride]` on, with zeros, which are
+    /// white, after its packed bytes. [`Fax::form`] says how much room it takes.
     ///
     /// # Errors
     ///
-    /// As [`Fax::form`], or [`Error::Memory`]. A fault of its rows, or want of room, is told beside how many were written.
+    /// As [`Fax::form`], or [`Error::Memory`]. A fault of its rows, or want of room, is told beside how many were
+    /// written.
     ///
     /// ```
     /// # let file = std::fs::read("../samples/three-pages.tif").unwrap();

@@ -10,8 +10,8 @@ use std::iter::FusedIterator;
 const MOST_ROWS: u32 = 1_000_000;
 /// How many bytes of rows are read at a time.
 const BYTES: usize = 1 << 20;
-/// Where a row is not whole in so many bytes, it is tried again when a quarter more is there, so that bytes that come one
-/// by one are read in a time in proportion to their number.
+/// Where a row is not whole in so many bytes, it is tried again when a quarter more is there, so that bytes that come
+/// one by one are read in a time in proportion to their number.
 const TRIED: usize = 4096;
 const DATA_ENDS: u32 = 101;
 const END_MARKER: u32 = 107;
@@ -21,8 +21,8 @@ const END_MARKER: u32 = 107;
 pub struct StripForm {
     /// The pels of a row, 1 to 65,535.
     pub width: u32,
-    /// The rows, 1 to 1,000,000. Where it is none, at least one is read, up to the end mark (EOFB, RTC), or to where no 1
-    /// is left.
+    /// The rows, 1 to 1,000,000. Where it is none, at least one is read, up to the end mark (EOFB, RTC), or to where no
+    /// 1 is left.
     pub rows: Option<u32>,
     /// How its rows are coded.
     pub coding: Coding,
@@ -276,8 +276,8 @@ impl FusedIterator for StripRows<'_> {}
 #[derive(Debug)]
 pub struct StripReader {
     walk: Walk,
-    /// What was fed and is not read yet, of which so many bytes are being read, and how many have to be there before more
-    /// is read.
+    /// What was fed and is not read yet, of which so many bytes are being read, and how many have to be there before
+    /// more is read.
     fed: Vec<u8>,
     seen: Option<usize>,
     wanted: usize,
@@ -315,8 +315,8 @@ impl StripReader {
         self.is_closed = true;
     }
 
-    /// Whether the strip has ended, at its end mark, at the last of its rows or after [`StripReader::close`], and all its
-    /// rows were handed out.
+    /// Whether the strip has ended, at its end mark, at the last of its rows or after [`StripReader::close`], and all
+    /// its rows were handed out.
     pub fn is_ended(&self) -> bool {
         self.is_ended && self.walk.ready.is_empty()
     }
@@ -383,10 +383,10 @@ impl StripReader {
     }
 }
 
-/// Codes the rows of a raster as a strip, in the codes that T.4 and T.6 choose: row i stands in the (width + 7) / 8 bytes
-/// from `raster[i * stride]` on, the highest bit first, 1 for black, whatever stands after its pels. Where the form says no
-/// number of rows, they are as many as the raster has. In MR a row in every k is coded by itself; k is at least 1. After
-/// the last row stands the end of the block (EOFB) in MMR, and nothing in MH and MR.
+/// Codes the rows of a raster as a strip, in the codes that T.4 and T.6 choose: row i stands in the (width + 7) / 8
+/// bytes from `raster[i * stride]` on, the highest bit first, 1 for black, whatever stands after its pels. Where the
+/// form says no number of rows, they are as many as the raster has. In MR a row in every k is coded by itself; k is at
+/// least 1. After the last row stands the end of the block (EOFB) in MMR, and nothing in MH and MR.
 ///
 /// # Errors
 ///

@@ -37,16 +37,16 @@ impl Writer {
         }
     }
 
-    /// Adds a page of this form, coded of a raster: row i stands in the [`Form::stride`] bytes from `raster[i * stride]`
-    /// on, the highest bit first, 1 for black, whatever stands after its pels. In MR a row in every k is coded by itself;
-    /// k is at least 1. `page`, `strips` and `exchanged` of the form do not matter, and `rows_per_strip` of more than its
-    /// rows, or of none, is one strip.
+    /// Adds a page of this form, coded of a raster: row i stands in the [`Form::stride`] bytes from `raster[i *
+    /// stride]` on, the highest bit first, 1 for black, whatever stands after its pels. In MR a row in every k is coded
+    /// by itself; k is at least 1. `page`, `strips` and `exchanged` of the form do not matter, and `rows_per_strip` of
+    /// more than its rows, or of none, is one strip.
     ///
     /// # Errors
     ///
     /// [`Error::BadOptions`] where the form is none, k is 0, the raster is too short, or the file has all its pages;
-    /// [`Error::OutputTooLarge`] where it would have more than 268,435,456 bytes; or [`Error::Memory`]. Then the file is
-    /// what it was.
+    /// [`Error::OutputTooLarge`] where it would have more than 268,435,456 bytes; or [`Error::Memory`]. Then the file
+    /// is what it was.
     pub fn add(&mut self, form: &Form, k: u32, raster: &[u8], stride: usize) -> Result<(), Error> {
         let given = given(form);
         loop {

@@ -1,9 +1,10 @@
 //! Prints a file's rows as `faxpages rows` does, by the crate for Rust: cursors HOW FILE.
 //!
-//! HOW is `rows`, `runs` or `changes`, all of them by one iterator; `pages`, by whole pages, and the damaged one up to its
-//! fault; `numbers`, the same by their numbers; `buffers`, by pages in a buffer; `batches`, a few at a time by cursors that went
-//! through their text; `stops`, by iterators that are left inside what they have read ahead; `places`, the rows and the
-//! cursors after them; or `wrong`, where nothing is printed, and what is out of range has to be refused.
+//! HOW is `rows`, `runs` or `changes`, all of them by one iterator; `pages`, by whole pages, and the damaged one up to
+//! its fault; `numbers`, the same by their numbers; `buffers`, by pages in a buffer; `batches`, a few at a time by
+//! cursors that went through their text; `stops`, by iterators that are left inside what they have read ahead;
+//! `places`, the rows and the cursors after them; or `wrong`, where nothing is printed, and what is out of range has to
+//! be refused.
 use faxpages::{convert, Cursor, Error, Fax, Form, Options, Page, Pages, Report, Row, RowChanges, RowRuns, Rows, Target};
 use std::process::exit;
 
@@ -37,7 +38,8 @@ fn of_page(page: Page) -> Vec<Line> {
     let (number, width) = (page.form.page, page.form.width);
     assert_eq!(page.rows().len() as u32 + page.lost(), page.form.rows);
     assert_eq!((page.fault.is_none(), page.row(page.form.rows)), (page.lost() == 0, None));
-    let rows = page.rows().zip(0..).map(|(packed, row)| Ok(Row { page: number, number: row, width, packed: packed.to_vec() }));
+    let rows = page.rows().zip(0..);
+    let rows = rows.map(|(packed, row)| Ok(Row { page: number, number: row, width, packed: packed.to_vec() }));
     rows.map(of_row).chain(page.fault.clone().map(Err)).collect()
 }
 
@@ -214,7 +216,8 @@ fn wrong(fax: Fax<'_>) {
     assert_eq!(fax.convert(&options), Err(Error::BadOptions));
     assert_eq!(convert(b"GIF", &Options::new(Target::Pbm)), Err(Error::UnknownInput));
     assert_eq!(Fax::new(b"").rows().count() + Fax::new(b"").forms().count() + Fax::new(b"").pages().count(), 3);
-    shared::<(Fax<'_>, Page, Pages<'_>, Rows<'_>, Rows<'_, RowRuns>, Rows<'_, RowChanges>, Cursor, Form, Report, Error)>();
+    shared::<(Fax<'_>, Page, Pages<'_>, Cursor, Form, Report, Error)>();
+    shared::<(Rows<'_>, Rows<'_, RowRuns>, Rows<'_, RowChanges>)>();
 }
 
 fn print(lines: impl Iterator<Item = Line>) {

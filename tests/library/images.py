@@ -47,7 +47,8 @@ def arrays(claims, name, data):
         for written in (pels, numpy.asfortranarray(pels), pels[:, ::-1][:, ::-1]):
             claims.see(f"an array of pels of {name}",
                        faxpages.open(faxpages.encode([written]))[0].packed() == raster.packed)
-    for wrong in (numpy.zeros((2, 2), numpy.uint8), numpy.zeros((2, 2, 2), bool), numpy.zeros(8, bool), numpy.zeros((2, 2))):
+    for wrong in (numpy.zeros((2, 2), numpy.uint8), numpy.zeros((2, 2)), numpy.zeros((2, 2, 2), bool),
+                  numpy.zeros(8, bool)):
         claims.raises(f"an array {wrong.shape} {wrong.dtype}", TypeError, lambda wrong=wrong: faxpages.encode([wrong]))
     for wrong in (numpy.zeros((0, 8), bool), numpy.zeros((8, 0), bool)):
         claims.raises(f"an array {wrong.shape}", ValueError, lambda wrong=wrong: faxpages.encode([wrong]))
@@ -86,7 +87,8 @@ def other_images(claims):
     claims.see("white is 0", faxpages.open(faxpages.encode([image]))[0].packed() == bytes(4))
     claims.see("another resolution", faxpages.open(faxpages.encode([image], dpi=300))[0].dpi == (300, 300))
     for mode in ("L", "RGB"):
-        claims.raises(f"an image of mode {mode}", ValueError, lambda mode=mode: faxpages.encode([Image.new(mode, (8, 8))]))
+        claims.raises(f"an image of mode {mode}", ValueError,
+                      lambda mode=mode: faxpages.encode([Image.new(mode, (8, 8))]))
 
 
 def opened(data, **words):
@@ -110,7 +112,8 @@ def by_pillow(claims, name, data):
         claims.see(f"{name} by Pillow is no fax", found[0] != "FAX")
     else:
         is_tiff = data[:4] in (b"II*\0", b"MM\0*") and report.fault.tag != 273
-        claims.see(f"{name} by Pillow is refused", found[0] == "error" and (not is_tiff or found[1] == str(report.fault)))
+        claims.see(f"{name} by Pillow is refused",
+                   found[0] == "error" and (not is_tiff or found[1] == str(report.fault)))
 
 
 def plugin(claims):

@@ -60,8 +60,9 @@ def whole_pages(claims, name, data):
     for page in itertools.islice(faxpages.open(data), report.pages):
         whole = page.raster()
         claims.see(f"page {page.number} of {name}", wanted[page.number] == page.packed() == whole.packed)
-        claims.see(f"its raster of {name}", page.raster(partial=True) == whole and (whole.lost, whole.fault) == (0, None)
-                   and (whole.width, whole.rows, whole.x, whole.y) == (page.width, page.rows, page.x, page.y))
+        claims.see(f"its raster of {name}", page.raster(partial=True) == whole
+                   and (whole.lost, whole.fault) == (0, None) and (whole.width, whole.rows) == (page.width, page.rows)
+                   and (whole.x, whole.y, whole.unit) == (page.x, page.y, page.unit))
     try:
         damaged = faxpages.open(data).page(report.pages)
     except (faxpages.Fault, faxpages.OutsideError):
@@ -77,9 +78,11 @@ def as_sequence(claims, name, data):
     fax, (pages, fault) = faxpages.open(data), listed(faxpages.open(data))
     claims.see(f"a fax is true, {name}", bool(fax))
     for number, page in enumerate(pages):
-        claims.see(f"{name}[{number}]", fax[number] == page == fax.page(number) and fax[:number + 1] == pages[:number + 1])
+        claims.see(f"{name}[{number}]", fax[number] == page == fax.page(number)
+                   and fax[:number + 1] == pages[:number + 1])
     if fault:
-        for what in (lambda: len(fax), lambda: fax[-1], lambda: fax[0:], lambda: fax[:len(pages) + 1], lambda: list(fax)):
+        end = len(pages) + 1
+        for what in (lambda: len(fax), lambda: fax[-1], lambda: fax[0:], lambda: fax[:end], lambda: list(fax)):
             claims.raises(f"all pages of {name}", type(fault), what)
         return
     claims.see(f"len of {name}", len(fax) == len(pages) == len(fax))
@@ -186,9 +189,9 @@ def sources(claims):
         file.seek(0)
         mapped = mmap.mmap(file.fileno(), 0, access=mmap.ACCESS_READ)
         mapped.seek(7)
-        lent = [data, bytearray(data), memoryview(data), mapped, array.array("H", data), memoryview(2 * data)[:len(data)],
-                memoryview(bytes(itertools.chain(*zip(data, data))))[::2], name, pathlib.Path(name), io.BytesIO(data), file,
-                raw]
+        twice = memoryview(bytes(itertools.chain(*zip(data, data))))
+        lent = [data, bytearray(data), memoryview(data), mapped, array.array("H", data), twice[::2], name,
+                pathlib.Path(name), io.BytesIO(data), file, raw]
         claims.see("sources", all(faxpages.open(source) == faxpages.Fax(data) for source in lent))
         mapped.close()
     skipped = io.BytesIO(b"skipped" + data)
@@ -235,11 +238,10 @@ def small_room(claims):
 
 def command(claims):
     """The module says its version."""
-    ran = subprocess.run([sys.executable, "-m", "faxpages", "--version"], env={**os.environ, "PYTHONPATH": f"{TOP}/python"},
-                         capture_output=True, check=False, timeout=600)
+    words, place = [sys.executable, "-m", "faxpages"], {**os.environ, "PYTHONPATH": f"{TOP}/python"}
+    ran = subprocess.run([*words, "--version"], env=place, capture_output=True, check=False, timeout=600)
     claims.see("the version", (ran.returncode, ran.stdout.decode()) == (0, f"faxpages {faxpages.version()}\n"))
-    ran = subprocess.run([sys.executable, "-m", "faxpages"], env={**os.environ, "PYTHONPATH": f"{TOP}/python"},
-                         capture_output=True, check=False, timeout=600)
+    ran = subprocess.run(words, env=place, capture_output=True, check=False, timeout=600)
     claims.see("no words", (ran.returncode, ran.stdout) == (2, b"") and ran.stderr.startswith(b"usage: "))
 
 

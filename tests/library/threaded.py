@@ -162,7 +162,7 @@ def share_iterators(claims, wanted):
 
 
 def take_turns(claims):
-    """An iterator goes on where it was, after others have read other pages: also inside a page that was read in part."""
+    """An iterator goes on where it was, after others have read other pages: also in a page that was read in part."""
     fax = open_samples()[0]
     pages = list(fax.pages)
     for page in pages[3:]:

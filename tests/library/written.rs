@@ -1,8 +1,8 @@
-//! Writes a file's pages anew by the crate for Rust, codes them as bare strips, and reads these whole and in pieces:
-//! written FILE
+//! Writes the pages of files anew by the crate for Rust, codes them as bare strips, and reads these whole and in
+//pieces: ! written FILE..
 //!
-//! Prints how many pages were tried in how many ways. A file that is written page by page has to be the one that the
-//! crate converts, and a strip to have the rows that were coded.
+//! Prints how many strips were tried. A file that is written page by page has to be the one that the crate converts,
+//and ! a strip to have the rows that were coded.
 use faxpages::{
     code_strip, Coding, Error, Fax, FillOrder, Form, Options, Page, Row, Strip, StripForm, StripReader, StripReport,
     StripRows, Target, Writer,
@@ -12,7 +12,8 @@ use faxpages::{
 fn ways() -> impl Iterator<Item = Options> {
     let codings = [Target::Mh, Target::Mr, Target::Mmr].into_iter();
     let orders = codings.flat_map(|target| [FillOrder::MsbFirst, FillOrder::LsbFirst].map(|order| (target, order)));
-    let heights = orders.flat_map(|(target, order)| [(1, None), (3, Some(2))].map(|(k, strip)| (target, order, k, strip)));
+    let heights =
+        orders.flat_map(|(target, order)| [(1, None), (3, Some(2))].map(|(k, strip)| (target, order, k, strip)));
     heights.flat_map(|(target, order, k, strip)| {
         let aligned = [false, true].into_iter().filter(move |aligned| !aligned || target != Target::Mmr);
         aligned.map(move |aligned| {
@@ -41,7 +42,7 @@ fn anew(pages: &[Page], way: &Options) -> Vec<u8> {
         let raster: Vec<u8> = page.rows().flat_map(|row| [row, &[0xA5; 5]].concat()).collect();
         assert_eq!(writer.pages(), added);
         writer.add(&form, way.k, &raster, form.stride() + 5).unwrap();
-        assert_eq!(Fax::new(writer.bytes()).pages().map(|page| page.unwrap().packed).collect::<Vec<_>>().len(), added as usize + 1);
+        assert_eq!(Fax::new(writer.bytes()).pages().map(Result::unwrap).count(), added as usize + 1);
     }
     writer.finish().unwrap()
 }
@@ -105,13 +106,16 @@ fn wrong() {
 
 fn wrong_strips() {
     let form = StripForm::new(8, Coding::Mmr);
-    for wrong in [StripForm { width: 0, ..form }, StripForm { width: 65_536, ..form }, StripForm { rows: Some(0), ..form }] {
+    let no_rows = StripForm { rows: Some(0), ..form };
+    for wrong in [StripForm { width: 0, ..form }, StripForm { width: 65_536, ..form }, no_rows] {
         assert_eq!(Strip::new(b"\xFF", wrong).rows().collect::<Vec<_>>(), [Err(Error::BadOptions)]);
         assert_eq!(Strip::new(b"\xFF", wrong).check(), Err(Error::BadOptions));
         assert_eq!(code_strip(&wrong, 1, &[0; 10_000], 9000), Err(Error::BadOptions));
         let mut reader = StripReader::new(wrong);
         reader.feed(b"\xFF");
-        assert_eq!((reader.next_row(), reader.next_row()), (Some(Err(Error::BadOptions)), Some(Err(Error::BadOptions))));
+        for _ in 0..2 {
+            assert_eq!(reader.next_row(), Some(Err(Error::BadOptions)));
+        }
     }
     for (k, raster, stride) in [(0, &[0; 4][..], 1), (1, &[], 1)] {
         assert_eq!(code_strip(&form, k, raster, stride), Err(Error::BadOptions));
@@ -135,7 +139,7 @@ fn wrong_strips() {
 /// Bytes that come one by one: a long fill, and then a row.
 fn many_pieces() {
     let mut reader = StripReader::new(StripForm::new(8, Coding::Mh));
-    for byte in [0; 300_000].iter().chain(b"\x01\x98") {
+    for byte in [0; 60_000].iter().chain(b"\x01\x98") {
         reader.feed(&[*byte]);
         assert!(matches!(reader.next_row(), None | Some(Ok(_))));
     }
@@ -146,14 +150,13 @@ fn many_pieces() {
 
 fn shared<T: Send + Sync>() {}
 
-fn main() {
-    shared::<(Strip<'_>, StripForm, StripReader, StripReport, StripRows<'_>, Writer)>();
-    let file = std::fs::read(std::env::args().nth(1).unwrap()).unwrap();
-    let pages: Vec<_> = Fax::new(&file).pages().map_while(Result::ok).collect();
+/// Tries a file in each way, and answers how many strips were tried.
+fn try_file(file: &[u8]) -> usize {
+    let pages: Vec<_> = Fax::new(file).pages().map_while(Result::ok).collect();
     let mut tried = 0;
     for way in ways() {
-        if !pages.is_empty() && Fax::new(&file).check().unwrap().fault.is_none() {
-            assert_eq!(anew(&pages, &way), Fax::new(&file).convert(&way).unwrap());
+        if !pages.is_empty() && Fax::new(file).check().unwrap().fault.is_none() {
+            assert_eq!(anew(&pages, &way), Fax::new(file).convert(&way).unwrap());
         }
         for page in &pages {
             let mut form = StripForm::new(page.form.width, coding(way.target));
@@ -163,6 +166,13 @@ fn main() {
             tried += 1;
         }
     }
+    tried
+}
+
+fn main() {
+    shared::<(Strip<'_>, StripForm, StripReader, StripReport, StripRows<'_>, Writer)>();
+    let tried: usize = std::env::args().skip(1).map(|name| try_file(&std::fs::read(name).unwrap())).sum();
     wrong();
-    println!("{tried} strips of {} pages", pages.len());
+    println!("{tried} strips");
+    assert!(tried > 0);
 }
