@@ -9,7 +9,7 @@ import os
 import random
 import sys
 
-from counted import TOP, Claims, faxpages
+from counted import TOP, Claims, faxpages, until_fault
 
 sys.path[1:1] = [os.path.join(TOP, "tests", "plain"), os.path.join(TOP, "tests", "calls")]
 
@@ -74,13 +74,8 @@ def agrees(raster, rows, fault):
 
 def taken(reader):
     """The rows that a reader gives, and its fault."""
-    rows = []
-    try:
-        for row in reader:
-            rows.append(row)
-    except faxpages.Fault as fault:
-        return rows, (fault.name, fault.row)
-    return rows, None
+    rows, fault = until_fault(reader)
+    return rows, fault and (fault.name, fault.row)
 
 
 def in_pieces(rng, data, reader):

@@ -16,7 +16,7 @@ import sys
 import tempfile
 import tracemalloc
 
-from counted import SMALL, TOP, Claims, faxpages
+from counted import SMALL, TOP, Claims, faxpages, until_fault
 
 sys.path.append(os.path.join(TOP, "tests", "plain"))
 
@@ -44,16 +44,6 @@ def packed_by_program(data):
     return pages
 
 
-def listed(fax):
-    """The pages by an iterator, and the fault that ends them."""
-    found = []
-    try:
-        found += (page for page in fax)
-    except faxpages.Fault as fault:
-        return found, fault
-    return found, None
-
-
 def whole_pages(claims, name, data):
     """Each page in one piece is its rows, as far as the program reads them, and what is lost is told."""
     wanted, report = packed_by_program(data), faxpages.check(data)
@@ -75,7 +65,7 @@ def whole_pages(claims, name, data):
 
 def as_sequence(claims, name, data):
     """A fax is a sequence of its pages."""
-    fax, (pages, fault) = faxpages.open(data), listed(faxpages.open(data))
+    fax, (pages, fault) = faxpages.open(data), until_fault(faxpages.open(data))
     claims.see(f"a fax is true, {name}", bool(fax))
     for number, page in enumerate(pages):
         claims.see(f"{name}[{number}]", fax[number] == page == fax.page(number)

@@ -12,7 +12,7 @@ import sys
 import threading
 import time
 
-from counted import TOP, Claims, faxpages
+from counted import TOP, Claims, faxpages, until_fault
 
 THREADS = 6
 # The rows of pages, of which some end amid what is read ahead, and how many rows are in a batch.
@@ -24,17 +24,6 @@ def open_samples():
     """A fax of many small pages, and a damaged one, of which nothing is kept yet."""
     images = [b"P4\n64 %d\n" % rows + bytes(range(8 * rows)) for rows in HEIGHTS]
     return [faxpages.open(faxpages.convert(b"".join(images), "mmr")), faxpages.open(f"{TOP}/samples/{DAMAGED}")]
-
-
-def until_fault(items):
-    """All items, and the fault that ends them."""
-    found = []
-    try:
-        for item in items:
-            found.append(item)
-    except faxpages.Fault as fault:
-        return found, fault
-    return found, None
 
 
 def by_pages(fax):
