@@ -32,14 +32,18 @@ def register() -> None:
     Traceback (most recent call last):
     OSError: page 3 row 5: OutOfRow
     """
-    pillow: Any = importlib.import_module("PIL.Image")
-    files: Any = importlib.import_module("PIL.ImageFile")
+    pillow, files = _pillow("Image"), _pillow("ImageFile")
     if FORMAT not in pillow.OPEN:
         words = {"format": FORMAT, "format_description": "fax in TIFF-F", "__module__": __name__}
         pillow.register_open(FORMAT, type("FaxImageFile", (_Frames, files.ImageFile), words), _accept)
     # The formats are tried in this order.
     pillow.ID.remove(FORMAT)
     pillow.ID.insert(0, FORMAT)
+
+
+def _pillow(name: str) -> Any:
+    """A module of Pillow."""
+    return importlib.import_module(f"PIL.{name}")
 
 
 def _accept(prefix: bytes) -> bool:
@@ -52,6 +56,8 @@ class _Frames:
     fp: Any
     info: Dict[Any, Any]
     tile: List[Any]
+    im: Any
+    _exclusive_fp: bool
     _count: Optional[int] = None
     _page: Optional[Page] = None
 
@@ -68,8 +74,9 @@ class _Frames:
 
     def _show(self, page: Page) -> None:
         """Has this page before it, which is not read yet."""
-        self._page, self._frame, self.tile = page, page.number, []
-        self._size = page.width, page.rows
+        size = page.width, page.rows
+        _pillow("Image")._decompression_bomb_check(size)
+        self._page, self._frame, self._size, self.tile = page, page.number, size, []
         # Pillow before 10.1 has the mode in an attribute of its own.
         setattr(self, "_mode" if hasattr(self, "_mode") else "mode", "1")
         self.info.pop("dpi", None)
@@ -115,7 +122,10 @@ class _Frames:
                 packed = self._page.packed()
             except Fault as fault:
                 raise OSError(str(fault)) from fault
+            if self.fp and self._exclusive_fp:
+                self.fp.close()
             self.fp, self._page = io.BytesIO(packed), None
+            self.im = _pillow("Image").core.new("1", self._size)
             self.tile = [("raw", (0, 0) + self._size, 0, ("1;I", 0, 1))]
         of_pillow: Any = super()
         return of_pillow.load()

@@ -10,6 +10,10 @@ use std::ops::Range;
 /// How many rows are read at a time, and how many bytes of them.
 pub(crate) const ROWS: usize = 8192;
 const BYTES: usize = 1 << 20;
+/// In a file of very many pages more bytes are read at a time, so many for each page before them: each call follows the
+/// directories up to its page.
+const BYTES_A_PAGE: usize = 256;
+const MOST_BYTES: usize = 1 << 24;
 
 /// A row: its place, its pels, and its packed bytes, the highest bit first, 1 for black.
 #[derive(Clone, Debug, PartialEq, Eq, Hash)]
@@ -159,6 +163,10 @@ impl<'a, T: RowFormat> Reader<'a, T> {
     /// Reads the next rows, at most so many. Answers how many there are, and where they ended, the error.
     pub(crate) fn read(&mut self, most: usize) -> (usize, Option<Option<Error>>) {
         let mut told = Told::default();
+        let room = MOST_BYTES.min(BYTES_A_PAGE * self.place.page as usize) / size_of::<T::Number>();
+        if self.table.len() == ROWS && room > self.out.len() {
+            self.out.resize(room, T::Number::default());
+        }
         // SAFETY: each pointer is to as many items as the length beside it says, of its own vector.
         let status = unsafe {
             (T::CALL)(

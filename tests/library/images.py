@@ -140,6 +140,14 @@ def plugin(claims):
     Image.new("RGB", (4, 4)).save(out, format="PNG")
     claims.see("another file", Image.open(io.BytesIO(out.getvalue())).format == "PNG")
     claims.see("a fax that was not one page only", opened(faxpages.convert(3 * SMALL, "mh", order=2))[0] == "FAX")
+    image = Image.open(name)
+    file = image.fp
+    image.load()
+    claims.see("the file is closed", file.closed)
+    most, Image.MAX_IMAGE_PIXELS = Image.MAX_IMAGE_PIXELS, 7
+    claims.raises("a large page", Image.DecompressionBombError, lambda: image.seek(1))
+    Image.MAX_IMAGE_PIXELS = most
+    claims.see("no page was shown", image.tell() == 0 and image.size == (fax[0].width, fax[0].rows))
     damaged = Image.open(f"{TOP}/samples/damaged-fourth-page.tif")
     damaged.seek(3)
     claims.raises("a damaged page", OSError, damaged.load)
