@@ -1,4 +1,4 @@
-//! Fax pages in TIFF-F files: read, checked and converted, through libfaxpages.
+//! Fax pages in TIFF-F files: read, checked, converted and written, through libfaxpages.
 //!
 //! ```
 //! let file = std::fs::read("../samples/three-pages.tif").unwrap();
@@ -13,7 +13,13 @@
 //!
 //! A fax is a slice of the bytes of a file, which nothing is copied of. Pages and rows are numbered from 0. What comes
 //! before an error is right; the error is the last item. Rows come as packed bytes ([`Fax::rows`]), as runs
-//! ([`Fax::runs`]) or as changing elements ([`Fax::changes`]), from the beginning or from a [`Cursor`] on.
+//! ([`Fax::runs`]) or as changing elements ([`Fax::changes`]), from the beginning or from a [`Cursor`] on; or a
+//! page at a time ([`Fax::pages`], [`Fax::page`], [`Fax::page_into`]). A [`Writer`] writes a file page by page. A
+//! [`Strip`] is rows with no file around them, as on a line or in a PDF: a [`StripReader`] reads it as it comes, and
+//! [`code_strip`] codes it.
+//!
+//! Of a file that nobody vouches for: a page takes memory for the rows that were read, whatever its form says, so bound
+//! the rows and the width of its [`Form`] before. [`Fax::check`] and [`Fax::convert`] read all rows of all pages.
 //!
 //! All types are `Send` and `Sync`, so threads may share a fax, each with iterators of its own. Bytes of a stranger
 //! cause no panic.
