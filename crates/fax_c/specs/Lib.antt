@@ -3,8 +3,10 @@ pub mod Numbers
 pub mod Texts
 pub mod Changes
 pub mod Forms
+pub mod Raster
 pub mod Told
 pub mod Checked
+pub mod Written
 pub mod Converted
 pub mod views
 pub mod code

@@ -3,6 +3,7 @@
 #![tactic(auto)]
 
 mod checking;
+mod coding;
 mod conversion;
 mod cursors;
 mod faults;
@@ -10,9 +11,15 @@ mod filled;
 mod format;
 mod forms;
 mod names;
+mod page;
 mod places;
+mod raster;
 mod rows;
 mod runs;
+mod strip_form;
+mod strip_report;
+mod strips;
 mod text;
 mod told;
 mod version;
+mod writing;
