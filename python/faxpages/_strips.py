@@ -188,7 +188,7 @@ class StripReader:
         if self._closed:
             raise ValueError("the reader is closed")
         if not self._ended:
-            self._fed += memoryview(data).cast("B") if not isinstance(data, bytes) else data
+            self._fed += own(data)
 
     def close(self) -> None:
         """Says that no more bytes come.

@@ -258,6 +258,9 @@ def refused(claims):
     for words in ({"width": "8"}, {"rows": 1.5}, {"order": None}):
         claims.raises(f"a strip {words}", TypeError, lambda words=words: faxpages.strip(b"\xff", **words))
     claims.raises("rows without EOLs in mmr", ValueError, lambda: faxpages.strip(b"\xff", 8, eols=False))
+    reader = faxpages.StripReader(8, rows=2)
+    reader.feed(memoryview(b"\xff\x00\xff")[::2])
+    claims.see("bytes that lie apart", [row.packed for row in reader] == [b"\0", b"\0"])
     for data in ("text", 1, None, [255]):
         claims.raises(f"the strip {data!r}", TypeError, lambda data=data: faxpages.strip(data, 8))
         claims.raises(f"the piece {data!r}", TypeError, lambda data=data: faxpages.StripReader(8).feed(data))

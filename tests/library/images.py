@@ -94,11 +94,17 @@ def other_images(claims):
 def opened(data, **words):
     """The file by Pillow: its format and its frames, or the error."""
     warnings.simplefilter("ignore")
+    kind = None
     try:
         image = Image.open(io.BytesIO(data), **words)
-        return image.format, [(frame.size, frame.tobytes("raw", "1;I")) for frame in ImageSequence.Iterator(image)]
+        kind = image.format
+        return kind, [(frame.size, frame.tobytes("raw", "1;I")) for frame in ImageSequence.Iterator(image)]
     except OSError as error:
         return "error", str(error)
+    except Exception:  # pylint: disable=broad-except
+        if kind == "FAX":
+            raise
+        return "another error", None
 
 
 def by_pillow(claims, name, data):
