@@ -79,7 +79,10 @@ static int write_fax(uint32_t columns, const char *name) {
     struct faxpages_place place = {0, 0, 0, 0};
     struct faxpages_written written = {0, 0, 1, 0};
     struct faxpages_told told;
-    if (!runs || !(rows = count_rows(data, len, &strip))) return failed(name, FAXPAGES_FAULT, &(struct faxpages_fault){0, 0, 0, 0});
+    if (!runs || !(rows = count_rows(data, len, &strip))) {
+        fprintf(stderr, "%s: the data are no rows in MMR\n", name);
+        return 1;
+    }
     raster = grown(NULL, stride * rows);
     status = faxpages_strip_rows(data, len, &strip, &place, runs, FAXPAGES_RUNS, raster, stride * rows, stride, &told);
     if (status != FAXPAGES_DONE) return failed(name, status, &told.fault);

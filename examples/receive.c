@@ -1,6 +1,6 @@
 /* receive FAX.tif: a page as it comes over the line, in MR, the lowest bit of a byte first, is read from standard input
- * while it comes in, and written into a TIFF-F file in MMR. Where a row cannot be read, the one above it stands in the place
- * of all up to the next that is coded by itself. Whatever is sent, at most 4 MB and 10,000 rows are taken.
+ * while it comes in, and written into a TIFF-F file in MMR. Where a row cannot be read, the one above it stands in the
+ * place of all up to the next that is coded by itself. Whatever is sent, at most 4 MB and 10,000 rows are taken.
  *
  *     gcc -O2 -o receive receive.c -lfaxpages */
 #include <faxpages.h>
@@ -20,8 +20,8 @@ static uint32_t looked, zeros;
 
 static int bit(uint32_t at) { return data[at / 8] >> at % 8 & 1; }
 
-/* Puts the place before the next row that is coded by itself, which begins with eleven zeros, a 1 and a tag of 1, once its
- * bytes are there. */
+/* Puts the place before the next row that is coded by itself, which begins with eleven zeros, a 1 and a tag of 1, once
+ * its bytes are there. */
 static int find_row(void) {
     for (; looked + 1 < 8 * len; looked++) {
         if (!bit(looked)) {
@@ -83,9 +83,10 @@ static int write_file(const char *name) {
 }
 
 int main(int count, char **words) {
+    enum { PIECE = 500 };
     size_t more;
     if (count != 2) return 2;
-    while (len < MOST_BYTES && (more = fread(data + len, 1, len + 512 < MOST_BYTES ? 512 : MOST_BYTES - len, stdin)) > 0) {
+    while (len < MOST_BYTES && (more = fread(data + len, 1, PIECE, stdin)) > 0) {
         len += more;
         if (!read_rows()) break;
     }

@@ -37,8 +37,8 @@ static void pages(void) {
     memset(out, 1, sizeof out);
     see(faxpages_page(file, len, 0, &form, out, 0, 0, &told) == FAXPAGES_NO_ROOM && tells(0, 0, 0, 0) &&
             form.width == WIDTH && form.rows == ROWS, "a form is told with no room and a stride of 0");
-    see(faxpages_page(file, len, 0, &form, out, sizeof out, 2, &told) == FAXPAGES_NO_ROOM && tells(0, 0, 0, 0) && out[0] == 1,
-        "a stride of less than a row has no room");
+    see(faxpages_page(file, len, 0, &form, out, sizeof out, 2, &told) == FAXPAGES_NO_ROOM && tells(0, 0, 0, 0) &&
+            out[0] == 1, "a stride of less than a row has no room");
     see(faxpages_page(file, len, 0, &form, out, 3 * STRIDE + 3, STRIDE, &told) == FAXPAGES_NO_ROOM && tells(3, 0, 3, 0) &&
             are_all(out, 3 * STRIDE, 0) && out[3 * STRIDE] == 1, "three rows and three bytes have room for three");
     see(faxpages_page(file, len, 0, &form, out, sizeof out, STRIDE, &told) == FAXPAGES_DONE && tells(ROWS, 0, ROWS, 0) &&
@@ -93,7 +93,8 @@ static void places_of_strips(void) {
     see(refuses(form, at(ROWS + 1, 0, 0), room, STRIDE, FAXPAGES_OUTSIDE), "a row after that is OUTSIDE");
     see(refuses(form, at(0, bits + 1, 0), room, STRIDE, FAXPAGES_OUTSIDE), "bits after the strip are OUTSIDE");
     see(refuses(form, at(1, 0, 2), room, STRIDE, FAXPAGES_OUTSIDE), "runs of another width are OUTSIDE");
-    see(refuses(form, at(1, 0, FAXPAGES_RUNS + 1), room, STRIDE, FAXPAGES_OUTSIDE), "more runs than stand there are OUTSIDE");
+    see(refuses(form, at(1, 0, FAXPAGES_RUNS + 1), room, STRIDE, FAXPAGES_OUTSIDE),
+        "more runs than stand there are OUTSIDE");
 }
 
 static void rows_of_strips(void) {
@@ -110,8 +111,7 @@ static void rows_of_strips(void) {
     see(read_strip(form, &place, 2 * STRIDE, STRIDE) == FAXPAGES_DONE && tells(2, 3, 2, 0), "a full raster is DONE");
     form.rows = 2;
     place = at(0, 0, 0);
-    see(read_strip(form, &place, 2 * STRIDE, STRIDE) == FAXPAGES_DONE && tells(2, 3, 2, 0),
-        "also where no row is left");
+    see(read_strip(form, &place, 2 * STRIDE, STRIDE) == FAXPAGES_DONE && tells(2, 3, 2, 0), "also if no row is left");
     see(read_strip(form, &place, 2 * STRIDE, STRIDE) == FAXPAGES_END && tells(0, 3, 2, 0), "then it is END");
 }
 
@@ -177,8 +177,8 @@ static int are_same(const struct faxpages_written *one, const struct faxpages_wr
 }
 
 /* A page is not added, and nothing is changed. */
-static int adds_nothing(struct faxpages_form form, uint32_t k, size_t raster_len, size_t room, struct faxpages_written written,
-                        uint32_t status) {
+static int adds_nothing(struct faxpages_form form, uint32_t k, size_t raster_len, size_t room,
+                        struct faxpages_written written, uint32_t status) {
     static uint8_t before[TIFF];
     struct faxpages_written old = written;
     memcpy(before, tiff, TIFF);

@@ -42,7 +42,8 @@ static struct page read_page(uint32_t number) {
                                 &page.told);
     see(page.raster, page.told.used);
     if (page.told.used != page.told.count * page.stride) die("another number of bytes was used");
-    if ((page.status == FAXPAGES_DONE) != (page.told.count == page.form.rows)) die("a status is another than the count says");
+    if ((page.status == FAXPAGES_DONE) != (page.told.count == page.form.rows))
+        die("a status is another than the count says");
     return page;
 }
 
@@ -149,7 +150,8 @@ static void add_page(const struct page *page, struct faxpages_options to, struct
     form.exchanged = 0;
     form.rows_per_strip = to.strip && to.strip < form.rows ? to.strip : form.rows;
     form.strips = (form.rows + form.rows_per_strip - 1) / form.rows_per_strip;
-    status = faxpages_add_page(&form, to.k, page->raster.at, page->raster.len, page->stride, out.at, before.len + 100, written);
+    status = faxpages_add_page(&form, to.k, page->raster.at, page->raster.len, page->stride, out.at, before.len + 100,
+                               written);
     if (status != FAXPAGES_NO_ROOM) die("a page has room in nothing");
     if (before.len != written->len || before.link != written->link || before.added != written->added)
         die("a page that has no room is told");

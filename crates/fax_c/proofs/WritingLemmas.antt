@@ -19,7 +19,7 @@ use Rattle.fax_files.specs.views.Writing.{contents}
 use Rattle.fax_files.specs.Directory.{max_file}
 use Rattle.fax_files.specs.Layout.{Written, directory_place, four, page_bytes, with_page}
 use Rattle.fax_c.specs.declared.writing.FaxWritten.{FaxWritten}
-use Rattle.fax_c.specs.Written.{IsWriting, file_so_far}
+use Rattle.fax_c.specs.views.Written.{IsWriting, file_so_far}
 use Rattle.fax_c.specs.code.Writing.{place_of}
 use Rattle.std.proofs.Common.{◌≢◌, ◌⊎◌, inl, inr, true}
 use Rattle.std.proofs.lemmas.Bool.{cases_eq, eq-eqb, eqb-true, ne_eqb}

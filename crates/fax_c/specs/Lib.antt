@@ -6,7 +6,6 @@ pub mod Forms
 pub mod Raster
 pub mod Told
 pub mod Checked
-pub mod Written
 pub mod Converted
 pub mod views
 pub mod code

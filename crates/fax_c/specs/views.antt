@@ -4,3 +4,4 @@ pub mod Places
 pub mod PlaceTexts
 pub mod Strips
 pub mod StripReports
+pub mod Written

@@ -19,7 +19,7 @@ ghost use Rattle.fax_files.specs.Layout.{four};
 ghost use Rattle.fax_files.specs.views.Page.{IsGoodRational, IsPageForm};
 ghost use Rattle.fax_files.specs.views.Writing.{contents};
 ghost use Rattle.fax_c.specs.Raster as Raster;
-ghost use Rattle.fax_c.specs.Written as Spec;
+ghost use Rattle.fax_c.specs.views.Written as Spec;
 ghost use Rattle.fax_c.specs.code.Writing as Code;
 
 use crate::coding::code_strip;
