@@ -104,6 +104,20 @@ fn wrong() {
     wrong_strips();
 }
 
+/// A page of which few rows stand in the file takes little memory, whatever its form says.
+fn small_room() {
+    let mut writer = Writer::new(1).unwrap();
+    writer.add(&Form::new(65_535, 1_000_000, Coding::Mmr), 1, &[0; 8192], 0).unwrap();
+    let mut file = writer.finish().unwrap();
+    // After eight rows stand zeros.
+    file[9..1000].fill(0);
+    let page = Fax::new(&file).partial_page(0).unwrap();
+    assert_eq!((page.rows().len(), page.lost()), (8, 999_992));
+    assert!(page.packed.capacity() < 1 << 20);
+    assert_eq!(Fax::new(&file).page(0).err(), page.fault);
+    assert_eq!(Fax::new(&file).pages().last().unwrap().err(), page.fault);
+}
+
 fn wrong_strips() {
     let form = StripForm::new(8, Coding::Mmr);
     let no_rows = StripForm { rows: Some(0), ..form };
@@ -173,6 +187,7 @@ fn main() {
     shared::<(Strip<'_>, StripForm, StripReader, StripReport, StripRows<'_>, Writer)>();
     let tried: usize = std::env::args().skip(1).map(|name| try_file(&std::fs::read(name).unwrap())).sum();
     wrong();
+    small_room();
     println!("{tried} strips");
     assert!(tried > 0);
 }
