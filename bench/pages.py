@@ -21,7 +21,7 @@ from PIL import Image, ImageSequence  # noqa: E402
 
 import faxpages  # noqa: E402
 
-PAGES, TIMES = 20, 7
+PAGES, TIMES = 20, 15
 
 
 def draw():
