@@ -12,7 +12,7 @@ from ._raster import MOST_ROWS, MOST_WIDTH, Raster
 from ._report import NOTES, Note
 from ._rows import Row
 from ._source import own
-from ._told import fault_of, number_of, refusal, stopped
+from ._told import fault_of, number_of, refusal
 from ._writing import CODINGS
 from .faults import Fault
 
@@ -37,10 +37,9 @@ def _form(width: SupportsIndex, rows: Optional[SupportsIndex], coding: str, orde
 
 
 class _Read(NamedTuple):
-    """Rows that one call has read, how many, and how it ended."""
+    """Rows that one call has read, and how it ended."""
 
     packed: bytes
-    size: int
     status: int
     fault: _c.Fault
 
@@ -69,12 +68,12 @@ class _Strip:
         status = _c.library.faxpages_strip_rows(
             data, len(data), self.form, self.place, self._runs, _c.RUNS, out, room, self.stride, told)
         if status not in (_c.DONE, _c.END, _c.FAULT):
-            raise stopped(status, told.fault) or refusal(status)
+            raise refusal(status)
         self.due += told.count
         told.fault.row = self.due
         if status == _c.DONE and self.due == self.form.rows:
             status = _c.END
-        return _Read(ctypes.string_at(out, told.used), told.count, status, told.fault)
+        return _Read(ctypes.string_at(out, told.used), status, told.fault)
 
     def is_blank_after(self, data: bytes) -> bool:
         """Whether no 1 stands in the data after the place."""
@@ -91,10 +90,10 @@ def strip(data: "ReadableBuffer", width: SupportsIndex = 1728, rows: Optional[Su
     """The rows of T.4 or T.6 data that has no file around it, as on a line or in a PDF (CCITTFaxDecode).
 
     coding is "mh", "mr" or "mmr" (K 0, above 0, below 0 in a PDF); order is 1 where the highest bit of a byte is first,
-    and 2 where the lowest is. Where rows is None they are at least one, and end at the end mark (EOFB, RTC), or where
-    no 1 is left; otherwise there have to be so many. byte_align says that each row begins on a byte boundary
-    (EncodedByteAlign), and eols=False that rows in "mh" have no EOL before them. Then they are read one a call, which
-    takes longer.
+    and 2 where the lowest is. Where rows is None they are at least one and at most 1,000,000, and end at the end mark
+    (EOFB, RTC), or where no 1 is left; otherwise there have to be so many. byte_align says that each row begins on a
+    byte boundary (EncodedByteAlign), and eols=False that rows in "mh" have no EOL before them. Then they are read one a
+    call, which takes longer.
 
     Of damaged data the fault is raised, its page 0. With partial=True it is told in the raster, whose rows are those
     before it; lost says how many are missing where rows is known.
