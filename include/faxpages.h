@@ -285,6 +285,15 @@ uint32_t faxpages_strip_code(const struct faxpages_strip *form, uint32_t k, cons
                              size_t raster_len, size_t stride, uint8_t *out, size_t out_room,
                              size_t *len);
 
+/* The same of rows as runs, as faxpages_runs writes them: row i has the rows[i].len runs from
+ * runs[rows[i].at] on; the rest of rows[i] does not matter. NO_OPTIONS is also where `rows` has fewer
+ * than the form says, or the runs of one lie outside `runs`, or are not the longest of a row of its
+ * width. */
+uint32_t faxpages_strip_code_runs(const struct faxpages_strip *form, uint32_t k,
+                                  const struct faxpages_row *rows, size_t rows_len,
+                                  const uint32_t *runs, size_t runs_len, uint8_t *out,
+                                  size_t out_room, size_t *len);
+
 /* How far a file is written. Before the first page all is 0 but `total`; a call tells the rest. */
 struct faxpages_written {
     size_t len;     /* how many bytes it has */

@@ -31,11 +31,11 @@ void free(void *at) {
     __libc_free(at);
 }
 
-enum { ROWS = 4000, ROOM = 1 << 22, NOTES = 64 };
+enum { ROWS = 4000, ROOM = 1 << 22, NOTES = 64, NUMBERS = 1 << 20 };
 
 static struct faxpages_row rows[ROWS];
 static uint8_t out[ROOM], whole[ROOM];
-static uint32_t runs[FAXPAGES_RUNS];
+static uint32_t runs[FAXPAGES_RUNS], numbers[NUMBERS];
 
 /* All rows, a few a call, where growth number n of each call is refused; the call is made again without that. */
 static size_t read_all(const uint8_t *file, size_t len, long n, uint8_t *to, uint32_t *ended) {
@@ -70,7 +70,7 @@ static int one_page(const uint8_t *file, size_t len, long n) {
     struct faxpages_strip strip;
     struct faxpages_strip_report report = {7, 7, 7, 7, 7, {7, 7, 7, 7}};
     struct faxpages_place place = {0, 0, 0, 0};
-    size_t stride, coded_len;
+    size_t stride, coded_len, again_len;
     uint32_t result;
     if (faxpages_page(file, len, 0, &form, raster, 0, 0, &told) != FAXPAGES_NO_ROOM) return 0;
     stride = (form.width + 7) / 8;
@@ -90,6 +90,14 @@ static int one_page(const uint8_t *file, size_t len, long n) {
         (coded_len || coded[0] != 0xA5))
         return 2;
     if (faxpages_strip_code(&strip, 4, raster, ROOM, stride, coded, ROOM, &coded_len) != FAXPAGES_DONE) return 3;
+    if (faxpages_runs(file, len, 0, 0, rows, ROWS, numbers, NUMBERS, &told) == FAXPAGES_MEMORY || told.count < form.rows)
+        return 0;
+    if (REFUSING(n, faxpages_strip_code_runs(&strip, 4, rows, ROWS, numbers, NUMBERS, again, ROOM, &again_len)) ==
+                FAXPAGES_MEMORY
+            ? again_len || again[0] != 0xA5
+            : again_len != coded_len || memcmp(again, coded, coded_len))
+        return 7;
+    again[0] = 0xA5;
     if (REFUSING(n, faxpages_strip_check(coded, coded_len, &strip, &report)) == FAXPAGES_MEMORY
             ? report.rows != 7 || report.fault.row != 7
             : result != FAXPAGES_END || report.rows != form.rows)

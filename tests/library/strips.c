@@ -1,6 +1,6 @@
 /* strips: reads what drawn.py prints, and sees that the calls on strips tell the same: the rows from a place on a few a
- * call, in one call, and as the strip's bytes come in; the notes; and the strip that rows are coded as. Each buffer ends at
- * a page that nobody may touch. Prints how many strips of each kind were tried. */
+ * call, in one call, and as the strip's bytes come in; the notes; and the strip that rows are coded as, packed and as runs.
+ * Each buffer ends at a page that nobody may touch. Prints how many strips of each kind were tried. */
 #include "guarded.h"
 #include <faxpages.h>
 
@@ -206,6 +206,62 @@ static struct guarded raster_of(uint32_t width, uint32_t count, size_t stride) {
     return raster;
 }
 
+/* The rows of a raster as runs, each after the one above it, and where they lie. */
+struct run_rows {
+    struct guarded table, runs;
+};
+
+static struct run_rows runs_of(const struct guarded *raster, uint32_t width, uint32_t count, size_t stride) {
+    struct run_rows made = {make(count * sizeof(struct faxpages_row)), {0, 0, 0, 0}};
+    struct faxpages_row *table = (struct faxpages_row *)made.table.at;
+    uint32_t *lengths = malloc(((size_t)width + 1) * count * sizeof *lengths), row, i;
+    size_t used = 0;
+    if (!lengths) die("no memory");
+    for (row = 0; row < count; row++) {
+        const uint8_t *bytes = raster->at + row * stride;
+        int colour = 0;
+        table[row].at = used;
+        for (lengths[used] = 0, i = 0; i < width; i++) {
+            int black = bytes[i / 8] >> (7 - i % 8) & 1;
+            if (black != colour) lengths[++used] = 0, colour = black;
+            lengths[used]++;
+        }
+        table[row].len = (uint32_t)(++used - table[row].at);
+    }
+    made.runs = copy_of(lengths, used * sizeof *lengths);
+    free(lengths);
+    return made;
+}
+
+static uint32_t code_runs(const struct faxpages_strip *form, uint32_t k, const struct run_rows *rows, uint32_t count,
+                          size_t runs_len, const struct guarded *out, size_t *len) {
+    return faxpages_strip_code_runs(form, k, (struct faxpages_row *)rows->table.at, count, (uint32_t *)rows->runs.at,
+                                    runs_len, out->at, out->len, len);
+}
+
+/* The same strip from the rows as runs; and none where a row is missing, or its runs, or a pel. */
+static void try_runs(const struct faxpages_strip *form, uint32_t k, const struct guarded *raster, size_t stride,
+                     const struct guarded *data) {
+    struct run_rows rows = runs_of(raster, form->width, form->rows, stride);
+    struct faxpages_row *last = (struct faxpages_row *)rows.table.at + form->rows - 1;
+    struct guarded out = make(data->len);
+    size_t len, count = rows.runs.len / sizeof(uint32_t);
+    if (code_runs(form, k, &rows, form->rows, count, &out, &len) != FAXPAGES_DONE) die("runs are not coded");
+    if (len != data->len || memcmp(out.at, data->at, len)) die("runs are coded otherwise");
+    see(out, len);
+    memset(out.at, MARK, out.len);
+    if (code_runs(form, k, &rows, form->rows - 1, count, &out, &len) != FAXPAGES_NO_OPTIONS || len) die("a row is missing");
+    if (code_runs(form, k, &rows, form->rows, count - 1, &out, &len) != FAXPAGES_NO_OPTIONS || len) die("a run is missing");
+    last->len--;
+    if (code_runs(form, k, &rows, form->rows, count, &out, &len) != FAXPAGES_NO_OPTIONS || len) die("pels are missing");
+    last->at = SIZE_MAX;
+    if (code_runs(form, k, &rows, form->rows, count, &out, &len) != FAXPAGES_NO_OPTIONS || len) die("a row lies outside");
+    see(out, 0);
+    drop(out);
+    drop(rows.table);
+    drop(rows.runs);
+}
+
 static void try_code(void) {
     struct faxpages_strip form;
     struct guarded data, raster, out;
@@ -234,6 +290,7 @@ static void try_code(void) {
     if (faxpages_strip_code(&form, k, raster.at, raster.len - 1, stride, out.at, out.len, &len) != FAXPAGES_NO_OPTIONS)
         die("a strip is coded from too short a raster");
     if (len) die("a strip that is not coded has a length");
+    try_runs(&form, k, &raster, stride, &data);
     drop(out);
     drop(raster);
     drop(data);

@@ -11,3 +11,4 @@ pub mod ConversionLemmas
 pub mod PaddedLemmas
 pub mod StripLemmas
 pub mod WritingLemmas
+pub mod RunRowLemmas

@@ -4,4 +4,5 @@ pub mod Places
 pub mod PlaceTexts
 pub mod Strips
 pub mod StripReports
+pub mod StripRuns
 pub mod Written

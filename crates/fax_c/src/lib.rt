@@ -4,6 +4,7 @@
 
 mod checking;
 mod coding;
+mod coding_runs;
 mod conversion;
 mod cursors;
 mod faults;
