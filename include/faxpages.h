@@ -21,6 +21,12 @@
  * directories up to its page, and the rows above it in its strip. So a fault that it tells is the
  * first from there on, and not always the first of the file.
  *
+ * Of a file that nobody vouches for: a call takes time for the chain of directories up to its page,
+ * for the rows that it writes, and, where it begins at a page and a row alone, for those above it
+ * in its strip. So the room that it is given bounds it. faxpages_check and faxpages_convert read
+ * all rows, and a file may have many more of them than bytes, since its pages may share a strip:
+ * list the forms before, a bounded number a call, and add up their rows and pels.
+ *
  * What may grow: new calls, statuses and numbers of faults. What is here keeps its meaning and its
  * size in all libfaxpages.so.1. */
 #ifndef FAXPAGES_H
@@ -43,7 +49,8 @@ enum faxpages_status {
                            * the place that is told */
     FAXPAGES_NO_ROOM = 5, /* what comes next does not fit in what is left of a buffer */
     FAXPAGES_NO_PLACE = 6, /* the text is no place's */
-    FAXPAGES_NO_OPTIONS = 7 /* the numbers are no options */
+    FAXPAGES_NO_OPTIONS = 7, /* the numbers are no options or no form, or a raster is too short */
+    FAXPAGES_TOO_LARGE = 8 /* the file would have more than 268435456 bytes */
 };
 
 /* The faults: of a file, where those from 7 to 10 have the tag of a field; from 101 on of a strip's
@@ -158,9 +165,10 @@ struct faxpages_place {
 
 /* The same from a place on, which is then the one after the rows that were written, after DONE and
  * NO_ROOM alike, so that no row that was written is read again: begin with {0, 0, 0, 0}, and call
- * while it is DONE or NO_ROOM. That ends in any file where rows_room is not 0 and `out` holds a row. Each call follows the chain of directories up to its page, and takes
- * memory for rows of the page's width, so ask for thousands of rows a call, over as many pages as
- * they have: then a file is read in a time in proportion to its length and its rows.
+ * while it is DONE or NO_ROOM. That ends in any file where rows_room is not 0 and `out` holds a
+ * row. Each call follows the chain of directories up to its page, and takes memory for rows of the
+ * page's width, so ask for thousands of rows a call, over as many pages as they have: then a file
+ * is read in a time in proportion to its length and its rows.
  *
  * `runs` has the runs of the place, before the call and after it; let runs_room be FAXPAGES_RUNS.
  * No run after the first FAXPAGES_RUNS is changed. Where no row was written, a place inside a strip
@@ -197,6 +205,114 @@ uint32_t faxpages_changes_from(const uint8_t *file, size_t file_len, struct faxp
                                uint32_t *runs, size_t runs_room, struct faxpages_row *rows,
                                size_t rows_room, uint32_t *out, size_t out_room,
                                struct faxpages_told *told);
+
+/* Writes a page's rows into a raster: row i in the `stride` bytes from out[i * stride] on, as
+ * faxpages_rows packs it, with zeros, which are white, up to the stride. `form` is told wherever
+ * the file has the page, also with out_room 0: so ask for its size first. `count` of `told` says
+ * how many rows were written, before a fault too. DONE, where they are all; FAULT; NO_ROOM, where
+ * `out` has no room for `stride` bytes more, or `stride` is less than (width + 7) / 8; MEMORY; END,
+ * where the file has just `page` pages, or OUTSIDE, where it has fewer: then no form is told. */
+uint32_t faxpages_page(const uint8_t *file, size_t file_len, uint32_t page,
+                       struct faxpages_form *form, uint8_t *out, size_t out_room, size_t stride,
+                       struct faxpages_told *told);
+
+/* The form of a strip of rows with no file around it, as a fax is on the line, or in a PDF. */
+struct faxpages_strip {
+    uint32_t width;   /* pels of a row, 1 to 65535 */
+    uint32_t rows;    /* 1 to 1000000; read with 1000000 where their number is not known */
+    uint32_t coding;  /* 1 MH, 2 MR, 3 MMR */
+    uint32_t order;   /* which bit of a byte is first: 1 the highest, 2 the lowest */
+    uint32_t aligned; /* in MH and MR, 1 where each EOL is written so that it ends on a byte
+                       * boundary, else 0; rows are read the same either way */
+};
+
+/* Reads rows of a strip into a raster, as faxpages_page has it, as many as `out` has room for, from
+ * a place on, which is then the one after them: begin with {0, 0, 0, 0}, and call until END or
+ * FAULT. `page` of the place is the caller's own, and is told with a fault. Of `runs` the runs of
+ * the place alone are changed; runs_room is at least FAXPAGES_RUNS. Where no row is written, the
+ * place stays.
+ *
+ * In this order: NO_OPTIONS, where the form is none, strip_len is more than 536870911, or runs_room
+ * is less than FAXPAGES_RUNS: then nothing is told; NO_ROOM, where no row has room, since `stride`
+ * is less than (width + 7) / 8, or out_room less than `stride`; END, at the row after the last of
+ * the form; OUTSIDE, at a row after that, at bits after the strip, or with runs that no row of the
+ * width has. Else rows are read: DONE, where `out` is full; END, where all rows of the form were
+ * read; FAULT, at a row that cannot be read; or MEMORY, where no row is written.
+ *
+ * FAULT leaves the place at the row that was due. So where the strip grows, as it is received, call
+ * again after DATA_ENDS from that place, with more bytes. Where the number of rows is not known,
+ * they end at END_MARKER, or at DATA_ENDS where there is no end mark; faxpages_strip_check says
+ * what stands there. A place is any: row `row` of the strip is read after `bits` bits of it, over a
+ * row of these runs, or over a white one where `runs` is 0. So a reader that goes on after a
+ * damaged row looks for the next EOL by itself, and sets `bits` to where it begins. Where each row
+ * begins on a byte (EncodedByteAlign in a PDF), read one row a call, with `bits` rounded up to a
+ * multiple of 8 before each; where rows of MH have no EOLs, read one row a call too, with `row` 0
+ * before each. */
+uint32_t faxpages_strip_rows(const uint8_t *strip, size_t strip_len,
+                             const struct faxpages_strip *form, struct faxpages_place *place,
+                             uint32_t *runs, size_t runs_room, uint8_t *out, size_t out_room,
+                             size_t stride, struct faxpages_told *told);
+
+/* What was found in a strip, and after its last row. */
+struct faxpages_strip_report {
+    uint32_t rows;              /* how many rows were read: the form's where there is no fault */
+    uint32_t no_end_of_block;   /* N1: 1 in MMR without the end of the block after the last row */
+    uint32_t return_to_control; /* N2: 1 in MH and MR with a return to control there */
+    uint32_t data_after_end;    /* N3: 1 where a 1 stands after the last row and its end mark */
+    uint32_t not_t4_choice;     /* N4: 1 where a row has other codes than T.4's choice */
+    struct faxpages_fault fault;
+};
+
+/* Reads all rows of a strip, and tells what stands after them. END, where the strip has the rows of
+ * the form; FAULT, where one cannot be read: then the notes are 0; NO_OPTIONS, where the form is
+ * none or strip_len is more than 536870911, or MEMORY: then nothing is told.
+ *
+ * Where a strip does not say how many rows it has, call it with 1000000: FAULT with END_MARKER
+ * tells `rows` before eleven zeros. Then call it with that number, if it is not 0: END without
+ * `no_end_of_block` says that MMR ends there, and with `return_to_control` that MH or MR does. */
+uint32_t faxpages_strip_check(const uint8_t *strip, size_t strip_len,
+                              const struct faxpages_strip *form,
+                              struct faxpages_strip_report *report);
+
+/* Codes the rows of a raster as a strip, in the codes that T.4 and T.6 choose, and writes it where
+ * it has room; `len` tells how many bytes it has. Row i stands in the (width + 7) / 8 bytes from
+ * raster[i * stride] on, the highest bit first, 1 for black; what stands past its pels does not
+ * matter. In MR a row in every k is coded by itself; k is at least 1. After the last row stands the
+ * end of the facsimile block in MMR, and nothing in MH and MR. DONE; NO_ROOM, where it is longer
+ * than out_room; MEMORY; or NO_OPTIONS, where the form is none, k is 0, or raster_len is less than
+ * (rows - 1) * stride + (width + 7) / 8. But for DONE and NO_ROOM `len` is 0. */
+uint32_t faxpages_strip_code(const struct faxpages_strip *form, uint32_t k, const uint8_t *raster,
+                             size_t raster_len, size_t stride, uint8_t *out, size_t out_room,
+                             size_t *len);
+
+/* The same of rows as runs, as faxpages_runs writes them: row i has the rows[i].len runs from
+ * runs[rows[i].at] on; the rest of rows[i] does not matter. NO_OPTIONS is also where `rows` has fewer
+ * than the form says, or the runs of one lie outside `runs`, or are not the longest of a row of its
+ * width. */
+uint32_t faxpages_strip_code_runs(const struct faxpages_strip *form, uint32_t k,
+                                  const struct faxpages_row *rows, size_t rows_len,
+                                  const uint32_t *runs, size_t runs_len, uint8_t *out,
+                                  size_t out_room, size_t *len);
+
+/* How far a file is written. Before the first page all is 0 but `total`; a call tells the rest. */
+struct faxpages_written {
+    size_t len;     /* how many bytes it has */
+    uint32_t link;  /* where in it the offset of the next page's directory stands */
+    uint32_t total; /* how many pages it is to have, 1 to 65535, which each page says */
+    uint32_t added; /* how many were added */
+};
+
+/* Codes the rows of a raster, as faxpages_strip_code has it, as a page of this form, and adds it to
+ * a file in the caller's memory, which is in file[0] and after, its first `len` bytes so far. After
+ * DONE these are a whole TIFF-F file of the pages so far. The form is one as faxpages_forms tells
+ * it: `exchanged` is 0, rows_per_strip is 1 to `rows`, which is one strip, and `strips` is rows /
+ * rows_per_strip, rounded up. DONE; NO_ROOM, where the file with the page has more than file_room
+ * bytes: give more and call again; TOO_LARGE; MEMORY; or NO_OPTIONS, where the form is none, k is
+ * 0, raster_len is less than (rows - 1) * stride + (width + 7) / 8, or `written` says that all
+ * pages were added, or is none that a call told. But for DONE nothing is changed. */
+uint32_t faxpages_add_page(const struct faxpages_form *form, uint32_t k, const uint8_t *raster,
+                           size_t raster_len, size_t stride, uint8_t *file, size_t file_room,
+                           struct faxpages_written *written);
 
 /* Writes a place as text where it has room, and tells in `len` how many bytes the text has: a page
  * and a row as 1:P:R, a place inside a strip as 2:P:R:B:n,n,.. with its bits and its runs, as the

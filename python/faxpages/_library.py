@@ -5,7 +5,7 @@ from __future__ import annotations
 import ctypes
 import os
 
-DONE, END, FAULT, OUTSIDE, MEMORY, NO_ROOM, NOT_A_PLACE, BAD_OPTIONS = range(8)
+DONE, END, FAULT, OUTSIDE, MEMORY, NO_ROOM, NOT_A_PLACE, BAD_OPTIONS, TOO_LARGE = range(9)
 NO_STRIP = 0xFFFFFFFF
 RUNS = 65536
 
@@ -94,6 +94,34 @@ class Converted(ctypes.Structure):
     _fields_ = [("len", SIZE), ("image", U64), ("fault", Fault)]
 
 
+class Strip(ctypes.Structure):
+    width: int
+    rows: int
+    coding: int
+    order: int
+    aligned: int
+    _fields_ = [(name, U32) for name in ("width", "rows", "coding", "order", "aligned")]
+
+
+class StripReport(ctypes.Structure):
+    rows: int
+    no_end_of_block: int
+    return_to_control: int
+    data_after_end: int
+    not_t4_choice: int
+    fault: Fault
+    _fields_ = [(name, U32) for name in (
+        "rows", "no_end_of_block", "return_to_control", "data_after_end", "not_t4_choice")] + [("fault", Fault)]
+
+
+class Written(ctypes.Structure):
+    len: int
+    link: int
+    total: int
+    added: int
+    _fields_ = [("len", SIZE), ("link", U32), ("total", U32), ("added", U32)]
+
+
 FILE = [ctypes.c_char_p, SIZE]
 NUMBERS = [ctypes.c_void_p, SIZE]
 CALLS = {
@@ -103,6 +131,13 @@ CALLS = {
     "faxpages_changes_from": (U32, FILE + [ctypes.POINTER(Place)] + NUMBERS * 3 + [ctypes.POINTER(Told)]),
     "faxpages_check": (U32, FILE + [ctypes.c_void_p, SIZE, ctypes.POINTER(Report)]),
     "faxpages_convert": (U32, FILE + [ctypes.POINTER(Options), ctypes.c_void_p, SIZE, ctypes.POINTER(Converted)]),
+    "faxpages_strip_rows": (
+        U32, FILE + [ctypes.POINTER(Strip), ctypes.POINTER(Place)] + NUMBERS * 2 + [SIZE, ctypes.POINTER(Told)]),
+    "faxpages_strip_check": (U32, FILE + [ctypes.POINTER(Strip), ctypes.POINTER(StripReport)]),
+    "faxpages_strip_code": (
+        U32, [ctypes.POINTER(Strip), U32] + FILE + [SIZE] + NUMBERS + [ctypes.POINTER(SIZE)]),
+    "faxpages_add_page": (
+        U32, [ctypes.POINTER(Form), U32] + FILE + [SIZE] + NUMBERS + [ctypes.POINTER(Written)]),
     "faxpages_place_text": (U32, [ctypes.POINTER(Place)] + NUMBERS * 2 + [ctypes.POINTER(SIZE)]),
     "faxpages_place_parse": (U32, FILE + [ctypes.POINTER(Place)] + NUMBERS),
     "faxpages_fault_name": (SIZE, [U32] + NUMBERS),
@@ -126,7 +161,10 @@ def _load() -> ctypes.CDLL:
     else:
         raise ImportError(f"{name} is not installed; FAXPAGES_LIBRARY can name it. Tried: {', '.join(tried)}")
     for call, (result, arguments) in CALLS.items():
-        function = getattr(library, call)
+        try:
+            function = getattr(library, call)
+        except AttributeError:
+            raise ImportError(f"{path} is older than this module: it lacks {call}") from None
         function.restype, function.argtypes = result, arguments
     return library
 

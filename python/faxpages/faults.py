@@ -7,33 +7,69 @@ from typing import Any, Dict, Optional, Tuple, Type
 
 class FaxError(Exception):
     """What faxpages raises, but for MemoryError, what Python raises of files, and the ValueError or TypeError of a
-    number or a text that is handed in."""
+    number or a text that is handed in.
+
+    >>> try:
+    ...     faxpages.open("samples/three-pages.tif")[2].packed()
+    ... except faxpages.FaxError as error:
+    ...     print(error)
+    page 2 row 1: DataEnds
+    """
 
 
-class OutsideError(FaxError):
-    """A page, a row or a cursor is outside the file."""
+class OutsideError(FaxError, IndexError):
+    """A page, a row or a cursor is outside the file.
+
+    >>> faxpages.open("samples/one-mh-page.tif").page(1)
+    Traceback (most recent call last):
+    faxpages.faults.OutsideError: the file has no page 1
+    """
 
 
 class NotACursorError(FaxError, ValueError):
-    """A text is no cursor's."""
+    """A text is no cursor's.
+
+    >>> faxpages.Cursor.parse("1:2")
+    Traceback (most recent call last):
+    faxpages.faults.NotACursorError: not a cursor: '1:2'
+    """
 
 
 class ConversionError(FaxError):
-    """A file is not converted, for another reason than a fault of its pages."""
+    """A file is not converted, for another reason than a fault of its pages.
+
+    >>> issubclass(faxpages.PbmFault, faxpages.ConversionError)
+    True
+    """
 
 
 class UnknownInput(ConversionError):
-    """The bytes are neither raw PBM nor TIFF."""
+    """The bytes are neither raw PBM nor TIFF.
+
+    >>> faxpages.convert(b"GIF89a", "mmr")
+    Traceback (most recent call last):
+    faxpages.faults.UnknownInput: the input is neither raw PBM nor TIFF
+    """
 
 
 class OutputTooLarge(ConversionError):
-    """The output would have more than 268,435,456 bytes, or a TIFF file more than 65,535 pages."""
+    """The output would have more than 268,435,456 bytes, or a TIFF file more than 65,535 pages.
+
+    >>> faxpages.encode([faxpages.Raster(8, 1, b"\\0")] * 65536)
+    Traceback (most recent call last):
+    faxpages.faults.OutputTooLarge: a file has at most 65535 pages
+    """
 
 
 class PbmFault(ConversionError):
     """An image of a raw PBM is refused.
 
-    image is its number, from 0; name is the fault's. Two of one name and image are equal."""
+    image is its number, from 0; name is the fault's. Two of one name and image are equal.
+
+    >>> faxpages.convert(b"P4 8 2 \\0", "mmr")
+    Traceback (most recent call last):
+    faxpages.faults.PbmFault: image 0: ShortRaster
+    """
 
     def __init__(self, name: str, image: int) -> None:
         super().__init__(f"image {image}: {name}")
@@ -58,7 +94,12 @@ class Fault(FaxError):
     tag are equal.
 
     page and row, both from 0, are those that were due at the fault: row 0 for a fault of the header, of a directory
-    or of a field. name is the fault's, and tag that of the field at fault (TIFF 6.0), or None."""
+    or of a field. name is the fault's, and tag that of the field at fault (TIFF 6.0), or None.
+
+    >>> fault = faxpages.check(b"II*\\0\\x08\\0\\0\\0" + bytes(6)).fault
+    >>> fault.name, fault.page, fault.row, fault.tag
+    ('MissingField', 0, 0, 256)
+    """
 
     def __init__(self, name: str, page: int, row: int, tag: Optional[int] = None) -> None:
         super().__init__(f"page {page} row {row}: {name}" + (f" {tag}" if tag is not None else ""))
@@ -81,83 +122,191 @@ class Fault(FaxError):
 
 
 class FileFault(Fault):
-    """A fault of the header, of a directory, of a field or of a strip's place."""
+    """A fault of the header, of a directory, of a field or of a strip's place.
+
+    >>> isinstance(faxpages.check(b"").fault, faxpages.FileFault)
+    True
+    """
 
 
 class StripFault(Fault):
-    """A fault of the data of a strip."""
+    """A fault of the data of a strip.
+
+    >>> isinstance(faxpages.check_strip(b"").fault, faxpages.StripFault)
+    True
+    """
 
 
 class ShortHeader(FileFault):
-    """The file has fewer bytes than a header, which has eight."""
+    """The file has fewer bytes than a header, which has eight.
+
+    >>> faxpages.open(b"II*").page(0)
+    Traceback (most recent call last):
+    faxpages.faults.ShortHeader: page 0 row 0: ShortHeader
+    """
 
 
 class ByteOrder(FileFault):
-    """The file begins with neither II nor MM."""
+    """The file begins with neither II nor MM.
+
+    >>> faxpages.open(b"GIF89a..").page(0)
+    Traceback (most recent call last):
+    faxpages.faults.ByteOrder: page 0 row 0: ByteOrder
+    """
 
 
 class Magic(FileFault):
-    """The header's number is not 42."""
+    """The header's number is not 42.
+
+    >>> faxpages.open(b"II+\\0\\x08\\0\\0\\0").page(0)
+    Traceback (most recent call last):
+    faxpages.faults.Magic: page 0 row 0: Magic
+    """
 
 
 class NoDirectory(FileFault):
-    """The file has no directory."""
+    """The file has no directory.
+
+    >>> faxpages.open(b"II*\\0\\0\\0\\0\\0").page(0)
+    Traceback (most recent call last):
+    faxpages.faults.NoDirectory: page 0 row 0: NoDirectory
+    """
 
 
 class DirectoryOutside(FileFault):
-    """A directory does not lie whole in the file."""
+    """A directory does not lie whole in the file.
+
+    >>> faxpages.open(b"II*\\0\\x08\\0\\0\\0").page(0)
+    Traceback (most recent call last):
+    faxpages.faults.DirectoryOutside: page 0 row 0: DirectoryOutside
+    """
 
 
 class DirectoryLoop(FileFault):
-    """The chain of directories turns back."""
+    """The chain of directories turns back.
+
+    >>> damaged = bytearray(open("samples/one-mh-page.tif", "rb").read())
+    >>> damaged[206] = 12
+    >>> len(faxpages.open(damaged))
+    Traceback (most recent call last):
+    faxpages.faults.DirectoryLoop: page 1 row 0: DirectoryLoop
+    """
 
 
 class MissingField(FileFault):
-    """A field has to be there and is not."""
+    """A field has to be there and is not.
+
+    >>> faxpages.open(b"II*\\0\\x08\\0\\0\\0" + bytes(6)).page(0)
+    Traceback (most recent call last):
+    faxpages.faults.MissingField: page 0 row 0: MissingField 256
+    """
 
 
 class BadField(FileFault):
-    """A field has a type or a count that is refused, or a value outside the file."""
+    """A field has a type or a count that is refused, or a value outside the file.
+
+    >>> damaged = bytearray(open("samples/one-mh-page.tif", "rb").read())
+    >>> damaged[136] = 2
+    >>> faxpages.open(damaged).page(0)
+    Traceback (most recent call last):
+    faxpages.faults.BadField: page 0 row 0: BadField 279
+    """
 
 
 class Unsupported(FileFault):
-    """A field has a value that is not read."""
+    """A field has a value that is not read.
+
+    >>> damaged = bytearray(open("samples/one-mh-page.tif", "rb").read())
+    >>> damaged[70] = 5
+    >>> faxpages.open(damaged).page(0)
+    Traceback (most recent call last):
+    faxpages.faults.Unsupported: page 0 row 0: Unsupported 259
+    """
 
 
 class OutOfLimits(FileFault):
-    """A field passes a limit."""
+    """A field passes a limit.
+
+    >>> damaged = bytearray(open("samples/one-mh-page.tif", "rb").read())
+    >>> damaged[34] = 0
+    >>> faxpages.open(damaged).page(0)
+    Traceback (most recent call last):
+    faxpages.faults.OutOfLimits: page 0 row 0: OutOfLimits 256
+    """
 
 
 class StripOutside(FileFault):
-    """A strip's bytes do not lie in the file."""
+    """A strip's bytes do not lie in the file.
+
+    >>> damaged = bytearray(open("samples/one-mh-page.tif", "rb").read())
+    >>> damaged[107] = 1
+    >>> faxpages.open(damaged)[0].packed()
+    Traceback (most recent call last):
+    faxpages.faults.StripOutside: page 0 row 0: StripOutside
+    """
 
 
 class DataEnds(StripFault):
-    """The data ends where a row or a code is due."""
+    """The data ends where a row or a code is due.
+
+    >>> faxpages.strip(b"\\x80", width=8, rows=9)
+    Traceback (most recent call last):
+    faxpages.faults.DataEnds: page 0 row 1: DataEnds
+    """
 
 
 class BadCode(StripFault):
-    """No code begins so."""
+    """No code begins so.
+
+    >>> faxpages.strip(b"\\x01", width=8)
+    Traceback (most recent call last):
+    faxpages.faults.BadCode: page 0 row 0: BadCode
+    """
 
 
 class Extension(StripFault):
-    """An extension code, which is not read."""
+    """An extension code, which is not read.
+
+    >>> faxpages.strip(b"\\x03\\x80", width=8)
+    Traceback (most recent call last):
+    faxpages.faults.Extension: page 0 row 0: Extension
+    """
 
 
 class RunTooLong(StripFault):
-    """A run passes the width of the page."""
+    """A run passes the width of the page.
+
+    >>> faxpages.strip(b"\\x27\\x80", width=8)
+    Traceback (most recent call last):
+    faxpages.faults.RunTooLong: page 0 row 0: RunTooLong
+    """
 
 
 class OutOfRow(StripFault):
-    """A vertical mode leads out of the row, or back."""
+    """A vertical mode leads out of the row, or back.
+
+    >>> faxpages.strip(b"\\x60", width=8)
+    Traceback (most recent call last):
+    faxpages.faults.OutOfRow: page 0 row 0: OutOfRow
+    """
 
 
 class MissingEol(StripFault):
-    """A row has no EOL before it."""
+    """A row has no EOL before it.
+
+    >>> faxpages.strip(b"\\x9a\\x68", width=8, coding="mh", rows=2)
+    Traceback (most recent call last):
+    faxpages.faults.MissingEol: page 0 row 1: MissingEol
+    """
 
 
 class EndMarker(StripFault):
-    """An end mark stands where a row is due."""
+    """An end mark stands where a row is due.
+
+    >>> faxpages.strip(b"\\0\\x10\\x01", width=8)
+    Traceback (most recent call last):
+    faxpages.faults.EndMarker: page 0 row 0: EndMarker
+    """
 
 
 # The faults by their numbers, which never change.

@@ -89,6 +89,33 @@ pub struct Converted {
     pub fault: Fault,
 }
 
+#[repr(C)]
+#[derive(Clone, Copy, Debug, Default)]
+pub struct Strip {
+    pub width: u32,
+    pub rows: u32,
+    pub coding: u32,
+    pub order: u32,
+    pub aligned: u32,
+}
+
+#[repr(C)]
+#[derive(Clone, Copy, Debug, Default)]
+pub struct StripReport {
+    pub rows: u32,
+    pub notes: [u32; 4],
+    pub fault: Fault,
+}
+
+#[repr(C)]
+#[derive(Clone, Copy, Debug, Default)]
+pub struct Written {
+    pub len: usize,
+    pub link: u32,
+    pub total: u32,
+    pub added: u32,
+}
+
 /// How a call ended.
 pub const DONE: u32 = 0;
 pub const END: u32 = 1;
@@ -98,6 +125,7 @@ pub const MEMORY: u32 = 4;
 pub const NO_ROOM: u32 = 5;
 pub const NO_PLACE: u32 = 6;
 pub const NO_OPTIONS: u32 = 7;
+pub const TOO_LARGE: u32 = 8;
 
 /// So many runs hold those of any row, and so many bytes a row.
 pub const RUNS: usize = 65_536;
@@ -161,6 +189,49 @@ extern "C" {
         out: *mut u32,
         out_room: usize,
         told: *mut Told,
+    ) -> u32;
+    pub fn faxpages_page(
+        file: *const u8,
+        len: usize,
+        page: u32,
+        form: *mut Form,
+        out: *mut u8,
+        out_room: usize,
+        stride: usize,
+        told: *mut Told,
+    ) -> u32;
+    pub fn faxpages_strip_rows(
+        strip: *const u8,
+        len: usize,
+        form: *const Strip,
+        place: *mut Place,
+        runs: *mut u32,
+        runs_room: usize,
+        out: *mut u8,
+        out_room: usize,
+        stride: usize,
+        told: *mut Told,
+    ) -> u32;
+    pub fn faxpages_strip_check(strip: *const u8, len: usize, form: *const Strip, report: *mut StripReport) -> u32;
+    pub fn faxpages_strip_code(
+        form: *const Strip,
+        k: u32,
+        raster: *const u8,
+        raster_len: usize,
+        stride: usize,
+        out: *mut u8,
+        out_room: usize,
+        len: *mut usize,
+    ) -> u32;
+    pub fn faxpages_add_page(
+        form: *const Form,
+        k: u32,
+        raster: *const u8,
+        raster_len: usize,
+        stride: usize,
+        file: *mut u8,
+        file_room: usize,
+        written: *mut Written,
     ) -> u32;
     pub fn faxpages_place_text(
         place: *const Place,

@@ -1,4 +1,4 @@
-//! Fax pages in TIFF-F files: read, checked and converted, through libfaxpages.
+//! Fax pages in TIFF-F files: read, checked, converted and written, through libfaxpages.
 //!
 //! ```
 //! let file = std::fs::read("../samples/three-pages.tif").unwrap();
@@ -13,7 +13,13 @@
 //!
 //! A fax is a slice of the bytes of a file, which nothing is copied of. Pages and rows are numbered from 0. What comes
 //! before an error is right; the error is the last item. Rows come as packed bytes ([`Fax::rows`]), as runs
-//! ([`Fax::runs`]) or as changing elements ([`Fax::changes`]), from the beginning or from a [`Cursor`] on.
+//! ([`Fax::runs`]) or as changing elements ([`Fax::changes`]), from the beginning or from a [`Cursor`] on; or a
+//! page at a time ([`Fax::pages`], [`Fax::page`], [`Fax::page_into`]). A [`Writer`] writes a file page by page. A
+//! [`Strip`] is rows with no file around them, as on a line or in a PDF: a [`StripReader`] reads it as it comes, and
+//! [`code_strip`] codes it.
+//!
+//! Of a file that nobody vouches for: a page takes memory for the rows that were read, whatever its form says, so bound
+//! the rows and the width of its [`Form`] before. [`Fax::check`] and [`Fax::convert`] read all rows of all pages.
 //!
 //! All types are `Send` and `Sync`, so threads may share a fax, each with iterators of its own. Bytes of a stranger
 //! cause no panic.
@@ -21,10 +27,16 @@
 
 mod calls;
 mod cursor;
+mod page;
 mod rows;
+mod strip;
+mod writer;
 
 pub use cursor::Cursor;
+pub use page::{Filled, Page, Pages};
 pub use rows::{Row, RowChanges, RowFormat, RowRuns, Rows};
+pub use strip::{code_strip, Strip, StripForm, StripReader, StripReport, StripRows};
+pub use writer::Writer;
 
 use std::collections::VecDeque;
 use std::error;
@@ -67,8 +79,11 @@ pub enum Error {
     UnknownInput,
     /// The output would have more than 268,435,456 bytes, or more than 65,535 pages.
     OutputTooLarge,
-    /// K is 0, a strip has no row, or EOLs are to be aligned in a target that has none.
+    /// K is 0, a strip has no row, EOLs are to be aligned in a coding that has none, numbers are no form, or a raster
+    /// is too short.
     BadOptions,
+    /// A buffer has no room for the next row.
+    NoRoom,
     /// A text or numbers are no cursor's.
     NotACursor,
     /// Memory was refused.
@@ -87,6 +102,7 @@ impl fmt::Display for Error {
             Error::UnknownInput => write!(f, "the input is neither raw PBM nor TIFF"),
             Error::OutputTooLarge => write!(f, "the output is too large"),
             Error::BadOptions => write!(f, "there are no such options"),
+            Error::NoRoom => write!(f, "the buffer is too small"),
             Error::NotACursor => write!(f, "this is no cursor"),
             Error::Memory => write!(f, "out of memory"),
             Error::Status(status) => write!(f, "the library answered with status {status}"),
@@ -143,6 +159,36 @@ pub struct Form {
     pub y: (u32, u32),
     /// 1 none, 2 inch, 3 centimetre.
     pub unit: u32,
+}
+
+impl Form {
+    /// A page of this size in one strip, the highest bit first, at 204 by 196 an inch.
+    ///
+    /// ```
+    /// let form = faxpages::Form::new(1728, 2292, faxpages::Coding::Mmr);
+    /// assert_eq!((form.stride(), form.x, form.y), (216, (204, 1), (196, 1)));
+    /// ```
+    pub const fn new(width: u32, rows: u32, coding: Coding) -> Self {
+        Form {
+            page: 0,
+            width,
+            rows,
+            coding,
+            order: FillOrder::MsbFirst,
+            aligned: false,
+            exchanged: false,
+            rows_per_strip: rows,
+            strips: 1,
+            x: (204, 1),
+            y: (196, 1),
+            unit: 2,
+        }
+    }
+
+    /// The bytes of a packed row: (width + 7) / 8.
+    pub const fn stride(&self) -> usize {
+        self.width.div_ceil(8) as usize
+    }
 }
 
 /// What may trouble other readers of a page, or of a strip of it.
@@ -228,6 +274,9 @@ fn stopped(status: u32, fault: &calls::Fault) -> Option<Error> {
         calls::FAULT => Some(fault_of(fault)),
         calls::OUTSIDE => Some(Error::Outside),
         calls::MEMORY => Some(Error::Memory),
+        calls::NO_ROOM => Some(Error::NoRoom),
+        calls::NO_OPTIONS => Some(Error::BadOptions),
+        calls::TOO_LARGE => Some(Error::OutputTooLarge),
         status => Some(Error::Status(status)),
     }
 }
@@ -260,6 +309,90 @@ impl<'a> Fax<'a> {
     /// The forms of its pages from a page on. Pages before it are not looked at, so that those after a fault are found.
     pub fn forms_from(&self, page: u32) -> Forms<'a> {
         Forms { file: self.file, page, most: FORMS, ready: VecDeque::new(), ended: None }
+    }
+
+    /// The form of a page.
+    ///
+    /// # Errors
+    ///
+    /// [`Error::Outside`] where there is no such page, and the fault of the file up to there.
+    pub fn form(&self, page: u32) -> Result<Form, Error> {
+        self.forms_from(page).limited(1).next().unwrap_or(Err(Error::Outside))
+    }
+
+    /// A page, whole. Its rows are read before memory is taken for more of them, whatever its form says.
+    ///
+    /// # Errors
+    ///
+    /// Its fault, or that of the file up to there; [`Error::Outside`] where there is no such page.
+    ///
+    /// ```
+    /// # let file = std::fs::read("../samples/three-pages.tif").unwrap();
+    /// let fax = faxpages::Fax::new(&file);
+    /// let page = fax.page(1)?;
+    /// assert_eq!((page.form.width, page.rows().count()), (8, 3));
+    /// assert_eq!(page.row(1), Some(&[0b1111_1100][..]));
+    /// # Ok::<(), faxpages::Error>(())
+    /// ```
+    pub fn page(&self, page: u32) -> Result<Page, Error> {
+        let found = self.partial_page(page)?;
+        match found.fault {
+            Some(fault) => Err(fault),
+            None => Ok(found),
+        }
+    }
+
+    /// A page, or what stands before its fault, which it tells. See [`Page::lost`].
+    ///
+    /// # Errors
+    ///
+    /// As [`Fax::form`].
+    ///
+    /// ```
+    /// # let file = std::fs::read("../samples/three-pages.tif").unwrap();
+    /// let page = faxpages::Fax::new(&file).partial_page(2)?;
+    /// assert_eq!((page.rows().count(), page.lost()), (1, 1));
+    /// assert_eq!(page.fault.unwrap().to_string(), "page 2 row 1: DataEnds");
+    /// # Ok::<(), faxpages::Error>(())
+    /// ```
+    pub fn partial_page(&self, page: u32) -> Result<Page, Error> {
+        page::read(self.file, self.form(page)?)
+    }
+
+    /// All pages, each whole. The error of the first that is not ends them.
+    ///
+    /// ```
+    /// # let file = std::fs::read("../samples/three-mmr-rows.tif").unwrap();
+    /// for page in faxpages::Fax::new(&file).pages() {
+    ///     let page = page?;
+    ///     assert_eq!(page.packed.len(), page.form.rows as usize * page.form.stride());
+    /// }
+    /// # Ok::<(), faxpages::Error>(())
+    /// ```
+    pub fn pages(&self) -> Pages<'a> {
+        Pages::new(self.file)
+    }
+
+    /// Reads a page into a buffer: row i into the `stride` bytes from `out[i * stride]` on, with zeros, which are
+    /// white, after its packed bytes. [`Fax::form`] says how much room it takes.
+    ///
+    /// # Errors
+    ///
+    /// As [`Fax::form`], or [`Error::Memory`]. A fault of its rows, or want of room, is told beside how many were
+    /// written.
+    ///
+    /// ```
+    /// # let file = std::fs::read("../samples/three-pages.tif").unwrap();
+    /// let fax = faxpages::Fax::new(&file);
+    /// let form = fax.form(1)?;
+    /// let mut out = vec![0; form.rows as usize * 4];
+    /// let filled = fax.page_into(1, &mut out, 4)?;
+    /// assert_eq!((filled.rows, filled.stopped), (3, None));
+    /// assert_eq!(out[4..8], [0b1111_1100, 0, 0, 0]);
+    /// # Ok::<(), faxpages::Error>(())
+    /// ```
+    pub fn page_into(&self, page: u32, out: &mut [u8], stride: usize) -> Result<Filled, Error> {
+        page::read_into(self.file, page, out, stride)
     }
 
     /// All its rows, page by page.
@@ -413,6 +546,14 @@ pub fn convert(file: &[u8], options: &Options) -> Result<Vec<u8>, Error> {
 pub fn version() -> u32 {
     // SAFETY: it takes nothing.
     unsafe { calls::faxpages_version() }
+}
+
+impl Forms<'_> {
+    /// The same, so many read at first.
+    fn limited(mut self, most: usize) -> Self {
+        self.most = most;
+        self
+    }
 }
 
 /// The forms of pages, and the error that ends them.

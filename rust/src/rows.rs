@@ -8,8 +8,12 @@ use std::mem::size_of;
 use std::ops::Range;
 
 /// How many rows are read at a time, and how many bytes of them.
-const ROWS: usize = 8192;
+pub(crate) const ROWS: usize = 8192;
 const BYTES: usize = 1 << 20;
+/// In a file of very many pages more bytes are read at a time, so many for each page before them: each call follows the
+/// directories up to its page.
+const BYTES_A_PAGE: usize = 256;
+const MOST_BYTES: usize = 1 << 24;
 
 /// A row: its place, its pels, and its packed bytes, the highest bit first, 1 for black.
 #[derive(Clone, Debug, PartialEq, Eq, Hash)]
@@ -139,7 +143,7 @@ mod format {
 }
 
 /// A file, the place to go on at, and the rows before it that were read last.
-struct Reader<'a, T: RowFormat> {
+pub(crate) struct Reader<'a, T: RowFormat> {
     file: &'a [u8],
     place: Place,
     runs: Vec<u32>,
@@ -149,7 +153,7 @@ struct Reader<'a, T: RowFormat> {
 
 impl<'a, T: RowFormat> Reader<'a, T> {
     /// A reader of so many rows at a time.
-    fn new(file: &'a [u8], cursor: &Cursor, most: usize) -> Self {
+    pub(crate) fn new(file: &'a [u8], cursor: &Cursor, most: usize) -> Self {
         let (place, runs) = cursor.place();
         let most = most.min(ROWS);
         let room = most.saturating_mul(T::MOST).min(BYTES / size_of::<T::Number>());
@@ -157,8 +161,12 @@ impl<'a, T: RowFormat> Reader<'a, T> {
     }
 
     /// Reads the next rows, at most so many. Answers how many there are, and where they ended, the error.
-    fn read(&mut self, most: usize) -> (usize, Option<Option<Error>>) {
+    pub(crate) fn read(&mut self, most: usize) -> (usize, Option<Option<Error>>) {
         let mut told = Told::default();
+        let room = MOST_BYTES.min(BYTES_A_PAGE * self.place.page as usize) / size_of::<T::Number>();
+        if self.table.len() == ROWS && room > self.out.len() {
+            self.out.resize(room, T::Number::default());
+        }
         // SAFETY: each pointer is to as many items as the length beside it says, of its own vector.
         let status = unsafe {
             (T::CALL)(
@@ -186,6 +194,15 @@ impl<'a, T: RowFormat> Reader<'a, T> {
 
     fn cursor(&self) -> Cursor {
         Cursor::of(&self.place, &self.runs)
+    }
+
+    /// The numbers of those of them in a range, which stand one after another.
+    pub(crate) fn numbers(&self, range: Range<usize>) -> &[T::Number] {
+        let rows = &self.table[range];
+        match (rows.first(), rows.last()) {
+            (Some(first), Some(last)) => &self.out[first.at..last.at + last.len as usize],
+            _ => &[],
+        }
     }
 }
 

@@ -28,6 +28,9 @@ def values(folder):
     yield "Page", fax.page(1)
     yield "Page that was read ahead", next(page for page in fax.pages if next(iter(page)))
     yield "Row", next(fax.rows())
+    yield "Raster", fax.page(1).raster()
+    yield "Raster of a damaged page", fax.page(3).raster(partial=True)
+    yield "StripReport", faxpages.check_strip(b"\xff", 8, rows=1)
     yield "Cursor", faxpages.Cursor(3, 4)
     yield "Cursor inside a strip", fax.read_rows(faxpages.Cursor(1, 0), 2)[1]
     yield "Report", fax.check()
@@ -82,7 +85,9 @@ def copies(claims, folder):
 
 
 def not_copied(claims, folder):
-    """Iterators are not copied."""
+    """Iterators and readers are not copied."""
+    claims.raises("a reader by pickle", TypeError, lambda: pickle.dumps(faxpages.StripReader()))
+    claims.raises("a reader by copy", TypeError, lambda: copy.copy(faxpages.StripReader()))
     fax = faxpages.open(f"{folder}/three-pages.tif")
     for name, iterator in (("rows", fax.rows()), ("pages", fax.pages), ("rows of a page", iter(fax.page(0)))):
         claims.raises(f"an iterator of {name} by pickle", TypeError, lambda iterator=iterator: pickle.dumps(iterator))

@@ -12,6 +12,17 @@ import faxpages  # noqa: E402
 SMALL = b"P4\n64 8\n" + bytes([0x0F, 0xF0, 0, 0, 0xFF, 0, 0xFF, 0]) * 8
 
 
+def until_fault(items):
+    """All items, and the fault that ends them, or None."""
+    found = []
+    try:
+        for item in items:
+            found.append(item)
+    except faxpages.Fault as fault:
+        return found, fault
+    return found, None
+
+
 class Claims:
     """How many claims were true; each that was not is printed."""
 

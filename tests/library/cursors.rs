@@ -1,9 +1,11 @@
 //! Prints a file's rows as `faxpages rows` does, by the crate for Rust: cursors HOW FILE.
 //!
-//! HOW is `rows`, `runs` or `changes`, all of them by one iterator; `batches`, a few at a time by cursors that went
-//! through their text; `stops`, by iterators that are left inside what they have read ahead; `places`, the rows and the
-//! cursors after them; or `wrong`, where nothing is printed, and what is out of range has to be refused.
-use faxpages::{convert, Cursor, Error, Fax, Form, Options, Report, Row, RowChanges, RowRuns, Rows, Target};
+//! HOW is `rows`, `runs` or `changes`, all of them by one iterator; `pages`, by whole pages, and the damaged one up to
+//! its fault; `numbers`, the same by their numbers; `buffers`, by pages in a buffer; `batches`, a few at a time by
+//! cursors that went through their text; `stops`, by iterators that are left inside what they have read ahead;
+//! `places`, the rows and the cursors after them; or `wrong`, where nothing is printed, and what is out of range has to
+//! be refused.
+use faxpages::{convert, Cursor, Error, Fax, Form, Options, Page, Pages, Report, Row, RowChanges, RowRuns, Rows, Target};
 use std::process::exit;
 
 type Line = Result<(u32, u32, Vec<u32>), Error>;
@@ -29,6 +31,97 @@ fn of_changes(row: Result<RowChanges, Error>) -> Line {
         let ends = row.changes.iter().chain([&row.width]);
         (row.page, row.number, ends.zip(begins).map(|(end, begin)| end - begin).collect())
     })
+}
+
+/// The rows of a page, and the fault after them.
+fn of_page(page: Page) -> Vec<Line> {
+    let (number, width) = (page.form.page, page.form.width);
+    assert_eq!(page.rows().len() as u32 + page.lost(), page.form.rows);
+    assert_eq!((page.fault.is_none(), page.row(page.form.rows)), (page.lost() == 0, None));
+    let rows = page.rows().zip(0..);
+    let rows = rows.map(|(packed, row)| Ok(Row { page: number, number: row, width, packed: packed.to_vec() }));
+    rows.map(of_row).chain(page.fault.clone().map(Err)).collect()
+}
+
+/// Rows by whole pages, and those of the damaged one up to its fault.
+fn pages(fax: Fax<'_>) -> Vec<Line> {
+    let (mut lines, mut number) = (Vec::new(), 0);
+    for page in fax.pages() {
+        let page = match page {
+            Ok(page) => {
+                assert_eq!(fax.page(number), Ok(page.clone()));
+                page
+            }
+            Err(error) => {
+                assert_eq!(fax.page(number), Err(error.clone()));
+                match fax.partial_page(number) {
+                    Ok(page) => {
+                        assert_eq!(page.fault, Some(error));
+                        page
+                    }
+                    Err(other) => {
+                        assert_eq!(other, error);
+                        return lines.into_iter().chain([Err(error)]).collect();
+                    }
+                }
+            }
+        };
+        lines.extend(of_page(page));
+        number += 1;
+    }
+    lines
+}
+
+/// The same by their numbers.
+fn numbers(fax: Fax<'_>) -> Vec<Line> {
+    let mut lines = Vec::new();
+    for number in 0.. {
+        match fax.partial_page(number) {
+            Ok(page) => {
+                assert_eq!(fax.form(number), Ok(page.form));
+                lines.extend(of_page(page));
+            }
+            Err(Error::Outside) => break,
+            Err(error) => lines.push(Err(error)),
+        }
+        if matches!(lines.last(), Some(Err(_))) {
+            break;
+        }
+    }
+    lines
+}
+
+/// The same by a buffer, with bytes after each row.
+fn buffers(fax: Fax<'_>) -> Vec<Line> {
+    let mut lines = Vec::new();
+    for form in fax.forms() {
+        let form = match form {
+            Ok(form) => form,
+            Err(error) => {
+                lines.push(Err(error));
+                break;
+            }
+        };
+        let Form { page, width, rows, .. } = form;
+        let (packed, stride) = (form.stride(), form.stride() + 3);
+        let mut out = vec![0xA5; rows as usize * stride + 2];
+        let filled = fax.page_into(page, &mut out, stride).unwrap();
+        assert_eq!((filled.form, filled.stopped.is_none()), (form, filled.rows == rows as usize));
+        assert!(out[filled.rows * stride..].iter().all(|byte| *byte == 0xA5));
+        for (row, number) in out.chunks_exact(stride).take(filled.rows).zip(0..) {
+            assert_eq!(row[packed..], [0; 3]);
+            lines.push(of_row(Ok(Row { page, number, width, packed: row[..packed].to_vec() })));
+        }
+        let few = fax.page_into(page, &mut out[..stride], stride).unwrap();
+        assert_eq!(few.rows, filled.rows.min(1));
+        let none = fax.page_into(page, &mut [], stride).unwrap();
+        assert!(none.stopped == Some(Error::NoRoom) || filled.rows == 0 && none.stopped == filled.stopped);
+        lines.extend(filled.stopped.map(Err));
+        if matches!(lines.last(), Some(Err(_))) {
+            break;
+        }
+    }
+    lines
 }
 
 /// Rows by batches of one to five, of the three formats in turn, each after the cursor of the one before.
@@ -109,6 +202,9 @@ fn wrong(fax: Fax<'_>) {
     assert_eq!(fax.forms_from(u32::MAX).collect::<Vec<_>>(), [Err(Error::Outside)]);
     let forms: Vec<_> = fax.forms().collect();
     assert_eq!(fax.forms_from(1).collect::<Vec<_>>(), forms[1..]);
+    assert_eq!(fax.page(u32::MAX), Err(Error::Outside));
+    assert_eq!(fax.page_into(u32::MAX, &mut [], 0), Err(Error::Outside));
+    assert!(fax.form(forms.len() as u32).is_err());
     let row = Row { page: 0, number: 0, width: 70_000, packed: vec![0xF0] };
     assert_eq!((row.pel(7), row.pel(8), row.pel(u32::MAX), row.runs()), (Some(false), None, None, vec![0, 4, 69_996]));
     let mut options = Options::new(Target::Mmr);
@@ -119,8 +215,9 @@ fn wrong(fax: Fax<'_>) {
     (options.strip, options.aligned) = (Some(0), false);
     assert_eq!(fax.convert(&options), Err(Error::BadOptions));
     assert_eq!(convert(b"GIF", &Options::new(Target::Pbm)), Err(Error::UnknownInput));
-    assert_eq!(Fax::new(b"").rows().count() + Fax::new(b"").forms().count(), 2);
-    shared::<(Fax<'_>, Rows<'_>, Rows<'_, RowRuns>, Rows<'_, RowChanges>, Cursor, Form, Report, Error)>();
+    assert_eq!(Fax::new(b"").rows().count() + Fax::new(b"").forms().count() + Fax::new(b"").pages().count(), 3);
+    shared::<(Fax<'_>, Page, Pages<'_>, Cursor, Form, Report, Error)>();
+    shared::<(Rows<'_>, Rows<'_, RowRuns>, Rows<'_, RowChanges>)>();
 }
 
 fn print(lines: impl Iterator<Item = Line>) {
@@ -154,6 +251,9 @@ fn main() {
         "rows" => print(fax.rows().map(of_row)),
         "runs" => print(fax.runs().map(of_runs)),
         "changes" => print(fax.changes().map(of_changes)),
+        "pages" => print(pages(fax).into_iter()),
+        "numbers" => print(numbers(fax).into_iter()),
+        "buffers" => print(buffers(fax).into_iter()),
         "batches" => print(batches(fax)),
         "stops" => print(stops(fax)),
         "places" => places(fax),

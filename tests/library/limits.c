@@ -53,6 +53,33 @@ static uint32_t as_changes_from(struct faxpages_place *place, struct faxpages_ro
     return faxpages_changes_from(file, len, place, runs, FAXPAGES_RUNS, rows, 3, numbers, NUMBERS, told);
 }
 
+/* The first page, coded in each way and read back, and written into a file. */
+static void pages_and_strips(void) {
+    static uint8_t raster[1 << 20];
+    static struct faxpages_told told;
+    static struct faxpages_strip_report report;
+    static struct faxpages_row rows[4096];
+    struct faxpages_form form = {1, 1, 1, 1, 0, 0, 1, 1, 204, 1, 196, 1, 2};
+    struct faxpages_strip strip;
+    struct faxpages_written written = {0, 0, 1, 0};
+    size_t strip_len;
+    faxpages_page(file, len, 0, &form, raster, sizeof raster, (form.width + 7) / 8, &told);
+    faxpages_runs(file, len, 0, 0, rows, 4096, numbers, NUMBERS, &told);
+    form.exchanged = form.aligned = strip.aligned = 0;
+    strip.width = form.width;
+    strip.rows = form.rows;
+    for (strip.coding = 1; strip.coding <= 3; strip.coding++)
+        for (strip.order = 1; strip.order <= 2; strip.order++) {
+            struct faxpages_place place = {0, 0, 0, 0};
+            faxpages_strip_code_runs(&strip, 4, rows, 4096, numbers, NUMBERS, out, sizeof out, &strip_len);
+            faxpages_strip_code(&strip, 4, raster, sizeof raster, 1, out, sizeof out, &strip_len);
+            faxpages_strip_check(out, strip_len, &strip, &report);
+            faxpages_strip_rows(out, strip_len, &strip, &place, runs, FAXPAGES_RUNS, raster, sizeof raster,
+                                FAXPAGES_ROW_BYTES, &told);
+        }
+    faxpages_add_page(&form, 4, raster, sizeof raster, 1, out, sizeof out, &written);
+}
+
 /* The texts: of a place inside a strip, and it read again, and each name. */
 static void read_texts(void) {
     static uint8_t text[TEXT];
@@ -77,6 +104,7 @@ static void *calls(void *unused) {
     read_rows(packed, packed_from);
     read_rows(as_runs, as_runs_from);
     read_rows(as_changes, as_changes_from);
+    pages_and_strips();
     read_texts();
     faxpages_check(file, len, notes, 64, &report);
     for (options.target = 0; options.target < 4; options.target++)

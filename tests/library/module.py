@@ -134,6 +134,8 @@ def many_pages():
         "forms": lambda: sum(page.rows for page in fax.pages),
         "forms by number": lambda: sum(fax.page(number).rows for number in range(MANY)),
         "rows of pages": lambda: sum(1 for page in fax.pages for row in page),
+        "packed pages": lambda: sum(len(page.packed()) // 8 for page in fax),
+        "rasters of pages by number": lambda: sum(fax[number].raster().rows for number in range(len(fax))),
         "first rows of pages": lambda: 8 * sum(next(iter(page)).number == 0 for page in fax.pages),
         "rows": lambda: sum(1 for row in fax.rows()),
         "each second page": lambda: 2 * sum(1 for page in fax.pages if page.number % 2 for row in page),

@@ -37,6 +37,11 @@ def numbers(fax):
     yield "order of a fax", lambda number: fax.convert("mh", number), 1, 2
     yield "k of a fax", lambda number: fax.convert("mr", 1, number), 1, MOST
     yield "strip of a fax", lambda number: fax.convert("mr", 1, 2, number), 1, MOST
+    yield "order of pages", lambda number: faxpages.encode(fax, "mh", order=number), 1, 2
+    yield "k of pages", lambda number: faxpages.encode(fax, "mr", k=number), 1, MOST
+    yield "strip of pages", lambda number: faxpages.encode(fax, "mh", strip=number), 1, MOST
+    yield "order of a strip", lambda number: faxpages.encode_strip(fax[0], "mh", order=number), 1, 2
+    yield "k of a strip", lambda number: faxpages.encode_strip(fax[0], "mr", k=number), 1, MOST
 
 
 def out_of_range(claims, fax):

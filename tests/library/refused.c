@@ -31,11 +31,11 @@ void free(void *at) {
     __libc_free(at);
 }
 
-enum { ROWS = 4000, ROOM = 1 << 22, NOTES = 64 };
+enum { ROWS = 4000, ROOM = 1 << 22, NOTES = 64, NUMBERS = 1 << 20 };
 
 static struct faxpages_row rows[ROWS];
 static uint8_t out[ROOM], whole[ROOM];
-static uint32_t runs[FAXPAGES_RUNS];
+static uint32_t runs[FAXPAGES_RUNS], numbers[NUMBERS];
 
 /* All rows, a few a call, where growth number n of each call is refused; the call is made again without that. */
 static size_t read_all(const uint8_t *file, size_t len, long n, uint8_t *to, uint32_t *ended) {
@@ -55,6 +55,68 @@ static size_t read_all(const uint8_t *file, size_t len, long n, uint8_t *to, uin
         *ended = status;
         return used;
     }
+}
+
+/* A call where growth number n is refused: what it answers. */
+#define REFUSING(n, call) (left = (n), result = (call), left = -1, result)
+
+/* The first page: read, coded, read back, and written into a file. A call that memory is refused writes nothing, and the
+ * others what they write else. Answers which one did not, or 0. */
+static int one_page(const uint8_t *file, size_t len, long n) {
+    static uint8_t raster[ROOM], coded[ROOM], again[ROOM];
+    static struct faxpages_written written;
+    struct faxpages_form form;
+    struct faxpages_told told;
+    struct faxpages_strip strip;
+    struct faxpages_strip_report report = {7, 7, 7, 7, 7, {7, 7, 7, 7}};
+    struct faxpages_place place = {0, 0, 0, 0};
+    size_t stride, coded_len, again_len;
+    uint32_t result;
+    if (faxpages_page(file, len, 0, &form, raster, 0, 0, &told) != FAXPAGES_NO_ROOM) return 0;
+    stride = (form.width + 7) / 8;
+    if (stride * form.rows > ROOM) return 0;
+    raster[0] = again[0] = 0xA5;
+    if (REFUSING(n, faxpages_page(file, len, 0, &form, raster, ROOM, stride, &told)) == FAXPAGES_MEMORY &&
+        (told.count || raster[0] != 0xA5))
+        return 1;
+    if (faxpages_page(file, len, 0, &form, raster, ROOM, stride, &told) != FAXPAGES_DONE) return 0;
+    strip.width = form.width;
+    strip.rows = form.rows;
+    strip.coding = 2;
+    strip.order = 1;
+    strip.aligned = 0;
+    coded[0] = 0xA5;
+    if (REFUSING(n, faxpages_strip_code(&strip, 4, raster, ROOM, stride, coded, ROOM, &coded_len)) == FAXPAGES_MEMORY &&
+        (coded_len || coded[0] != 0xA5))
+        return 2;
+    if (faxpages_strip_code(&strip, 4, raster, ROOM, stride, coded, ROOM, &coded_len) != FAXPAGES_DONE) return 3;
+    if (faxpages_runs(file, len, 0, 0, rows, ROWS, numbers, NUMBERS, &told) == FAXPAGES_MEMORY || told.count < form.rows)
+        return 0;
+    if (REFUSING(n, faxpages_strip_code_runs(&strip, 4, rows, ROWS, numbers, NUMBERS, again, ROOM, &again_len)) ==
+                FAXPAGES_MEMORY
+            ? again_len || again[0] != 0xA5
+            : again_len != coded_len || memcmp(again, coded, coded_len))
+        return 7;
+    again[0] = 0xA5;
+    if (REFUSING(n, faxpages_strip_check(coded, coded_len, &strip, &report)) == FAXPAGES_MEMORY
+            ? report.rows != 7 || report.fault.row != 7
+            : result != FAXPAGES_END || report.rows != form.rows)
+        return 4;
+    if (REFUSING(n, faxpages_strip_rows(coded, coded_len, &strip, &place, runs, FAXPAGES_RUNS, again, stride * form.rows,
+                                        stride, &told)) == FAXPAGES_MEMORY
+            ? told.count || place.runs || again[0] != 0xA5
+            : memcmp(raster, again, stride * form.rows) || place.row != form.rows)
+        return 5;
+    memset(&written, 0, sizeof written);
+    written.total = 1;
+    form.coding = 1;
+    form.exchanged = form.aligned = 0;
+    again[0] = 0xA5;
+    if (REFUSING(n, faxpages_add_page(&form, 4, raster, ROOM, stride, again, ROOM, &written)) == FAXPAGES_MEMORY
+            ? written.added || again[0] != 0xA5
+            : result != FAXPAGES_DONE || written.added != 1)
+        return 6;
+    return 0;
 }
 
 int main(int count, char **words) {
@@ -87,6 +149,10 @@ int main(int count, char **words) {
         left = -1;
         if (status == FAXPAGES_MEMORY && (out[0] != 0xA5 || converted.len != 0)) return 7;
         if (status == FAXPAGES_DONE && (out[0] == 0xA5 || converted.len == 0)) return 8;
+    }
+    for (n = 0; n < 40; n++) {
+        int wrong = one_page(file, len, n);
+        if (wrong) return 10 + wrong;
     }
     return held == before ? 0 : 9;
 }

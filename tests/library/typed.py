@@ -9,6 +9,7 @@ which names are not used."""
 
 from __future__ import annotations
 
+import io
 import sys
 from fractions import Fraction
 from typing import Callable, Dict, Iterator, List, Optional, Set, Tuple, Type
@@ -94,9 +95,59 @@ def refused(work: Callable[[], object]) -> str:
     return ""
 
 
+def of_raster(raster: faxpages.Raster) -> bytes:
+    """A raster, and what is coded of it."""
+    size: Tuple[int, int, int] = raster.width, raster.rows, raster.stride
+    resolution: Tuple[Fraction, Fraction, int] = raster.x, raster.y, raster.unit
+    dpi: Optional[Tuple[float, float]] = raster.dpi
+    lost: Tuple[int, Optional[faxpages.Fault]] = raster.lost, raster.fault
+    again: faxpages.Raster = faxpages.Raster(*size[:2], packed=raster.packed, x=resolution[0], y=resolution[1])
+    view: memoryview = raster.__buffer__(0)
+    if again.dpi != dpi or lost != (0, None) or view.nbytes != size[1] * size[2]:
+        raise AssertionError("another raster")
+    return faxpages.encode_strip(again, coding="mr", order=2, k=Index(), align=True)
+
+
+def of_strips(raster: faxpages.Raster) -> int:
+    """A strip that is coded, read at once and in pieces, and checked."""
+    data: bytes = of_raster(raster)
+    read: faxpages.Raster = faxpages.strip(data, raster.width, raster.rows, coding="mr", order=2, partial=True)
+    part: bytes = faxpages.strip(memoryview(data), width=raster.width, coding="mr", order=2).packed
+    reader: faxpages.StripReader = faxpages.StripReader(width=raster.width, coding="mr", order=2, rows=None)
+    reader.feed(bytearray(data))
+    reader.close()
+    rows: List[faxpages.Row] = list(reader)
+    report: faxpages.StripReport = faxpages.check_strip(data, width=raster.width, coding="mr", order=2)
+    found: Tuple[int, bool, bool, Tuple[faxpages.Note, ...]] = report.rows, report.end_mark, report.ok, report.notes
+    fault: Optional[faxpages.Fault] = report.fault
+    ended: Tuple[int, bool] = reader.rows, reader.ended
+    if read.packed != part or fault or ended != (len(rows), True) or found[0] != raster.rows:
+        raise AssertionError("another strip")
+    return len(rows)
+
+
+def of_pages(fax: faxpages.Fax) -> int:
+    """A fax as a sequence, and what is written of it."""
+    first: faxpages.Page = fax[0]
+    rest: List[faxpages.Page] = fax[1:]
+    writable: List[faxpages.Writable] = [first, *rest, first.raster(), list(first)]
+    data: bytes = faxpages.encode(writable, coding="mh", order=1, k=1, strip=Index(), align=True, dpi=(200, 100.5))
+    out = io.BytesIO()
+    faxpages.write(fax, out, coding="mr", dpi=Fraction(200))
+    written: faxpages.Fax = faxpages.open(io.BytesIO(out.getvalue()))
+    dpi: Optional[Tuple[float, float]] = written[0].dpi
+    registers: Callable[[], None] = faxpages.register
+    pages: int = len(faxpages.open(data)) + len(written)
+    if dpi != (200.0, 200.0) or not callable(registers) or first not in fax or of_strips(first.raster()) != first.rows:
+        raise AssertionError("another file of pages")
+    return pages
+
+
 def whole(source: faxpages.Source) -> int:
     """Goes over a file that is whole."""
     with faxpages.open(source) as fax:
+        if of_pages(fax) != 2 * len(fax) + 2:
+            raise AssertionError("other pages")
         pages: Iterator[faxpages.Page] = fax.pages
         forms = [of_page(page) for page in pages]
         second: faxpages.Page = fax.page(of_cursors(fax).page)

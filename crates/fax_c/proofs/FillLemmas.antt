@@ -17,7 +17,7 @@ use Rattle.fax_c.specs.declared.filled.Stop.{Stop}
 use Rattle.fax_c.specs.declared.filled.Stop.TheVariants.{Done, Ended, Memory, NoRoom}
 use Rattle.fax_c.specs.declared.rows.FaxRow.{FaxRow}
 use Rattle.fax_c.specs.views.Filled.{AreRowsFilled, StopsAfterRows, all_numbers, cursor_after_rows, row_at, rows_at}
-use Rattle.fax_c.specs.code.Put.{IsPut, IsWalkAfter}
+use Rattle.fax_c.specs.code.Put.{IsPut, IsPutAt, IsPutTo, IsWalkAfter}
 use Rattle.fax_c.proofs.ListLemmas.{more_put, one_set, take_at}
 use Rattle.fax_c.proofs.NumberLemmas.{end_is, number_is}
 
@@ -158,6 +158,15 @@ module _ {N : Type 0} (numbers : List Colour → List N) (file : List ℕ) (begu
             ∙ ap (λ (l : List FaxRow). l ++ drop (count + 1) old_rows) (sym rows_are);
         written = written ∙ ap (λ (l : List N). l ++ drop (used + length more) old) (sym all) ∙ ap (λ n. all_numbers numbers (take (count + 1) so_far.items) ++ drop n old) (sym to_is);
       }
+
+  -- the same of a row that no table has
+  pub put_row : (to : ℕ) (new : WalkView) (new_out : List N) → count < length old_rows → (put : IsPutTo numbers walk out used (Ok to) new new_out)
+      → AreRowsWritten numbers file begun new (count + 1) to old_rows (set rows count (row_at numbers used put.0)) old new_out
+  put_row to new new_out below (item, hands, put) =
+      let there : IsPutAt (numbers item.pels) out used (Some (used + length (numbers item.pels))) new_out =
+      subst (λ n. IsPutAt (numbers item.pels) out used (Some n) new_out) put.0 put in
+      subst (λ n. AreRowsWritten numbers file begun new (count + 1) n old_rows (set rows count (row_at numbers used item)) old new_out) (sym put.0)
+      (one_more (row_at numbers used item) new new_out below (item, hands, refl, there))
 
   stops : (stop : Stop) (new : WalkView) (new_out : List N) → count < length old_rows → IsPut numbers walk out used (Err stop) new new_out
       → StopsAfterRows numbers file begun so_far.items so_far.end (length old_rows) (length old) count used stop × (new_out ≡ out)

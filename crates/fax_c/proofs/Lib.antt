@@ -8,3 +8,7 @@ pub mod PlaceLemmas
 pub mod PlaceTextLemmas
 pub mod NoteLemmas
 pub mod ConversionLemmas
+pub mod PaddedLemmas
+pub mod StripLemmas
+pub mod WritingLemmas
+pub mod RunRowLemmas

@@ -17,7 +17,7 @@ use Rattle.fax_c.specs.views.Places.{HasRuns, IsAfterRows, KeepsRuns, begun_of, 
 use Rattle.fax_c.specs.code.Put.{IsInsideTold, IsPutAt}
 
 -- a row has a run
-has_a_run : (colour : Colour) (n : ℕ) (pels : List Colour) → 0 < length (runs_after colour n pels)
+pub has_a_run : (colour : Colour) (n : ℕ) (pels : List Colour) → 0 < length (runs_after colour n pels)
 unfolding runs_after
 has_a_run colour n [] = omega arith
 has_a_run colour n (first ∷ pels) =

@@ -3,6 +3,7 @@ pub mod Numbers
 pub mod Texts
 pub mod Changes
 pub mod Forms
+pub mod Raster
 pub mod Told
 pub mod Checked
 pub mod Converted

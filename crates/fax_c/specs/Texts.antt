@@ -35,7 +35,7 @@ NamesFault number old len new =
 abbrev pub status_names : List (List ℕ)
 status_names =
     codes "Done" ∷ codes "End" ∷ codes "Fault" ∷ codes "Outside" ∷ codes "Memory"
-    ∷ codes "NoRoom" ∷ codes "NoPlace" ∷ codes "NoOptions" ∷ []
+    ∷ codes "NoRoom" ∷ codes "NoPlace" ∷ codes "NoOptions" ∷ codes "TooLarge" ∷ []
 
 -- the name of a status is written, or nothing where none has this number
 abbrev pub NamesStatus : ℕ → List ℕ → ℕ → List ℕ → Type 0

@@ -1,3 +1,6 @@
 -- What speaks of this code alone: one step of a call.
 pub mod Put
+pub mod Strips
+pub mod StripRuns
+pub mod Writing
 pub mod Conversion

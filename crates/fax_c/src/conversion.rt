@@ -51,7 +51,7 @@ fn target_of(number: u32) -> Option<Target>
 }
 
 /// The order of bits with a number, if one has it.
-fn order_of(number: u32) -> Option<FillOrder>
+pub(crate) fn order_of(number: u32) -> Option<FillOrder>
     ensures { Code.IsOrderOf number result }
 {
     match number {

@@ -7,7 +7,7 @@ use fax_walk::{Begun, Cursor, LongCursor, LongFault};
 use std::alloc::Global;
 
 /// Writes a text where it has room, tells how many bytes it has, and answers whether it had room.
-fn put_counted(text: &[u8], out: &mut [u8], len: &mut usize) -> u32
+pub(crate) fn put_counted(text: &[u8], out: &mut [u8], len: &mut usize) -> u32
     ensures { Spec.IsTextTold text.now out.old out.new len.new result }
 {
     *len = put_text(text, out);

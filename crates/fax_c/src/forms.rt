@@ -64,7 +64,7 @@ impl FaxForm {
     ghost use Rattle.fax_c.specs.Forms.{form_of};
 
     /// A form as it stands in memory of the caller.
-    fn of(form: &PageForm) -> Self
+    pub(crate) fn of(form: &PageForm) -> Self
         ensures { result ≡ form_of form.now }
     {
         FaxForm {
@@ -86,7 +86,7 @@ impl FaxForm {
 }
 
 /// The form of the next page, or why there is none.
-fn next_form(pages: &mut Pages) -> Result<PageForm, End>
+pub(crate) fn next_form(pages: &mut Pages) -> Result<PageForm, End>
     ensures { Code.IsFormAnswered pages.old result pages.new }
 {
     match pages.next_page() {

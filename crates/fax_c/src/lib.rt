@@ -3,6 +3,8 @@
 #![tactic(auto)]
 
 mod checking;
+mod coding;
+mod coding_runs;
 mod conversion;
 mod cursors;
 mod faults;
@@ -10,9 +12,15 @@ mod filled;
 mod format;
 mod forms;
 mod names;
+mod page;
 mod places;
+mod raster;
 mod rows;
 mod runs;
+mod strip_form;
+mod strip_report;
+mod strips;
 mod text;
 mod told;
 mod version;
+mod writing;

@@ -123,6 +123,7 @@ fn status_name(number: u32) -> &'static str
         5 => "NoRoom",
         6 => "NoPlace",
         7 => "NoOptions",
+        8 => "TooLarge",
         _ => "",
     }
 }

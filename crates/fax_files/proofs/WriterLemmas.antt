@@ -1,10 +1,10 @@
 -- A page that is added to a file.
 use Rattle.std.proofs.Common.{◌≡◌, ℕ, ◌+◌, ◌-◌, ◌*◌, ◌%◌, ◌<◌, ◌≤◌, true, false, List, [], ◌∷◌, ◌++◌, length, take, drop, Vec, inl, inr}
-use Rattle.std.proofs.Common.{refl, sym, ap, ◌∙◌, arith, append_assoc}
+use Rattle.std.proofs.Common.{refl, sym, ap, subst, ◌∙◌, arith, append_assoc}
 use Rattle.std.specs.Prelude.{◌==◌, nat_le, if◌then◌else◌, replicate}
 use Rattle.std.specs.declared.alloc.Global.{Global}
 use Rattle.std.proofs.lemmas.Bool.{cases_eq, eq-eqb, ne_eqb, le-leb, lt-leb}
-use Rattle.std.proofs.lemmas.List.{length-append, take-append-le, drop-append-le}
+use Rattle.std.proofs.lemmas.List.{length-append, length-replicate, take-append-le, drop-append-le}
 use Rattle.fax_files.specs.declared.PageForm.{PageForm}
 use Rattle.fax_files.specs.declared.written.Layout.{Layout}
 use Rattle.fax_files.specs.views.Page.{IsPageForm}
@@ -19,6 +19,7 @@ use Rattle.fax_files.specs.Layout.{with_page}
 use Rattle.fax_files.specs.laws.Files.{IsWritable}
 use Rattle.fax_files.specs.views.Writing.{contents}
 use Rattle.fax_files.specs.code.Writing.{IsWriting, IsLayout, laid_out_fields, tail_bytes, page_end}
+use Rattle.fax_files.proofs.PlaceLemmas.{length-patched}
 use Rattle.fax_files.proofs.WritingLemmas.{length-contents}
 use Rattle.fax_files.proofs.WrittenStripLemmas.{length-offsets_from, length-lengths_of}
 use Rattle.fax_files.proofs.WrittenPageLemmas.{some_strips}
@@ -80,6 +81,13 @@ module _ (bytes : List ℕ) (link total added end : ℕ) (form : PageForm) (stri
       + 2 * (if nat_le (length (contents strips)) 1 then 0 else (4 * length (contents strips)))
   new_length = length-with_page old total added (record { form = form; strips = contents strips }) inside writable
 
+  new_split : length new.bytes ≡ length bytes + length (page_bytes (length bytes) total added form (contents strips))
+  unfolding with_page
+  new_split =
+      let q = directory_place (length bytes) (contents strips) in
+      let page = page_bytes (length bytes) total added form (contents strips) in
+      length-append (with_four_at bytes link q) page ∙ ap (λ (n : ℕ). n + length page) (length-patched bytes link q inside)
+
   pub too_long : max_file < length bytes + length (joined_strips (contents strips)) → max_file < length new.bytes
   too_long long = omega (arith, new_length)
 
@@ -116,6 +124,22 @@ module _ (bytes : List ℕ) (link total added end : ℕ) (form : PageForm) (stri
           let counts_len : length (lengths_of (contents strips)) ≡ form.strips = length-lengths_of (contents strips) ∙ count in
           rw (laid.total_is, laid.number_is, offsets, counts, laid.strips_are, place, offsets_len, counts_len) refl
 
+      pub page_is : (tail : List ℕ) → tail ≡ tail_bytes end (laid_out_fields at form) form (length bytes) (contents strips)
+          → joined_strips (contents strips) ++ tail ≡ page_bytes (length bytes) total added form (contents strips)
+      unfolding page_bytes
+      page_is tail tail_is =
+          let q = directory_place (length bytes) (contents strips) in
+          let all = joined_strips (contents strips) in
+          let fields = fields_of q total added form (offsets_from (length bytes) (contents strips)) (lengths_of (contents strips)) in
+          let values = values_bytes form (offsets_from (length bytes) (contents strips)) (lengths_of (contents strips)) in
+          let pad : List ℕ = replicate ((length bytes + length all) % 2) 0 in
+          ap (λ (t : List ℕ). all ++ t) (tail_is ∙ ap (λ fs. tail_bytes end fs form (length bytes) (contents strips)) fields_are
+          ∙ ap (λ (e : ℕ). tail_bytes e fields form (length bytes) (contents strips)) end_is)
+          ∙ regrouped all pad (fields_bytes fields) (four 0) values
+
+      pub place_is : at.directory ≡ directory_place (length bytes) (contents strips)
+      place_is = place
+
       pub added_bytes : (tail now : List ℕ) → tail ≡ tail_bytes end (laid_out_fields at form) form (length bytes) (contents strips)
           → now ≡ bytes ++ (joined_strips (contents strips) ++ tail) → with_four_at now link at.directory ≡ new.bytes
       unfolding with_page page_bytes
@@ -144,3 +168,50 @@ module _ (bytes : List ℕ) (link total added end : ℕ) (form : PageForm) (stri
         link_inside = rw now_is (omega (arith, size, laid.directory_is));
         limit = rw now_is (omega (arith, size, short));
       }
+
+-- a page that is written for a place of a file, whatever stands before it
+module _ (start total added : ℕ) (form : PageForm) (strips : List (Vec ℕ Global)) (header : 8 ≤ start) (limits : IsPageForm form)
+    (exchanged : form.exchanged ≡ false) (counted : length strips ≡ form.strips) where
+  abbrev front : List ℕ
+  front = replicate start 0
+
+  front_len : length front ≡ start
+  front_len = length-replicate {A = ℕ} start 0
+
+  room : 0 + 4 ≤ length front
+  room = omega (arith, header, front_len)
+
+  pub page_too_long : max_file < start + length (joined_strips (contents strips))
+      → max_file < start + length (page_bytes start total added form (contents strips))
+  page_too_long long =
+      let all = too_long front 0 total added 0 form strips room limits exchanged counted
+      (subst (λ n. max_file < n + length (joined_strips (contents strips))) (sym front_len) long) in
+      subst (λ n. max_file < n + length (page_bytes n total added form (contents strips))) front_len
+      (omega (arith, all, new_split front 0 total added 0 form strips room limits exchanged counted))
+
+  pub page_size : (end : ℕ) → end ≡ start + length (joined_strips (contents strips))
+      → start + length (page_bytes start total added form (contents strips)) ≡ page_end (end + end % 2) form.strips
+  page_size end end_is =
+      let there = subst (λ n. end ≡ n + length (joined_strips (contents strips))) (sym front_len) end_is in
+      let all = size front 0 total added end form strips room limits exchanged counted there in
+      subst (λ n. n + length (page_bytes n total added form (contents strips)) ≡ page_end (end + end % 2) form.strips) front_len
+      (omega (arith, all, new_split front 0 total added end form strips room limits exchanged counted))
+
+  module _ (end : ℕ) (end_is : end ≡ start + length (joined_strips (contents strips))) (at : Layout)
+      (laid : IsLayout at form.strips start end added total) where
+    there : end ≡ length front + length (joined_strips (contents strips))
+    there = subst (λ n. end ≡ n + length (joined_strips (contents strips))) (sym front_len) end_is
+
+    laid_there : IsLayout at form.strips (length front) end added total
+    laid_there = subst (λ n. IsLayout at form.strips n end added total) (sym front_len) laid
+
+    pub page_place : at.directory ≡ directory_place start (contents strips)
+    page_place = subst (λ n. at.directory ≡ directory_place n (contents strips)) front_len
+        (place_is front 0 total added end form strips room limits exchanged counted there at laid_there)
+
+    pub whole_page : (tail bytes : List ℕ) → tail ≡ tail_bytes end (laid_out_fields at form) form start (contents strips)
+        → bytes ≡ joined_strips (contents strips) ++ tail → bytes ≡ page_bytes start total added form (contents strips)
+    whole_page tail bytes tail_is bytes_are =
+        let tail_there = subst (λ n. tail ≡ tail_bytes end (laid_out_fields at form) form n (contents strips)) (sym front_len) tail_is in
+        bytes_are ∙ subst (λ n. joined_strips (contents strips) ++ tail ≡ page_bytes n total added form (contents strips)) front_len
+        (page_is front 0 total added end form strips room limits exchanged counted there at laid_there tail tail_there)

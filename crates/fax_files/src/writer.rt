@@ -3,6 +3,7 @@
 ghost use Rattle.std.specs.Prelude.{◌≡◌, ◌+◌, ◌<◌, ◌≤◌, length, false, IfOk, OnOk, OnErr, Err, ◌↔◌};
 ghost use Rattle.fax_files.specs.views.Page.{IsPageForm};
 ghost use Rattle.fax_files.specs.Directory.{max_file};
+ghost use Rattle.fax_files.specs.Layout.{directory_place, page_bytes, to_link};
 ghost use Rattle.fax_files.specs.views.Writing as Spec;
 
 use crate::PageForm;
@@ -23,6 +24,68 @@ pub enum WriteFault {
     /// The file would have more than 268,435,456 bytes.
     #[error("the output is too large")]
     OutputTooLarge,
+}
+
+/// A page as it stands in a file.
+#[derive(Drop)]
+pub struct PageBytes {
+    /// Its strips, its directory and what belongs to that.
+    pub bytes: Vec<u8>,
+    /// Where in the file its directory begins.
+    pub directory: u32,
+    /// Where in the file the offset of the next page's directory stands, which is 0.
+    pub link: u32,
+}
+
+/// The bytes of page `number`, from 0, of `total` of this form, of which these are the bytes of
+/// each strip, as they stand from byte `start` of a file on.
+///
+/// # Errors
+///
+/// `OutputTooLarge` where the file would have more than 268,435,456 bytes, `Memory` where a growth
+/// was refused.
+pub fn write_page(
+    alloc: Global,
+    form: &PageForm,
+    strips: &[Vec<u8>],
+    start: u32,
+    number: u16,
+    total: u16,
+) -> Result<PageBytes, WriteFault>
+    requires header { 8 ≤ start }
+    requires limit { start ≤ max_file }
+    requires limits { IsPageForm form.now }
+    requires exchanged { form.now.exchanged ≡ false }
+    requires strips { length strips.now ≡ form.now.strips }
+    ensures bytes { IfOk result (λ page. page.bytes.items
+        ≡ page_bytes start total number form.now (Spec.contents strips.now)) }
+    ensures directory { IfOk result (λ page. page.directory
+        ≡ directory_place start (Spec.contents strips.now)) }
+    ensures link { IfOk result (λ page. page.link ≡ page.directory + to_link) }
+    ensures within { IfOk result (λ page. start + length page.bytes.items ≤ max_file) }
+    ensures too_large { (result ≡ Err WriteFault.OutputTooLarge) → max_file
+        < start + length (page_bytes start total number form.now (Spec.contents strips.now)) }
+{
+    let Some(end) = strips_end(start, strips) else {
+        return Err(WriteFault::OutputTooLarge);
+    };
+    if page_end(end + end % 2, form.strips) > u64::from(MAX_FILE) {
+        return Err(WriteFault::OutputTooLarge);
+    }
+    let at = laid_out(form.strips, start, end, number, total);
+    let placed = StripsAt { strips, start, end };
+    let Ok(tail) = page_tail(alloc, form, placed, &at) else {
+        return Err(WriteFault::Memory);
+    };
+    let mut bytes = Vec::new(alloc);
+    let Ok(()) = append(&mut bytes, strips, &tail) else {
+        return Err(WriteFault::Memory);
+    };
+    Ok(PageBytes {
+        bytes,
+        directory: at.directory,
+        link: at.directory + TO_LINK,
+    })
 }
 
 /// Writes a TIFF file page by page. Contracts see its bytes, the place of its last link, of how

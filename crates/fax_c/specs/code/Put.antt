@@ -56,6 +56,15 @@ IsPut numbers walk old at (Err Memory) new_walk new =
     EntersPage walk.file walk.begun walk.given × (new_walk ≡ walk) × (new ≡ old)
 IsPut numbers walk old at (Err Done) new_walk new = ⊥
 
+-- the row that is handed out is written at a place, and where it ends is answered, or why it is not
+abbrev pub IsPutTo : {N : Type 0} → (List Colour → List N) → WalkView → List N → ℕ
+    → Result ℕ Stop → WalkView → List N → Type 0
+IsPutTo numbers walk old at (Ok to) new_walk new =
+    (item : RowItem) × HandsOut IsTailFrom row_limit walk item new_walk
+    × IsPutAt (numbers item.pels) old at (Some to) new
+IsPutTo numbers walk old at (Err stop) new_walk new =
+    IsPut numbers walk old at (Err stop) new_walk new
+
 -- a walk after so many of its rows were written: one row further where that one has no room
 pub record IsWalkAfter (old : WalkView) (filled : Filled) (new : WalkView) : Type 0 where
   pub same_file : new.file ≡ old.file

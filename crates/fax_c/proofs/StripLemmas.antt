@@ -1,0 +1,174 @@
+-- The rows of a strip, written one after another.
+use Rattle.std.proofs.Common.{◌≡◌, ℕ, ◌+◌, ◌-◌, ◌*◌, ◌<◌, ◌≤◌, Bool, List, [], ◌∷◌, ◌++◌, length, take, drop, refl, ap, sym, ◌∙◌, subst}
+use Rattle.std.proofs.Common.{append_assoc, append-nil, arith, length-append, inl, inr}
+use Rattle.std.specs.Prelude.{Some, None, flat_map}
+use Rattle.fax_bits.specs.Bits.{bits}
+use Rattle.fax_rows.specs.Rows.{Colour, runs_of}
+use Rattle.std.proofs.lemmas.List.{take_at, drop_at}
+use Rattle.fax_rows.specs.Coded.{packed_len}
+use Rattle.fax_page.specs.declared.StripForm.{StripForm}
+use Rattle.fax_page.specs.Lines.{IsCause, IsLine}
+use Rattle.fax_page.specs.views.Reader.{ReadsRow, StripState}
+use Rattle.fax_c.specs.declared.filled.Filled.{Filled}
+use Rattle.fax_c.specs.declared.filled.Stop.{Stop}
+use Rattle.fax_c.specs.declared.filled.Stop.TheVariants.{Ended}
+use Rattle.fax_files.specs.declared.Cause.TheVariants.{Strip}
+use Rattle.fax_walk.specs.declared.end.End.TheVariants.{Fault}
+use Rattle.fax_walk.specs.declared.cursor.Cursor.{Cursor}
+use Rattle.fax_c.specs.declared.places.FaxPlace.{FaxPlace}
+use Rattle.fax_c.specs.Raster.{padded_row}
+use Rattle.fax_c.specs.views.Places.{HasRuns, cursor_of}
+use Rattle.fax_c.specs.views.Strips.{AreRead, IsPlace, ReadsNone, ReadsOn, ReadsTo, StopsAt, StripPlace}
+use Rattle.fax_c.specs.code.Put.{IsPutAt}
+use Rattle.fax_c.specs.code.Strips.{IsReadNext, place_due}
+use Rattle.fax_c.proofs.ListLemmas.{more_put}
+use Rattle.fax_c.proofs.PlaceLemmas.{has_a_run}
+use Rattle.fax_c.proofs.PaddedLemmas.{fills_stride}
+
+abbrev the_cursor : ℕ → ℕ → Cursor
+the_cursor page row = record { page = page; row = row }
+
+-- one row more is read
+reads_more : (form : StripForm) (all : List Bool) (from : StripPlace) (rows : List (List Colour)) (mid : StripPlace) (n : ℕ) (row : List Colour)
+    → ReadsTo form all from rows mid → mid.row < form.rows → IsLine form mid.row mid.reference (drop mid.bits all) row (drop n all)
+    → ReadsTo form all from (rows ++ row ∷ []) (record { row = mid.row + 1; bits = n; reference = row })
+reads_more form all from [] mid n row same due line =
+    rw same (n, due, line, refl)
+reads_more form all from (first ∷ rows) mid n row (bits, before, first_line, reads) due line =
+    (bits, before, first_line, reads_more form all (record { row = from.row + 1; bits = bits; reference = first }) rows mid n row reads due line)
+
+rows-push : (stride : ℕ) (rows : List (List Colour)) (row : List Colour)
+    → flat_map (padded_row stride) (rows ++ row ∷ []) ≡ flat_map (padded_row stride) rows ++ padded_row stride row
+rows-push stride [] row = append-nil (padded_row stride row)
+rows-push stride (first ∷ rows) row =
+    ap (λ (l : List ℕ). padded_row stride first ++ l) (rows-push stride rows row)
+    ∙ sym (append_assoc (padded_row stride first) (flat_map (padded_row stride) rows) (padded_row stride row))
+
+-- so many rows are read from a place on, and written
+pub record AreReadSoFar (form : StripForm) (bytes : List ℕ) (stride : ℕ) (from : StripPlace) (old : List ℕ) (count used : ℕ) (state : StripState)
+    (now : List ℕ) : Type 0 where
+  pub same_form : state.form ≡ form
+  pub same_bytes : state.bytes ≡ bytes
+  pub no_fault : state.fault ≡ None
+  pub rows : List (List Colour)
+  pub read : ReadsTo form (bits form.order bytes) from rows (place_due state)
+  pub count_is : count ≡ length rows
+  pub used_is : used ≡ length rows * stride
+  pub len : length (flat_map (padded_row stride) rows) ≡ used
+  pub room : used ≤ length old
+  pub written : now ≡ flat_map (padded_row stride) rows ++ drop used old
+
+pub none_read : (stride : ℕ) (state : StripState) (old : List ℕ) → state.fault ≡ None
+    → AreReadSoFar state.form state.bytes stride (place_due state) old 0 0 state old
+none_read stride state old none = record {
+  same_form = refl;
+  same_bytes = refl;
+  no_fault = none;
+  rows = [];
+  read = refl;
+  count_is = refl;
+  used_is = omega arith;
+  len = refl;
+  room = omega arith;
+  written = refl;
+}
+
+-- a row of a form has room where its width has
+pub fits : (row : List Colour) (form first : StripForm) (stride : ℕ) → length row ≡ form.width → form ≡ first → packed_len first.width ≤ stride
+    → packed_len (length row) ≤ stride
+fits row form first stride len same short =
+    subst (λ n. packed_len n ≤ stride) (sym (len ∙ ap (λ (f : StripForm). f.width) same)) short
+
+-- the place of a row that is due, where the runs of the row before it are written
+pub due_told : (width : ℕ) (reference : List Colour) (row bits count page : ℕ) (old_runs runs : List ℕ) → length reference ≡ width
+    → IsPutAt (runs_of reference) old_runs 0 (Some count) runs
+    → let place : FaxPlace = record { page = page; row = row; bits = bits; runs = count } in
+    HasRuns place runs × IsPlace width place runs (record { row = row; bits = bits; reference = reference })
+    × (drop count runs ≡ drop count old_runs)
+due_told width reference row bits count page old_runs runs len (count_is, within, runs_are) =
+    let numbers = runs_of reference in
+    let some = has_a_run Colour.White 0 reference in
+    let same : take count runs ≡ numbers = ap (take count) runs_are ∙ take_at numbers (drop count old_runs) count (omega (arith, count_is)) in
+    let rest : drop count runs ≡ drop count old_runs = ap (drop count) runs_are ∙ drop_at numbers (drop count old_runs) count (omega (arith, count_is)) in
+    let held : count ≤ length runs = omega (arith, count_is, ap (λ (l : List ℕ). length l) runs_are, length-append numbers (drop count old_runs)) in
+    let has : 0 < count = omega (arith, count_is, some) in (
+      (has, held),
+      record {
+        row = refl;
+        bits = refl;
+        width_is = len;
+        reference = inr ((has, held), sym same);
+      },
+      rest,
+    )
+
+-- what was read is all that is, where it stops
+pub stops_after : (form : StripForm) (bytes : List ℕ) (page stride : ℕ) (from : StripPlace) (old : List ℕ) (count used row : ℕ)
+    (state next : StripState) (now : List ℕ) (stop : Stop) → AreReadSoFar form bytes stride from old count used state now
+    → place_due next ≡ place_due state → row ≡ next.row
+    → StopsAt form (bits form.order bytes) (place_due next) page stride (length old - used) stop
+    → AreRead form (bits form.order bytes) page stride from old
+    (record { cursor = record { page = page; row = row }; count = count; used = used; stop = stop }) (place_due next) now
+stops_after form bytes page stride from old count used row state next now stop so_far same row_is why = record {
+  rows = so_far.rows;
+  read = subst (λ to. ReadsTo form (bits form.order bytes) from so_far.rows to) (sym same) so_far.read;
+  count = so_far.count_is;
+  used = so_far.used_is;
+  written = so_far.written;
+  cursor = ap (λ (n : ℕ). the_cursor page n) row_is;
+  stops = why;
+}
+
+-- why no row is read
+pub why_none : (form : StripForm) (bytes : List ℕ) (page stride left : ℕ) (old next : StripState) (stop : Stop) → old.form ≡ form → old.bytes ≡ bytes
+    → stride ≤ left → IsReadNext page old (Some stop) next → StopsAt form (bits form.order bytes) (place_due next) page stride left stop
+why_none form bytes page stride left old next stop same_form same_bytes room (place, keeps_form, keeps_bytes, inl (end, is)) =
+    let last : next.row ≡ form.rows = ap (λ (p : StripPlace). p.row) place ∙ end.all_read ∙ ap (λ (f : StripForm). f.rows) same_form in
+    subst (λ (s : Stop). StopsAt form (bits form.order bytes) (place_due next) page stride left s) (sym is) (room, last)
+why_none form bytes page stride left old next stop same_form same_bytes room (place, keeps_form, keeps_bytes, inr (fault, meets, is)) =
+    let cause : IsCause form old.row old.reference (drop old.place (bits form.order bytes)) fault = rw (same_form, same_bytes) at meets.cause in
+    let due : old.row < form.rows = subst (λ (f : StripForm). old.row < f.rows) same_form meets.due in
+    let here : StopsAt form (bits form.order bytes) (place_due old) page stride left (Ended (Fault page old.row (Strip fault))) =
+    (room, refl, refl, due, cause) in
+    let there = subst (λ (p : StripPlace). StopsAt form (bits form.order bytes) p page stride left (Ended (Fault page old.row (Strip fault)))) (sym place) here in
+    subst (λ (s : Stop). StopsAt form (bits form.order bytes) (place_due next) page stride left s) (sym is) there
+
+module _ (form : StripForm) (bytes : List ℕ) (stride : ℕ) (from : StripPlace) (old : List ℕ) (count used : ℕ) (state : StripState) (now : List ℕ)
+    (so_far : AreReadSoFar form bytes stride from old count used state now) where
+  pub one_more : (next : StripState) (to : ℕ) (new : List ℕ) → ReadsRow state next → packed_len (length next.reference) ≤ stride
+      → IsPutAt (padded_row stride next.reference) now used (Some to) new → length now ≡ length old
+      → AreReadSoFar form bytes stride from old (count + 1) to next new
+  one_more next to new reads short (to_is, within, new_is) same_len =
+      let row = next.reference in
+      let fills = fills_stride stride row short in
+      let front = flat_map (padded_row stride) so_far.rows in
+      let step : IsLine form state.row state.reference (drop state.place (bits form.order bytes)) row (drop next.place (bits form.order bytes)) =
+      rw (reads.same_form, reads.same_bytes, so_far.same_form, so_far.same_bytes) at reads.line in
+      let due : state.row < form.rows = subst (λ (f : StripForm). state.row < f.rows) so_far.same_form reads.due in
+      let more = reads_more form (bits form.order bytes) from so_far.rows (place_due state) next.place row so_far.read due step in
+      let rows_len : length (so_far.rows ++ row ∷ []) ≡ length so_far.rows + 1 = length-append so_far.rows (row ∷ []) in
+      let product : (length so_far.rows + 1) * stride ≡ length so_far.rows * stride + stride = omega arith in
+      let used_next : to ≡ length (so_far.rows ++ row ∷ []) * stride =
+      to_is ∙ ap (λ n. used + n) fills ∙ ap (λ n. n + stride) so_far.used_is ∙ sym product ∙ sym (ap (λ n. n * stride) rows_len) in
+      let all = rows-push stride so_far.rows row in
+      record {
+        same_form = reads.same_form ∙ so_far.same_form;
+        same_bytes = reads.same_bytes ∙ so_far.same_bytes;
+        no_fault = reads.still_no_fault;
+        rows = so_far.rows ++ row ∷ [];
+        read = subst (λ n. ReadsTo form (bits form.order bytes) from (so_far.rows ++ row ∷ []) (record { row = n; bits = next.place; reference = row }))
+            (sym reads.next_row) more;
+        count_is = ap (λ n. n + 1) so_far.count_is ∙ sym rows_len;
+        used_is = used_next;
+        len = omega (arith, ap (λ (l : List ℕ). length l) all, length-append front (padded_row stride row), so_far.len, to_is);
+        room = omega (arith, within, same_len);
+        written = more_put front old now (padded_row stride row) new used to so_far.len so_far.written to_is new_is
+            ∙ ap (λ (l : List ℕ). l ++ drop to old) (sym all);
+      }
+
+-- nothing is read from a place, for this reason
+pub none_for : (form : StripForm) (strip : List ℕ) (stride : ℕ) (place : FaxPlace) (runs old : List ℕ) (stop : Stop) (at : Cursor) (filled : Filled)
+    → at ≡ cursor_of place → filled ≡ record { cursor = at; count = 0; used = 0; stop = stop }
+    → ReadsNone form strip stride place runs (length old) stop → ReadsOn form strip stride place runs old filled place runs old
+none_for form strip stride place runs old stop at filled at_is filled_is why =
+    rw filled_is (inr (why, refl, refl, at_is, refl, refl, refl))

@@ -1,0 +1,199 @@
+-- Pages that are coded and added to a file.
+use Rattle.std.proofs.Common.{◌≡◌, ℕ, ◌+◌, ◌-◌, ◌*◌, ◌≤◌, List, [], ◌∷◌, ◌++◌, Vec, length, map, take, drop, refl, ap, sym, ◌∙◌, arith}
+use Rattle.std.proofs.Common.{zero, suc, Bool, nat_eq, length-append, false}
+use Rattle.std.specs.Prelude.{◌==◌, not}
+use Rattle.std.proofs.lemmas.List.{length-drop, length-take-le, drop-drop}
+use Rattle.fax_bits.specs.declared.FillOrder.{FillOrder}
+use Rattle.fax_page.specs.declared.Coding.{Coding}
+use Rattle.fax_c.specs.declared.forms.FaxForm.{FaxForm}
+use Rattle.fax_c.specs.Forms.{form_of}
+use Rattle.fax_c.specs.Numbers.{bool_number, coding_number, order_number}
+use Rattle.std.specs.List.{range_with_len}
+use Rattle.std.specs.declared.alloc.Global.{Global}
+use Rattle.std.proofs.Math.Nat.{mul-le-mul_right}
+use Rattle.std.proofs.lemmas.List.FromFn.{length-map-range_with_len, map-range_with_len_more}
+use Rattle.fax_page.specs.Strip.{coded_strip}
+use Rattle.fax_files.specs.declared.PageForm.{PageForm}
+use Rattle.fax_files.specs.Page.{strip_form}
+use Rattle.fax_files.specs.views.Writing.{contents}
+use Rattle.fax_files.specs.Directory.{max_file}
+use Rattle.fax_files.specs.Layout.{Written, directory_place, four, page_bytes, with_page}
+use Rattle.fax_c.specs.declared.writing.FaxWritten.{FaxWritten}
+use Rattle.fax_c.specs.views.Written.{IsWriting, file_so_far}
+use Rattle.fax_c.specs.code.Writing.{place_of}
+use Rattle.std.proofs.Common.{◌≢◌, ◌⊎◌, inl, inr, true}
+use Rattle.std.proofs.lemmas.Bool.{cases_eq, eq-eqb, eqb-true, ne_eqb}
+use Rattle.fax_c.specs.Raster.{HoldsRaster, page_strips, raster_rows}
+
+-- strip s of a page
+abbrev pub the_strip : PageForm → ℕ → ℕ → List ℕ → ℕ → List ℕ
+the_strip form k stride bytes s =
+    coded_strip (strip_form form s) k
+    (raster_rows form.width stride bytes (s * form.rows_per_strip) (strip_form form s).rows)
+
+contents-push : (strips : List (Vec ℕ Global)) (strip : Vec ℕ Global) → contents (strips ++ strip ∷ []) ≡ contents strips ++ strip.items ∷ []
+contents-push [] strip = refl
+contents-push (first ∷ strips) strip = ap (λ (l : List (List ℕ)). first.items ∷ l) (contents-push strips strip)
+
+pub strip_more : (f : ℕ → List ℕ) (s : ℕ) (strips new : List (Vec ℕ Global)) (strip : Vec ℕ Global)
+    → contents strips ≡ map f (range_with_len 0 s) → new ≡ strips ++ strip ∷ [] → strip.items ≡ f s
+    → contents new ≡ map f (range_with_len 0 (s + 1))
+strip_more f s strips new strip so_far new_is strip_is =
+    ap contents new_is ∙ contents-push strips strip ∙ ap (λ (l : List (List ℕ)). l ++ strip.items ∷ []) so_far
+    ∙ ap (λ (l : List ℕ). map f (range_with_len 0 s) ++ l ∷ []) strip_is ∙ sym (map-range_with_len_more f 0 s s (omega arith))
+
+-- a raster holds the rows of each strip
+pub holds_strip : (len width rows stride first count : ℕ) → HoldsRaster len width rows stride → first + count ≤ rows
+    → HoldsRaster len width (first + count) stride
+holds_strip len width rows stride first count holds within =
+    let less : (first + count - 1) * stride ≤ (rows - 1) * stride = mul-le-mul_right stride (omega (arith, within)) in
+    omega (arith, less, holds)
+
+aligned_is : (n : ℕ) → n ≤ 1 → n ≡ bool_number (nat_eq n 1)
+aligned_is zero few = refl
+aligned_is (suc zero) few = refl
+aligned_is (suc (suc n)) few = absurd (omega (arith, few))
+
+-- the form that numbers are
+abbrev pub page_form : FaxForm → Coding → FillOrder → PageForm
+page_form given coding order = record {
+  width = given.width;
+  rows = given.rows;
+  coding = coding;
+  order = order;
+  aligned = nat_eq given.aligned 1;
+  exchanged = false;
+  rows_per_strip = given.rows_per_strip;
+  strips = given.strips;
+  x = (given.x_numerator, given.x_denominator);
+  y = (given.y_numerator, given.y_denominator);
+  unit = given.unit;
+}
+
+abbrev with_words : FaxForm → ℕ → ℕ → ℕ → ℕ → FaxForm
+with_words given coding order aligned exchanged =
+    record given { coding = coding; order = order; aligned = aligned; exchanged = exchanged }
+
+pub form_is : (given : FaxForm) (coding : Coding) (order : FillOrder) → given.coding ≡ coding_number coding → given.order ≡ order_number order
+    → given.aligned ≤ 1 → given.exchanged ≡ 0 → given ≡ form_of (page_form given coding order)
+form_is given coding order coding_is order_is few none =
+    ap (λ n. with_words given n given.order given.aligned given.exchanged) coding_is
+    ∙ ap (λ n. with_words given (coding_number coding) n given.aligned given.exchanged) order_is
+    ∙ ap (λ n. with_words given (coding_number coding) (order_number order) n given.exchanged) (aligned_is given.aligned few)
+    ∙ ap (λ n. with_words given (coding_number coding) (order_number order) (bool_number (nat_eq given.aligned 1)) n) none
+
+-- how long a file is with a page more
+len_patched : (bytes : List ℕ) (link n : ℕ) → link + 4 ≤ length bytes → length (take link bytes ++ four n ++ drop (link + 4) bytes) ≡ length bytes
+len_patched bytes link n inside =
+    omega (
+      arith,
+      length-append (take link bytes ++ four n) (drop (link + 4) bytes),
+      length-append (take link bytes) (four n),
+      length-take-le link bytes (omega (arith, inside)),
+      length-drop (link + 4) bytes,
+      inside,
+    )
+
+pub len_with_page : (old : Written) (total k : ℕ) (form : PageForm) (strips : List (List ℕ)) → old.link + 4 ≤ length old.bytes
+    → length (with_page old total k form strips).bytes ≡ length old.bytes + length (page_bytes (length old.bytes) total k form strips)
+unfolding with_page
+len_with_page old total k form strips inside =
+    let q = directory_place (length old.bytes) strips in
+    let page = page_bytes (length old.bytes) total k form strips in
+    length-append (take old.link old.bytes ++ four q ++ drop (old.link + 4) old.bytes) page
+    ∙ ap (λ (n : ℕ). n + length page) (len_patched old.bytes old.link q inside)
+
+-- a file that is written so far has its length and its link
+pub record IsSoFar (written : FaxWritten) (file : List ℕ) : Type 0 where
+  pub start : (place_of written).0 ≡ length (file_so_far written file).bytes
+  pub link : (place_of written).1 ≡ (file_so_far written file).link
+  pub inside : (file_so_far written file).link + 4 ≤ length (file_so_far written file).bytes
+
+later_so_far : (written : FaxWritten) (file : List ℕ) → (written.added == 0) ≡ false → length (take written.len file) ≡ written.len
+    → written.link + 4 ≤ written.len → IsSoFar written file
+later_so_far written file later len inside = record {
+  start = rw later (sym len);
+  link = rw later refl;
+  inside = rw later (omega (arith, len, inside));
+}
+
+so_far_by : (written : FaxWritten) (file : List ℕ)
+    → (written.added ≡ 0) ⊎ ((8 ≤ written.len) × (written.len ≤ length file) × (written.len ≤ max_file) × (written.link + 4 ≤ written.len))
+    → (written.added ≡ 0) ⊎ (written.added ≢ 0) → IsSoFar written file
+so_far_by written file place (inl none) =
+    let first : (written.added == 0) ≡ true = eq-eqb _ _ none in
+    rw none (record { start = refl; link = refl; inside = omega arith })
+so_far_by written file (inl none) (inr some) = absurd (some none)
+so_far_by written file (inr (header, room, limit, inside)) (inr some) =
+    let later : (written.added == 0) ≡ false = ne_eqb _ _ some in
+    let len : length (take written.len file) ≡ written.len = length-take-le written.len file room in
+    later_so_far written file later len inside
+
+pub so_far : (written : FaxWritten) (file : List ℕ) → IsWriting written (length file) → IsSoFar written file
+so_far written file is = so_far_by written file is.place (cases_eq written.added 0)
+
+-- the page is added
+pub page_added : (written : FaxWritten) (old mid new : List ℕ) (form : PageForm) (strips : List (List ℕ)) (page : List ℕ) (directory start link : ℕ)
+    → IsWriting written (length old)
+    → start ≡ (place_of written).0 → link ≡ (place_of written).1
+    → take start mid ≡ (file_so_far written old).bytes → drop start mid ≡ drop start old
+    → page ≡ page_bytes start written.total written.added form strips → directory ≡ directory_place start strips
+    → new ≡ take link (take start mid) ++ four directory ++ drop (link + 4) (take start mid) ++ page ++ drop (start + length page) mid
+    → let next = with_page (file_so_far written old) written.total written.added form strips in
+    (new ≡ next.bytes ++ drop (length next.bytes) old) × (start + length page ≡ length next.bytes) × (directory + 194 ≡ next.link)
+unfolding with_page
+page_added written old mid new form strips page directory start link writing start_is link_is front rest page_is directory_is new_is =
+    let is = so_far written old writing in
+    let W = file_so_far written old in
+    let begin : start ≡ length W.bytes = start_is ∙ is.start in
+    let linked : link ≡ W.link = link_is ∙ is.link in
+    let bytes_are : page ≡ page_bytes (length W.bytes) written.total written.added form strips =
+    page_is ∙ ap (λ n. page_bytes n written.total written.added form strips) begin in
+    let place_is : directory ≡ directory_place (length W.bytes) strips = directory_is ∙ ap (λ n. directory_place n strips) begin in
+    let all : start + length page ≡ length (with_page W written.total written.added form strips).bytes =
+    omega (arith, begin, ap (λ (l : List ℕ). length l) bytes_are, len_with_page W written.total written.added form strips is.inside) in
+    let after : drop (start + length page) mid ≡ drop (start + length page) old =
+    sym (drop-drop (length page) start mid) ∙ ap (drop (length page)) rest ∙ drop-drop (length page) start old in
+    let patched : List ℕ → ℕ → ℕ → List ℕ = λ b l q. take l b ++ four q ++ drop (l + 4) b in (
+      new_is
+          ∙ ap (λ (l : List ℕ). take link (take start mid) ++ four directory ++ drop (link + 4) (take start mid) ++ page ++ l)
+          (after ∙ ap (λ n. drop n old) all)
+          ∙ ap (λ (b : List ℕ). take link b ++ four directory ++ drop (link + 4) b ++ page ++ drop (length (with_page W written.total written.added form strips).bytes) old) front
+          ∙ ap (λ l. take l W.bytes ++ four directory ++ drop (l + 4) W.bytes ++ page ++ drop (length (with_page W written.total written.added form strips).bytes) old) linked
+          ∙ ap (λ q. take W.link W.bytes ++ four q ++ drop (W.link + 4) W.bytes ++ page ++ drop (length (with_page W written.total written.added form strips).bytes) old) place_is
+          ∙ ap (λ p. take W.link W.bytes ++ four (directory_place (length W.bytes) strips) ++ drop (W.link + 4) W.bytes ++ p ++ drop (length (with_page W written.total written.added form strips).bytes) old) bytes_are,
+      all,
+      ap (λ n. n + 194) place_is,
+    )
+
+length-contents : (strips : List (Vec ℕ Global)) → length (contents strips) ≡ length strips
+length-contents [] = refl
+length-contents (strip ∷ strips) = ap suc (length-contents strips)
+
+pub strips_are_counted : (form : PageForm) (k stride : ℕ) (raster : List ℕ) (strips : List (Vec ℕ Global))
+    → contents strips ≡ page_strips form k stride raster → length strips ≡ form.strips
+strips_are_counted form k stride raster strips are =
+    sym (length-contents strips) ∙ ap (λ (l : List (List ℕ)). length l) are
+    ∙ length-map-range_with_len (the_strip form k stride raster) 0 form.strips
+
+-- how long a file is with the page
+pub page_len : (written : FaxWritten) (old : List ℕ) (form : PageForm) (strips : List (List ℕ)) (start : ℕ) → IsWriting written (length old)
+    → start ≡ (place_of written).0 → start + length (page_bytes start written.total written.added form strips)
+    ≡ length (with_page (file_so_far written old) written.total written.added form strips).bytes
+page_len written old form strips start writing start_is =
+    let is = so_far written old writing in
+    let begin : start ≡ length (file_so_far written old).bytes = start_is ∙ is.start in
+    rw begin (sym (len_with_page (file_so_far written old) written.total written.added form strips is.inside))
+
+pub not_false : (b : Bool) → not b ≡ false → b ≡ true
+not_false true is = refl
+not_false false is = cc
+
+pub eqb_tells : (m n : ℕ) → nat_eq m n ≡ true → m ≡ n
+eqb_tells m n is = eqb-true m n is
+
+abbrev told_of : FaxWritten → ℕ → ℕ → FaxWritten
+told_of old len link = record { len = len; link = link; total = old.total; added = old.added + 1 }
+
+pub told_is : (old : FaxWritten) (len last link next : ℕ) → len ≡ last → link ≡ next → told_of old len link ≡ told_of old last next
+told_is old len last link next len_is link_is = ap (λ n. told_of old n link) len_is ∙ ap (λ n. told_of old last n) link_is

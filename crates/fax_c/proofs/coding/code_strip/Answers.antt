@@ -1,0 +1,70 @@
+use Rattle.std.proofs.Common.{◌≡◌, ℕ, ◌+◌, ◌-◌, ◌*◌, List, [], ◌∷◌, ◌++◌, take, drop, ap, arith, refl, subst, sym, ◌∙◌}
+use Rattle.std.specs.Prelude.{Result, Ok, Err, IfOk}
+use Rattle.std.specs.List.{between}
+use Rattle.std.proofs.lemmas.List.FromFn.{length-map-range_with_len, map-range_with_len_more}
+use Rattle.fax_rows.specs.Coded.{packed_len, unpacked_row}
+use Rattle.fax_page.specs.declared.StripForm.{StripForm}
+use Rattle.fax_page.specs.laws.Writer.{HasPut}
+use Rattle.fax_page.specs.views.Writer.{WriterState}
+use Rattle.fax_c.specs.Raster.{raster_row, raster_rows}
+use Rattle.fax_c.proofs.coding.code_strip.Goals as goal
+
+if_ok-weaker : {T E : Type 0} {P Q : T → Type 0} (r : Result T E) → ((v : T) → P v → Q v) → IfOk r P → IfOk r Q
+if_ok-weaker (Ok v) more holds = more v holds
+if_ok-weaker (Err e) more holds = tt
+
+-- the bytes of a row in a raster
+cut : (xs : List ℕ) (at len n : ℕ) → len ≡ n → between at (at + len) xs ≡ take n (drop at xs)
+cut xs at len n same =
+    let count : at + len - at ≡ n = omega (arith, same) in
+    ap (λ k. take k (drop at xs)) count
+
+row_due : (form : StripForm) (k stride first i : ℕ) (raster : List ℕ) (writer : WriterState)
+    → HasPut form k (raster_rows form.width stride raster first i) writer → writer.row ≡ i
+row_due form k stride first i raster writer put =
+    ap (λ (w : WriterState). w.row) put ∙ length-map-range_with_len (raster_row form.width stride raster) first i
+
+pub put_row-requires-clause-due : goal.put_row-requires-clause-due
+put_row-requires-clause-due c =
+    let put = c.loop-i.invariant.put in
+    let due = row_due c.args.form c.args.k c.args.stride c.args.first c.loop-i.i c.args.raster.now c.loop-i.writer put in
+    let rows = ap (λ (w : WriterState). w.form.rows) put in
+    omega (arith, due, rows, c.loop-i-test.true)
+
+pub loop-i-preserved : goal.loop-i-preserved
+loop-i-preserved c =
+    let form = c.args.form in
+    let raster = c.args.raster.now in
+    let i = c.loop-i.i in
+    let row = c.set_packed.new.self in
+    let all = raster_rows form.width c.args.stride raster c.args.first i in
+    let row_is : row ≡ raster_row form.width c.args.stride raster (c.args.first + i) =
+    c.set_packed.ensures.pels
+    ∙ ap (λ n. unpacked_row n (between ((c.args.first + i) * c.args.stride) ((c.args.first + i) * c.args.stride + c.packed_len-len.result) raster)) c.loop-i.invariant.width
+    ∙ ap (unpacked_row form.width) (cut raster ((c.args.first + i) * c.args.stride) c.packed_len-len.result (packed_len form.width) c.packed_len-len.ensures) in
+    let more : raster_rows form.width c.args.stride raster c.args.first (i + 1) ≡ all ++ row ∷ [] =
+    map-range_with_len_more (raster_row form.width c.args.stride raster) c.args.first i (c.args.first + i) refl
+    ∙ ap (λ r. all ++ r ∷ []) (sym row_is) in
+    record {
+      width = c.set_packed.ensures.same_width ∙ c.loop-i.invariant.width;
+      put = subst (λ them. HasPut form c.args.k them c.put_row.new.self) (sym more)
+          (c.strips_are_written_row_by_row.ensures.goes_on form c.args.k all row c.loop-i.writer c.put_row.new.self
+          c.loop-i.invariant.put c.in_ok-put_row.ensures);
+    }
+
+pub finish-requires : goal.finish-requires
+finish-requires c =
+    let put = c.loop-i.invariant.put in
+    let due = row_due c.args.form c.args.k c.args.stride c.args.first c.loop-i.i c.args.raster.now c.loop-i.writer put in
+    let rows = ap (λ (w : WriterState). w.form.rows) put in
+    record { all_put = λ fine. omega (arith, due, rows, c.loop-i-test.false, c.loop-i.auto.i-end) }
+
+pub returns : goal.returns
+returns c =
+    let put = c.loop-i.invariant.put in
+    let i_is : c.loop-i.i ≡ c.args.form.rows = omega (arith, c.loop-i-test.false, c.loop-i.auto.i-end) in
+    let all = raster_rows c.args.form.width c.args.stride c.args.raster.now c.args.first c.args.form.rows in
+    let whole = subst (λ n. HasPut c.args.form c.args.k (raster_rows c.args.form.width c.args.stride c.args.raster.now c.args.first n) c.loop-i.writer) i_is put in
+    if_ok-weaker c.finish.result
+    (λ bytes ends. c.strips_are_written_row_by_row.ensures.finishes c.args.form c.args.k all c.loop-i.writer bytes.items whole ends)
+    c.finish.ensures

@@ -1,0 +1,44 @@
+-- A page of a file, written into a raster.
+-- A definition without a citation is this project's profile.
+use Rattle.std.specs.Prelude.{◌≡◌, ℕ, ◌<◌, ◌≤◌, ◌⊎◌, List, length}
+use Rattle.fax_rows.specs.Coded.{packed_len}
+use Rattle.fax_walk.specs.declared.begun.Begun.{Begun}
+use Rattle.fax_walk.specs.declared.begun.Begun.TheVariants.{At}
+use Rattle.fax_walk.specs.declared.end.End.{End}
+use Rattle.fax_walk.specs.Pages.{FormItem, IsFormTail}
+use Rattle.fax_walk.specs.views.InOrder.{EndsAfter, IsNumber}
+use Rattle.fax_c.specs.declared.filled.Filled.{Filled}
+use Rattle.fax_c.specs.declared.filled.Stop.{Stop}
+use Rattle.fax_c.specs.declared.filled.Stop.TheVariants.{Ended, NoRoom}
+use Rattle.fax_c.specs.declared.forms.FaxForm.{FaxForm}
+use Rattle.fax_c.specs.declared.rows.FaxRow.{FaxRow}
+use Rattle.fax_c.specs.declared.told.FaxTold.{FaxTold}
+use Rattle.fax_c.specs.Forms.{form_of}
+use Rattle.fax_c.specs.Raster.{padded_row}
+use Rattle.fax_c.specs.Told.{IsTold}
+use Rattle.fax_c.specs.views.Filled.{AreRowsFilled}
+
+-- the first rows of what a walk hands out that begins so are written, each in so many bytes at
+-- least, as they are with a table of so many rows
+abbrev pub IsRasterFilled : List ℕ → Begun → ℕ → ℕ → List ℕ → Filled → List ℕ → Type 0
+IsRasterFilled file begun asked stride old filled new =
+    (table : List FaxRow) × (lie : List FaxRow) × (length table ≡ asked)
+    × AreRowsFilled (padded_row stride) file begun table old filled lie new
+
+-- nothing is written of a page, for this reason
+abbrev pub none_filled : ℕ → Stop → Filled
+none_filled page stop =
+    record { cursor = record { page = page; row = 0 }; count = 0; used = 0; stop = stop }
+
+-- a page's form is told, and its rows are written and told, where a row has room in so many bytes;
+-- or there is no such page, and the end is told
+abbrev pub TellsPage : List ℕ → ℕ → ℕ → FaxForm → FaxForm → List ℕ → List ℕ → FaxTold → ℕ → Type 0
+TellsPage file page stride old_form form old new told status =
+    (filled : Filled) × IsTold filled told status
+    × (((item : FormItem) × IsNumber (IsFormTail file (record { page = page; row = 0 })) 0 item
+    × (form ≡ form_of item.form)
+    × (((packed_len item.form.width ≤ stride)
+    × IsRasterFilled file (At (record { page = page; row = 0 })) item.form.rows stride old filled new)
+    ⊎ ((stride < packed_len item.form.width) × (filled ≡ none_filled page NoRoom) × (new ≡ old))))
+    ⊎ ((end : End) × EndsAfter (IsFormTail file (record { page = page; row = 0 })) 0 end
+    × (filled ≡ none_filled page (Ended end)) × (form ≡ old_form) × (new ≡ old)))

@@ -1,0 +1,71 @@
+-- Files that are written page by page, in memory of the caller.
+-- A definition without a citation is this project's profile.
+use Rattle.std.specs.Prelude.{◌≡◌, ℕ, ◌+◌, ◌<◌, ◌≤◌, ◌⊎◌, ◌==◌, if◌then◌else◌, false, List, ◌++◌}
+use Rattle.std.specs.Prelude.{length, take, drop}
+use Rattle.fax_files.specs.declared.PageForm.{PageForm}
+use Rattle.fax_files.specs.Directory.{max_file}
+use Rattle.fax_files.specs.Layout.{Written, with_page}
+use Rattle.fax_files.specs.views.Page.{IsPageForm}
+use Rattle.fax_files.specs.views.Writing.{empty_file}
+use Rattle.fax_c.specs.declared.forms.FaxForm.{FaxForm}
+use Rattle.fax_c.specs.declared.writing.FaxWritten.{FaxWritten}
+use Rattle.fax_c.specs.Forms.{form_of}
+use Rattle.fax_c.specs.Raster.{HoldsRaster, page_strips}
+
+-- these numbers are this form, in which a page can be written
+pub record IsFormGiven (given : FaxForm) (form : PageForm) : Type 0 where
+  pub given_is : given ≡ form_of form
+  pub limits : IsPageForm form
+  pub exchanged : form.exchanged ≡ false
+
+-- a page can be added to a file that is written so far, in so much room
+pub record IsWriting (written : FaxWritten) (room : ℕ) : Type 0 where
+  pub few : written.total ≤ 65535
+  pub fewer : written.added < written.total
+  pub place : (written.added ≡ 0) ⊎ ((8 ≤ written.len) × (written.len ≤ room)
+      × (written.len ≤ max_file) × (written.link + 4 ≤ written.len))
+
+-- a file that is written so far: an empty one, before the first page
+abbrev pub file_so_far : FaxWritten → List ℕ → Written
+file_so_far written file =
+    if written.added == 0 then empty_file
+    else record { bytes = take written.len file; link = written.link }
+
+-- the file with one page more, whose rows are those of a raster
+abbrev pub with_raster : PageForm → ℕ → List ℕ → ℕ → FaxWritten → List ℕ → Written
+with_raster form k raster stride written file =
+    with_page (file_so_far written file) written.total written.added form
+    (page_strips form k stride raster)
+
+-- a page is added to a file in memory of the caller, and nothing after it is changed; or the file
+-- with it has no room there, or is too large, or memory was refused, and nothing is changed
+abbrev pub AddsPage : PageForm → ℕ → List ℕ → ℕ → List ℕ → List ℕ → FaxWritten → FaxWritten → ℕ
+    → Type 0
+AddsPage form k raster stride old_file file old written status =
+    let next = with_raster form k raster stride old old_file in
+    ((status ≡ 0) × (length next.bytes ≤ max_file) × (length next.bytes ≤ length old_file)
+    × (file ≡ next.bytes ++ drop (length next.bytes) old_file)
+    × (written ≡ record old {
+      len = length next.bytes;
+      link = next.link;
+      added = old.added + 1;
+    }))
+    ⊎ ((file ≡ old_file) × (written ≡ old)
+    × (((status ≡ 5) × (length next.bytes ≤ max_file) × (length old_file < length next.bytes))
+    ⊎ ((status ≡ 8) × (max_file < length next.bytes)) ⊎ (status ≡ 4)))
+
+-- a page can be written of these numbers and this raster, and added to a file
+abbrev pub IsAddable : FaxForm → ℕ → List ℕ → ℕ → FaxWritten → ℕ → PageForm → Type 0
+IsAddable given k raster stride written room form =
+    IsFormGiven given form × (0 < k) × HoldsRaster (length raster) form.width form.rows stride
+    × IsWriting written room
+
+-- a page is added; or the numbers are no form, or the raster is too short, or no page can be added
+-- to such a file, and nothing is changed
+abbrev pub TellsPageAdded : FaxForm → ℕ → List ℕ → ℕ → List ℕ → List ℕ → FaxWritten → FaxWritten
+    → ℕ → Type 0
+TellsPageAdded given k raster stride old_file file old written status =
+    ((form : PageForm) × IsAddable given k raster stride old (length old_file) form
+    × AddsPage form k raster stride old_file file old written status)
+    ⊎ ((status ≡ 7) × (file ≡ old_file) × (written ≡ old)
+    × ((form : PageForm) → IsAddable given k raster stride old (length old_file) form → ⊥))

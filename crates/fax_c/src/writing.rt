@@ -1,0 +1,277 @@
+//! Files that are written page by page, in memory of the caller.
+ghost use Rattle.std.specs.Prelude.{
+  ◌≡◌,
+  ℕ,
+  ◌+◌,
+  ◌<◌,
+  ◌≤◌,
+  ◌++◌,
+  length,
+  take,
+  drop,
+  true,
+  false,
+  IfOk,
+  MatchOption,
+};
+ghost use Rattle.fax_files.specs.declared.PageForm.{PageForm as Form};
+ghost use Rattle.fax_files.specs.Layout.{four};
+ghost use Rattle.fax_files.specs.views.Page.{IsGoodRational, IsPageForm};
+ghost use Rattle.fax_files.specs.views.Writing.{contents};
+ghost use Rattle.fax_c.specs.Raster as Raster;
+ghost use Rattle.fax_c.specs.views.Written as Spec;
+ghost use Rattle.fax_c.specs.code.Writing as Code;
+
+use crate::coding::code_strip;
+use crate::conversion::order_of;
+use crate::forms::FaxForm;
+use crate::raster::holds_raster;
+use crate::strip_form::{coding_of, has_eols};
+use fax_files::{PageForm, WriteFault, write_page};
+use fax_page::Memory;
+use std::alloc::Global;
+
+/// How far a file is written.
+#[repr(C)]
+#[derive(Clone, Copy)]
+pub struct FaxWritten {
+    /// How many bytes it has.
+    pub len: usize,
+    /// Where in it the offset of the next page's directory stands.
+    pub link: u32,
+    /// How many pages it is to have, 1 to 65,535.
+    pub total: u32,
+    /// How many were added.
+    pub added: u32,
+}
+
+/// The most bytes of a file.
+const MOST_BYTES: usize = 268_435_456;
+
+/// Whether a fraction is one of numbers above 0.
+fn is_good(numerator: u32, denominator: u32) -> bool
+    ensures some { result ≡ true → IsGoodRational (numerator, denominator) }
+    ensures none { result ≡ false → IsGoodRational (numerator, denominator) → ⊥ }
+{
+    numerator > 0 && denominator > 0
+}
+
+/// The form that these numbers are, if a page can be written in it.
+fn page_form_of(given: &FaxForm) -> Option<PageForm>
+    ensures { MatchOption result ((form : Form) → Spec.IsFormGiven given.now form → ⊥)
+        (Spec.IsFormGiven given.now) }
+{
+    let coding = coding_of(given.coding)?;
+    let order = order_of(given.order)?;
+    if given.width == 0 || given.width > 65_535 || given.rows == 0 || given.rows > 1_000_000 {
+        return None;
+    }
+    if given.rows_per_strip == 0 || given.rows_per_strip > given.rows {
+        return None;
+    }
+    if given.strips != given.rows.div_ceil(given.rows_per_strip) || given.exchanged != 0 {
+        return None;
+    }
+    if given.aligned > 1 || (given.aligned == 1 && !has_eols(coding)) {
+        return None;
+    }
+    if given.unit == 0 || given.unit > 3 {
+        return None;
+    }
+    if !is_good(given.x_numerator, given.x_denominator)
+        || !is_good(given.y_numerator, given.y_denominator)
+    {
+        return None;
+    }
+    Some(PageForm {
+        width: given.width,
+        rows: given.rows,
+        coding,
+        order,
+        aligned: given.aligned == 1,
+        exchanged: false,
+        rows_per_strip: given.rows_per_strip,
+        strips: given.strips,
+        x: (given.x_numerator, given.x_denominator),
+        y: (given.y_numerator, given.y_denominator),
+        unit: given.unit as u16,
+    })
+}
+
+/// The strips of a page, whose rows are those of a raster.
+fn code_strips(
+    alloc: Global,
+    form: &PageForm,
+    k: u32,
+    raster: &[u8],
+    stride: usize,
+) -> Result<Vec<Vec<u8>>, Memory>
+    requires limits { IsPageForm form.now }
+    requires some_k { 0 < k }
+    requires raster { Raster.HoldsRaster (length raster.now) form.now.width form.now.rows stride }
+    ensures { IfOk result (λ strips. contents strips.items
+        ≡ Raster.page_strips form.now k stride raster.now) }
+{
+    let mut strips = Vec::new(alloc);
+    for s in 0..form.strips {
+        let strip = form.strip_form(s);
+        let first = s * form.rows_per_strip;
+        let coded = code_strip(alloc, strip, k, raster, stride, first)?;
+        let Ok(()) = strips.push(coded) else {
+            return Err(Memory);
+        };
+    }
+    Ok(strips)
+}
+
+/// Whether a page can be added to a file that is written so far.
+fn is_writing(written: &FaxWritten, room: usize) -> bool
+    ensures some { result ≡ true → Spec.IsWriting written.now room }
+    ensures none { result ≡ false → Spec.IsWriting written.now room → ⊥ }
+{
+    if written.total == 0 || written.total > 65_535 || written.added >= written.total {
+        return false;
+    }
+    if written.added == 0 {
+        return true;
+    }
+    written.len >= 8
+        && written.len <= room
+        && written.len <= MOST_BYTES
+        && written.link as usize + 4 <= written.len
+}
+
+/// Where a file that is written goes on, and where the offset of the next directory stands: after
+/// its header, or after the pages that were added.
+fn place_of(written: &FaxWritten) -> (u32, u32)
+    requires { (room : ℕ) × Spec.IsWriting written.now room }
+    ensures { result ≡ Code.place_of written.now }
+{
+    if written.added == 0 {
+        (8, 4)
+    } else {
+        (written.len as u32, written.link)
+    }
+}
+
+/// Writes bytes at a place.
+fn put_bytes(file: &mut [u8], at: usize, bytes: &[u8])
+    requires { at + length bytes.now ≤ length file.old }
+    ensures { file.new ≡ take at file.old ++ bytes.now ++ drop (at + length bytes.now) file.old }
+{
+    file[at..at + bytes.len()].copy_from_slice(bytes);
+}
+
+/// Writes the bytes of a number of four bytes at a place, the lowest first.
+fn put_four(file: &mut [u8], at: usize, n: u32)
+    requires { at + 4 ≤ length file.old }
+    ensures { file.new ≡ take at file.old ++ four n ++ drop (at + 4) file.old }
+{
+    put_bytes(file, at, &n.to_le_bytes());
+}
+
+/// Whether so many bytes have room after a place.
+fn has_room(len: usize, start: usize, count: usize) -> bool
+    ensures some { result ≡ true → start + count ≤ len }
+    ensures none { result ≡ false → len < start + count }
+{
+    start <= len && count <= len - start
+}
+
+/// Writes the header of a file, where no page was added.
+fn put_header(file: &mut [u8], written: &FaxWritten)
+    requires { (Code.place_of written.now).0 ≤ length file.old }
+    ensures front { take (Code.place_of written.now).0 file.new
+        ≡ (Spec.file_so_far written.now file.old).bytes }
+    ensures rest { drop (Code.place_of written.now).0 file.new
+        ≡ drop (Code.place_of written.now).0 file.old }
+    ensures len { length file.new ≡ length file.old }
+{
+    if written.added == 0 {
+        put_bytes(file, 0, &[b'I', b'I', 42, 0, 0, 0, 0, 0]);
+    }
+}
+
+/// Adds a page to a file, which has room for it: its bytes after the file's, and the place of its
+/// directory, where the last page has the offset of the next one.
+fn put_page(file: &mut [u8], start: usize, link: usize, page: &[u8], directory: u32)
+    requires link { link + 4 ≤ start }
+    requires room { start + length page.now ≤ length file.old }
+    ensures { file.new ≡ take link (take start file.old) ++ four directory
+        ++ drop (link + 4) (take start file.old) ++ page.now
+        ++ drop (start + length page.now) file.old }
+{
+    put_bytes(file, start, page);
+    put_four(file, link, directory);
+}
+
+/// Adds a page to a file of the caller, where it has room, and answers how that ended.
+fn add_page(
+    alloc: Global,
+    form: &PageForm,
+    k: u32,
+    raster: &[u8],
+    stride: usize,
+    file: &mut [u8],
+    written: &mut FaxWritten,
+) -> u32
+    requires limits { IsPageForm form.now }
+    requires exchanged { form.now.exchanged ≡ false }
+    requires some_k { 0 < k }
+    requires raster { Raster.HoldsRaster (length raster.now) form.now.width form.now.rows stride }
+    requires writing { Spec.IsWriting written.old (length file.old) }
+    ensures { Spec.AddsPage form.now k raster.now stride file.old file.new written.old written.new
+        result }
+{
+    let (start, link) = place_of(written);
+    let Ok(strips) = code_strips(alloc, form, k, raster, stride) else {
+        return 4;
+    };
+    let number = written.added as u16;
+    let total = written.total as u16;
+    let page = match write_page(alloc, form, &strips, start, number, total) {
+        Ok(page) => page,
+        Err(WriteFault::OutputTooLarge) => return 8,
+        Err(WriteFault::Memory) => return 4,
+    };
+    let bytes = &page.bytes;
+    if !has_room(file.len(), start as usize, bytes.len()) {
+        return 5;
+    }
+    put_header(file, written);
+    put_page(file, start as usize, link as usize, bytes, page.directory);
+    *written = FaxWritten {
+        len: start as usize + bytes.len(),
+        link: page.link,
+        total: written.total,
+        added: written.added + 1,
+    };
+    0
+}
+
+/// Codes the rows of a raster as a page, and adds it to a file of the caller, which is then a whole
+/// file of the pages so far, where it has room.
+#[unsafe(no_mangle)]
+pub extern "C" fn faxpages_add_page(
+    alloc: Global,
+    form: &FaxForm,
+    k: u32,
+    raster: &[u8],
+    stride: usize,
+    file: &mut [u8],
+    written: &mut FaxWritten,
+) -> u32
+    ensures { Spec.TellsPageAdded form.now k raster.now stride file.old file.new written.old
+        written.new result }
+{
+    let Some(form) = page_form_of(form) else {
+        return 7;
+    };
+    if k == 0 || !holds_raster(raster.len(), form.width, form.rows, stride) {
+        return 7;
+    }
+    if !is_writing(written, file.len()) {
+        return 7;
+    }
+    add_page(alloc, &form, k, raster, stride, file, written)
+}

@@ -1,0 +1,58 @@
+"""Conversions."""
+
+from __future__ import annotations
+
+import ctypes
+from typing import Optional, SupportsIndex
+
+from . import _library as _c
+from ._source import Source, bytes_of
+from ._told import name_of, number_of, stopped
+from .faults import FaxError, OutputTooLarge, PbmFault, UnknownInput
+
+# The greatest output of a conversion.
+_OUTPUT = 1 << 28
+_TARGETS = {"pbm": 0, "mh": 1, "mr": 2, "mmr": 3}
+
+
+def convert(source: Source, target: str, order: SupportsIndex = 1, k: SupportsIndex = 4,
+            strip: Optional[SupportsIndex] = None, align: bool = False) -> bytes:
+    """Turns a file of pages, TIFF-F or raw PBM, into another: target is "pbm", "mh", "mr" or "mmr".
+
+    order is 1 where the highest bit of a byte is to be first, else 2; in "mr" a row in k is coded by itself; a strip
+    has so many rows, or a page is one strip; align ends each EOL of "mh" and "mr" on a byte boundary.
+
+    >>> faxpages.convert("samples/one-mh-page.tif", "pbm")
+    b'P4\\n8 1\\n\\x18'
+    >>> faxpages.open(faxpages.convert(b"P4 8 2\\n8\\xff", "mmr", strip=1)).page(0).strips
+    2
+    """
+    if target not in _TARGETS:
+        raise ValueError(f"no target: {target!r}")
+    options = _c.Options(
+        _TARGETS[target], number_of("order", order, 1, 2), number_of("k", k, 1),
+        0 if strip is None else number_of("strip", strip, 1), bool(align))
+    data, converted = bytes_of(source), _c.Converted()
+    room = min(2 * len(data) + 4096, _OUTPUT)
+    while True:
+        out = ctypes.create_string_buffer(room)
+        status = _c.library.faxpages_convert(data, len(data), options, out, room, converted)
+        if status != _c.NO_ROOM:
+            break
+        room = converted.len
+    if status == _c.DONE:
+        return ctypes.string_at(out, converted.len)
+    if status == _c.BAD_OPTIONS:
+        raise ValueError("align is for targets with EOLs: mh and mr")
+    raise _not_converted(status, converted)
+
+
+def _not_converted(status: int, converted: _c.Converted) -> Exception:
+    number = converted.fault.number
+    if number == 301:
+        return UnknownInput("the input is neither raw PBM nor TIFF")
+    if number == 302:
+        return OutputTooLarge("the output is too large")
+    if number > 200:
+        return PbmFault(name_of(number), converted.image)
+    return stopped(status, converted.fault) or FaxError("libfaxpages converted nothing")

@@ -1,0 +1,57 @@
+"""What calls of libfaxpages tell, as exceptions and names; and the numbers that are handed to them."""
+
+from __future__ import annotations
+
+import ctypes
+import functools
+import operator
+from fractions import Fraction
+from typing import Optional, SupportsIndex
+
+from . import _library as _c
+from .faults import BY_NUMBER, Fault, FaxError, OutsideError
+
+# The greatest number of the library.
+MOST = 0xFFFFFFFF
+
+# Pages of a file have few resolutions.
+fraction = functools.lru_cache(maxsize=64)(Fraction)
+
+
+def number_of(name: str, value: SupportsIndex, least: int = 0, most: int = MOST) -> int:
+    """A number that is handed in, before the library has it, which would take it modulo 2 ** 32."""
+    number = operator.index(value)
+    if not least <= number <= most:
+        raise ValueError(f"{name} is to be from {least} to {most}")
+    return number
+
+
+def name_of(number: int) -> str:
+    """The name of a fault by its number."""
+    name = ctypes.create_string_buffer(16)
+    length = _c.library.faxpages_fault_name(number, name, 16)
+    return name.raw[:length].decode()
+
+
+def fault_of(fault: _c.Fault) -> Fault:
+    """The exception of a fault."""
+    kind = BY_NUMBER.get(fault.number, Fault)
+    return kind(name_of(fault.number), fault.page, fault.row, fault.tag or None)
+
+
+def stopped(status: int, fault: _c.Fault) -> Optional[Exception]:
+    """What is raised after what a call has written, or None where it is the file's end, or may go on."""
+    if status in (_c.DONE, _c.END, _c.NO_ROOM):
+        return None
+    if status == _c.FAULT:
+        return fault_of(fault)
+    if status == _c.OUTSIDE:
+        return OutsideError("the cursor is outside the file")
+    return refusal(status)
+
+
+def refusal(status: int) -> Exception:
+    """Why a call wrote nothing, where it is no fault."""
+    if status == _c.MEMORY:
+        return MemoryError("libfaxpages was refused memory")
+    return FaxError(f"libfaxpages answered with status {status}")

@@ -1,0 +1,138 @@
+//! Whole pages.
+
+use crate::calls::{self, Told};
+use crate::rows::{Reader, Row, ROWS};
+use crate::{fault_of, form_of, stopped, Cursor, Error, Fax, Form, Forms};
+use std::iter::FusedIterator;
+use std::ops::Range;
+
+/// A page: its form, and its rows one after another in one block of bytes.
+#[derive(Clone, Debug, PartialEq, Eq)]
+pub struct Page {
+    /// Its form.
+    pub form: Form,
+    /// The bytes of its rows, [`Form::stride`] each, the highest bit first, 1 for black, with zeros after the last pel.
+    pub packed: Vec<u8>,
+    /// Why rows are missing, if they are.
+    pub fault: Option<Error>,
+}
+
+impl Page {
+    /// Its rows, from the first on.
+    pub fn rows(&self) -> impl ExactSizeIterator<Item = &[u8]> {
+        self.packed.chunks_exact(self.form.stride())
+    }
+
+    /// A row by its number, from 0; none where it is missing.
+    pub fn row(&self, number: u32) -> Option<&[u8]> {
+        self.rows().nth(number as usize)
+    }
+
+    /// How many rows are missing after these.
+    pub fn lost(&self) -> u32 {
+        self.form.rows.saturating_sub(self.rows().len() as u32)
+    }
+}
+
+/// What was written of a page into a buffer.
+#[derive(Clone, Debug, PartialEq, Eq)]
+pub struct Filled {
+    /// The form of the page.
+    pub form: Form,
+    /// How many rows were written.
+    pub rows: usize,
+    /// Why not all of them were: a fault, or [`Error::NoRoom`].
+    pub stopped: Option<Error>,
+}
+
+pub(crate) fn read_into(file: &[u8], page: u32, out: &mut [u8], stride: usize) -> Result<Filled, Error> {
+    let (mut form, mut told) = (calls::Form::default(), Told::default());
+    // SAFETY: each pointer is to as many items as the length beside it says, of its own slice.
+    let status = unsafe {
+        calls::faxpages_page(file.as_ptr(), file.len(), page, &mut form, out.as_mut_ptr(), out.len(), stride, &mut told)
+    };
+    let filled = |stopped| Ok(Filled { form: form_of(page, &form), rows: told.count, stopped });
+    match status {
+        calls::DONE => filled(None),
+        calls::NO_ROOM => filled(Some(Error::NoRoom)),
+        // No form is told where the fault stands before the page's rows.
+        calls::FAULT if form.width != 0 => filled(Some(fault_of(&told.fault))),
+        status => Err(stopped(status, &told.fault).unwrap_or(Error::Outside)),
+    }
+}
+
+/// A reader of rows over pages, and those of them that are not taken yet.
+#[derive(Debug)]
+struct Taken<'a> {
+    reader: Reader<'a, Row>,
+    ready: Range<usize>,
+    ended: Option<Option<Error>>,
+}
+
+impl Taken<'_> {
+    /// The bytes of the rows that come next, so many, and why there are fewer. At most so many more are read ahead.
+    fn take(&mut self, mut rows: usize, ahead: usize) -> Result<(Vec<u8>, Option<Error>), Error> {
+        let mut packed = Vec::new();
+        loop {
+            let end = self.ready.end.min(self.ready.start.saturating_add(rows));
+            let numbers = self.reader.numbers(self.ready.start..end);
+            packed.try_reserve(numbers.len()).map_err(|_| Error::Memory)?;
+            packed.extend_from_slice(numbers);
+            rows -= end - self.ready.start;
+            self.ready.start = end;
+            if rows == 0 {
+                return Ok((packed, None));
+            }
+            if let Some(ended) = &self.ended {
+                return Ok((packed, Some(ended.clone().unwrap_or(Error::Outside))));
+            }
+            let (count, ended) = self.reader.read(rows.max(ahead));
+            (self.ready, self.ended) = (0..count, ended);
+        }
+    }
+}
+
+/// The page of a form, or what stands before its fault.
+pub(crate) fn read(file: &[u8], form: Form) -> Result<Page, Error> {
+    let rows = form.rows as usize;
+    let reader = Reader::new(file, &Cursor::new(form.page, 0), rows);
+    let (packed, fault) = Taken { reader, ready: 0..0, ended: None }.take(rows, 0)?;
+    Ok(Page { form, packed, fault })
+}
+
+/// Pages in order, each whole, and the error that ends them.
+#[derive(Debug)]
+pub struct Pages<'a> {
+    forms: Forms<'a>,
+    rows: Taken<'a>,
+    ended: bool,
+}
+
+impl<'a> Pages<'a> {
+    pub(crate) fn new(file: &'a [u8]) -> Self {
+        let reader = Reader::new(file, &Cursor::default(), ROWS);
+        Pages { forms: Fax::new(file).forms(), rows: Taken { reader, ready: 0..0, ended: None }, ended: false }
+    }
+
+    fn page_of(&mut self, form: Form) -> Result<Page, Error> {
+        match self.rows.take(form.rows as usize, ROWS)? {
+            (packed, None) => Ok(Page { form, packed, fault: None }),
+            (_, Some(fault)) => Err(fault),
+        }
+    }
+}
+
+impl Iterator for Pages<'_> {
+    type Item = Result<Page, Error>;
+
+    fn next(&mut self) -> Option<Self::Item> {
+        if self.ended {
+            return None;
+        }
+        let page = self.forms.next().map(|form| self.page_of(form?));
+        self.ended = !matches!(page, Some(Ok(_)));
+        page
+    }
+}
+
+impl FusedIterator for Pages<'_> {}

@@ -1,0 +1,277 @@
+#!/usr/bin/env python3
+"""Reads, codes and checks bare strips by the Python module, beside the plain readers and the plain coder.
+
+    bare.py
+
+FAXPAGES_LIBRARY names the library. Ends with 'bare: N passed, N failed'."""
+
+import os
+import random
+import sys
+
+from counted import TOP, Claims, faxpages, until_fault
+
+sys.path[1:1] = [os.path.join(TOP, "tests", "plain"), os.path.join(TOP, "tests", "calls")]
+
+import drawing  # noqa: E402
+import notes  # noqa: E402
+import plain  # noqa: E402
+from reading import bits_of, read_lines  # noqa: E402
+from tables import EOL  # noqa: E402
+
+DRAWN = 1500
+MOST_ROWS = 1000000
+
+
+def packed(rows):
+    """The packed bytes of rows of W and B."""
+    return b"".join(plain.to_bytes(row.replace("W", "0").replace("B", "1")) for row in rows)
+
+
+def draw_rows(rng, width):
+    """Some rows, each near the one before."""
+    rows, row = [], "W" * width
+    for _ in range(rng.randrange(1, 9)):
+        row = drawing.draw_row(rng, width, row)
+        rows.append(row)
+    return rows
+
+
+def draw(rng):
+    """A strip: its coding, fill order, width, rows and bytes; some have a bit flipped, and some are cut."""
+    coding, order, width = rng.choice(["mh", "mr", "mmr"]), rng.choice([1, 2]), drawing.draw_width(rng)
+    rows = draw_rows(rng, width)
+    bits, way = drawing.code_strip(rng, coding, rows), rng.randrange(4)
+    at = rng.randrange(len(bits))
+    if way == 0:
+        bits = bits[:at] + "10"[int(bits[at])] + bits[at + 1:]
+    elif way == 1:
+        bits = bits[:at]
+    return coding, order, width, len(rows), drawing.to_bytes(bits, order)
+
+
+def by_plain(coding, order, width, rows, data):
+    """The rows by the plain reader, the name of the fault that ends them, or None, and whether a 1 is left after
+    them."""
+    bits = bits_of(data, order)
+    lines, fault = read_lines(coding, 0, rows, "W" * width, bits, 0)
+    after = lines[-1][1] if lines else 0
+    return [row for row, _ in lines], fault and str(fault), "1" in bits[after:]
+
+
+def until_end(found):
+    """The name of the fault of a strip whose rows are not known."""
+    rows, fault, is_left = found
+    is_end = rows and (fault == "EndMarker" or fault == "DataEnds" and not is_left)
+    return None if is_end else fault
+
+
+def agrees(raster, rows, fault):
+    """Whether a raster has these rows, and this fault at the one after them."""
+    told = raster.fault and (raster.fault.name, raster.fault.page, raster.fault.row)
+    return raster.packed == packed(rows) and raster.rows == len(rows) and told == (fault and (fault, 0, len(rows)))
+
+
+def taken(reader):
+    """The rows that a reader gives, and its fault."""
+    rows, fault = until_fault(reader)
+    return rows, fault and (fault.name, fault.row)
+
+
+def in_pieces(rng, data, reader):
+    """The rows of data that comes in pieces, how many were there by each of its lengths, and the fault."""
+    rows, counts, at = [], {}, 0
+    most = rng.choice([1, 3, 50, len(data) + 1])
+    while at < len(data):
+        size = rng.randrange(1, most + 1)
+        reader.feed(rng.choice([bytes, bytearray, memoryview])(data[at:at + size]))
+        at += size
+        more, fault = taken(reader)
+        rows += more
+        counts[min(at, len(data))] = len(rows)
+        if fault:
+            return rows, counts, fault
+    reader.close()
+    more, fault = taken(reader)
+    return rows + more, counts, fault
+
+
+def drawn_strips(claims):
+    """Drawn strips, whole, cut and damaged, in each way of reading."""
+    rng = random.Random(64)
+    for number in range(DRAWN):
+        coding, order, width, count, data = draw(rng)
+        words = {"width": width, "coding": coding, "order": order}
+        found = by_plain(coding, order, width, count, data)
+        raster = faxpages.strip(data, rows=count, partial=True, **words)
+        claims.see(f"strip {number}", agrees(raster, *found[:2]) and raster.lost == count - raster.rows)
+        every = by_plain(coding, order, width, MOST_ROWS, data)
+        fault = until_end(every)
+        raster = faxpages.strip(data, partial=True, **words)
+        claims.see(f"strip {number} up to its end", agrees(raster, every[0], fault) and raster.lost == 0)
+        for rows, wanted in ((count, found[:2]), (None, (every[0], fault))):
+            reader = faxpages.StripReader(rows=rows, **words)
+            got, counts, why = in_pieces(rng, data, reader)
+            claims.see(f"strip {number} in pieces, {rows}",
+                       b"".join(row.packed for row in got) == packed(wanted[0]) and reader.rows == len(got)
+                       and [row.number for row in got] == list(range(len(got)))
+                       and why == (wanted[1] and (wanted[1], len(wanted[0]))) and reader.ended == (why is None))
+            for length in rng.sample(sorted(counts), min(2, len(counts))):
+                claims.see(f"strip {number} by {length} bytes", counts[length] == min(
+                    len(by_plain(coding, order, width, MOST_ROWS, data[:length])[0]), rows or MOST_ROWS))
+        checked(claims, number, words, count, data, found)
+
+
+def checked(claims, number, words, count, data, found):
+    """What a check of a strip reports."""
+    report = faxpages.check_strip(data, rows=count, **words)
+    if found[1]:
+        claims.see(f"report on strip {number}", not report.ok and not report.end_mark and report.notes == ()
+                   and (report.rows, report.fault.name, report.fault.row) == (len(found[0]), found[1], len(found[0])))
+        return
+    wanted = notes.notes_of_strip(words["coding"], words["order"], words["width"], count, data)
+    claims.see(f"report on strip {number}", report.ok and report.rows == count
+               and [note.name for note in report.notes] == [name.split()[-1] for name in wanted]
+               and report.end_mark == ("NoEndOfBlock" not in str(wanted) if words["coding"] == "mmr"
+                                       else "ReturnToControl" in str(wanted)))
+
+
+def counted_rows(claims):
+    """A check of a strip whose rows are not known."""
+    for coding in ("mh", "mr", "mmr"):
+        rows = ["WBBW" * 5, "W" * 20, "B" * 20]
+        bits = plain.strip_bits(coding, 2, False, rows)
+        ends = {"": coding == "mmr", drawing.end_mark(coding): True, "0" * 20: coding == "mmr"}
+        for end, mark in ends.items():
+            report = faxpages.check_strip(plain.to_bytes(bits + ("" if coding == "mmr" else end)), 20, coding=coding)
+            claims.see(f"{coding} {end!r:.20}", (report.ok, report.rows, report.end_mark) == (True, 3, mark))
+    cut = faxpages.check_strip(plain.to_bytes(EOL + plain.one_dimensional("WB" * 10))[:-1], 20, coding="mh")
+    claims.see("a strip that is cut", (cut.rows, cut.fault) == (0, faxpages.DataEnds("DataEnds", 0, 0)))
+    two = plain.strip_bits("mh", 1, False, ["WB" * 10] * 2)
+    cut = faxpages.check_strip(plain.to_bytes(two[:-9]), 20, coding="mh")
+    claims.see("a row that is cut", (cut.rows, cut.fault) == (1, faxpages.DataEnds("DataEnds", 0, 1)))
+
+
+def coded(claims):
+    """Strips that are coded are those of the plain coder."""
+    rng = random.Random(65)
+    for number in range(DRAWN // 3):
+        width = drawing.draw_width(rng)
+        rows = draw_rows(rng, width)
+        coding, order, k = rng.choice(["mh", "mr", "mmr"]), rng.choice([1, 2]), rng.choice([1, 2, 4])
+        align = coding != "mmr" and rng.random() < 0.5
+        raster = faxpages.Raster(width, len(rows), packed(rows))
+        wanted = plain.to_bytes(plain.strip_bits(coding, k, align, rows), order)
+        made = faxpages.encode_strip(raster, coding, order, k, align)
+        claims.see(f"coded strip {number}", made == wanted)
+        claims.see(f"coded strip {number}, read", faxpages.strip(made, width, coding=coding, order=order) == raster)
+
+
+def at_bytes(claims):
+    """Rows that begin on a byte boundary, and rows that have no EOLs."""
+    rng = random.Random(66)
+    for number in range(DRAWN // 5):
+        width, order = drawing.draw_width(rng), rng.choice([1, 2])
+        rows = draw_rows(rng, width)
+        aligned, joined, above = "", "", "W" * width
+        in_mmr = ""
+        for row in rows:
+            codes = plain.one_dimensional(row)
+            joined, aligned = joined + codes, aligned + codes + "0" * (-len(codes) % 8)
+            in_mmr += plain.two_dimensional(above, row)
+            in_mmr, above = in_mmr + "0" * (-len(in_mmr) % 8), row
+        for name, bits, words in (
+                ("mmr", in_mmr, {"byte_align": True}), ("mmr", in_mmr + 2 * EOL, {"byte_align": True}),
+                ("mh", joined, {"eols": False}), ("mh", aligned, {"eols": False, "byte_align": True})):
+            data = plain.to_bytes(bits, order)
+            for count in (len(rows), None):
+                raster = faxpages.strip(data, width, count, name, order, partial=True, **words)
+                claims.see(f"rows {number} in {name} {words} {count}", agrees(raster, rows, None))
+            raster = faxpages.strip(data[:-1], width, len(rows) + 1, name, order, partial=True, **words)
+            claims.see(f"rows {number} in {name} {words}, too few",
+                       raster.rows <= len(rows) and packed(rows).startswith(raster.packed)
+                       and raster.lost == len(rows) + 1 - raster.rows and raster.fault.row == raster.rows)
+
+
+class Lengths:
+    """A library that adds up how many bytes it is handed."""
+
+    def __init__(self, library):
+        self.library, self.total, self.calls = library, 0, 0
+
+    def __getattr__(self, name):
+        call = getattr(self.library, name)
+
+        def counting(data, length, *words):
+            self.total, self.calls = self.total + length, self.calls + 1
+            return call(data, length, *words)
+
+        return counting if name == "faxpages_strip_rows" else call
+
+
+def many_pieces(claims):
+    """Bytes that come one by one are read in a time in proportion to their number: fill, and ordinary rows."""
+    library = faxpages._c.library
+    row = EOL + plain.one_dimensional("WB" * 8)
+    for name, data, most in (
+            ("fill", bytes(60000) + plain.to_bytes(row), 20 << 20), ("rows", plain.to_bytes(row * 2000), 4 << 20)):
+        faxpages._c.library = counting = Lengths(library)
+        reader, rows = faxpages.StripReader(16, "mh"), 0
+        for byte in data:
+            reader.feed(bytes([byte]))
+            rows += sum(1 for _ in reader)
+        reader.close()
+        rows += sum(1 for _ in reader)
+        faxpages._c.library = library
+        claims.see(f"{name} byte by byte: {counting.total} bytes are read", rows == (2000 if name == "rows" else 1)
+                   and counting.total < most)
+    reader = faxpages.StripReader(8)
+    reader.feed(b"\xff" * 50000)
+    claims.see("many rows at once", sum(1 for _ in reader) == 400000 and len(reader._fed) == 0 and not reader.ended)
+
+
+def ends_of_readers(claims):
+    """A reader after its end, after its fault, and rows that are left."""
+    reader = faxpages.StripReader(8, rows=2)
+    reader.feed(b"\xff\xff")
+    first = next(iter(reader))
+    claims.see("rows that are left", [first.number] + [row.number for row in reader] == [0, 1] and reader.ended)
+    reader.feed(b"more")
+    reader.close()
+    claims.see("after the end", list(reader) == [] and reader.ended and reader.rows == 2)
+    claims.raises("bytes after close", ValueError, lambda: reader.feed(b"more"))
+    reader = faxpages.StripReader(8)
+    reader.feed(b"\xb0")
+    claims.see("a row before a fault", next(iter(reader)).number == 0)
+    for _ in range(2):
+        claims.raises("a fault, again", faxpages.OutOfRow, lambda: next(iter(reader)))
+    claims.see("it has not ended", not reader.ended and reader.rows == 1)
+
+
+def refused(claims):
+    """Numbers that are out of range."""
+    for words in ({"width": 0}, {"width": 65536}, {"rows": 0}, {"rows": MOST_ROWS + 1}, {"order": 0}, {"order": 3},
+                  {"coding": "pbm"}, {"width": -2 ** 70}):
+        for call in (faxpages.strip, faxpages.check_strip):
+            claims.raises(f"{call.__name__} {words}", ValueError, lambda call=call, words=words: call(b"\xff", **words))
+        claims.raises(f"a reader {words}", ValueError, lambda words=words: faxpages.StripReader(**words))
+    for words in ({"width": "8"}, {"rows": 1.5}, {"order": None}):
+        claims.raises(f"a strip {words}", TypeError, lambda words=words: faxpages.strip(b"\xff", **words))
+    claims.raises("rows without EOLs in mmr", ValueError, lambda: faxpages.strip(b"\xff", 8, eols=False))
+    reader = faxpages.StripReader(8, rows=2)
+    reader.feed(memoryview(b"\xff\x00\xff")[::2])
+    claims.see("bytes that lie apart", [row.packed for row in reader] == [b"\0", b"\0"])
+    for data in ("text", 1, None, [255]):
+        claims.raises(f"the strip {data!r}", TypeError, lambda data=data: faxpages.strip(data, 8))
+        claims.raises(f"the piece {data!r}", TypeError, lambda data=data: faxpages.StripReader(8).feed(data))
+
+
+def main():
+    claims = Claims()
+    for part in (drawn_strips, counted_rows, coded, at_bytes, many_pieces, ends_of_readers, refused):
+        part(claims)
+    return claims.ends("bare")
+
+
+if __name__ == "__main__":
+    sys.exit(main())
