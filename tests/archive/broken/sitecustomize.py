@@ -10,9 +10,24 @@ WAYS = os.environ.get("BROKEN", "").split()
 check, convert = faxpages.check, faxpages.convert
 
 
+def wait_at_gate():
+    """Notes a fax in the file GATE, and waits as long as that file is there with as many as AFTER says."""
+    try:
+        gate = os.open(os.environ["GATE"], os.O_WRONLY | os.O_APPEND)
+    except FileNotFoundError:
+        return
+    os.write(gate, b".")
+    full = os.fstat(gate).st_size > int(os.environ["AFTER"])
+    os.close(gate)
+    while full and os.path.exists(os.environ["GATE"]):
+        time.sleep(0.02)
+
+
 def broken_check(data):
     if "slow" in WAYS:
         time.sleep(0.004)
+    if "stops" in WAYS:
+        wait_at_gate()
     if "dies" in WAYS and data.endswith(b"dies"):
         os.kill(os.getpid(), signal.SIGSEGV)
     if "raises" in WAYS and data.endswith(b"raises"):
