@@ -187,11 +187,11 @@ class Table:
                 (last, _FAXES)).fetchall()
             if not found:
                 return
-            batch, size = [], 0
-            for last, *fax, copied in found:
-                batch.append(Waiting(*fax, bool(copied)))
-                size += batch[-1].size
-                if size > _BYTES:
+            batch, together = [], 0
+            for last, path, size, mtime, copied in found:
+                batch.append(Waiting(path, size, mtime, bool(copied)))
+                together += size
+                if together > _BYTES:
                     break
             yield batch
 

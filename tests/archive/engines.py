@@ -108,9 +108,9 @@ def dask(room, _, reference):
 
 
 @contextlib.contextmanager
-def scheduler(room):
+def scheduler(room, **more):
     """The address of a scheduler with two workers, on loopback."""
-    told_python = dict(os.environ, FAXPAGES_LIBRARY=room.library, PYTHONPATH=os.path.join(TOP, "python"))
+    told_python = dict(os.environ, FAXPAGES_LIBRARY=room.library, PYTHONPATH=os.path.join(TOP, "python")) | more
     cli = [room.dask, "-m"]
     with contextlib.ExitStack() as stack:
         words = ["distributed.cli.dask_scheduler", "--host", "127.0.0.1", "--port", "0", "--no-dashboard",

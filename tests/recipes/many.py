@@ -59,7 +59,7 @@ def cores_by_part(room, commands):
     for name in parts:
         room.put(f"parts/{name}", b"row 0 0 8\n")
     yield "again", room.bash(commands, **more)[0], 0
-    done = log[-1].split(b"--cursor ")[1].split()[0].decode() + ".txt"
+    done = log[-1].split(b"--cursor ")[1].split()[0].decode().strip("'") + ".txt"
     kept = [name for name in parts if room.get(f"parts/{name}") == b"row 0 0 8\n"]
     yield "only what the log lacks is done again", kept, [name for name in parts if name != done]
     room.bash("rm -r parts parts.log big.txt")
