@@ -61,14 +61,14 @@ class Room:
             line.pop("seconds")
         return found
 
-    def interrupt(self, number, table, *words, after=400):
+    def interrupt(self, number, table, *words, after=400, python=sys.executable):
         """Starts the command, whose workers wait once they have begun so many faxes, and ends it by a signal when more
         rows are in the table. How many are, and its status. A signal that asks for the end comes to its workers too, as
         from a terminal or from Slurm."""
         before, gate = count(self(table)), self("gate")
         with open(gate, "wb"):
             pass
-        process = self.start(*words, broken="stops", GATE=gate, AFTER=str(after))
+        process = self.start(*words, python=python, broken="stops", GATE=gate, AFTER=str(after))
         wait_for(lambda: count(self(table)) > before or process.poll() is not None)
         if number == signal.SIGKILL:
             process.kill()

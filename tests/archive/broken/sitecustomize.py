@@ -11,16 +11,15 @@ check, convert = faxpages.check, faxpages.convert
 
 
 def wait_at_gate():
-    """Notes a fax in the file GATE, and waits as long as that file is there with as many as AFTER says."""
+    """Notes a fax in the file GATE, and waits as long as that file is there with more of them than AFTER says."""
     try:
         gate = os.open(os.environ["GATE"], os.O_WRONLY | os.O_APPEND)
+        os.write(gate, b".")
+        os.close(gate)
+        while os.path.getsize(os.environ["GATE"]) > int(os.environ["AFTER"]):
+            time.sleep(0.02)
     except FileNotFoundError:
-        return
-    os.write(gate, b".")
-    full = os.fstat(gate).st_size > int(os.environ["AFTER"])
-    os.close(gate)
-    while full and os.path.exists(os.environ["GATE"]):
-        time.sleep(0.02)
+        pass
 
 
 def broken_check(data):
