@@ -1,5 +1,5 @@
-"""Calls programs and measures them, for bench/run and bench/library: instructions and mispredicted branches by valgrind's
-cachegrind, seconds of the processor by the system."""
+"""Calls programs and measures them, for bench/run and bench/library: instructions and mispredicted branches by
+valgrind's cachegrind, seconds of the processor by the system."""
 
 from __future__ import annotations
 

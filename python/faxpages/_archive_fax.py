@@ -163,8 +163,9 @@ def _checked(data: bytes, fax: Waiting) -> Found:
     """The row of a fax by its bytes."""
     report = faxpages.check(data)
     notes = sorted({(note.number, note.name) for note in report.notes})
+    status = FAULTY if report.fault else GOOD
     found = _described(data, Found(
-        *fax[:3], FAULTY if report.fault else GOOD, report.pages, report.rows, notes=" ".join(name for _, name in notes)))
+        *fax[:3], status, report.pages, report.rows, notes=" ".join(name for _, name in notes)))
     if report.fault:
         return found._replace(
             fault=report.fault.name, fault_page=report.fault.page, fault_row=report.fault.row)

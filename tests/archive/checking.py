@@ -126,8 +126,8 @@ def broken(room, *_):
 
 
 def closed(room, *_):
-    """A fax that cannot be opened. Root opens each, so there the command runs as another user, with copies of the module
-    and of the library that this user can read."""
+    """A fax that cannot be opened. Root opens each, so there the command runs as another user, with copies of the
+    module and of the library that this user can read."""
     paths = few(room, "closed/tree")
     os.chmod(paths[20], 0)
     shutil.copytree(os.path.join(TOP, "python", "faxpages"), room("closed/python/faxpages"))

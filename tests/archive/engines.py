@@ -123,7 +123,7 @@ def scheduler(room, **more):
                      "--local-directory", room(f"worker-{number}")]
             stack.enter_context(started([*cli, *words], told_python))
         ready = f"import distributed as d; d.Client({address!r}, timeout={PATIENCE}).wait_for_workers(2)"
-        subprocess.run([room.dask, "-c", ready], timeout=PATIENCE, check=True)
+        subprocess.run([room.dask, "-c", ready], timeout=PATIENCE, check=True, stderr=subprocess.DEVNULL)
         yield address
 
 

@@ -179,6 +179,16 @@ def there_in(room):
     return found
 
 
+def leaders_in(room):
+    """The processes there that lead workers."""
+    found = []
+    for process in there_in(room):
+        with contextlib.suppress(OSError):
+            if b"faxpages.archive" in files.get(f"/proc/{process}/cmdline"):
+                found.append(process)
+    return found
+
+
 def wait_for(holds, seconds=PATIENCE):
     """Waits until something holds: whether it does."""
     until = time.monotonic() + seconds
@@ -229,6 +239,8 @@ def ended(cluster, recipe, wanted):
     yield "Slurm: ended: given", status, 0
     yield "Slurm: ended: some are done", wait_for(lambda: count(place) > 0), True
     cluster.ask("scancel", job.strip())
+    # Workers wait until those that lead them are gone, so that nothing more is done.
+    yield "Slurm: ended: it is seen", wait_for(lambda: not leaders_in(place)), True
     os.remove(gate)
     yield "Slurm: ended: they are gone", wait_for(
         lambda: not cluster.ask("squeue", "-h", "-j", job.strip()) and not there_in(place)), True

@@ -62,12 +62,14 @@ def mirror(room, commands):
     yield "copies", room.names("copies"), wanted
     yield "rows", [room.rows(f"copies/{name}") for name in good], [room.rows(f"archive/{name}") for name in good]
     yield "what a link leads to", room.rows("copies/disk/e.tif"), room.rows("disk/e.tif")
-    yield "fields", room.get("copies/a.tif.fields").startswith(b"%s:\nMagic: 0x4949" % room("archive/a.tif").encode()), True
+    said = room.get("copies/a.tif.fields")
+    yield "fields", said.startswith(b"%s:\nMagic: 0x4949" % room("archive/a.tif").encode()), True
     yield "delete, with a fault", room.bash(commands.rstrip("\n") + " --delete")[0], 1
     yield "delete, with a fault: all stays", room.names("archive"), sorted([*given, "disk"])
     os.remove(room("archive/faulty.tif"))
     yield "delete", room.bash(commands.rstrip("\n") + " --delete")[0], 0
-    yield "delete: what is left", (room.names("archive"), room.names("disk"), room.names("copies")), (["disk"], [], wanted)
+    left = room.names("archive"), room.names("disk"), room.names("copies")
+    yield "delete: what is left", left, (["disk"], [], wanted)
 
 
 TESTS = {"A table of an archive": (["python3"], table), "A mirror of an archive in MMR": (["python3"], mirror)}

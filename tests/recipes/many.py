@@ -65,7 +65,8 @@ def cores_by_part(room, commands):
     room.bash("rm -r parts parts.log big.txt")
     room.sample("three-pages.tif", "big.tif")
     status, _, said = room.bash(commands, **more)
-    yield "a fault", (status != 0, "fault page 2 row 1: DataEnds\n" in said, "big.txt" in room.names()), (True, True, False)
+    yield "a fault: status", status != 0, True
+    yield "a fault", ("fault page 2 row 1: DataEnds\n" in said, "big.txt" in room.names()), (True, False)
     yield "a fault: rows before it", lines_of_rows(room.get("parts/1:0:0.txt")), lines_of_rows(room.rows("big.tif")[0])
 
 
