@@ -1,12 +1,13 @@
 """Files that are made to be slow to read."""
 
 import struct
+from typing import Iterator, Tuple
 
 MH, MMR = 3, 4
 WIDEST = 65535
 
 
-def tiff(width, rows, compression, strip):
+def tiff(width: int, rows: int, compression: int, strip: bytes) -> bytes:
     """A file of one page, of one strip."""
     at = 8 + len(strip) + len(strip) % 2
     fields = [(256, 4, width), (257, 4, rows), (258, 3, 1), (259, 3, compression), (262, 3, 0), (266, 3, 1),
@@ -19,32 +20,32 @@ def tiff(width, rows, compression, strip):
     return head + strip + bytes(len(strip) % 2) + directory + bytes(4) + struct.pack("<IIII", 204, 1, 196, 1)
 
 
-def packed(bits):
+def packed(bits: str) -> bytes:
     """The bytes of bits, the first one highest, with zeros after them."""
     whole = bits + "0" * (-len(bits) % 8)
     return int(whole, 2).to_bytes(len(whole) // 8, "big")
 
 
-def most_changes(rows):
+def most_changes(rows: int) -> bytes:
     """Rows that begin black and change at every pel: the codes of white 0, then black 1 and white 1 in turn."""
     row = "00110101" + ("010" + "000111") * (WIDEST // 2) + "010"
     return tiff(WIDEST, rows, MH, packed(("000000000001" + row) * rows))
 
 
-def most_changes_again(rows):
+def most_changes_again(rows: int) -> bytes:
     """The same rows in T.6: the first by horizontal mode, and the others by a bit for each change."""
     first = "001" + "00110101" + "010" + ("001" + "000111" + "010") * (WIDEST // 2)
     return tiff(WIDEST, rows, MMR, packed(first + "1" * (WIDEST + 1) * (rows - 1)))
 
 
-def passes(rows):
+def passes(rows: int) -> bytes:
     """Rows that change at every pel and are white in turn, by pass mode alone."""
     first = "001" + "00110101" + "010" + ("001" + "000111" + "010") * (WIDEST // 2)
     white = "0001" * (WIDEST // 2 + 1) + "1"
     return tiff(WIDEST, 2 * rows, MMR, packed((first + white) * rows))
 
 
-def files():
+def files() -> Iterator[Tuple[str, bytes]]:
     """The files with their names."""
     yield "65,535 changes a row, T.4", most_changes(20)
     yield "65,535 changes a row, T.6", most_changes_again(100)

@@ -2,6 +2,7 @@
 
        libtiff make mh|mr|mmr PAGES IMAGE.pbm OUT.tif   the image on so many pages, one strip each
        libtiff decode IN.tif                            decodes each strip
+       libtiff bare IN.tif                              decodes each strip, but fills no row
        libtiff pbm IN.tif OUT.pbm                       decodes each strip, and writes raw PBM */
 #include <stdio.h>
 #include <stdlib.h>
@@ -57,8 +58,13 @@ static void make(const char *coding, int pages, const char *image, const char *o
     TIFFClose(tiff);
 }
 
+/* Fills no row. */
+static void fill_nothing(unsigned char *row, uint32_t *runs, uint32_t *end, uint32_t width) {
+    (void)row, (void)runs, (void)end, (void)width;
+}
+
 /* Decodes each strip of each page, and writes the pages where there is a file for them. */
-static void decode(const char *in, FILE *out) {
+static void decode(const char *in, FILE *out, int bare) {
     TIFF *tiff = TIFFOpen(in, "r");
     if (!tiff) fail(in);
     tmsize_t room = TIFFStripSize(tiff);
@@ -67,6 +73,7 @@ static void decode(const char *in, FILE *out) {
         unsigned width = 0, rows = 0;
         TIFFGetField(tiff, TIFFTAG_IMAGEWIDTH, &width);
         TIFFGetField(tiff, TIFFTAG_IMAGELENGTH, &rows);
+        if (bare) TIFFSetField(tiff, TIFFTAG_FAXFILLFUNC, fill_nothing);
         if (out) fprintf(out, "P4\n%u %u\n", width, rows);
         for (uint32_t strip = 0; strip < TIFFNumberOfStrips(tiff); strip++) {
             tmsize_t size = TIFFReadEncodedStrip(tiff, strip, pels, room);
@@ -80,11 +87,13 @@ int main(int count, char **words) {
     if (count == 6 && strcmp(words[1], "make") == 0) {
         make(words[2], atoi(words[3]), words[4], words[5]);
     } else if (count == 3 && strcmp(words[1], "decode") == 0) {
-        decode(words[2], NULL);
+        decode(words[2], NULL, 0);
+    } else if (count == 3 && strcmp(words[1], "bare") == 0) {
+        decode(words[2], NULL, 1);
     } else if (count == 4 && strcmp(words[1], "pbm") == 0) {
         FILE *out = fopen(words[3], "wb");
         if (!out) fail(words[3]);
-        decode(words[2], out);
+        decode(words[2], out, 0);
         if (fclose(out) != 0) fail(words[3]);
     } else {
         fail("see the head of libtiff.c for its commands");

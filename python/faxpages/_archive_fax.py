@@ -6,6 +6,7 @@ import ctypes
 import hashlib
 import itertools
 import os
+import subprocess
 import time
 from fractions import Fraction
 from typing import Dict, Iterator, NamedTuple, Optional, Tuple
@@ -17,14 +18,18 @@ from . import _library as _c
 # The largest fax, as of the program faxpages.
 _MOST = 268435456
 GOOD, FAULTY, NOT_READ = 0, 1, 3
+# What the name of a copy's fields ends with.
+FIELDS = b".fields"
 
 
 class Waiting(NamedTuple):
-    """A fax that is due: its path, and its size and mtime when it was found."""
+    """A fax that is due: its path, its size and mtime when it was found, and whether the table says that its copy was
+    written before."""
 
     path: bytes
     size: int
     mtime: float
+    copied: bool = False
 
 
 class Found(NamedTuple):
@@ -48,7 +53,8 @@ class Found(NamedTuple):
 
 
 class Job(NamedTuple):
-    """What is done with each fax below a tree: a check; or, where a target is named, a conversion."""
+    """What is done with each fax below a tree: a check; or, where a target is named, a conversion; or a comparison
+    with the copy that is there."""
 
     tree: bytes
     target: Optional[bytes] = None
@@ -57,12 +63,20 @@ class Job(NamedTuple):
     k: int = 4
     strip: Optional[int] = None
     align: bool = False
+    fields: bool = False
+    follow: bool = False
+    compare: bool = False
 
     def copy_of(self, path: bytes) -> bytes:
         """The file that a fax is converted into: the same name below the target."""
         assert self.target is not None
         ending = b".pbm" if self.to == "pbm" else b""
         return os.path.join(self.target, os.path.relpath(path, self.tree)) + ending
+
+    def is_copied(self, path: bytes) -> bool:
+        """Whether the copy of a fax is there, and its fields where they are asked for."""
+        copy = self.copy_of(path)
+        return os.path.exists(copy) and (not self.fields or os.path.exists(copy + FIELDS))
 
     def do(self, fax: Waiting) -> Found:
         """The row of a fax."""
@@ -72,29 +86,55 @@ class Job(NamedTuple):
 
     def _done(self, fax: Waiting) -> Found:
         try:
-            data, fax = _read(fax)
-            found = _checked(data, fax)
-            return self._converted(data, found) if self.target is not None and found.status == GOOD else found
+            data, now = _read(fax)
+            if self.compare:
+                return self._compared(data, fax, now)
+            found = _checked(data, now)
+            return self._converted(data, now, found) if self.target is not None and found.status == GOOD else found
         except _NotRead as error:
             return not_read(fax, str(error))
         except MemoryError:
             return not_read(fax, "Memory")
 
-    def _converted(self, data: bytes, found: Found) -> Found:
+    def _converted(self, data: bytes, fax: Waiting, found: Found) -> Found:
         """The row of a good fax, after its copy is written."""
         try:
             copy = faxpages.convert(data, self.to, self.order, self.k, self.strip, self.align)
+            self._write(fax, copy, data)
         except faxpages.OutputTooLarge:
             return found._replace(status=FAULTY, fault="OutputTooLarge")
-        try:
-            right = _write(self.copy_of(found.path), copy, data)
+        except _NotWritten as error:
+            return found._replace(status=NOT_READ, fault=str(error))
         except OSError:
             return found._replace(status=NOT_READ, fault="Write")
-        return found if right else found._replace(status=NOT_READ, fault="RowsDiffer")
+        return found
+
+    def _write(self, fax: Waiting, copy: bytes, data: bytes) -> None:
+        """Writes the copy of a fax, and its fields where they are asked for."""
+        name = self.copy_of(fax.path)
+        if not fax.copied and os.path.lexists(name) and not _has_rows(name, data):
+            raise _NotWritten("Exists")
+        fields = _fields_of(fax.path) if self.fields else None
+        _put(name, copy, data)
+        if fields is not None:
+            _put(name + FIELDS, fields, None)
+
+    def _compared(self, data: bytes, fax: Waiting, now: Waiting) -> Found:
+        """A good row of a fax whose copy has its rows, and which is as it was found; else one that says why not."""
+        if now != fax:
+            return not_read(fax, "Changed")
+        if not self.is_copied(fax.path):
+            return not_read(fax, "NoCopy")
+        right = _has_rows(self.copy_of(fax.path), data)
+        return Found(*fax[:3], GOOD) if right else not_read(fax, "RowsDiffer")
 
 
 class _NotRead(Exception):
     """A fax cannot be read: Open or Read, as the program says it."""
+
+
+class _NotWritten(Exception):
+    """A copy is not written: another file is in its place, it has other rows, or its fields cannot be told."""
 
 
 def not_read(fax: Waiting, why: str, seconds: Optional[float] = None) -> Found:
@@ -116,15 +156,16 @@ def _read(fax: Waiting) -> Tuple[bytes, Waiting]:
             data = file.readall()
         except OSError:
             raise _NotRead("Read") from None
-    return data, Waiting(fax.path, told.st_size, told.st_mtime)
+    return data, fax._replace(size=told.st_size, mtime=told.st_mtime)
 
 
 def _checked(data: bytes, fax: Waiting) -> Found:
     """The row of a fax by its bytes."""
     report = faxpages.check(data)
     notes = sorted({(note.number, note.name) for note in report.notes})
+    status = FAULTY if report.fault else GOOD
     found = _described(data, Found(
-        *fax, FAULTY if report.fault else GOOD, report.pages, report.rows, notes=" ".join(name for _, name in notes)))
+        *fax[:3], status, report.pages, report.rows, notes=" ".join(name for _, name in notes)))
     if report.fault:
         return found._replace(
             fault=report.fault.name, fault_page=report.fault.page, fault_row=report.fault.row)
@@ -150,25 +191,41 @@ def _to_the_inch(resolution: Fraction, unit: int) -> float:
     return float(resolution * Fraction(254, 100) if unit == 3 else resolution)
 
 
-def _write(name: bytes, copy: bytes, original: bytes) -> bool:
-    """Writes a copy whole or not at all, after what stands on the disk has the rows of its original; whether it has."""
+def _fields_of(path: bytes) -> bytes:
+    """The fields of a fax, as libtiff's tiffdump prints them."""
+    ran = subprocess.run([b"tiffdump", b"-m", b"1000000", path], stdin=subprocess.DEVNULL, stdout=subprocess.PIPE,
+                         stderr=subprocess.DEVNULL, check=False)
+    if ran.returncode:
+        raise _NotWritten("Fields")
+    return ran.stdout
+
+
+def _put(name: bytes, data: bytes, original: Optional[bytes]) -> None:
+    """Writes a file whole or not at all. Where an original is given, what stands on the disk must have its rows."""
     folder, last = os.path.split(name)
     os.makedirs(folder, exist_ok=True)
     # One name for each copy, so that a run that was killed leaves nothing that the next does not write over.
     part = os.path.join(folder, b".faxpages-%s.part" % hashlib.sha256(last).hexdigest()[:32].encode())
     try:
         with open(part, "wb") as file:
-            file.write(copy)
+            file.write(data)
             file.flush()
             os.fsync(file.fileno())
-        with open(part, "rb") as file:
-            right = same_rows(original, file.read())
-        if right:
-            os.replace(part, name)
-        return right
+        if original is not None and not _has_rows(part, original):
+            raise _NotWritten("RowsDiffer")
+        os.replace(part, name)
     finally:
         if os.path.lexists(part):
             os.unlink(part)
+
+
+def _has_rows(name: bytes, original: bytes) -> bool:
+    """Whether a file can be read and has the rows of an original."""
+    try:
+        with open(name, "rb") as file:
+            return same_rows(original, file.read())
+    except (OSError, faxpages.Fault):
+        return False
 
 
 def same_rows(one: bytes, other: bytes) -> bool:

@@ -23,7 +23,8 @@ CREATE TABLE IF NOT EXISTS faxes (
     seconds REAL);
 CREATE TABLE IF NOT EXISTS times (path PRIMARY KEY NOT NULL, since REAL NOT NULL, checked REAL NOT NULL);
 CREATE TABLE IF NOT EXISTS job (name TEXT PRIMARY KEY NOT NULL, value TEXT NOT NULL);
-CREATE TEMP TABLE waiting (path BLOB NOT NULL, size INTEGER NOT NULL, mtime REAL NOT NULL);
+CREATE TEMP TABLE waiting (
+    path BLOB NOT NULL, size INTEGER NOT NULL, mtime REAL NOT NULL, copied INTEGER NOT NULL);
 """
 _PUT_TIME = """
 INSERT INTO times VALUES (:path, :since, :checked) ON CONFLICT (path) DO UPDATE SET checked = excluded.checked,
@@ -157,6 +158,12 @@ class Table:
         self.commit()
         return len(gone)
 
+    def forget_these(self, paths: List[bytes]) -> None:
+        """Takes out the rows of these faxes at once."""
+        self.begin()
+        self.delete([kept_path(path) for path in paths])
+        self.commit()
+
     def delete(self, paths: List[Path]) -> None:
         """Takes out rows."""
         self._base.executemany("DELETE FROM faxes WHERE path = ?", ((path,) for path in paths))
@@ -164,22 +171,27 @@ class Table:
 
     def wait(self, fax: Waiting) -> None:
         """Notes that a fax is due. It is kept outside the table, and goes with this process."""
-        self._base.execute("INSERT INTO waiting VALUES (?, ?, ?)", fax)
+        self._base.execute("INSERT INTO waiting VALUES (?, ?, ?, ?)", fax)
+
+    def wait_for_all(self) -> None:
+        """Notes that all faxes of the table are due."""
+        self._base.execute("DELETE FROM waiting")
+        self._base.execute("INSERT INTO waiting SELECT CAST(path AS BLOB), size, mtime, 1 FROM faxes")
 
     def batches(self) -> Iterator[List[Waiting]]:
         """The faxes that are due, in order, some at a time."""
         last = 0
         while True:
             found = self._base.execute(
-                "SELECT rowid, path, size, mtime FROM waiting WHERE rowid > ? ORDER BY rowid LIMIT ?",
+                "SELECT rowid, path, size, mtime, copied FROM waiting WHERE rowid > ? ORDER BY rowid LIMIT ?",
                 (last, _FAXES)).fetchall()
             if not found:
                 return
-            batch, size = [], 0
-            for last, *fax in found:
-                batch.append(Waiting(*fax))
-                size += batch[-1].size
-                if size > _BYTES:
+            batch, together = [], 0
+            for last, path, size, mtime, copied in found:
+                batch.append(Waiting(path, size, mtime, bool(copied)))
+                together += size
+                if together > _BYTES:
                     break
             yield batch
 
@@ -209,8 +221,10 @@ class Table:
 
 
 def job_of(job: Job, share: Tuple[int, int]) -> Dict[str, Any]:
-    """A job as a table keeps it: of a check the tree alone. A table is of one."""
+    """A job as a table keeps it: of a check the tree alone, and whether links are followed. A table is of one."""
     told = job._asdict() if job.target is not None else {"tree": job.tree}
+    told = {name: value for name, value in told.items() if name not in ("fields", "compare", "follow")}
+    told.update({"follow": True} if job.follow else {})
     texts = {name: value.decode("utf-8", "surrogateescape") if isinstance(value, bytes) else value
              for name, value in told.items()}
     return {"job": "check" if job.target is None else "convert", "share": list(share), **texts}

@@ -1,9 +1,9 @@
 """Checks, or converts, all faxes of an archive, and keeps what it found in a table of SQLite:
 
     faxpages-archive check TREE --table TABLE.sqlite [--processes N | --dask | --scheduler ADDRESS]
-        [--timeout SECONDS] [--again unread | faulty | all] [--share I/N]
+        [--timeout SECONDS] [--again unread | faulty | all] [--share I/N] [--follow]
     faxpages-archive convert TREE TARGET --to pbm | mh | mr | mmr --table TABLE.sqlite [..]
-        [--order 1 | 2] [--k K] [--strip ROWS] [--align]
+        [--order 1 | 2] [--k K] [--strip ROWS] [--align] [--fields] [--delete]
     faxpages-archive table TABLE.sqlite --csv | --json
     faxpages-archive merge TABLE.sqlite PART.sqlite..
 
@@ -18,6 +18,7 @@ import csv
 import io
 import json
 import os
+import shutil
 import signal
 import sqlite3
 import sys
@@ -79,20 +80,51 @@ class _Run:
         self._note()
         progress = Progress(self._due)
         try:
-            for rows in self._rows(self._table.batches()):
+            for rows in self._rows(self._table.batches()) if self._due else ():
                 self._put(rows)
                 progress.add(len(rows))
         finally:
             self._table.commit()
             progress.close()
         self._sum_up()
-        return self._status()
+        status = self._status()
+        return self._delete(status) if self._words.command == "convert" and self._words.delete else status
+
+    def _delete(self, status: int) -> int:
+        """Deletes the faxes of the table, if all are copied, each is compared with its copy once more, and all copies
+        are on the disk. The status."""
+        if status != GOOD:
+            print("faxpages-archive: not all is copied; nothing is deleted", file=sys.stderr)
+            return status
+        self._table.wait_for_all()
+        if self._lacking():
+            print("faxpages-archive: not all copies are right; nothing is deleted", file=sys.stderr)
+            return NOT_READ
+        os.sync()
+        count = 0
+        for batch in self._table.batches():
+            # A row that is left would have the next fax of this name be written over the copy.
+            self._table.forget_these([fax.path for fax in batch])
+            count += sum(_deleted(fax) for fax in batch)
+        print(f"deleted {count} faxes")
+        return GOOD if count == self._counts[GOOD] else NOT_READ
+
+    def _lacking(self) -> int:
+        """How many faxes have not the rows of their copy, or are not as they were; each is named."""
+        self._job = self._job._replace(compare=True)
+        lacking = 0
+        for rows in self._rows(self._table.batches()):
+            for row in filter(lambda it: it.status != GOOD, rows):
+                lacking += 1
+                print(f"faxpages-archive: {row.fault}: {_shown(row.path)}", file=sys.stderr)
+        return lacking
 
     def _note(self) -> None:
         """Notes which faxes are due, and takes the rows of those that are gone out of the table."""
         table = self._table
         seen = bytearray(table.last() + 1)
-        for fax in walk.faxes(self._job.tree, self._words.share, self._fail):
+        way = walk.Way(self._words.share, self._job.follow, self._job.target)
+        for fax in walk.faxes(self._job.tree, way, self._fail):
             known = table.known(fax.path)
             if known is not None:
                 seen[known.number] = 1
@@ -100,7 +132,7 @@ class _Run:
                 self._counts[known.status] += 1
                 self._kept += 1
             else:
-                table.wait(fax)
+                table.wait(fax._replace(copied=known is not None and known.status == GOOD))
                 self._due += 1
         if not self._failed:
             self._gone = table.forget(seen, self._job.tree)
@@ -110,7 +142,7 @@ class _Run:
         least = {None: NOT_READ + 1, "unread": NOT_READ, "faulty": FAULTY, "all": GOOD}[self._words.again]
         if (size, mtime) != (fax.size, fax.mtime) or status >= least:
             return False
-        return self._job.target is None or status != GOOD or os.path.exists(self._job.copy_of(fax.path))
+        return self._job.target is None or status != GOOD or self._job.is_copied(fax.path)
 
     def _fail(self, error: OSError) -> None:
         self._failed += 1
@@ -119,8 +151,6 @@ class _Run:
     def _rows(self, batches: engine.Batches) -> Iterator[List[Found]]:
         """The rows by the engine that was chosen."""
         words = self._words
-        if not self._due:
-            return iter(())
         if words.dask or words.scheduler is not None:
             return engine.by_dask(self._job, words.timeout, batches, words.scheduler, words.processes)
         return engine.by_processes(self._job, words.timeout, batches, words.processes or 1)
@@ -145,6 +175,18 @@ class _Run:
         return FAULTY if self._counts[FAULTY] else GOOD
 
 
+def _deleted(fax: Waiting) -> bool:
+    """Deletes a fax that is as it was found, or a link; whether it is gone."""
+    with contextlib.suppress(FileNotFoundError):
+        told = os.stat(fax.path)
+        if (told.st_size, told.st_mtime) != (fax.size, fax.mtime):
+            print(f"faxpages-archive: Changed: {_shown(fax.path)}", file=sys.stderr)
+            return False
+    with contextlib.suppress(FileNotFoundError):
+        os.unlink(fax.path)
+    return True
+
+
 def _shown(path: Any) -> str:
     """A path on the error stream, whatever its bytes."""
     return ascii(os.fsdecode(path))[1:-1] if path is not None else "?"
@@ -153,15 +195,17 @@ def _shown(path: Any) -> str:
 def _do_tree(words: argparse.Namespace) -> int:
     """check and convert."""
     tree = os.path.abspath(os.fsencode(words.tree))
-    job = Job(tree)
+    job = Job(tree, follow=words.follow)
     if words.command == "convert":
         target = os.path.abspath(os.fsencode(words.target))
-        job = Job(tree, target, words.to, words.order, words.k, words.strip, words.align)
+        job = Job(tree, target, words.to, words.order, words.k, words.strip, words.align, words.fields, words.follow)
         real = [os.path.join(os.path.realpath(it), b"") for it in (tree, target)]
         if real[0].startswith(real[1]) or real[1].startswith(real[0]):
             raise _Wrong("TREE and TARGET are one in the other")
     if not os.path.isdir(tree):
         raise TableError(f"there is no folder {_shown(tree)}")
+    if job.fields and not shutil.which("tiffdump"):
+        raise TableError("tiffdump is not installed: Debian has it in libtiff-tools")
     with Table(words.table) as table:
         table.set_job(job_of(job, words.share))
         return _Run(words, job, table).do()
@@ -243,6 +287,7 @@ def _tree_words(command: argparse.ArgumentParser) -> None:
     command.add_argument("--again", choices=["unread", "faulty", "all"],
                          help="do those again that could not be read, these and the faulty ones, or all")
     command.add_argument("--share", type=walk.share_of, metavar="I/N", help="do one of N shares, I from 0")
+    command.add_argument("--follow", action="store_true", help="go through symbolic links")
 
 
 def _parser() -> argparse.ArgumentParser:
@@ -260,6 +305,8 @@ def _parser() -> argparse.ArgumentParser:
     convert.add_argument("--k", type=_at_least(int, 1), default=4)
     convert.add_argument("--strip", type=_at_least(int, 1), metavar="ROWS")
     convert.add_argument("--align", action="store_true")
+    convert.add_argument("--fields", action="store_true", help="write NAME.fields beside each copy, by tiffdump")
+    convert.add_argument("--delete", action="store_true", help="delete the faxes once all are copied and compared")
     _tree_words(convert)
     table = commands.add_parser("table", help="print a table", allow_abbrev=False)
     table.add_argument("name", metavar="TABLE.sqlite")

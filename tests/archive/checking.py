@@ -1,11 +1,13 @@
 """Resumed runs, names of any bytes, faxes that break a worker, and words."""
 
 import contextlib
+import fcntl
 import json
 import os
 import pty
 import re
 import shutil
+import signal
 import sqlite3
 import subprocess
 import sys
@@ -13,7 +15,10 @@ import time
 
 import engines
 import made
+from room import PATIENCE, TOP, wait_for
 
+# Who runs what root must not, by a number that no account has to have.
+OTHER_USER = 65534
 FEW = 40
 LARGEST = 268435456
 
@@ -108,7 +113,7 @@ def broken(room, *_):
         ways["Dask"] = ["--dask", "--processes", "2"], room.dask
     for name, (words, python) in ways.items():
         table = f"broken-{len(words)}.sqlite"
-        words = ["check", "broken", "--table", table, "--timeout", "1.5", *words]
+        words = ["check", "broken", "--table", table, "--timeout", "6", *words]
         status, out, _ = room.run(*words, broken="dies raises hangs memory", python=python)
         room.claim(f"{name}: broken faxes are rows", (status, b" 5 not read; " in out), (3, True))
         rows = room.rows(table)
@@ -118,10 +123,42 @@ def broken(room, *_):
         room.claim(f"{name}: they are done again where it is asked", got[1].partition("; ")[2],
                    f"5 done now, {FEW - 5} before, 0 gone")
         room.claim(f"{name}: and then are as ever", room.rows(table) == room.rows("added.sqlite"))
-    if os.geteuid():
-        os.chmod(paths[20], 0)
-        room.run("check", "broken", "--table", "closed.sqlite")
-        room.claim("a fax that cannot be opened", room.rows("closed.sqlite")[paths[20]]["fault"], "Open")
+
+
+def closed(room, *_):
+    """A fax that cannot be opened. Root opens each, so there the command runs as another user, with copies of the
+    module and of the library that this user can read."""
+    paths = few(room, "closed/tree")
+    os.chmod(paths[20], 0)
+    shutil.copytree(os.path.join(TOP, "python", "faxpages"), room("closed/python/faxpages"))
+    shutil.copy(room.library, room("closed/libfaxpages.so.1"))
+    told = dict(os.environ, PYTHONPATH=room("closed/python"), FAXPAGES_LIBRARY=room("closed/libfaxpages.so.1"),
+                PYTHONDONTWRITEBYTECODE="1", HOME="/")
+    as_user = {"cwd": room("closed"), "env": told, "capture_output": True, "check": False}
+    if os.geteuid() == 0:
+        os.chmod(room.folder, 0o755)
+        os.chown(room("closed"), OTHER_USER, OTHER_USER)
+        as_user.update(user=OTHER_USER, group=OTHER_USER, extra_groups=[])
+    python = next(filter(lambda it: runs_as(it, as_user), dict.fromkeys([sys.executable, "/usr/bin/python3"])), None)
+    if python is None:
+        print("SKIPPED: another user cannot call Python here, so: no fax that cannot be opened is tried")
+        return
+    words = [python, "-m", "faxpages.archive", "check", "tree", "--table", "closed.sqlite"]
+    ran = subprocess.run(words, **as_user)
+    room.claim("a fax that cannot be opened: status", (ran.returncode, ran.stderr), (3, b""))
+    rows = room.rows("closed/closed.sqlite")
+    room.claim("a fax that cannot be opened", [path for path in paths if rows[path]["fault"] == "Open"], [paths[20]])
+    os.chmod(paths[20], 0o644)
+    again = room.summary("check", "closed/tree", "--table", "closed/closed.sqlite", "--again", "unread")
+    room.claim("it is done once it can be", again[1].partition("; ")[2], f"1 done now, {FEW - 1} before, 0 gone")
+
+
+def runs_as(python, as_user):
+    """Whether a user can call the module by this Python."""
+    try:
+        return subprocess.run([python, "-c", "import sqlite3, faxpages.archive"], **as_user).returncode == 0
+    except OSError:
+        return False
 
 
 def orphaned(room, *_):
@@ -129,9 +166,7 @@ def orphaned(room, *_):
     paths = few(room, "orphaned")
     add(paths[0], b"hangs")
     process = room.start("check", "orphaned", "--table", "orphaned.sqlite", "--timeout", "0.5", broken="hangs")
-    until = time.monotonic() + 10
-    while len(engines.there_in(room.folder)) < 2 and time.monotonic() < until:
-        time.sleep(0.02)
+    wait_for(lambda: len(engines.there_in(room.folder)) >= 2)
     time.sleep(0.2)
     process.kill()
     process.wait()
@@ -163,11 +198,23 @@ def wrong(room, *_):
         status, out, error = room.run(*words)
         room.claim(f"cannot be: {words}", (status, out, error.count("\n"), "Traceback" in error), (3, b"", 1, False))
     running = room.start("check", "tree", "--table", "locked.sqlite", broken="slow")
-    time.sleep(1)
+    wait_for(lambda: is_locked(room("locked.sqlite-lock")))
+    running.send_signal(signal.SIGSTOP)
     status, _, error = room.run("check", "tree", "--table", "locked.sqlite")
     running.kill()
     running.communicate()
     room.claim("one run at a time", (status, "another run" in error), (3, True))
+
+
+def is_locked(name):
+    """Whether a process holds the lock of a file."""
+    with contextlib.suppress(FileNotFoundError):
+        with open(name, "rb") as file:
+            try:
+                fcntl.flock(file, fcntl.LOCK_EX | fcntl.LOCK_NB)
+            except BlockingIOError:
+                return True
+    return False
 
 
 def documented(room, *_):
@@ -188,6 +235,14 @@ def documented(room, *_):
         room.claim(f"the manual page has the column {column}", column in listed)
 
 
+def read_terminal(ours):
+    """What a terminal shows next; nothing once nobody writes to it."""
+    try:
+        return os.read(ours, 65536)
+    except OSError:
+        return b""
+
+
 def progress(room, paths, _):
     """A line now and then, or a bar on a terminal."""
     error = room.run("check", "tree", "--table", "said.sqlite", "--processes", "4", broken="slow minutes")[2]
@@ -199,11 +254,11 @@ def progress(room, paths, _):
     environment = dict(os.environ, PYTHONPATH=os.path.join(os.path.dirname(os.path.dirname(made.HERE)), "python"))
     words = [room.dask, "-m", "faxpages.archive", "check", "resumed", "--table", "bar.sqlite"]
     with subprocess.Popen(words, stderr=its, stdout=subprocess.DEVNULL, cwd=room.folder, env=environment) as process:
-        process.wait(60)
-    os.close(its)
-    said = os.read(ours, 65536).decode(errors="replace")
+        os.close(its)
+        said = b"".join(iter(lambda: read_terminal(ours), b"")).decode(errors="replace")
+        process.wait(PATIENCE)
     os.close(ours)
     room.claim("a bar with the rate", f"{FEW}/{FEW}" in said and " faxes/s" in said)
 
 
-PARTS = [resumed, names, broken, orphaned, wrong, documented, progress]
+PARTS = [resumed, names, broken, closed, orphaned, wrong, documented, progress]

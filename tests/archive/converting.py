@@ -1,6 +1,7 @@
 """An archive that is converted: each copy has the rows of its fax, none is of a faulty one, and none is half."""
 
 import os
+import shutil
 import signal
 import subprocess
 
@@ -80,11 +81,120 @@ def lied(room, *_):
     room.claim("where nothing can be written", faults >= {"Write"})
 
 
+def deleted(room, *_):
+    """Faxes are deleted once all are copied and compared, and none before."""
+    import faxpages
+
+    paths = made.make(faxpages, room("from"), 60, 60)
+    words = ["convert", "from", "mirror", "--to", "mmr", "--table", "mirror.sqlite", "--processes", "2", "--follow",
+             "--delete"]
+    kept = files_below(room("from"))
+    status, _, error = room.run(*words)
+    room.claim("a faulty fax: nothing is deleted", (status, "nothing is deleted" in error), (1, True))
+    room.claim("a faulty fax: all are there", files_below(room("from")) == kept)
+    rows = room.rows("mirror.sqlite")
+    good = [path for path in paths if rows[path]["status"] == "0"]
+    for path in set(paths) - set(good):
+        os.unlink(path)
+    kept, copies = files_below(room("from")), files_below(room("mirror"))
+    spoilt = os.path.join(os.fsencode(room("mirror")), os.path.relpath(good[3], os.fsencode(room("from"))))
+    with open(spoilt, "wb") as file:
+        file.write(b"no fax")
+    status, _, error = room.run(*words)
+    room.claim("a wrong copy: nothing is deleted", (status, "RowsDiffer: " in error, "nothing is deleted" in error),
+               (3, True, True))
+    room.claim("a wrong copy: all are there", files_below(room("from")) == kept)
+    os.unlink(spoilt)
+    status, out, error = room.run(*words)
+    room.claim("all are deleted", (status, f"deleted {len(good) + 1} faxes" in out.decode(), error), (0, True, ""))
+    room.claim("what is left", list(files_below(room("from"))), [b"other.txt"])
+    room.claim("the copies", files_below(room("mirror")) == copies)
+    taken(room, words, good, copies)
+
+
+def taken(room, words, good, copies):
+    """Another fax comes under the name of a deleted one: the copy that is there is not written over."""
+    with open(good[4], "wb") as file:
+        file.write(made.other())
+    status, _, error = room.run(*words)
+    row = room.rows("mirror.sqlite")[good[4]]
+    room.claim("a copy that is there", (status, row["fault"], "nothing is deleted" in error), (3, "Exists", True))
+    room.claim("a copy that is there stays", (files_below(room("mirror")) == copies, os.path.exists(good[4])),
+               (True, True))
+
+
+def followed(room, *_):
+    """Links lead on, but not to a folder above them, nor into the copies; one that leads nowhere cannot be read."""
+    import faxpages
+
+    paths = made.make(faxpages, room("linked/tree"), 12, 12)
+    made.make(faxpages, room("linked/disk"), 12, 12)
+    os.makedirs(room("linked/copies"))
+    for name, leads in (("disk", "../disk"), ("0/round", ".."), ("copies", "../copies"), ("gone.tif", "nowhere")):
+        os.symlink(leads, room(f"linked/tree/{name}"))
+    os.symlink("../../tree", room("linked/disk/0/tree"))
+    words = ["linked/tree", "linked/copies", "--to", "mmr", "--table", "linked.sqlite"]
+    room.run("convert", *words, "--follow")
+    rows = room.rows("linked.sqlite")
+    tree = os.fsencode(room("linked/tree"))
+    there = {os.path.relpath(path, tree) for path in paths}
+    wanted = there | {os.path.join(b"disk", name) for name in there} | {b"link.tif", b"disk/link.tif", b"gone.tif"}
+    room.claim("links lead on", {os.path.relpath(path, tree) for path in rows}, wanted)
+    room.claim("a link that leads nowhere", rows[os.path.join(tree, b"gone.tif")]["fault"], "Open")
+    good = {os.path.relpath(path, tree) for path in rows if rows[path]["status"] == "0"}
+    room.claim("copies of what links lead to", set(files_below(room("linked/copies"))), good)
+    room.claim("nothing is done twice", " 0 done now, " in room.summary("convert", *words, "--follow")[1])
+    room.claim("another job without links", room.run("convert", *words)[0], 2)
+    room.run("check", "linked/tree", "--table", "unlinked.sqlite")
+    room.claim("without --follow no link is gone through", set(room.rows("unlinked.sqlite")), set(paths))
+
+
+def with_fields(room, *_):
+    """The fields of a fax are beside its copy, as tiffdump prints them, or as what stands for it here."""
+    import faxpages
+
+    paths = made.make(faxpages, room("fields"), 9, 9)
+    words = ["convert", "fields", "told", "--to", "mh", "--table", "fields.sqlite", "--fields"]
+    os.makedirs(room("tools"))
+    lacking = room.run(*words, PATH=room("tools"))
+    room.claim("without tiffdump", (lacking[0], "libtiff-tools" in lacking[2]), (3, True))
+    with open(room("tools/tiffdump"), "w", encoding="utf-8") as tool:
+        tool.write('#!/bin/sh\necho "$1 $2"; cat -- "$3"; [ ! -e "$0.fails" ]\n')
+    os.chmod(room("tools/tiffdump"), 0o755)
+    path = f"{room('tools')}:{os.environ['PATH']}"
+    with open(room("tools/tiffdump.fails"), "wb"):
+        room.run(*words, PATH=path)
+    rows = room.rows("fields.sqlite")
+    good = [path for path in paths if rows[path]["status"] == "3"]
+    room.claim("tiffdump fails", {rows[path]["fault"] for path in good}, {"Fields"})
+    room.claim("tiffdump fails: nothing is written", files_below(room("told")), {})
+    os.unlink(room("tools/tiffdump.fails"))
+    room.run(*words, "--again", "unread", PATH=path)
+    told = {name: data for name, data in files_below(room("told")).items() if name.endswith(b".fields")}
+    names = {path: os.path.relpath(path, os.fsencode(room("fields"))) + b".fields" for path in good}
+    room.claim("fields", told, {names[path]: b"-m 1000000\n" + open(path, "rb").read() for path in good})
+    os.unlink(os.path.join(os.fsencode(room("told")), names[good[0]]))
+    room.claim("fields that are gone are written again",
+               " 1 done now, " in room.summary(*words, PATH=path)[1] and len(good) > 5)
+    really_dumped(room, good)
+
+
+def really_dumped(room, good):
+    if not shutil.which("tiffdump"):
+        print("SKIPPED: tiffdump (libtiff-tools) is not installed, so: its own fields are not looked at")
+        return
+    room.run("convert", "fields", "dumped", "--to", "mmr", "--table", "dumped.sqlite", "--fields")
+    told = files_below(room("dumped"))
+    wanted = {os.path.relpath(path, os.fsencode(room("fields"))) + b".fields": subprocess.run(
+        [b"tiffdump", b"-m", b"1000000", path], capture_output=True, check=True).stdout for path in good}
+    room.claim("fields by tiffdump", {name: told.get(name) for name in wanted}, wanted)
+
+
 def interrupted(room, paths, reference):
     """Killed in the middle: each file is whole, and in the end all are there."""
     words = ["convert", "tree", "copies", "--to", "mmr", "--table", "copies.sqlite", "--processes", "3"]
     for number in (signal.SIGKILL, signal.SIGTERM):
-        count, status = room.interrupt(number, "copies.sqlite", *words, broken="slow")
+        count, status = room.interrupt(number, "copies.sqlite", *words)
         room.claim(f"{number.name} of a conversion: {count}", 0 < count < len(paths) and status == -number)
         parts = [name for name, copy in files_below(room("copies")).items()
                  if not name.endswith(b".part") and not whole(copy)]
@@ -102,4 +212,4 @@ def whole(copy):
     return faxpages.check(copy).ok
 
 
-PARTS = [converted, lied, interrupted]
+PARTS = [converted, lied, deleted, followed, with_fields, interrupted]

@@ -2,14 +2,13 @@
 
 import contextlib
 import fractions
+import json
 import os
 import re
 import signal
-import socket
 import subprocess
-import time
 
-from room import TOP, started
+from room import PATIENCE, TOP, started, wait_for
 
 # Of how many faxes the program is asked too.
 ASKED = 200
@@ -109,27 +108,32 @@ def dask(room, _, reference):
 
 
 @contextlib.contextmanager
-def scheduler(room):
+def scheduler(room, **more):
     """The address of a scheduler with two workers, on loopback."""
-    with socket.socket() as asked:
-        asked.bind(("127.0.0.1", 0))
-        port = asked.getsockname()[1]
-    address = f"tcp://127.0.0.1:{port}"
-    told_python = dict(os.environ, FAXPAGES_LIBRARY=room.library, PYTHONPATH=os.path.join(TOP, "python"))
+    told_python = dict(os.environ, FAXPAGES_LIBRARY=room.library, PYTHONPATH=os.path.join(TOP, "python")) | more
     cli = [room.dask, "-m"]
     with contextlib.ExitStack() as stack:
-        words = ["distributed.cli.dask_scheduler", "--host", "127.0.0.1", "--port", str(port), "--no-dashboard"]
+        words = ["distributed.cli.dask_scheduler", "--host", "127.0.0.1", "--port", "0", "--no-dashboard",
+                 "--scheduler-file", room("scheduler.json")]
         stack.enter_context(started([*cli, *words], told_python))
-        until = time.monotonic() + 30
-        while socket.socket().connect_ex(("127.0.0.1", port)) and time.monotonic() < until:
-            time.sleep(0.1)
+        wait_for(lambda: address_in(room("scheduler.json")))
+        address = address_in(room("scheduler.json"))
         for number in range(2):
-            words = ["distributed.cli.dask_worker", address, "--nthreads", "1", "--no-dashboard", "--local-directory",
-                     room(f"worker-{number}")]
+            words = ["distributed.cli.dask_worker", address, "--nthreads", "1", "--no-dashboard", "--no-nanny",
+                     "--local-directory", room(f"worker-{number}")]
             stack.enter_context(started([*cli, *words], told_python))
-        ready = f"import distributed as d; d.Client({address!r}).wait_for_workers(2)"
-        subprocess.run([room.dask, "-c", ready], timeout=60, check=True)
+        ready = f"import distributed as d; d.Client({address!r}, timeout={PATIENCE}).wait_for_workers(2)"
+        subprocess.run([room.dask, "-c", ready], timeout=PATIENCE, check=True, stderr=subprocess.DEVNULL)
         yield address
+
+
+def address_in(name):
+    """The address of a scheduler, once it has written it to its file."""
+    try:
+        with open(name, encoding="utf-8") as file:
+            return json.load(file)["address"]
+    except (OSError, ValueError):
+        return None
 
 
 def interrupted(room, paths, reference):
@@ -137,16 +141,15 @@ def interrupted(room, paths, reference):
     for number in (signal.SIGKILL, signal.SIGTERM, signal.SIGINT):
         table = f"killed-{number.value}.sqlite"
         words = ["check", "tree", "--table", table, "--processes", "3"]
-        count, status = room.interrupt(number, table, *words, broken="slow")
+        count, status = room.interrupt(number, table, *words)
         room.claim(f"{number.name}: some rows are there: {count}", 0 < count < len(paths) and status == -number)
-        again, _ = room.interrupt(number, table, *words, broken="slow")
+        again, _ = room.interrupt(number, table, *words)
         room.claim(f"{number.name}: none is lost: {count}, {again}", count < again < len(paths))
         status, summary = room.summary(*words)
         done = len(paths) - again
         room.claim(f"{number.name}: only the others are done", summary,
                    f"faxes {len(paths)}: {told(reference)}; {done} done now, {again} before, 0 gone")
         room.claim(f"{number.name}: the same table", room.rows(table) == reference)
-        time.sleep(0.3)
     room.claim("no worker is left", left_in(room.folder), [])
 
 
@@ -162,9 +165,7 @@ def there_in(folder):
 
 def left_in(folder):
     """The processes that run in a folder, of which some need a moment to end."""
-    until = time.monotonic() + 5
-    while there_in(folder) and time.monotonic() < until:
-        time.sleep(0.1)
+    wait_for(lambda: not there_in(folder))
     return there_in(folder)
 
 

@@ -42,6 +42,12 @@ def centimetres(fax):
     return fax.replace(unit, struct.pack("<HHIH", 296, 3, 1, 3))
 
 
+def other():
+    """A sample that is none of the drawn faxes."""
+    with open(os.path.join(HERE, "..", "..", "samples", "row-begins-black.tif"), "rb") as file:
+        return file.read()
+
+
 def inputs():
     """The files that the runs of the program are tried with."""
     for name in sorted(glob.glob(os.path.join(HERE, "..", "runs", "inputs", "*.tif"))):

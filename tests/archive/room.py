@@ -11,7 +11,8 @@ import sys
 import time
 
 TOP = os.path.dirname(os.path.dirname(os.path.dirname(os.path.abspath(__file__))))
-PATIENCE = 120
+# The end of each wait for an event, in seconds: no machine is so loaded.
+PATIENCE = 900
 
 
 class Room:
@@ -60,20 +61,33 @@ class Room:
             line.pop("seconds")
         return found
 
-    def interrupt(self, number, table, *words, **more):
-        """Starts the command, and ends it by a signal when more rows are in the table. How many are, and its status. A
-        signal that asks for the end comes to its workers too, as from a terminal or from Slurm."""
-        before = count(self(table))
-        process = self.start(*words, **more)
-        until = time.monotonic() + PATIENCE
-        while count(self(table)) <= before and process.poll() is None and time.monotonic() < until:
-            time.sleep(0.02)
+    def interrupt(self, number, table, *words, after=400, python=sys.executable):
+        """Starts the command, whose workers wait once they have begun so many faxes, and ends it by a signal when more
+        rows are in the table. How many are, and its status. A signal that asks for the end comes to its workers too, as
+        from a terminal or from Slurm."""
+        before, gate = count(self(table)), self("gate")
+        with open(gate, "wb"):
+            pass
+        process = self.start(*words, python=python, broken="stops", GATE=gate, AFTER=str(after))
+        wait_for(lambda: count(self(table)) > before or process.poll() is not None)
         if number == signal.SIGKILL:
             process.kill()
         else:
             os.killpg(process.pid, number)
+        process.wait(PATIENCE)
+        os.unlink(gate)
         process.communicate(timeout=PATIENCE)
         return count(self(table)), process.returncode
+
+
+def wait_for(holds):
+    """Waits until something holds; whether it does in the end."""
+    until = time.monotonic() + PATIENCE
+    while not holds():
+        if time.monotonic() > until:
+            return False
+        time.sleep(0.02)
+    return True
 
 
 def count(table):
@@ -102,7 +116,7 @@ def started(words, environment):
     finally:
         process.send_signal(signal.SIGTERM)
         try:
-            process.wait(20)
+            process.wait(60)
         except subprocess.TimeoutExpired:
             process.kill()
             process.wait()

@@ -1,23 +1,27 @@
-"""The scripts for Slurm under a real slurmctld and slurmd of this machine, on loopback ports, with a munged, settings
-and folders of their own. Each call of sbatch has a folder of its own, and all of them run side by side."""
+"""The recipe for Slurm under a real slurmctld and slurmd of this machine, on loopback ports, with a munged, settings
+and folders of their own. Each call of sbatch has a folder of its own."""
 
+import contextlib
 import getpass
 import os
 import shutil
 import signal
 import socket
+import sqlite3
 import subprocess
 import time
 
 import files
-import pages
-from recipes import SCRIPTS, recipes
-from room import UNREADABLE
+from archive import COMMAND
+from recipes import ROOT, recipes
 
 TOOLS = ["sbatch", "squeue", "scancel", "sinfo"]
 SERVERS = ["munged", "slurmctld", "slurmd"]
-PATIENCE = 60
-FAXES = 48
+# The end of each wait for an event, in seconds: no machine is so loaded. A cluster that is not up by then is none.
+PATIENCE, UP = 900, 120
+FAXES = 400
+# With how many faxes begun by all tasks they wait, so that they are ended in the middle.
+BEGUN = 300
 SETTINGS = """ClusterName=faxpages
 SlurmctldHost={host}(127.0.0.1)
 SlurmUser={user}
@@ -44,13 +48,12 @@ SchedulerParameters=sched_interval=1,batch_sched_delay=0
 JobAcctGatherType=jobacct_gather/none
 AccountingStorageType=accounting_storage/none
 ReturnToService=2
+MessageTimeout=100
 SlurmdParameters=config_overrides
-NodeName={host} NodeAddr=127.0.0.1 CPUs=16
+NodeName={host} NodeAddr=127.0.0.1 CPUs={processors}
 PartitionName=all Nodes=ALL Default=YES MaxTime=INFINITE State=UP
 """
-BY_FILE, BY_PART = "A Slurm array, by file", "A Slurm array, one big file"
-# The program, but it never ends.
-HANGING = "#!/bin/sh\necho row 0 0 8\nexec sleep 60\n"
+HEADING = "A Slurm array"
 
 
 def found(name):
@@ -58,112 +61,132 @@ def found(name):
     return shutil.which(name, path="/usr/sbin:/usr/local/sbin:" + os.environ["PATH"])
 
 
-def lacking():
+def library_beside(program):
+    return os.path.join(os.path.dirname(os.path.realpath(program)), "libfaxpages.so.1")
+
+
+def lacking(program):
     """Why nothing can be tested, or nothing."""
     names = [name for name in TOOLS if not shutil.which(name)] + [name for name in SERVERS if not found(name)]
-    return f"{', '.join(names)} missing (slurm-wlm, munge)" if names else ""
+    if names:
+        return f"{', '.join(names)} missing (slurm-wlm, munge)"
+    return "" if os.path.exists(library_beside(program)) else "no library beside the program"
 
 
 class Cluster:
     """A cluster of one machine, which runs as long as this is used by `with`."""
 
-    def __init__(self, path, program):
+    def __init__(self, path, program, processors=16):
         self.path, self.program, self.servers = path, program, []
         for name in ("bin", "state", "spool"):
             os.makedirs(f"{path}/{name}")
         os.symlink(program, f"{path}/bin/faxpages")
-        for name in os.listdir(SCRIPTS):
-            os.symlink(f"{SCRIPTS}/{name}", f"{path}/bin/{name}")
+        with open(f"{path}/bin/faxpages-archive", "w") as command:
+            command.write(COMMAND.format(library=library_beside(program), root=ROOT).replace(
+                "PYTHONPATH=", 'PYTHONPATH="${BROKEN_PATH:+$BROKEN_PATH:}"'))  # fmt: skip
+        os.chmod(f"{path}/bin/faxpages-archive", 0o755)
         with open(f"{path}/slurm.conf", "w") as settings:
             settings.write(SETTINGS.format(room=path, user=getpass.getuser(), host=socket.gethostname().split(".")[0],
-                                           control=free_port(), node=free_port()))  # fmt: skip
-        self.told = dict(os.environ, PATH=f"{path}/bin:{os.environ['PATH']}", SLURM_CONF=f"{path}/slurm.conf")
+                                           control=free_port(), node=free_port(), processors=processors))  # fmt: skip
+        self.told = {name: value for name, value in os.environ.items() if not name.startswith(("SLURM", "SBATCH"))}
+        self.told.update(PATH=f"{path}/bin:{os.environ['PATH']}", SLURM_CONF=f"{path}/slurm.conf", LC_ALL="C")
 
     def __enter__(self):
         with open(f"{self.path}/key", "wb") as key:
             key.write(os.urandom(128))
         os.chmod(f"{self.path}/key", 0o400)
         at = self.path
-        words = {
-            "munged": [
-                "--force",
-                "--foreground",
-                f"--socket={at}/munge",
-                f"--key-file={at}/key",
-                f"--pid-file={at}/munge.pid",
-                f"--log-file={at}/munge.log",
-                f"--seed-file={at}/munge.seed",
-            ],
-            "slurmctld": ["-D", "-c"],
-            "slurmd": ["-D"],
-        }
+        munged = [f"--socket={at}/munge", f"--key-file={at}/key", f"--pid-file={at}/munge.pid",
+                  f"--log-file={at}/munge.log", f"--seed-file={at}/munge.seed"]  # fmt: skip
+        words = {"munged": ["--force", "--foreground", *munged], "slurmctld": ["-D", "-c"], "slurmd": ["-D"]}
         try:
             for name in SERVERS:
-                with open(f"{at}/{name}.said", "w") as said:
-                    self.servers.append(
-                        subprocess.Popen(
-                            [found(name), *words[name]],
-                            env=self.told,
-                            stdin=subprocess.DEVNULL,
-                            stdout=said,
-                            stderr=said,
-                        )
-                    )
+                self.start([found(name), *words[name]], f"{at}/{name}.said")
                 if name == "munged":
-                    wait_for(lambda: os.path.exists(f"{at}/munge"))
+                    wait_for(lambda: os.path.exists(f"{at}/munge") or self.servers[0].poll() is not None)
         except OSError:
             self.__exit__()
             raise
         return self
 
+    def start(self, words, name):
+        """Starts a server, whose words go to a file."""
+        with open(name, "w") as said:
+            self.servers.append(subprocess.Popen(words, env=self.told, stdin=subprocess.DEVNULL, stdout=said,
+                                                 stderr=said, cwd="/"))  # fmt: skip
+
     def __exit__(self, *_):
-        subprocess.run(["scancel", "--user", getpass.getuser()], env=self.told, capture_output=True)
-        wait_for(lambda: not self.ask("squeue", "-h"))
+        if self.runs():
+            subprocess.run(["scancel", "--user", getpass.getuser()], env=self.told, capture_output=True)
+            wait_for(lambda: not self.runs() or not self.ask("squeue", "-h"))
         for server in reversed(self.servers):
             server.terminate()
             try:
-                server.wait(10)
+                server.wait(60)
             except subprocess.TimeoutExpired:
                 server.send_signal(signal.SIGKILL)
                 server.wait()
+        for process in there_in(self.path):
+            with contextlib.suppress(ProcessLookupError):
+                os.kill(process, signal.SIGKILL)
+
+    def runs(self):
+        """Whether all servers run."""
+        return len(self.servers) == len(SERVERS) and all(server.poll() is None for server in self.servers)
 
     def ask(self, *words):
         return subprocess.run(words, env=self.told, capture_output=True, text=True).stdout.strip()
 
     def is_up(self):
-        return wait_for(lambda: self.ask("sinfo", "-h", "-o", "%T") == "idle", 20)
+        """Whether the machine is idle, once it is known to the cluster."""
+        wait_for(lambda: not self.runs() or self.ask("sinfo", "-h", "-o", "%T") == "idle", UP)
+        return self.runs() and self.ask("sinfo", "-h", "-o", "%T") == "idle"
 
-    def folder(self, name, faxes=FAXES):
+    def folder(self, name):
         """A folder from which sbatch is called, with faxes."""
         place = f"{self.path}/{name}"
-        os.makedirs(f"{place}/faxes" if faxes else place)
-        for number in range(faxes):
+        os.makedirs(f"{place}/faxes")
+        for number in range(FAXES):
             sample = ("one-mh-page.tif", "three-pages.tif")[number % 8 == 5]
-            shutil.copy(f"{SCRIPTS}/../../samples/{sample}", f"{place}/faxes/{number} fax.tif")
+            shutil.copy(f"{ROOT}/samples/{sample}", f"{place}/faxes/{number} fax.tif")
         return place
 
     def give(self, place, commands, **more):
-        """Starts commands in a folder; what they say is in files there."""
-        with open(f"{place}/output", "w") as output, open(f"{place}/error", "w") as error:
-            return subprocess.Popen(
-                ["bash", "-c", commands],
-                cwd=place,
-                env=dict(self.told, **more),
-                stdin=subprocess.DEVNULL,
-                stdout=output,
-                stderr=error,
-            )
+        """Gives commands in a folder: their status, their output and their error stream."""
+        ran = subprocess.run(["bash", "-c", commands], cwd=place, env=dict(self.told, **more), stdin=subprocess.DEVNULL,
+                             capture_output=True, timeout=PATIENCE)  # fmt: skip
+        return ran.returncode, ran.stdout.decode(), ran.stderr.decode(errors="replace")
 
-    def rows(self, name):
-        with open(name, "rb") as file:
-            ran = subprocess.run([self.program, "rows"], stdin=file, capture_output=True)
-        return ran.stdout, ran.stderr
+    def table(self, place):
+        """The lines of the table there, but for the seconds and the folder."""
+        printed = self.give(place, "faxpages-archive table faxes.sqlite --csv")[1]
+        return [line.rpartition(",")[0].removeprefix(f"{place}/") for line in printed.splitlines()[1:]]
 
 
 def free_port():
     with socket.socket() as asked:
         asked.bind(("127.0.0.1", 0))
         return asked.getsockname()[1]
+
+
+def there_in(room):
+    """The processes that run below a folder."""
+    found = []
+    for process in filter(str.isdecimal, os.listdir("/proc")):
+        with contextlib.suppress(OSError):
+            if os.readlink(f"/proc/{process}/cwd").startswith(f"{room}/"):
+                found.append(int(process))
+    return found
+
+
+def leaders_in(room):
+    """The processes there that lead workers."""
+    found = []
+    for process in there_in(room):
+        with contextlib.suppress(OSError):
+            if b"faxpages.archive" in files.get(f"/proc/{process}/cmdline"):
+                found.append(process)
+    return found
 
 
 def wait_for(holds, seconds=PATIENCE):
@@ -176,92 +199,80 @@ def wait_for(holds, seconds=PATIENCE):
     return True
 
 
-def contents(place):
-    """What each file of a folder holds, by its name."""
-    return {name: files.get(f"{place}/{name}") for name in sorted(os.listdir(place))} if os.path.isdir(place) else None
-
-
-def wanted_rows(cluster, place, faxes):
-    """What has to be in the folder of rows."""
-    made = {}
-    for name in faxes:
-        made[f"{name}.txt"], made[f"{name}.txt.err"] = cluster.rows(f"{place}/faxes/{name}")
-    return made
-
-
-def said_by_tasks(place):
-    """The lines that the tasks printed."""
-    texts = [files.get(f"{place}/{name}").decode() for name in os.listdir(place) if name.startswith("slurm-")]
-    return sorted(line for text in texts for line in text.splitlines())
-
-
-def give_all(cluster, commands):
-    """Starts all calls: of each its name, its folder, and its process."""
-    with_array = 'sbatch --array={} --wait "$(command -v faxpages-files.slurm)"'
-    for array in ("0-3", "1-16", "0-6:2", "5"):
-        yield array, (place := cluster.folder(f"array-{array.replace(':', '-')}")), cluster.give(
-            place, with_array.format(array)
-        )
-    yield "1,5,7", (place := cluster.folder("list")), cluster.give(place, with_array.format("1,5,7"))
-    yield "as it stands", (place := cluster.folder("default")), cluster.give(place, commands[BY_FILE])
-    place = cluster.folder("unread")
-    os.symlink(UNREADABLE, f"{place}/faxes/unread.tif")
-    os.symlink("nowhere", f"{place}/faxes/gone.tif")
-    yield "unread", place, cluster.give(place, with_array.format("0-3"))
-    yield "no folder", (place := cluster.folder("none", 0)), cluster.give(place, with_array.format("0-1"))
-    place = cluster.folder("big", 0)
-    source = b"".join(pages.image(1728, rows) for rows in pages.draw_document(1, "all", 1728)) * 50
-    files.put(f"{place}/big.tif", pages.converted(cluster.program, ["-o", "mmr"], source))
-    made = commands["Many machines, one big file"]
-    yield "one big file", place, cluster.give(place, made[: made.index("export")] + commands[BY_PART])
-
-
 def compare(cluster):
-    """All calls side by side, and one whose tasks are ended meanwhile."""
-    commands = recipes()
-    calls = {name: (place, process) for name, place, process in give_all(cluster, commands)}
-    yield from ended(cluster)
-    statuses = {name: process.wait(PATIENCE) for name, (_, process) in calls.items()}
-    wanted = dict.fromkeys(calls, 0) | dict.fromkeys(["1,5,7", "unread", "no folder"], 3)
-    yield "Slurm: statuses", statuses, wanted
-    given = [f"{number} fax.tif" for number in range(FAXES)]
-    for name in ("0-3", "1-16", "0-6:2", "5", "as it stands", "unread"):
-        place = calls[name][0]
-        yield f"Slurm: {name}: all is done", contents(f"{place}/rows"), wanted_rows(cluster, place, given)
-    told = [
-        "not done: faxes/gone.tif: No such file or directory",
-        "not done: faxes/unread.tif: fault: Read: Input/output error",
-    ]
-    yield "Slurm: unread: it is told", said_by_tasks(calls["unread"][0]), told
-    yield "Slurm: 1,5,7: nothing is done", (
-        contents(f"{calls['1,5,7'][0]}/rows"),
-        len(said_by_tasks(calls["1,5,7"][0])),
-    ), (None, 3)
-    yield "Slurm: no folder: it is told", len(said_by_tasks(calls["no folder"][0])), 2
-    place = calls["one big file"][0]
-    rows = b"".join(line for line in cluster.rows(f"{place}/big.tif")[0].splitlines(True) if line.startswith(b"row "))
-    yield "Slurm: one big file: rows", files.get(f"{place}/big.txt"), rows
+    """The recipe as it stands, and in other ranges; a list, which is none; and tasks that are ended meanwhile."""
+    recipe = recipes()[HEADING]
+    place = cluster.folder("whole")
+    alone = cluster.give(place, "faxpages-archive check faxes --table faxes.sqlite")
+    yield "Slurm: one process", (alone[0], alone[2]), (1, "")
+    wanted = [line.split(",") for line in cluster.table(place)]
+    for array in (None, "1-7", "0-6:2", "5"):
+        place = cluster.folder(f"array-{array}".replace(":", "-"))
+        status = cluster.give(place, with_array(recipe, array))[0]
+        got = [line.split(",") for line in cluster.table(place)]
+        # The times of the copies differ.
+        yield f"Slurm: {array}: the same table", (status, without(got)), (1, without(wanted))
+    place = cluster.folder("list")
+    status, _, error = cluster.give(place, with_array(recipe, "1,5,7"))
+    yield "Slurm: 1,5,7: refused", (status, "no part of share 1/3, 2/3" in error), (3, True)
+    yield from ended(cluster, recipe, wanted)
 
 
-def ended(cluster):
-    """Tasks that scancel ends leave no part, and the array is started again."""
-    place = cluster.folder("ended", 8)
-    os.makedirs(f"{place}/bin")
-    files.put(f"{place}/bin/faxpages", HANGING.encode())
-    os.chmod(f"{place}/bin/faxpages", 0o755)
-    call = 'sbatch --parsable --array=0-1 "$(command -v faxpages-files.slurm)"'
-    slow = f"{place}/bin:{cluster.told['PATH']}"
-    yield "Slurm: ended: given", cluster.give(place, call, PATH=slow).wait(PATIENCE), 0
-    job = files.get(f"{place}/output").decode().strip()
-    parts = lambda: [
-        name for name in contents(f"{place}/rows") or [] if name.startswith(".part") and not name.endswith(".err")
-    ]  # noqa: E731
-    yield "Slurm: ended: both are at work", wait_for(lambda: len(parts()) == 2), True
-    cluster.ask("scancel", job)
-    yield "Slurm: ended: they are gone", wait_for(lambda: not cluster.ask("squeue", "-h", "-j", job)), True
-    yield "Slurm: ended: no part stays", contents(f"{place}/rows"), {}
-    again = cluster.give(place, call.replace("--parsable", "--wait"))
-    yield "Slurm: ended: again", again.wait(PATIENCE), 0
-    yield "Slurm: ended: all is done", contents(f"{place}/rows"), wanted_rows(
-        cluster, place, os.listdir(f"{place}/faxes")
-    )
+def with_array(recipe, array):
+    """The recipe with another array."""
+    return recipe if array is None else recipe.replace("sbatch ", f"sbatch --array={array} ")
+
+
+def without(rows):
+    """Rows without the times of their files."""
+    return [row[:2] + row[3:] for row in rows]
+
+
+def ended(cluster, recipe, wanted):
+    """Tasks that scancel ends in the middle, and the recipe given again."""
+    place, gate = cluster.folder("ended"), f"{cluster.path}/gate"
+    files.put(gate, b"")
+    broken = {"BROKEN": "stops", "GATE": gate, "AFTER": str(BEGUN),
+              "BROKEN_PATH": f"{ROOT}/tests/archive/broken"}  # fmt: skip
+    given = with_array(recipe, "0-1").replace("--wait", "--parsable").partition("faxpages-archive merge")[0]
+    status, job, _ = cluster.give(place, given, **broken)
+    yield "Slurm: ended: given", status, 0
+    yield "Slurm: ended: some are done", wait_for(lambda: count(place) > 0), True
+    cluster.ask("scancel", job.strip())
+    # Workers wait until those that lead them are gone, so that nothing more is done.
+    yield "Slurm: ended: it is seen", wait_for(lambda: not leaders_in(place)), True
+    os.remove(gate)
+    yield "Slurm: ended: they are gone", wait_for(
+        lambda: not cluster.ask("squeue", "-h", "-j", job.strip()) and not there_in(place)), True
+    before = count(place)
+    yield "Slurm: ended: in the middle", 0 < before < FAXES, True
+    status = cluster.give(place, with_array(recipe, "0-1"))[0]
+    got = [line.split(",") for line in cluster.table(place)]
+    yield "Slurm: ended: all is done", (status, without(got)), (1, without(wanted))
+    yield "Slurm: ended: what was done is not done again", said_before(place), before
+
+
+def count(place):
+    """How many rows the tables of the tasks have."""
+    found = 0
+    for name in os.listdir(f"{place}/parts") if os.path.isdir(f"{place}/parts") else []:
+        if name.endswith(".sqlite"):
+            with contextlib.suppress(sqlite3.Error):
+                with contextlib.closing(sqlite3.connect(f"file:{place}/parts/{name}?mode=ro", uri=True)) as base:
+                    found += base.execute("SELECT count(*) FROM faxes").fetchone()[0]
+    return found
+
+
+def said_before(place):
+    """How many faxes were done before, as the tasks sum up."""
+    texts = [files.get(f"{place}/{name}").decode() for name in os.listdir(place) if name.startswith("slurm-")]
+    sums = [line for text in texts for line in text.splitlines() if line.startswith("faxes ")]
+    return sum(int(line.split(" done now, ")[1].split()[0]) for line in sums)
+
+
+def outcomes(cluster):
+    """What came of it all, an error among it."""
+    try:
+        yield from compare(cluster)
+    except (OSError, ValueError, IndexError, subprocess.SubprocessError) as error:
+        yield "Slurm: it is tried to its end", repr(error), ""

@@ -40,7 +40,7 @@ def full_disk(room, _):
 
 
 def refused(room):
-    """Each script says so, answers 3 (the mirror 1), writes nothing, and leaves what it was given."""
+    """Each script says so, answers 3 (that of a PDF 1), writes nothing, and leaves what it was given."""
     noise(room, "archive/fax.tif")
     room.tool("sendmail", '#!/bin/sh\ncat >"$HOME/mailed"\n')
     mailer = {"SENDMAIL": f"{room.path}/bin/sendmail"}
@@ -49,20 +49,18 @@ def refused(room):
     calls = [
         ["picture", fax, "0"],
         ["html", fax],
-        ["cores", fax],
         ["mail", fax, "a@b.c"],
         ["salvage", fax, "salvaged"],
         ["salvage", fax, f"{small}/salvaged"],
         ["receive", fax, f"{small}/faxes"],
-        ["mirror", "--delete", "archive", f"{small}/copies"],
         ["from-pdf", "letter.pdf", "letter.tif"],
     ]
     room.bash("img2pdf --output letter.pdf archive/fax.tif")
     for name, *words in calls:
         status, output, said = room.call(f"faxpages-{name}", *words, **mailer)
-        yield f"{name}: status", status, 1 if name in ("mirror", "from-pdf") else 3
+        yield f"{name}: status", status, 1 if name == "from-pdf" else 3
         yield f"{name}: it says so", said != "", True
-        yield f"{name}: output", output if name != "cores" else b"", b""
+        yield f"{name}: output", output, b""
         yield f"{name}: all is as before", (room.contents("archive"), room.names()), (
             before,
             ["archive", "letter.pdf"],
@@ -91,12 +89,10 @@ def unread(room, _):
         "unread.tif": "fault: Read: Input/output error",
     }
     for name, reason in reasons.items():
-        for script, *words in (["html"], ["cores"], ["picture", "0"], ["salvage", "salvaged"], ["mail", "a@b.c"]):
+        for script, *words in (["html"], ["picture", "0"], ["salvage", "salvaged"], ["mail", "a@b.c"]):
             said = f"faxpages-{script}: {name}: {reason}\n"
-            if script == "cores" and "fault" in reason:  # as the program says it, and why
-                said = f"fault: Read\nfaxpages-{script}: {name}: Input/output error\n"
             status, output, told = room.call(f"faxpages-{script}", name, *words, SENDMAIL="/bin/false")
-            yield f"{script} {name}", (status, output if script != "cores" else b"", told), (3, b"", said)
+            yield f"{script} {name}", (status, output, told), (3, b"", said)
         for words in ([name, "good.tif"], ["good.tif", name]):
             yield f"compare {words}", room.call("faxpages-compare", *words), (
                 3,

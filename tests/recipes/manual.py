@@ -4,7 +4,6 @@ import os
 import re
 
 import files
-from many import SBATCH
 from recipes import ROOT, SCRIPTS
 
 MANUAL = f"{ROOT}/share/faxpages-recipes.1"
@@ -18,16 +17,14 @@ def synopsis(page):
         name, *lines = call.splitlines()
         words = [re.sub(r"^\.Op (.*)", r"[\1]", line).removeprefix(".Ar ") for line in lines]
         text = re.sub(r"\bFl -", "--", " ".join(words)).replace("Ar ", "")
-        if name != "sbatch":
-            said[name] = f"usage: {name} {text}\n"
+        said[name] = f"usage: {name} {text}\n"
     return said
 
 
 SAMPLES = {
-    "one-mh-page": ["sent", "archive/good", "faxes/a"],
+    "one-mh-page": ["sent", "archive/good"],
     "row-begins-black": ["received"],
     "damaged-fourth-page": ["fax", "archive/bad"],
-    "three-mmr-rows": ["big"],
 }
 
 
@@ -37,10 +34,8 @@ def prepare(room):
         for name in names:
             room.sample(f"{sample}.tif", f"{name}.tif")
     room.bash("touch -d '1 hour ago' archive/*.tif")
-    room.bash('faxpages list big.tif | awk \'/^page/ { print "1:" $2 ":0", $4 }\' >parts.txt')
     room.fax("source.tif", "mmr", "marks", 100)
     room.bash("img2pdf --output letter.pdf source.tif; cp letter.pdf received.pdf")
-    room.tool("sbatch", SBATCH)
     room.tool("sendmail", '#!/bin/sh\ncat >"$HOME/mailed"\n')
 
 
@@ -61,7 +56,7 @@ def manual(room, _):
     for name, text in heads:
         yield f"{name}: statuses and an example", ("tatus" in text, ".Bd -literal" in text), (True, True)
     said = synopsis(page)
-    yield "synopsis", sorted(said), [name for name in names if not name.endswith(".slurm")]
+    yield "synopsis", sorted(said), names
     for name, usage in said.items():
         yield f"{name}: usage", room.call(name), (2, b"", usage)
     prepare(room)

@@ -9,6 +9,8 @@ import pages
 from recipes import ROOT, SCRIPTS
 
 WIDTH = 1728
+# The end of each wait for an event, in seconds: no machine is so loaded.
+PATIENCE = 900
 # Names that shells, programs and formats stumble over: blanks, quotes, a newline, an option, a command, a pattern,
 # tiffcp's list of pages, an assignment of awk, and bytes that are not UTF-8.
 HOSTILE = [os.fsdecode(name) for name in (
@@ -40,7 +42,7 @@ class Room:
     def bash(self, commands, *words, **more):
         """The status, output and error stream of commands of bash, with words as $1, $2.."""
         ran = subprocess.run(["bash", "-c", commands, "bash", *words], cwd=self(""), env=self.environment(more),
-                             stdin=subprocess.DEVNULL, capture_output=True, timeout=120)  # fmt: skip
+                             stdin=subprocess.DEVNULL, capture_output=True, timeout=PATIENCE)  # fmt: skip
         return ran.returncode, ran.stdout, ran.stderr.decode(errors="surrogateescape")
 
     def call(self, *words, **more):

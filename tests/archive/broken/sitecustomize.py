@@ -10,9 +10,23 @@ WAYS = os.environ.get("BROKEN", "").split()
 check, convert = faxpages.check, faxpages.convert
 
 
+def wait_at_gate():
+    """Notes a fax in the file GATE, and waits as long as that file is there with more of them than AFTER says."""
+    try:
+        gate = os.open(os.environ["GATE"], os.O_WRONLY | os.O_APPEND)
+        os.write(gate, b".")
+        os.close(gate)
+        while os.path.getsize(os.environ["GATE"]) > int(os.environ["AFTER"]):
+            time.sleep(0.02)
+    except FileNotFoundError:
+        pass
+
+
 def broken_check(data):
     if "slow" in WAYS:
         time.sleep(0.004)
+    if "stops" in WAYS:
+        wait_at_gate()
     if "dies" in WAYS and data.endswith(b"dies"):
         os.kill(os.getpid(), signal.SIGSEGV)
     if "raises" in WAYS and data.endswith(b"raises"):
