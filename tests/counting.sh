@@ -42,6 +42,13 @@ has() {
     return 1
 }
 
+# Whether a command that is there runs: rustup's do not where they find no home.
+works() {
+    "$@" >/dev/null 2>&1 </dev/null && return
+    printf 'SKIPPED: this does not run here, and what needs it is left out: %s\n' "$*"
+    return 1
+}
+
 # Ends the test with its count.
 ends() {
     printf '%s: %s passed, %s failed\n' "$1" "$passed" "$failed"
