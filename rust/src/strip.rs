@@ -83,12 +83,12 @@ impl Walk {
 
     /// Reads the next rows of the strip, some thousands at most.
     fn read(&mut self, strip: &[u8]) -> Result<Ended, Error> {
-        let stride = self.form.stride().max(1);
+        let (stride, rows, first) = (self.form.stride().max(1), self.form.rows.unwrap_or(MOST_ROWS), self.place.row);
         // A row has at least one bit.
-        let left = strip.len().saturating_mul(8).saturating_sub(self.place.bits as usize) + 1;
-        let mut out = zeros((BYTES / stride).clamp(1, left) * stride)?;
-        let (given, mut told, first) =
-            (self.form.given(self.form.rows.unwrap_or(MOST_ROWS)), Told::default(), self.place.row);
+        let bits = strip.len().saturating_mul(8).saturating_sub(self.place.bits as usize) + 1;
+        let most = bits.min(rows.saturating_sub(first) as usize).max(1);
+        let mut out = zeros((BYTES / stride).clamp(1, most) * stride)?;
+        let (given, mut told) = (self.form.given(rows), Told::default());
         // SAFETY: each pointer is to as many items as the length beside it says, of its own slice.
         let status = unsafe {
             calls::faxpages_strip_rows(
