@@ -286,9 +286,9 @@ uint32_t faxpages_strip_code(const struct faxpages_strip *form, uint32_t k, cons
                              size_t *len);
 
 /* The same of rows as runs, as faxpages_runs writes them: row i has the rows[i].len runs from
- * runs[rows[i].at] on; the rest of rows[i] does not matter. NO_OPTIONS is also where `rows` has fewer
- * than the form says, or the runs of one lie outside `runs`, or are not the longest of a row of its
- * width. */
+ * runs[rows[i].at] on; the rest of rows[i] does not matter. NO_OPTIONS is also where `rows` has
+ * fewer than the form says, or the runs of one lie outside `runs`, or are not the longest ones of a
+ * row of its width. */
 uint32_t faxpages_strip_code_runs(const struct faxpages_strip *form, uint32_t k,
                                   const struct faxpages_row *rows, size_t rows_len,
                                   const uint32_t *runs, size_t runs_len, uint8_t *out,
@@ -309,7 +309,8 @@ struct faxpages_written {
  * rows_per_strip, rounded up. DONE; NO_ROOM, where the file with the page has more than file_room
  * bytes: give more and call again; TOO_LARGE; MEMORY; or NO_OPTIONS, where the form is none, k is
  * 0, raster_len is less than (rows - 1) * stride + (width + 7) / 8, or `written` says that all
- * pages were added, or is none that a call told. But for DONE nothing is changed. */
+ * pages were added, or is none that a call told. But for DONE nothing is changed. The page is coded
+ * in memory of its own before it is seen whether it has room. */
 uint32_t faxpages_add_page(const struct faxpages_form *form, uint32_t k, const uint8_t *raster,
                            size_t raster_len, size_t stride, uint8_t *file, size_t file_room,
                            struct faxpages_written *written);

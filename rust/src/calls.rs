@@ -223,6 +223,17 @@ extern "C" {
         out_room: usize,
         len: *mut usize,
     ) -> u32;
+    pub fn faxpages_strip_code_runs(
+        form: *const Strip,
+        k: u32,
+        rows: *const Row,
+        rows_len: usize,
+        runs: *const u32,
+        runs_len: usize,
+        out: *mut u8,
+        out_room: usize,
+        len: *mut usize,
+    ) -> u32;
     pub fn faxpages_add_page(
         form: *const Form,
         k: u32,

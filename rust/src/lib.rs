@@ -16,7 +16,7 @@
 //! ([`Fax::runs`]) or as changing elements ([`Fax::changes`]), from the beginning or from a [`Cursor`] on; or a
 //! page at a time ([`Fax::pages`], [`Fax::page`], [`Fax::page_into`]). A [`Writer`] writes a file page by page. A
 //! [`Strip`] is rows with no file around them, as on a line or in a PDF: a [`StripReader`] reads it as it comes, and
-//! [`code_strip`] codes it.
+//! [`code_strip`] and [`code_strip_runs`] code it.
 //!
 //! Of a file that nobody vouches for: a page takes memory for the rows that were read, whatever its form says, so bound
 //! the rows and the width of its [`Form`] before. [`Fax::check`] and [`Fax::convert`] read all rows of all pages.
@@ -35,7 +35,7 @@ mod writer;
 pub use cursor::Cursor;
 pub use page::{Filled, Page, Pages};
 pub use rows::{Row, RowChanges, RowFormat, RowRuns, Rows};
-pub use strip::{code_strip, Strip, StripForm, StripReader, StripReport, StripRows};
+pub use strip::{code_strip, code_strip_runs, Strip, StripForm, StripReader, StripReport, StripRows};
 pub use writer::Writer;
 
 use std::collections::VecDeque;

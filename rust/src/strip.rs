@@ -83,12 +83,12 @@ impl Walk {
 
     /// Reads the next rows of the strip, some thousands at most.
     fn read(&mut self, strip: &[u8]) -> Result<Ended, Error> {
-        let stride = self.form.stride().max(1);
+        let (stride, rows, first) = (self.form.stride().max(1), self.form.rows.unwrap_or(MOST_ROWS), self.place.row);
         // A row has at least one bit.
-        let left = strip.len().saturating_mul(8).saturating_sub(self.place.bits as usize) + 1;
-        let mut out = zeros((BYTES / stride).clamp(1, left) * stride)?;
-        let (given, mut told, first) =
-            (self.form.given(self.form.rows.unwrap_or(MOST_ROWS)), Told::default(), self.place.row);
+        let bits = strip.len().saturating_mul(8).saturating_sub(self.place.bits as usize) + 1;
+        let most = bits.min(rows.saturating_sub(first) as usize).max(1);
+        let mut out = zeros((BYTES / stride).clamp(1, most) * stride)?;
+        let (given, mut told) = (self.form.given(rows), Told::default());
         // SAFETY: each pointer is to as many items as the length beside it says, of its own slice.
         let status = unsafe {
             calls::faxpages_strip_rows(
@@ -402,11 +402,9 @@ pub fn code_strip(form: &StripForm, k: u32, raster: &[u8], stride: usize) -> Res
     let counted = raster.len().checked_sub(form.stride()).ok_or(Error::BadOptions)?.checked_div(stride);
     let rows = form.rows.map_or(counted.map_or(0, |before| before + 1), |rows| rows as usize);
     let given = form.given(u32::try_from(rows).map_err(|_| Error::BadOptions)?);
-    let mut out = zeros(raster.len() / 4 + 64)?;
-    loop {
-        let mut len = 0;
+    coded(raster.len() / 4, |out, len| {
         // SAFETY: each pointer is to as many items as the length beside it says, of its own slice.
-        let status = unsafe {
+        unsafe {
             calls::faxpages_strip_code(
                 &given,
                 k,
@@ -415,10 +413,58 @@ pub fn code_strip(form: &StripForm, k: u32, raster: &[u8], stride: usize) -> Res
                 stride,
                 out.as_mut_ptr(),
                 out.len(),
-                &mut len,
+                len,
             )
-        };
-        match status {
+        }
+    })
+}
+
+/// The same of rows as runs, as [`RowRuns`](crate::RowRuns) has them: their lengths in pels, white first. Where the
+/// form says a number of rows, the first of these are coded.
+///
+/// # Errors
+///
+/// As [`code_strip`]; [`Error::BadOptions`] too where there are fewer rows, or none, or the runs of one are not the
+/// longest of a row of the width.
+///
+/// ```
+/// use faxpages::{code_strip, code_strip_runs, Coding, StripForm};
+/// let form = StripForm::new(8, Coding::Mr);
+/// assert_eq!(code_strip_runs(&form, 2, &[[0, 8], [3, 5]])?, code_strip(&form, 2, &[0xFF, 0x1F], 1)?);
+/// # Ok::<(), faxpages::Error>(())
+/// ```
+pub fn code_strip_runs<R: AsRef<[u32]>>(form: &StripForm, k: u32, rows: &[R]) -> Result<Vec<u8>, Error> {
+    let (mut table, mut runs) = (Vec::new(), Vec::new());
+    for row in rows {
+        let len = u32::try_from(row.as_ref().len()).map_err(|_| Error::BadOptions)?;
+        table.push(calls::Row { at: runs.len(), len, ..calls::Row::default() });
+        runs.extend_from_slice(row.as_ref());
+    }
+    let given = form.given(form.rows.map_or(u32::try_from(rows.len()), Ok).map_err(|_| Error::BadOptions)?);
+    coded(runs.len(), |out, len| {
+        // SAFETY: each pointer is to as many items as the length beside it says, of its own slice.
+        unsafe {
+            calls::faxpages_strip_code_runs(
+                &given,
+                k,
+                table.as_ptr(),
+                table.len(),
+                runs.as_ptr(),
+                runs.len(),
+                out.as_mut_ptr(),
+                out.len(),
+                len,
+            )
+        }
+    })
+}
+
+/// What a call writes, which tells its length where it has no room.
+fn coded(room: usize, code: impl Fn(&mut [u8], &mut usize) -> u32) -> Result<Vec<u8>, Error> {
+    let mut out = zeros(room + 64)?;
+    loop {
+        let mut len = 0;
+        match code(&mut out, &mut len) {
             calls::DONE => {
                 out.truncate(len);
                 return Ok(out);

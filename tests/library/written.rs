@@ -4,8 +4,8 @@
 //! Prints how many strips were tried. A file that is written page by page has to be the one that the crate converts,
 //and ! a strip to have the rows that were coded.
 use faxpages::{
-    code_strip, Coding, Error, Fax, FillOrder, Form, Options, Page, Row, Strip, StripForm, StripReader, StripReport,
-    StripRows, Target, Writer,
+    code_strip, code_strip_runs, Coding, Error, Fax, FillOrder, Form, Options, Page, Row, Strip, StripForm, StripReader,
+    StripReport, StripRows, Target, Writer,
 };
 
 /// Each way to code a page.
@@ -135,6 +135,12 @@ fn wrong_strips() {
         assert_eq!(code_strip(&form, k, raster, stride), Err(Error::BadOptions));
     }
     assert_eq!(code_strip(&StripForm { rows: Some(5), ..form }, 1, &[0; 4], 1), Err(Error::BadOptions));
+    let no_rows: [&[u32]; 0] = [];
+    assert_eq!(code_strip_runs(&form, 1, &no_rows), Err(Error::BadOptions));
+    for runs in [&[][..], &[7], &[9], &[4, 0, 4], &[0, 0, 8], &[4, 4, 0], &[u32::MAX, 9]] {
+        assert_eq!(code_strip_runs(&form, 1, &[&[8][..], runs]), Err(Error::BadOptions), "{runs:?}");
+    }
+    assert_eq!(code_strip_runs(&StripForm { rows: Some(2), ..form }, 1, &[[8]]), Err(Error::BadOptions));
     let mut reader = StripReader::new(form);
     reader.feed(b"\xB0");
     assert!(matches!(reader.next_row(), Some(Ok(Row { number: 0, .. }))));
@@ -177,6 +183,8 @@ fn try_file(file: &[u8]) -> usize {
             (form.order, form.aligned) = (way.order, way.aligned);
             let strip = code_strip(&form, way.k, &page.packed, form.width.div_ceil(8) as usize).unwrap();
             read_back(&strip, form, page);
+            let runs: Vec<_> = rows_of(page).iter().map(Row::runs).collect();
+            assert_eq!(code_strip_runs(&form, way.k, &runs), Ok(strip));
             tried += 1;
         }
     }

@@ -1,5 +1,5 @@
 -- Rows of a table whose runs stand apart.
-use Rattle.std.proofs.Common.{◌≡◌, ℕ, zero, suc, ◌+◌, ◌<◌, List, [], ◌∷◌, ◌++◌, length, arith, subst, sym}
+use Rattle.std.proofs.Common.{◌≡◌, ℕ, zero, suc, ◌+◌, ◌<◌, List, [], ◌∷◌, ◌++◌, length, arith, subst}
 use Rattle.fax_rows.specs.Rows.{Colour}
 use Rattle.fax_c.specs.declared.rows.FaxRow.{FaxRow}
 use Rattle.fax_c.specs.views.StripRuns.{AreRowsAt, IsRowAt}

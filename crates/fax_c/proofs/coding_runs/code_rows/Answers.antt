@@ -1,4 +1,4 @@
-use Rattle.std.proofs.Common.{◌≡◌, ℕ, [], ◌∷◌, ◌++◌, length, ap, arith, length-append, refl, rules, subst, sym, ◌∙◌}
+use Rattle.std.proofs.Common.{[], ◌∷◌, ◌++◌, ap, arith, length-append, refl, rules, subst, sym, ◌∙◌}
 use Rattle.fax_page.specs.laws.Writer.{HasPut}
 use Rattle.fax_page.specs.views.Writer.{WriterState}
 use Rattle.fax_c.specs.views.StripRuns.{IsRowAt}
