@@ -237,7 +237,8 @@ def ended(cluster, recipe, wanted):
     given = with_array(recipe, "0-1").replace("--wait", "--parsable").partition("faxpages-archive merge")[0]
     status, job, _ = cluster.give(place, given, **broken)
     yield "Slurm: ended: given", status, 0
-    yield "Slurm: ended: some are done", wait_for(lambda: count(place) > 0), True
+    wait_for(lambda: count(place) > 0 or not cluster.ask("squeue", "-h", "-j", job.strip()))
+    yield "Slurm: ended: some are done", count(place) > 0, True
     cluster.ask("scancel", job.strip())
     # Workers wait until those that lead them are gone, so that nothing more is done.
     yield "Slurm: ended: it is seen", wait_for(lambda: not leaders_in(place)), True
