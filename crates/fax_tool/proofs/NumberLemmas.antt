@@ -1,12 +1,10 @@
 -- How long numbers are, and the line that they stand in.
-use Rattle.std.proofs.Common.{◌≡◌, refl, ℕ, ◌+◌, ◌/◌, ◌%◌, ◌^◌, ◌<◌, ◌≤◌, List, [], ◌∷◌, ◌++◌, length, take, ap, ◌∙◌, arith, append_assoc}
+use Rattle.std.proofs.Common.{◌≡◌, refl, ℕ, ◌+◌, ◌^◌, ◌<◌, ◌≤◌, List, [], ◌∷◌, ◌++◌, length, take, ap, ◌∙◌, arith, append_assoc}
 use Rattle.std.proofs.Common.{length-set}
-use Rattle.std.proofs.Common.{zero, suc, subst, ◌*◌, get_or, Bool, true, false, nat_eq}
-use Rattle.std.specs.Prelude.{decimal, ◌&&◌}
-use Rattle.std.proofs.lemmas.Bool.{and_parts, eqb-true}
+use Rattle.std.specs.Prelude.{decimal}
 use Rattle.std.proofs.Math.ListN.{set}
 use Rattle.std.proofs.lemmas.Grind.{take-set_at}
-use Rattle.std.proofs.lemmas.Fmt.{decimal_digit, decimal_step, length-decimal-le}
+use Rattle.std.proofs.lemmas.Fmt.{length-decimal-le}
 
 -- a run and any other number have so many digits at most
 pub length_short : (n : ℕ) → n < 2 ^ 16 → length (decimal n) ≤ 5
