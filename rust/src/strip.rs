@@ -110,11 +110,11 @@ impl Walk {
             )
         };
         let width = self.form.width;
-        let rows = self.out.chunks_exact(stride).take(told.count).zip(first..);
-        self.ready.extend(rows.map(|(packed, number)| Row { page: 0, number, width, packed: packed.to_vec() }));
+        let read = self.out.chunks_exact(stride).take(told.count).zip(first..);
+        self.ready.extend(read.map(|(packed, number)| Row { page: 0, number, width, packed: packed.to_vec() }));
         match status {
-            calls::DONE => Ok(Ended::GoesOn),
-            calls::END => Ok(Ended::Rows),
+            calls::DONE if self.place.row < rows => Ok(Ended::GoesOn),
+            calls::DONE | calls::END => Ok(Ended::Rows),
             calls::FAULT => Ok(Ended::Fault(told.fault)),
             status => Err(stopped(status, &told.fault).unwrap_or(Error::Status(status))),
         }
