@@ -9,6 +9,7 @@ from typing import TYPE_CHECKING, Any, Iterable, List, Optional, Sequence, Tuple
 from ._fax import Page
 from ._raster import Number, Raster, resolution
 from ._rows import Row
+from ._source import ArrayLike
 
 if TYPE_CHECKING:
     from _typeshed import ReadableBuffer
@@ -17,7 +18,7 @@ if TYPE_CHECKING:
 
 # A page to be written: a page of a file, a raster, an image of Pillow in mode 1, an array of two dimensions whose items
 # are bools (rows by pels, True for black), or its rows.
-Writable = Union[Page, Raster, "Image", "ReadableBuffer", Sequence[Row]]
+Writable = Union[Page, Raster, "Image", "ReadableBuffer", ArrayLike, Sequence[Row]]
 # The digits of a row's pels, by its bools.
 _DIGITS = bytes.maketrans(b"\0\1", b"01")
 

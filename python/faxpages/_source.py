@@ -18,9 +18,17 @@ class Readable(Protocol):
         """All bytes from where it stands on."""
 
 
+class ArrayLike(Protocol):
+    """An array of numpy, for readers of types that do not know that it lends its bytes."""
+
+    @property
+    def __array_interface__(self) -> object:
+        """Where its items are."""
+
+
 # A file: its bytes, or anything that lends bytes, as a mmap or an array; its path; or a file object that is open for
 # bytes, which is read from where it stands to its end.
-Source = Union["ReadableBuffer", str, "os.PathLike[str]", Readable]
+Source = Union["ReadableBuffer", ArrayLike, str, "os.PathLike[str]", Readable]
 
 
 def own(data: "ReadableBuffer") -> bytes:

@@ -50,6 +50,7 @@ class _Strip:
     def __init__(self, form: _c.Strip, byte_align: bool, eols: bool) -> None:
         self.form, self.stride = form, (form.width + 7) // 8
         self.place, self._runs = _c.Place(), (_c.U32 * _c.RUNS)()
+        self._out = ctypes.create_string_buffer(self.stride)
         # How many rows were read before this strip's rows are counted anew, which they are where they have no EOLs.
         self.due = 0
         self._byte_align, self._eols = byte_align, eols
@@ -60,20 +61,22 @@ class _Strip:
         left = 8 * len(data) - self.place.bits + 1
         most = 1 if self._byte_align or not self._eols else max(1, min(left, _BYTES // self.stride))
         room = min(most, max(1, self.form.rows - self.due)) * self.stride
-        out, told = ctypes.create_string_buffer(room), _c.Told()
+        if room > len(self._out):
+            self._out = ctypes.create_string_buffer(room)
+        told = _c.Told()
         if self._byte_align:
             self.place.bits += -self.place.bits % 8
         if not self._eols:
             self.place.row = 0
         status = _c.library.faxpages_strip_rows(
-            data, len(data), self.form, self.place, self._runs, _c.RUNS, out, room, self.stride, told)
+            data, len(data), self.form, self.place, self._runs, _c.RUNS, self._out, room, self.stride, told)
         if status not in (_c.DONE, _c.END, _c.FAULT):
             raise refusal(status)
         self.due += told.count
         told.fault.row = self.due
         if status == _c.DONE and self.due == self.form.rows:
             status = _c.END
-        return _Read(ctypes.string_at(out, told.used), status, told.fault)
+        return _Read(ctypes.string_at(self._out, told.used), status, told.fault)
 
     def is_blank_after(self, data: bytes) -> bool:
         """Whether no 1 stands in the data after the place."""

@@ -63,6 +63,8 @@ struct Walk {
     form: StripForm,
     place: Place,
     runs: Vec<u32>,
+    /// The rows of the last call.
+    out: Vec<u8>,
     ready: VecDeque<Row>,
 }
 
@@ -78,7 +80,7 @@ enum Ended {
 
 impl Walk {
     fn new(form: StripForm) -> Self {
-        Walk { form, place: Place::default(), runs: vec![0; RUNS], ready: VecDeque::new() }
+        Walk { form, place: Place::default(), runs: vec![0; RUNS], out: Vec::new(), ready: VecDeque::new() }
     }
 
     /// Reads the next rows of the strip, some thousands at most.
@@ -87,9 +89,12 @@ impl Walk {
         // A row has at least one bit.
         let bits = strip.len().saturating_mul(8).saturating_sub(self.place.bits as usize) + 1;
         let most = bits.min(rows.saturating_sub(first) as usize).max(1);
-        let mut out = zeros((BYTES / stride).clamp(1, most) * stride)?;
+        let room = (BYTES / stride).clamp(1, most) * stride;
+        if self.out.len() < room {
+            self.out = zeros(room)?;
+        }
         let (given, mut told) = (self.form.given(rows), Told::default());
-        // SAFETY: each pointer is to as many items as the length beside it says, of its own slice.
+        // SAFETY: each pointer is to as many items as the length beside it says, of its own slice; of `out` to more.
         let status = unsafe {
             calls::faxpages_strip_rows(
                 strip.as_ptr(),
@@ -98,18 +103,18 @@ impl Walk {
                 &mut self.place,
                 self.runs.as_mut_ptr(),
                 self.runs.len(),
-                out.as_mut_ptr(),
-                out.len(),
+                self.out.as_mut_ptr(),
+                room,
                 stride,
                 &mut told,
             )
         };
         let width = self.form.width;
-        let rows = out.chunks_exact(stride).take(told.count).zip(first..);
-        self.ready.extend(rows.map(|(packed, number)| Row { page: 0, number, width, packed: packed.to_vec() }));
+        let read = self.out.chunks_exact(stride).take(told.count).zip(first..);
+        self.ready.extend(read.map(|(packed, number)| Row { page: 0, number, width, packed: packed.to_vec() }));
         match status {
-            calls::DONE => Ok(Ended::GoesOn),
-            calls::END => Ok(Ended::Rows),
+            calls::DONE if self.place.row < rows => Ok(Ended::GoesOn),
+            calls::DONE | calls::END => Ok(Ended::Rows),
             calls::FAULT => Ok(Ended::Fault(told.fault)),
             status => Err(stopped(status, &told.fault).unwrap_or(Error::Status(status))),
         }
