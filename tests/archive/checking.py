@@ -11,7 +11,6 @@ import signal
 import sqlite3
 import subprocess
 import sys
-import time
 
 import engines
 import made
@@ -165,9 +164,9 @@ def orphaned(room, *_):
     """A worker that hangs ends by itself where the run was killed."""
     paths = few(room, "orphaned")
     add(paths[0], b"hangs")
-    process = room.start("check", "orphaned", "--table", "orphaned.sqlite", "--timeout", "0.5", broken="hangs")
-    wait_for(lambda: len(engines.there_in(room.folder)) >= 2)
-    time.sleep(0.2)
+    mark = room("mark")
+    process = room.start("check", "orphaned", "--table", "orphaned.sqlite", "--timeout", "3", broken="hangs", MARK=mark)
+    wait_for(lambda: os.path.exists(mark) or process.poll() is not None)
     process.kill()
     process.wait()
     room.claim("no worker is left that hangs", engines.left_in(room.folder), [])
@@ -247,7 +246,7 @@ def progress(room, paths, _):
     """A line now and then, or a bar on a terminal."""
     error = room.run("check", "tree", "--table", "said.sqlite", "--processes", "4", broken="slow minutes")[2]
     room.claim("a line a minute", f" of {len(paths)} faxes, " in error and " minutes left" in error)
-    if not room.dask or subprocess.run([room.dask, "-c", "import tqdm"], capture_output=True, check=False).returncode:
+    if not room.dask or subprocess.run([room.dask, "-c", "from tqdm import tqdm"], capture_output=True, check=False).returncode:
         print("SKIPPED: tqdm (python3-tqdm) is not installed, so: no bar is drawn")
         return
     ours, its = pty.openpty()

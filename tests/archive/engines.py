@@ -9,6 +9,7 @@ import signal
 import subprocess
 
 from room import PATIENCE, TOP, started, wait_for
+from waiting import there_in
 
 # Of how many faxes the program is asked too.
 ASKED = 200
@@ -115,8 +116,8 @@ def scheduler(room, **more):
     with contextlib.ExitStack() as stack:
         words = ["distributed.cli.dask_scheduler", "--host", "127.0.0.1", "--port", "0", "--no-dashboard",
                  "--scheduler-file", room("scheduler.json")]
-        stack.enter_context(started([*cli, *words], told_python))
-        wait_for(lambda: address_in(room("scheduler.json")))
+        server = stack.enter_context(started([*cli, *words], told_python))
+        wait_for(lambda: address_in(room("scheduler.json")) or server.poll() is not None)
         address = address_in(room("scheduler.json"))
         for number in range(2):
             words = ["distributed.cli.dask_worker", address, "--nthreads", "1", "--no-dashboard", "--no-nanny",
@@ -151,16 +152,6 @@ def interrupted(room, paths, reference):
                    f"faxes {len(paths)}: {told(reference)}; {done} done now, {again} before, 0 gone")
         room.claim(f"{number.name}: the same table", room.rows(table) == reference)
     room.claim("no worker is left", left_in(room.folder), [])
-
-
-def there_in(folder):
-    """The processes that run in a folder."""
-    found = []
-    for process in filter(str.isdecimal, os.listdir("/proc")):
-        with contextlib.suppress(OSError):
-            if os.readlink(f"/proc/{process}/cwd") == folder:
-                found.append(process)
-    return found
 
 
 def left_in(folder):

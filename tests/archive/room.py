@@ -8,11 +8,11 @@ import signal
 import sqlite3
 import subprocess
 import sys
-import time
 
 TOP = os.path.dirname(os.path.dirname(os.path.dirname(os.path.abspath(__file__))))
-# The end of each wait for an event, in seconds: no machine is so loaded.
-PATIENCE = 900
+sys.path.insert(0, os.path.join(TOP, "tests"))
+
+from waiting import PATIENCE, wait_for  # noqa: E402
 
 
 class Room:
@@ -80,16 +80,6 @@ class Room:
         return count(self(table)), process.returncode
 
 
-def wait_for(holds):
-    """Waits until something holds; whether it does in the end."""
-    until = time.monotonic() + PATIENCE
-    while not holds():
-        if time.monotonic() > until:
-            return False
-        time.sleep(0.02)
-    return True
-
-
 def count(table):
     """How many rows a table has, where there is one."""
     with contextlib.suppress(sqlite3.Error):
@@ -101,7 +91,8 @@ def count(table):
 def has_dask(python):
     """Whether a Python has Dask."""
     try:
-        return subprocess.run([python, "-c", "import distributed"], capture_output=True, check=False).returncode == 0
+        asked = [python, "-c", "import distributed.cli.dask_worker; distributed.Client"]
+        return subprocess.run(asked, capture_output=True, check=False).returncode == 0
     except OSError:
         return False
 

@@ -9,16 +9,16 @@ import signal
 import socket
 import sqlite3
 import subprocess
-import time
 
 import files
 from archive import COMMAND
 from recipes import ROOT, recipes
+from waiting import PATIENCE, there_in, wait_for
 
 TOOLS = ["sbatch", "squeue", "scancel", "sinfo"]
 SERVERS = ["munged", "slurmctld", "slurmd"]
-# The end of each wait for an event, in seconds: no machine is so loaded. A cluster that is not up by then is none.
-PATIENCE, UP = 900, 120
+# A cluster that is not up after so many seconds is none.
+UP = 120
 FAXES = 400
 # With how many faxes begun by all tasks they wait, so that they are ended in the middle.
 BEGUN = 300
@@ -169,16 +169,6 @@ def free_port():
         return asked.getsockname()[1]
 
 
-def there_in(room):
-    """The processes that run below a folder."""
-    found = []
-    for process in filter(str.isdecimal, os.listdir("/proc")):
-        with contextlib.suppress(OSError):
-            if os.readlink(f"/proc/{process}/cwd").startswith(f"{room}/"):
-                found.append(int(process))
-    return found
-
-
 def leaders_in(room):
     """The processes there that lead workers."""
     found = []
@@ -187,16 +177,6 @@ def leaders_in(room):
             if b"faxpages.archive" in files.get(f"/proc/{process}/cmdline"):
                 found.append(process)
     return found
-
-
-def wait_for(holds, seconds=PATIENCE):
-    """Waits until something holds: whether it does."""
-    until = time.monotonic() + seconds
-    while not holds():
-        if time.monotonic() > until:
-            return False
-        time.sleep(0.05)
-    return True
 
 
 def compare(cluster):

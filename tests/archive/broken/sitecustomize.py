@@ -32,6 +32,8 @@ def broken_check(data):
     if "raises" in WAYS and data.endswith(b"raises"):
         raise RuntimeError("broken for a test")
     if "hangs" in WAYS and data.endswith(b"hangs"):
+        if "MARK" in os.environ:
+            os.close(os.open(os.environ["MARK"], os.O_CREAT))
         time.sleep(1000)
     if "memory" in WAYS and data.endswith(b"memory"):
         raise MemoryError

@@ -1,0 +1,28 @@
+"""Waits for events in tests, and finds what runs in a folder."""
+
+import contextlib
+import os
+import time
+
+# The end of each wait for an event, in seconds: no machine is so loaded.
+PATIENCE = 900
+
+
+def wait_for(holds, seconds=PATIENCE):
+    """Waits until something holds; whether it does in the end."""
+    until = time.monotonic() + seconds
+    while not holds():
+        if time.monotonic() > until:
+            return False
+        time.sleep(0.02)
+    return True
+
+
+def there_in(folder):
+    """The processes that run in a folder, or below it."""
+    found = []
+    for process in filter(str.isdecimal, os.listdir("/proc")):
+        with contextlib.suppress(OSError):
+            if f"{os.readlink(f'/proc/{process}/cwd')}/".startswith(f"{folder}/"):
+                found.append(int(process))
+    return found
