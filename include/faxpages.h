@@ -209,9 +209,10 @@ uint32_t faxpages_changes_from(const uint8_t *file, size_t file_len, struct faxp
 /* Writes a page's rows into a raster: row i in the `stride` bytes from out[i * stride] on, as
  * faxpages_rows packs it, with zeros, which are white, up to the stride. `form` is told wherever
  * the file has the page, also with out_room 0: so ask for its size first. `count` of `told` says
- * how many rows were written, before a fault too. DONE, where they are all; FAULT; NO_ROOM, where
- * `out` has no room for `stride` bytes more, or `stride` is less than (width + 7) / 8; MEMORY; END,
- * where the file has just `page` pages, or OUTSIDE, where it has fewer: then no form is told. */
+ * how many rows were written, before a fault too. DONE, where they are all; FAULT, at a row that
+ * cannot be read, also where it would have no room; NO_ROOM, where `out` has no room for `stride`
+ * bytes more, or `stride` is less than (width + 7) / 8; MEMORY; END, where the file has just `page`
+ * pages, or OUTSIDE, where it has fewer: then no form is told. */
 uint32_t faxpages_page(const uint8_t *file, size_t file_len, uint32_t page,
                        struct faxpages_form *form, uint8_t *out, size_t out_room, size_t stride,
                        struct faxpages_told *told);
