@@ -1,6 +1,6 @@
 //! The directory of a page.
 
-ghost use Rattle.std.specs.Prelude.{◌≡◌, ◌+◌, ◌*◌, ◌<◌, ◌≤◌, length, Ok, IfOk};
+ghost use Rattle.std.specs.Prelude.{◌≡◌, ◌+◌, ◌*◌, ◌<◌, ◌≤◌, length, Ok, Err, IfOk, IfErr};
 ghost use Rattle.fax_files.specs.Directory as Spec;
 ghost use Rattle.fax_files.specs.code.Entries.{entry_count as count_of};
 ghost use Rattle.fax_files.specs.code.Fields as Code;
@@ -109,16 +109,19 @@ impl<'a> Directory<'a> {
         ensures exact { result ≡ form_of self.now }
         ensures limits { IfOk result IsPageForm }
     {
-        Ok(read_page(&Fields::new(self))?.0)
+        Ok(self.page_and_strips()?.0)
     }
 
-    /// The places of the page's strips, where this is the page's form.
-    pub fn strips(&self, form: &PageForm) -> Strips<'a>
-        requires { form_of self.now ≡ Ok form.now }
-        ensures directory { result.directory ≡ self.now }
-        ensures count { result.count ≡ form.now.strips }
+    /// The form of the page, as `page` has it, and the places of its strips, by one pass over the
+    /// entries.
+    pub fn page_and_strips(&self) -> Result<(PageForm, Strips<'a>), FileFault>
+        ensures form { IfOk result (λ page. form_of self.now ≡ Ok page.0) }
+        ensures fault { IfErr result (λ fault. form_of self.now ≡ Err fault) }
+        ensures limits { IfOk result (λ page. IsPageForm page.0) }
+        ensures directory { IfOk result (λ page. page.1.directory ≡ self.now) }
+        ensures count { IfOk result (λ page. page.1.count ≡ page.0.strips) }
     {
-        read_page(&Fields::new(self)).unwrap().1
+        read_page(&Fields::new(self))
     }
 
     /// Whether the tags of the entries ascend, none standing twice (TIFF 6.0, section 2).

@@ -121,6 +121,8 @@ impl<'a> Tiff<'a> {
         ensures outside { OnErr result (bytes_of directory.now s ≡ None) }
         ensures fault { IfErr result (λ fault. fault ≡ StripOutside) }
     {
-        directory.strips(form).bytes(s)
+        // Contracts need the form; the strips are found by the directory alone.
+        let _ = form;
+        directory.page_and_strips()?.1.bytes(s)
     }
 }

@@ -8,7 +8,7 @@ ghost use Rattle.fax_walk.specs.code.Check as Code;
 
 use crate::Place;
 use fax_bits::Memory;
-use fax_files::{Cause, Chain, Directory, PageForm, Tiff};
+use fax_files::{Cause, Chain, Directory, PageForm, Strips, Tiff};
 use fax_page::{NotesFault, NotesReader, StripNotes};
 use std::alloc::Global;
 
@@ -165,19 +165,20 @@ fn read_to(before: u32, fault: NotesFault) -> Result<PageRead, Memory>
 fn check_strips(
     alloc: Global,
     page: u32,
-    directory: &Directory,
     form: &PageForm,
+    strips: &Strips,
     notes: &mut Vec<Note>,
 ) -> Result<PageRead, Memory>
-    requires form { form_of directory.now ≡ Ok form.now }
+    requires form { form_of strips.now.directory ≡ Ok form.now }
     requires limits { IsPageForm form.now }
-    requires here { Code.IsDirectoryOfPage directory.now page }
-    ensures { IfOk result (Code.IsRestChecked directory.now.file (Code.before_strip form.now page 0)
+    requires count { strips.now.count ≡ form.now.strips }
+    requires here { Code.IsDirectoryOfPage strips.now.directory page }
+    ensures { IfOk result (Code.IsRestChecked strips.now.directory.file
+        (Code.before_strip form.now page 0)
         page notes.old.items notes.new.items) }
 {
     fax_bits::laws::bits_stand_by_place();
     fax_files::laws::forms_are_whole();
-    let strips = directory.strips(form);
     let mut reader = NotesReader::new(alloc, form.width)?;
     for s in 0..form.strips {
         let before = s * form.rows_per_strip;
@@ -213,8 +214,8 @@ fn check_page(
         notes.old.items notes.new.items) }
 {
     fax_files::laws::forms_are_whole();
-    let form = match directory.page() {
-        Ok(form) => form,
+    let (form, strips) = match directory.page_and_strips() {
+        Ok(page) => page,
         Err(fault) => {
             return Ok(PageRead {
                 rows: 0,
@@ -224,7 +225,7 @@ fn check_page(
     };
     let out_of_order = !directory.in_order();
     note_if(notes, out_of_order, page, None, NoteKind::EntriesOutOfOrder)?;
-    check_strips(alloc, page, directory, &form, notes)
+    check_strips(alloc, page, &form, &strips, notes)
 }
 
 /// The report on a file with a good header.

@@ -5,7 +5,7 @@ ghost use Rattle.fax_walk.specs.code.Opening as Spec;
 
 use crate::{Cursor, End};
 use fax_bits::Memory;
-use fax_files::{Chain, Directory, FileFault, PageForm, Tiff};
+use fax_files::{Chain, FileFault, PageForm, Strips, Tiff};
 use std::marker::Model;
 
 /// Why a page could not be opened.
@@ -37,17 +37,18 @@ impl From<End> for OpenFault {
     }
 }
 
-/// A page that is due, and whose strips are not looked at yet.
+/// A page that is due, and none of whose strips is read yet.
 #[derive(Drop)]
 pub(crate) struct DuePage<'a> {
     pub(crate) page: u32,
     /// The chain after the page's directory.
     pub(crate) chain: Chain<'a>,
-    pub(crate) directory: Directory<'a>,
     pub(crate) form: PageForm,
+    pub(crate) strips: Strips<'a>,
 }
 
 impl<'a> Model for DuePage<'a> {
+    ghost use Rattle.std.specs.Prelude.{◌≡◌};
     ghost use Rattle.fax_walk.specs.code.Opening.{PageDue, IsPageDue};
 
     ghost Value = { PageDue };
@@ -55,11 +56,12 @@ impl<'a> Model for DuePage<'a> {
     ghost view = { λ p. record {
       page = p.page;
       chain = p.chain;
-      directory = p.directory;
+      directory = p.strips.directory;
       form = p.form;
     } };
 
-    ghost invariant = { λ p. IsPageDue p.page p.chain p.directory p.form };
+    ghost invariant = { λ p. IsPageDue p.page p.chain p.strips.directory p.form
+        × (p.strips.count ≡ p.form.strips) };
 }
 
 /// The chain of a file's directories, before the one of this number, or how the rows end where
@@ -98,12 +100,12 @@ impl<'a> DuePage<'a> {
             Ok(None) => return Ok(None),
             Err(fault) => return Err(End::of_file(page, 0, fault)),
         };
-        match directory.page() {
-            Ok(form) => Ok(Some(DuePage {
+        match directory.page_and_strips() {
+            Ok((form, strips)) => Ok(Some(DuePage {
                 page,
                 chain,
-                directory,
                 form,
+                strips,
             })),
             Err(fault) => Err(End::of_file(page, 0, fault)),
         }

@@ -111,7 +111,7 @@ pub(crate) fn open<'a>(
     ensures there { HasPage due.entry.directory.file due.entry.page }
 {
     let form = due.form;
-    let strips = due.directory.strips(&form);
+    let strips = due.strips;
     let number = first / form.rows_per_strip;
     let row = number * form.rows_per_strip;
     let bytes = match strips.bytes(number) {
@@ -200,7 +200,7 @@ pub(crate) fn open_inside<'a>(
     if row >= form.rows || row % form.rows_per_strip == 0 {
         return Err(OpenFault::Ended(End::Outside));
     }
-    let strips = due.directory.strips(&form);
+    let strips = due.strips;
     let number = row / form.rows_per_strip;
     let strip_row = number * form.rows_per_strip;
     let bytes = match strips.bytes(number) {

@@ -1,10 +1,9 @@
-use Rattle.std.proofs.Common.{◌≡◌, Some, None, refl, sym, ◌∙◌, ap, subst, arith}
+use Rattle.std.proofs.Common.{◌≡◌, refl, ◌∙◌, subst, arith}
 use Rattle.std.proofs.lemmas.Result.{IfOk-weaker}
 use Rattle.fax_bits.specs.Bits.{bits}
 use Rattle.fax_page.specs.views.Strip.{IsNotesFault}
 use Rattle.fax_page.specs.Strip.{IsNotedAs}
 use Rattle.fax_page.specs.declared.StripForm.{StripForm}
-use Rattle.fax_files.specs.views.Tiff.{TiffDirectory, bytes_of}
 use Rattle.fax_walk.proofs.StripCheckLemmas.{none_before, strip_after, all_read, strip_outside, row_inside, strip_fault}
 use Rattle.fax_walk.proofs.checking.check_strips.Goals as goal
 
@@ -18,15 +17,13 @@ loop-s-init c = record {
 
 pub returns-in-Err : goal.returns-in-Err
 returns-in-Err c =
-    let none : bytes_of c.args.directory.now c.loop-s.s ≡ None =
-    sym (ap (λ (d : TiffDirectory). bytes_of d c.loop-s.s) c.strips-strips.ensures.directory) ∙ c.in-Err.ensures.outside in
     rw c.in-Err.ensures.fault
     (strip_outside c.bits_stand_by_place.ensures _ _ _ (c.forms_are_whole.ensures _ _ _ _ c.requires.form) c.requires.form c.requires.here
-    c.requires.limits.rows _ _ _ c.loop-s-test.true c.loop-s.invariant.checked none)
+    c.requires.limits.rows _ _ _ c.loop-s-test.true c.loop-s.invariant.checked c.in-Err.ensures.outside)
 
 pub read_to-requires : goal.read_to-requires
 read_to-requires c =
-    row_inside c.bits_stand_by_place.ensures c.args.directory.now _ c.args.page (c.forms_are_whole.ensures _ _ _ _ c.requires.form)
+    row_inside c.bits_stand_by_place.ensures c.args.strips.now.directory _ c.args.page (c.forms_are_whole.ensures _ _ _ _ c.requires.form)
     c.requires.form c.requires.here c.loop-s.s c.in-Ok.bytes.now _
     c.requires.limits.rows c.loop-s-test.true
     (subst (λ (f : StripForm). IsNotesFault f (bits f.order c.in-Ok.bytes.now) c.in-Err-notes.fault) c.strip_form.ensures.exact
@@ -34,29 +31,25 @@ read_to-requires c =
 
 pub returns-in-Err-notes : goal.returns-in-Err-notes
 returns-in-Err-notes c =
-    let there : bytes_of c.args.directory.now c.loop-s.s ≡ Some c.in-Ok.bytes.now =
-    sym (ap (λ (d : TiffDirectory). bytes_of d c.loop-s.s) c.strips-strips.ensures.directory) ∙ c.in-Ok.ensures.bytes in
     let refused =
     subst (λ (f : StripForm). IsNotesFault f (bits f.order c.in-Ok.bytes.now) c.in-Err-notes.fault) c.strip_form.ensures.exact
     c.in-Err-notes.ensures.err in
     IfOk-weaker c.read_to.result _ _
     (λ read is.
     strip_fault c.bits_stand_by_place.ensures _ _ _ (c.forms_are_whole.ensures _ _ _ _ c.requires.form) c.requires.form c.requires.here
-    c.requires.limits.rows _ _ _ _ _ read c.loop-s-test.true c.loop-s.invariant.checked there refused
+    c.requires.limits.rows _ _ _ _ _ read c.loop-s-test.true c.loop-s.invariant.checked c.in-Ok.ensures.bytes refused
     is)
     c.read_to.ensures
 
 pub loop-s-preserved : goal.loop-s-preserved
 loop-s-preserved c =
-    let there : bytes_of c.args.directory.now c.loop-s.s ≡ Some c.in-Ok.bytes.now =
-    sym (ap (λ (d : TiffDirectory). bytes_of d c.loop-s.s) c.strips-strips.ensures.directory) ∙ c.in-Ok.ensures.bytes in
     let found = c.in-Ok-notes.ensures.ok in
     record {
       checked =
           strip_after c.bits_stand_by_place.ensures _ _ _ (c.forms_are_whole.ensures _ _ _ _ c.requires.form) c.requires.form c.requires.here
           _ _ _ _ c.in-Ok.bytes.now found.0 c.in-Ok-notes.found
           c.loop-s-test.true
-          c.loop-s.invariant.checked there
+          c.loop-s.invariant.checked c.in-Ok.ensures.bytes
           (subst (λ (f : StripForm). IsNotedAs f (bits f.order c.in-Ok.bytes.now) found.0 c.in-Ok-notes.found) c.strip_form.ensures.exact
           found.1)
           c.in_ok-note_strip-in-Ok-notes.ensures;

@@ -4,6 +4,6 @@ use Rattle.fax_walk.proofs.checking.check_strips.Given as goal
 
 abbrev pub invariant-loop-s : goal.invariant-loop-s
 invariant-loop-s l = record {
-  checked : AreStripsChecked l.directory l.form l.page l.s l.fn.notes.items l.notes.items;
+  checked : AreStripsChecked l.strips.directory l.form l.page l.s l.fn.notes.items l.notes.items;
   same_width : l.reader ≡ l.form.width;
 }

@@ -1,14 +1,14 @@
-use Rattle.std.proofs.Common.{◌≡◌, Ok, Err, ap, sym, ◌∙◌, arith}
-use Rattle.fax_files.specs.views.Tiff.{form_of}
+use Rattle.std.proofs.Common.{◌≡◌, Ok, ap, ◌∙◌, arith}
 use Rattle.fax_walk.proofs.EndingLemmas.{page_due, proper_end_at, row_past, fault_before_page, fields_refused, same_file}
 use Rattle.fax_walk.proofs.opening.DuePage.after.Goals as goal
 
 pub invariant_of-result : goal.invariant_of-result
 invariant_of-result c =
-    rw c.given-page.ensures
-    (page_due _ _ c.args.chain c.next.result c.requires c.files_have_one_chain.ensures c.next.ensures.answer _
-    (c.in-Ok-Some.is ∙ ap Ok c.in-Ok-Some.field-0-is) _ c.in-Ok.form c.next.ensures.counted (sym c.in-Ok.ensures.exact)
-    c.in-Ok.ensures.limits)
+    rw (c.given-page.ensures, c.in-Ok.ensures.directory) (
+      page_due _ _ c.args.chain c.next.result c.requires c.files_have_one_chain.ensures c.next.ensures.answer _
+          (c.in-Ok-Some.is ∙ ap Ok c.in-Ok-Some.field-0-is) _ c.in-Ok.form c.next.ensures.counted c.in-Ok.ensures.form c.in-Ok.ensures.limits,
+      c.in-Ok.ensures.count,
+    )
 
 pub returns-in-Ok-None : goal.returns-in-Ok-None
 returns-in-Ok-None c =
@@ -23,11 +23,10 @@ returns-in-Err c r =
     (fault_before_page _ _ c.args.chain c.next.result c.requires c.files_have_one_chain.ensures c.next.ensures.answer _ _ c.in-Err.is
     (omega arith))
 
-pub returns-in-Err-page : goal.returns-in-Err-page
-returns-in-Err-page c =
+pub returns-in-Err-page_and_strips : goal.returns-in-Err-page_and_strips
+returns-in-Err-page_and_strips c =
     let is = c.in-Ok-Some.is ∙ ap Ok c.in-Ok-Some.field-0-is in
     let file : c.in-Ok-Some.directory.file ≡ c.args.chain.tiff.file =
     same_file _ _ c.args.chain c.next.result c.requires c.files_have_one_chain.ensures c.next.ensures.answer _ is in
-    let bad : form_of c.in-Ok-Some.directory ≡ Err c.in-Err-page.fault = sym c.page.ensures.exact ∙ c.in-Err-page.is in
-    rw (c.of_file-in-Err-page.ensures, c.given-page.ensures, ← file)
-    (fields_refused _ _ c.args.chain c.next.result c.requires c.files_have_one_chain.ensures c.next.ensures.answer _ is _ bad)
+    rw (c.of_file-in-Err-page_and_strips.ensures, c.given-page.ensures, ← file)
+    (fields_refused _ _ c.args.chain c.next.result c.requires c.files_have_one_chain.ensures c.next.ensures.answer _ is _ c.in-Err-page_and_strips.ensures.fault)
