@@ -1,11 +1,10 @@
 -- What is handed out in order: one answer at each place makes one list, and what follows an item begins after it.
-use Rattle.std.proofs.Common.{◌≡◌, ℕ, zero, suc, ◌+◌, List, [], ◌∷◌, ◌++◌, length, take, drop, Some, Result, Ok, Err, refl, sym, ap, ◌∙◌}
+use Rattle.std.proofs.Common.{◌≡◌, ℕ, zero, suc, ◌+◌, List, [], ◌∷◌, ◌++◌, length, take, drop, Some, refl, sym, ap, ◌∙◌}
 use Rattle.std.proofs.Common.{subst, arith, append_assoc}
 use Rattle.std.proofs.lemmas.List.{take-append-drop}
 use Rattle.std.specs.Prelude.{slice_get}
 use Rattle.fax_walk.specs.declared.end.End.{End}
 use Rattle.fax_walk.specs.Pages.{AreFrom}
-use Rattle.fax_walk.specs.code.Places.{AreBegun}
 use Rattle.fax_walk.specs.laws.InOrder.{LeadTo}
 use Rattle.fax_bits.specs.laws.Codes.{IsOne}
 use Rattle.fax_walk.specs.Pages.{Step, goes_on, ends_as}
@@ -75,20 +74,6 @@ module _ {S A : Type 0} (next : S → Step A S → Type 0) (answers : (at : S) �
     one = λ others other is. one_from at others listed.items other listed.end is listed.is;
   }
 
-  -- the same from a beginning
-  pub one_begun : (begin : Result (S × ℕ) End) → ((at : S) (n : ℕ) → begin ≡ Ok (at, n) → IsListed next at) → IsOne (AreBegun next begin)
-  one_begun (Err none) listed = record { items = []; end = none; is = (refl, refl); one = λ others other is. is }
-  one_begun (Ok (at, n)) listed =
-      let all = one_list at (listed at n refl) in
-      record {
-        items = drop n all.items;
-        end = all.end;
-        is = (all.items, all.is, refl);
-        one = λ others other is.
-            let same = all.one is.0 other is.1 in
-            (is.2 ∙ ap (drop n) same.0, same.1);
-      }
-
 module _ {S A : Type 0} (next : S → Step A S → Type 0) where
   -- the first items of what is handed out lead to a place, and the others are handed out from there
   pub split_at : (at : S) (before after : List A) (end : End) → AreFrom next at (before ++ after) end
@@ -128,7 +113,7 @@ module _ {S A : Type 0} (next : S → Step A S → Type 0) where
   kept holds keeps at to (x ∷ items) (place, step, leads) here = kept holds keeps place to items leads (keeps at x place here step)
 
 -- what stands after so many elements of a list, of which some are dropped
-get_after : {A : Type 0} (front : List A) (x : A) (more : List A) (n : ℕ) → length front ≡ n → slice_get (front ++ x ∷ more) n ≡ Some x
+pub get_after : {A : Type 0} (front : List A) (x : A) (more : List A) (n : ℕ) → length front ≡ n → slice_get (front ++ x ∷ more) n ≡ Some x
 get_after [] x more zero e = refl
 get_after [] x more (suc n) e = absurd (omega (arith, e))
 get_after (y ∷ front) x more zero e = absurd (omega (arith, e))
@@ -157,10 +142,7 @@ divided_at {A} (y ∷ xs) (suc n) x e =
 
 module _ {S A : Type 0} (next : S → Step A S → Type 0) where
   -- an item, the place where it was read, and what is handed out after it
-  pub record IsSplit (begin : Result (S × ℕ) End) (item : A) (after : List A) (end : End) : Type 0 where
-    pub from : S
-    pub dropped : ℕ
-    pub begin_is : begin ≡ Ok (from, dropped)
+  pub record IsSplit (from : S) (item : A) (after : List A) (end : End) : Type 0 where
     pub front : List A
     pub at : S
     pub lead : LeadTo next from front at
@@ -168,16 +150,10 @@ module _ {S A : Type 0} (next : S → Step A S → Type 0) where
     pub step : next at (goes_on item to)
     pub rest : AreFrom next to after end
 
-  nothing : (n : ℕ) (item : A) → slice_get [] n ≡ Some item → ⊥
-  nothing n item e = cc
-
-  -- item number n and what is handed out after it
-  pub split_at_number : (begin : Result (S × ℕ) End) (all : List A) (end : End) (n : ℕ) (item : A) → AreBegun next begin all end
-      → slice_get all n ≡ Some item
-      → IsSplit begin item (drop (n + 1) all) end
-  split_at_number (Err none) all end n item are there =
-      absurd (nothing n item (subst (λ (l : List A). slice_get l n ≡ Some item) are.0 there))
-  split_at_number (Ok (from, k)) all end n item (whole, are, all_is) there =
+  -- item number n after the first k, and what is handed out after it
+  pub split_at_number : (from : S) (k : ℕ) (whole all : List A) (end : End) (n : ℕ) (item : A) → AreFrom next from whole end
+      → all ≡ drop k whole → slice_get all n ≡ Some item → IsSplit from item (drop (n + 1) all) end
+  split_at_number from k whole all end n item are all_is there =
       let split = divided_at all n item there in
       let after = drop (n + 1) all in
       let front = take k whole ++ split.0 in
@@ -185,14 +161,4 @@ module _ {S A : Type 0} (next : S → Step A S → Type 0) where
       sym (take-append-drop k whole) ∙ ap (λ (l : List A). take k whole ++ l) (sym all_is ∙ split.1)
       ∙ sym (append_assoc (take k whole) split.0 (item ∷ after)) in
       let parts = split_at next from front (item ∷ after) end (subst (λ (l : List A). AreFrom next from l end) e are) in
-      record {
-        from = from;
-        dropped = k;
-        begin_is = refl;
-        front = front;
-        at = parts.0;
-        lead = parts.1;
-        to = parts.2.0;
-        step = parts.2.1;
-        rest = parts.2.2;
-      }
+      record { front = front; at = parts.0; lead = parts.1; to = parts.2.0; step = parts.2.1; rest = parts.2.2 }

@@ -1,8 +1,8 @@
 -- What is asked of a file's pages has one answer, and so have its forms.
-use Rattle.std.proofs.Common.{inl, inr, ◌≡◌, ℕ, zero, suc, ◌+◌, List, [], ◌∷◌, length, drop, Option, Some, None, Result, Ok, Err, refl, sym}
+use Rattle.std.proofs.Common.{◌≡◌, ℕ, zero, suc, ◌+◌, List, [], ◌∷◌, length, drop, Option, Some, None, Result, Ok, Err, refl, sym}
 use Rattle.std.proofs.Common.{ap, ◌∙◌}
 use Rattle.std.proofs.Common.{subst, arith, true}
-use Rattle.std.specs.Prelude.{slice_get, ◌==◌}
+use Rattle.std.specs.Prelude.{slice_get, ◌==◌, nat_le, if◌then◌else◌}
 use Rattle.std.proofs.lemmas.Bool.Decides.{nat_tests}
 use Rattle.fax_files.specs.declared.FileFault.{FileFault}
 use Rattle.fax_files.specs.declared.Cause.TheVariants.{File}
@@ -12,18 +12,16 @@ use Rattle.fax_files.specs.Page.{page}
 use Rattle.fax_files.specs.laws.Files.{FilesHaveOneChain}
 use Rattle.fax_walk.specs.declared.cursor.Cursor.{Cursor}
 use Rattle.fax_walk.specs.declared.end.End.{End}
-use Rattle.fax_walk.specs.declared.end.End.TheVariants.{Fault, Proper}
+use Rattle.fax_walk.specs.declared.end.End.TheVariants.{Fault, Outside, Proper}
 use Rattle.fax_walk.specs.Pages.{AreFrom, FormItem, FilePage}
 use Rattle.fax_walk.specs.code.Opening.{page_over}
 use Rattle.fax_walk.specs.code.Opening.{IsPageUnder}
 use Rattle.fax_walk.specs.Pages.{IsPageAt, IsOnPage, IsForm, IsFormTail}
-use Rattle.fax_walk.specs.code.Pages.{first_form}
 use Rattle.fax_walk.specs.code.Opening.{end_past_chain, page_or_end}
 use Rattle.fax_walk.specs.laws.Tails.{FilesHaveOneForms, CursorsHaveOneFormTail, FormTailOfPage, FormTailOfStart, FormsStandByNumber}
 use Rattle.fax_walk.specs.laws.Tails.{FormTailsGoOn}
-use Rattle.fax_walk.specs.code.Places.{AreBegun}
-use Rattle.fax_walk.proofs.TailLemmas.{begun_of_forms, forms_of_begun}
-use Rattle.fax_walk.proofs.InOrderLemmas.{IsOneAnswer, IsListed, one_list, one_begun, split_at_number}
+use Rattle.fax_bits.specs.laws.Codes.{IsOne}
+use Rattle.fax_walk.proofs.InOrderLemmas.{IsOneAnswer, IsListed, one_list, split_at_number}
 use Rattle.fax_walk.specs.Pages.{Step, goes_on, ends_as}
 
 -- an equation has one answer
@@ -153,36 +151,52 @@ module _ (chains : FilesHaveOneChain) (file : List ℕ) where
 pub one_forms : FilesHaveOneChain → FilesHaveOneForms
 one_forms chains file = one_list (IsForm file) (one_form chains file) 0 (forms_listed chains file 0 (header file) refl)
 
+-- the page that a reader of pages begins with
+abbrev first_form : Cursor → PageForm → Result ℕ End
+first_form at form =
+    if at.row == 0 then Ok at.page
+    else (if nat_le at.row form.rows then Ok (at.page + 1) else Err Outside)
+
+abbrev Begins : List ℕ → Cursor → Result ℕ End → Type 0
+Begins file at begin = IsOnPage file at (λ here. begin ≡ first_form at here.form) (λ none. begin ≡ Err none)
+
 pub one_form_tail : FilesHaveOneChain → CursorsHaveOneFormTail
 one_form_tail chains file at =
-    let begin = one_on_page chains file at (λ here (b : Result (ℕ × ℕ) End). b ≡ first_form at here.form) Err
+    let only = one_on_page chains file at (λ here (b : Result ℕ End). b ≡ first_form at here.form) Err
     (λ here. only_it (first_form at here.form)) in
-    let all = one_begun (IsForm file) (one_form chains file) begin.it (λ p n e. forms_listed chains file p (header file) refl) in
-    record {
-      items = all.items;
-      end = all.end;
-      is = forms_of_begun file at all.items all.end (begin.it, begin.is, all.is);
-      one = λ others other is.
-          let was = begun_of_forms file at others other is in
-          all.one others other (subst (λ (b : Result (ℕ × ℕ) End). AreBegun (IsForm file) b others other) (begin.one was.0 was.1) was.2);
+    by_begin only.it only.is only.one
+  where
+    by_begin : (begin : Result ℕ End) → Begins file at begin → ((other : Result ℕ End) → Begins file at other → other ≡ begin) → IsOne (IsFormTail file at)
+    by_begin (Err none) is only = record {
+      items = [];
+      end = none;
+      is = (Err none, is, (refl, refl));
+      one = λ others other tail. rw (only tail.0 tail.1) at tail.2;
     }
+    by_begin (Ok p) is only =
+        let all = one_list (IsForm file) (one_form chains file) p (forms_listed chains file p (header file) refl) in
+        record {
+          items = all.items;
+          end = all.end;
+          is = (Ok p, is, all.is);
+          one = λ others other tail. all.one others other (rw (only tail.0 tail.1) at tail.2);
+        }
 
 module _ (file : List ℕ) where
   to_forms : (p : ℕ) (forms : List FormItem) (end : End) → IsFormTail file (record { page = p; row = 0 }) forms end
       → AreFrom (IsForm file) p forms end
-  to_forms p forms end (Err none, page, is) =
+  to_forms p forms end (begin, (Err none, page, e), are) =
+      let both = rw e at are in
       let there : AreFrom (IsForm file) p [] none = (Err none, page, refl) in
-      subst (λ (l : List FormItem). AreFrom (IsForm file) p l end) (sym is.0) (subst (AreFrom (IsForm file) p []) (sym is.1) there)
-  to_forms p forms end (Ok here, page, inl (first, are)) = are
-  to_forms p forms end (Ok here, page, inr (inl (some, within, are))) = absurd (omega (arith, some))
-  to_forms p forms end (Ok here, page, inr (inr (past, none, end_is))) = absurd (omega (arith, past))
+      subst (λ (l : List FormItem). AreFrom (IsForm file) p l end) (sym both.0) (subst (AreFrom (IsForm file) p []) (sym both.1) there)
+  to_forms p forms end (begin, (Ok here, page, e), are) = let here : begin ≡ Ok p = e in rw here at are
 
   of_forms : (p : ℕ) (forms : List FormItem) (end : End) → AreFrom (IsForm file) p forms end
       → IsFormTail file (record { page = p; row = 0 }) forms end
-  of_forms p [] end (Err none, page, e) = let same : end ≡ none = cc in (Err none, page, (refl, same))
+  of_forms p [] end (Err none, page, e) = let same : end ≡ none = cc in (Err none, (Err none, page, refl), (refl, same))
   of_forms p [] end (Ok here, page, e) = absurd cc
   of_forms p (x ∷ forms) end (to, (Err none, page, e), rest) = absurd cc
-  of_forms p (x ∷ forms) end (to, (Ok here, page, e), rest) = (Ok here, page, inl (refl, (to, (Ok here, page, e), rest)))
+  of_forms p (x ∷ forms) end (to, (Ok here, page, e), rest) = (Ok p, (Ok here, page, refl), (to, (Ok here, page, e), rest))
 
   form_step : (p : ℕ) (item : FormItem) (to : ℕ) → IsForm file p (goes_on item to) → to ≡ item.page + 1
   form_step p item to (Err none, page, e) = absurd cc
@@ -234,8 +248,12 @@ pub form_tail_of_page : FormTailOfPage
 form_tail_of_page file p forms end = (to_forms file p forms end, of_forms file p forms end)
 
 pub form_tails_go_on : FormTailsGoOn
-form_tails_go_on file at all end n item tail there =
-    let was = begun_of_forms file at all end tail in
-    let split = split_at_number (IsForm file) was.0 all end n item was.2 there in
+form_tails_go_on file at all end n item (Err none, begins, is) there =
+    absurd (nothing (subst (λ (l : List FormItem). slice_get l n ≡ Some item) is.0 there))
+  where
+    nothing : (let forms : List FormItem = [] in slice_get forms n) ≡ Some item → ⊥
+    nothing e = cc
+form_tails_go_on file at all end n item (Ok from, begins, are) there =
+    let split = split_at_number (IsForm file) from 0 all all end n item are refl there in
     of_forms file (item.page + 1) (drop (n + 1) all) end
     (subst (λ (p : ℕ). AreFrom (IsForm file) p (drop (n + 1) all) end) (form_step file split.at item split.to split.step) split.rest)
