@@ -15,22 +15,28 @@ pub record IsOneAnswer {A : Type 0} (holds : A → Type 0) : Type 0 where
   pub is : holds it
   pub one : (other : A) → holds other → other ≡ it
 
-pub same_answer : {A : Type 0} {holds : A → Type 0} → IsOneAnswer holds → (x y : A) → holds x → holds y → x ≡ y
+-- there is one answer at most
+abbrev pub IsSingle : {A : Type 0} → (A → Type 0) → Type 0
+IsSingle {A} holds = (x y : A) → holds x → holds y → x ≡ y
+
+pub same_answer : {A : Type 0} {holds : A → Type 0} → IsOneAnswer holds → IsSingle holds
 same_answer only x y is is_too = only.one x is ∙ sym (only.one y is_too)
+
+-- steps that are the same have the same item and lead to the same place
+pub step_parts : {S A : Type 0} (x y : A) (to place : S) → ◌≡◌ {A = Step A S} (goes_on x to) (goes_on y place) → (x ≡ y) × (to ≡ place)
+step_parts x y to place same = (cc same, cc same)
 
 pub same_step : {S A : Type 0} {next : Step A S → Type 0} → IsOneAnswer next → (x y : A) (to place : S)
     → next (goes_on x to) → next (goes_on y place) → (x ≡ y) × (to ≡ place)
-same_step {S} {A} only x y to place is is_too =
-    let same = same_answer only (goes_on x to) (goes_on y place) is is_too in
-    (ap (item_of x) same, ap (place_of to) same)
-  where
-    item_of : A → Step A S → A
-    item_of other (ends_as end) = other
-    item_of other (goes_on item to) = item
+same_step only x y to place is is_too = step_parts x y to place (same_answer only (goes_on x to) (goes_on y place) is is_too)
 
-    place_of : S → Step A S → S
-    place_of other (ends_as end) = other
-    place_of other (goes_on item to) = to
+-- what is one list with one end is single
+pub two_of : {A E : Type 0} {holds : List A → E → Type 0} → IsOne holds → (items others : List A) (end other : E) → holds items end
+    → holds others other → (items ≡ others) × (end ≡ other)
+two_of one items others end other is is_too =
+    let first = one.one items end is in
+    let second = one.one others other is_too in
+    (first.0 ∙ sym second.0, first.1 ∙ sym second.1)
 
 -- what is handed out from a place on, if something is
 pub record IsListed {S A : Type 0} (next : S → Step A S → Type 0) (at : S) : Type 0 where
@@ -38,23 +44,24 @@ pub record IsListed {S A : Type 0} (next : S → Step A S → Type 0) (at : S) :
   pub end : End
   pub is : AreFrom next at items end
 
+-- where each place has at most one answer, two lists from a place on are one
+pub single_from : {S A : Type 0} (next : S → Step A S → Type 0) → ((at : S) → IsSingle (next at)) → (at : S) (items others : List A)
+    (end other : End) → AreFrom next at items end → AreFrom next at others other → (items ≡ others) × (end ≡ other)
+single_from next single at [] [] end other first second =
+    let same = single at (ends_as end) (ends_as other) first second in (refl, cc)
+single_from next single at [] (y ∷ others) end other first (to, second, rest) =
+    let same = single at (ends_as end) (goes_on y to) first second in absurd cc
+single_from next single at (x ∷ items) [] end other (to, first, rest) second =
+    let same = single at (goes_on x to) (ends_as other) first second in absurd cc
+single_from {S} {A} next single at (x ∷ items) (y ∷ others) end other (to, first, rest) (to', second, rest') =
+    let same = step_parts x y to to' (single at (goes_on x to) (goes_on y to') first second) in
+    let later = single_from next single to' items others end other (subst (λ (p : S). AreFrom next p items end) same.1 rest) rest' in
+    (ap (λ (i : A). i ∷ items) same.0 ∙ ap (λ (l : List A). y ∷ l) later.0, later.1)
+
 module _ {S A : Type 0} (next : S → Step A S → Type 0) (answers : (at : S) → IsOneAnswer (next at)) where
-  -- two lists from a place on are one
   pub one_from : (at : S) (items others : List A) (end other : End) → AreFrom next at items end → AreFrom next at others other
       → (items ≡ others) × (end ≡ other)
-  one_from at [] [] end other is is_too =
-      let same = same_answer (answers at) (ends_as end) (ends_as other) is is_too in
-      (refl, cc)
-  one_from at [] (y ∷ others) end other is (to, is_too, rest) =
-      let same = same_answer (answers at) (ends_as end) (goes_on y to) is is_too in
-      absurd cc
-  one_from at (x ∷ items) [] end other (to, is, rest) is_too =
-      let same = same_answer (answers at) (ends_as other) (goes_on x to) is_too is in
-      absurd cc
-  one_from at (x ∷ items) (y ∷ others) end other (to, is, rest) (to', is_too, rest') =
-      let same = same_step (answers at) x y to to' is is_too in
-      let later = one_from to' items others end other (rw same.1 at rest) rest' in
-      (ap (λ (i : A). i ∷ items) same.0 ∙ ap (λ (l : List A). y ∷ l) later.0, later.1)
+  one_from = single_from next (λ at. same_answer (answers at))
 
   -- as many items lead to one place
   pub one_led : (at : S) (items others : List A) (to another : S) → length items ≡ length others → LeadTo next at items to
