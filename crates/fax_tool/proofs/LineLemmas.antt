@@ -23,7 +23,7 @@ use Rattle.fax_walk.specs.views.Pages.{PagesView, HandsOutPage, IsCursorOf as Is
 use Rattle.fax_walk.specs.laws.Tails.{BeginningsHaveOneTail, CursorsHaveOneFormTail}
 use Rattle.fax_walk.specs.Pages.{FormItem, IsFormTail}
 use Rattle.fax_walk.specs.Items.{RowItem as Item, RowPlace as Place, IsTailFrom, begun_cursor, cursor_after, exchanged}
-use Rattle.fax_walk.specs.Items.{Inner, first_at, long_after}
+use Rattle.fax_walk.specs.Items.{Inner, long_after, long_at, place_after}
 use Rattle.fax_tool.specs.Run.{AreRowLines, ArePageLines}
 use Rattle.fax_tool.proofs.BeginLemmas.{begun_at}
 use Rattle.fax_tool.specs.Text.{Line, line_of_page, line_of_row, next_after, page_line_of, row_line_of}
@@ -49,40 +49,18 @@ pub none_given : {tail : List Line → End → Type 0} (begun : Begun) → IsOne
     → IsNextAfter tail begun given begun
 none_given begun one given none = rw none (record { lines = one.items; end = one.end; is = one.is; within = omega arith; next_is = refl })
 
--- the place inside a strip at a place, as a long cursor names it, if its bits have 32 bits
-abbrev long_at : ℕ → ℕ → Option Inner → Option LongPlace
-long_at p r None = None
-long_at p r (Some inner) =
-    if nat_lt inner.bits (2 ^ 32) then (Some (record {
-      at = record { page = p; row = r };
-      bits = inner.bits;
-      runs = runs_of inner.reference;
-    })) else None
-
-abbrev long_at_place : Place → Option LongPlace
-long_at_place at = long_at at.page at.row at.inner
-
--- the place inside its strip after an item
-abbrev inner_after : PageForm → Item → Place
-inner_after form item =
-    record { page = item.page; row = item.row + 1; inner = Some (record { bits = item.bits; reference = exchanged form item.pels }) }
-
 begins_if : (test : Bool) (place : LongPlace) (at : Cursor) → place.at ≡ at
     → begun_cursor (begun_at (if test then Some place else None) at) ≡ at
 begins_if true place at same = same
 begins_if false place at same = refl
 
--- the cursor of what goes on after a row is the one after it: on the page after, at the page's next strip, or inside its strip
-after_tests : (form : PageForm) (item : Item) (within first : Bool)
-    → begun_cursor (begun_at (long_at_place (if within then (if first then first_at item.page (item.row + 1) else inner_after form item)
-    else first_at (item.page + 1) 0)) (cursor_after item)) ≡ cursor_after item
-after_tests form item true true = refl
-after_tests form item true false = begins_if _ _ (cursor_after item) refl
-after_tests form item false first = refl
+-- the cursor of what goes on after a row is the one after it
+begins_at : (at : Cursor) (inner : Option Inner) → begun_cursor (begun_at (long_at at inner) at) ≡ at
+begins_at at None = refl
+begins_at at (Some inner) = begins_if (nat_lt inner.bits (2 ^ 32)) _ at refl
 
 pub begins_after : (item : Item) → begun_cursor (begun_at (long_after item) (cursor_after item)) ≡ cursor_after item
-begins_after item =
-    after_tests item.form item (nat_lt (item.row + 1) item.form.rows) ((item.row + 1) % item.form.rows_per_strip == 0)
+begins_after item = begins_at (cursor_after item) (place_after item).inner
 
 module _ (file : List ℕ) where
   pub row_lines : (begun : Begun) (items : List Item) (end : End) → IsTailFrom file begun items end

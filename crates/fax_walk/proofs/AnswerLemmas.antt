@@ -1,11 +1,10 @@
 -- What is converted has one output or one fault, and what is checked has one report.
-use Rattle.std.proofs.Common.{◌≡◌, ℕ, ◌+◌, ◌*◌, List, [], ◌∷◌, length, Option, Some, None, Result, Ok, Err, Bool, true, false}
+use Rattle.std.proofs.Common.{◌≡◌, ℕ, ◌+◌, ◌*◌, List, length, Option, Some, None, Result, Ok, Err, Bool, true, false}
 use Rattle.std.proofs.Common.{refl, ap, sym, ◌∙◌, subst, arith, inl, inr, codes}
 use Rattle.std.specs.Prelude.{◌==◌, ◌&&◌, flat_map, slice_get, map, if◌then◌else◌, not}
 use Rattle.std.proofs.lemmas.Bool.Decides.{nat_tests}
 use Rattle.fax_bits.specs.Bits.{bits, BeginsWith}
 use Rattle.fax_bits.specs.declared.Colour.{Colour}
-use Rattle.fax_bits.specs.laws.Codes.{IsOne}
 use Rattle.fax_files.specs.declared.FileFault.{FileFault}
 use Rattle.fax_files.specs.declared.Cause.{Cause}
 use Rattle.fax_files.specs.declared.Cause.TheVariants.{Strip}
@@ -22,7 +21,6 @@ use Rattle.fax_page.specs.declared.notes.StripNotes.{StripNotes}
 use Rattle.fax_page.specs.Strip.{IsNotedAs}
 use Rattle.fax_page.specs.views.Strip.{IsStrip}
 use Rattle.fax_page.specs.laws.Strips.{ReadsStripsOneWay, StripsAreNotedInOneWay}
-use Rattle.fax_walk.specs.declared.cursor.Cursor.{Cursor}
 use Rattle.fax_walk.specs.declared.end.End.{End}
 use Rattle.fax_walk.specs.declared.end.End.TheVariants.{Fault, Outside, Proper}
 use Rattle.fax_walk.specs.declared.options.ConvertFault.{ConvertFault}
@@ -30,29 +28,17 @@ use Rattle.fax_walk.specs.declared.options.ConvertFault.TheVariants as Refused
 use Rattle.fax_walk.specs.declared.options.Options.{Options}
 use Rattle.fax_walk.specs.declared.walk.Place.{Place}
 use Rattle.fax_walk.specs.Converted.{IsConverted, IsNotConverted, IsSource, IsTiff, IsTooLarge, SourcePage, pages_of, target_bytes}
-use Rattle.fax_walk.specs.Pages.{AreFrom, FilePage, IsOnPage}
+use Rattle.fax_walk.specs.Pages.{AreFrom, FilePage}
 use Rattle.fax_walk.specs.Report.{IsNoted, IsReportedEnd, IsStripNoted, notes_on_strip, note_if}
 use Rattle.fax_walk.specs.Items.{AreItems, RowItem}
 use Rattle.fax_walk.specs.code.Opening.{IsPageUnder, page_or_end, page_over}
 use Rattle.fax_walk.specs.laws.Answers.{BytesAreConvertedInOneWay, FilesHaveOneReport}
 use Rattle.fax_walk.specs.laws.Tails.{FilesHaveOneForms, FilesHaveOneItems}
-use Rattle.fax_walk.proofs.InOrderLemmas.{same_answer}
-use Rattle.fax_walk.proofs.PageLawLemmas.{one_page}
+use Rattle.fax_walk.proofs.InOrderLemmas.{IsSingle, single_from, two_of}
+use Rattle.fax_walk.proofs.PageLawLemmas.{single_on_page}
 use Rattle.fax_walk.proofs.ReadBackLemmas.{not_both}
-use Rattle.fax_walk.specs.Pages.{Step, goes_on, ends_as}
+use Rattle.fax_walk.specs.Pages.{goes_on, ends_as}
 use Rattle.fax_walk.specs.declared.checking.NoteKind.TheVariants.{EntriesOutOfOrder}
-
--- two of which one thing holds are the same
-abbrev IsSingle : {A : Type 0} → (A → Type 0) → Type 0
-IsSingle {A} holds = (x y : A) → holds x → holds y → x ≡ y
-
--- what is one list with one end is single
-two_of : {A E : Type 0} {holds : List A → E → Type 0} → IsOne holds → (items others : List A) (end other : E) → holds items end
-    → holds others other → (items ≡ others) × (end ≡ other)
-two_of one items others end other is is_too =
-    let first = one.one items end is in
-    let second = one.one others other is_too in
-    (first.0 ∙ sym second.0, first.1 ∙ sym second.1)
 
 -- the fault of a source whose rows end so
 abbrev source_fault : End → ConvertFault
@@ -190,51 +176,6 @@ module _ (chains : FilesHaveOneChain) (file : List ℕ) where
   one_end (Fault p r cause) pages others fault other first second = (first.0 ∙ sym second.0, first.1 ∙ sym second.1)
   one_end Outside pages others fault other first second = absurd first
 
-  -- what is single on each page is single on the page that a cursor names
-  single_on_page : {A : Type 0} (at : Cursor) (asked : FilePage → A → Type 0) (ended : End → A) → ((here : FilePage) → IsSingle (asked here))
-      → IsSingle (λ (x : A). IsOnPage file at (λ here. asked here x) (λ end. x ≡ ended end))
-  single_on_page at asked ended single x y (Err end, page_is, is) (Err other, page_is', is') =
-      let same : ◌≡◌ {A = Result FilePage End} (Err end) (Err other) =
-      same_answer (one_page chains file at) (Err end) (Err other) page_is page_is' in
-      let ends : end ≡ other = cc in
-      is ∙ ap ended ends ∙ sym is'
-  single_on_page at asked ended single x y (Err end, page_is, is) (Ok there, page_is', is') =
-      let same : ◌≡◌ {A = Result FilePage End} (Err end) (Ok there) =
-      same_answer (one_page chains file at) (Err end) (Ok there) page_is page_is' in
-      absurd cc
-  single_on_page at asked ended single x y (Ok here, page_is, is) (Err other, page_is', is') =
-      let same : ◌≡◌ {A = Result FilePage End} (Ok here) (Err other) =
-      same_answer (one_page chains file at) (Ok here) (Err other) page_is page_is' in
-      absurd cc
-  single_on_page at asked ended single x y (Ok here, page_is, is) (Ok there, page_is', is') =
-      let same : ◌≡◌ {A = Result FilePage End} (Ok here) (Ok there) =
-      same_answer (one_page chains file at) (Ok here) (Ok there) page_is page_is' in
-      let pages : there ≡ here = cc in
-      single here x y is (subst (λ (h : FilePage). asked h y) pages is')
-
--- where each place has at most one answer, two lists from a place on are one
-single_from : {S A : Type 0} (next : S → Step A S → Type 0) → ((at : S) → IsSingle (next at)) → (at : S)
-    (items others : List A) (end : End) → AreFrom next at items end → AreFrom next at others end → items ≡ others
-single_from next single at [] [] end first second = refl
-single_from next single at [] (y ∷ others) end first (to, second, rest) =
-    let same = single at (ends_as end) (goes_on y to) first second in absurd cc
-single_from next single at (x ∷ items) [] end (to, first, rest) second =
-    let same = single at (goes_on x to) (ends_as end) first second in absurd cc
-single_from {S} {A} next single at (x ∷ items) (y ∷ others) end (to, first, rest) (to', second, rest') =
-    let same : ◌≡◌ {A = Step A S} (goes_on x to) (goes_on y to') = single at (goes_on x to) (goes_on y to') first second in
-    let item : x ≡ y = ap item_of same in
-    let place : to ≡ to' = ap place_of same in
-    let later = single_from next single to' items others end (subst (λ (p : S). AreFrom next p items end) place rest) rest' in
-    ap (λ (i : A). i ∷ items) item ∙ ap (λ (l : List A). y ∷ l) later
-  where
-    item_of : Step A S → A
-    item_of (goes_on item to) = item
-    item_of (ends_as end) = x
-
-    place_of : Step A S → S
-    place_of (goes_on item to) = to
-    place_of (ends_as end) = to
-
 module _ (strips_once : (form : StripForm) → ReadsStripsOneWay form) (noted_once : StripsAreNotedInOneWay) where
   -- a strip that has notes has no fault
   noted_or_fault : (form : StripForm) (b : List Bool) (rows others : List (List Colour)) (found : StripNotes) (fault : StripFault)
@@ -284,9 +225,9 @@ module _ (strips_once : (form : StripForm) → ReadsStripsOneWay form) (noted_on
       let end_is = subst (λ (e : End). IsReportedEnd file e other.pages other.fault) (sym rows.1) second.end_is in
       let ends = one_end chains file first.end report.pages other.pages report.fault other.fault first.end_is end_is in
       let noted = subst (λ (e : End). AreFrom (IsNoted file) (0, None) second.notes e) (sym rows.1) second.noted in
-      let notes = single_from (IsNoted file) (single_noted chains file) (0, None) first.notes second.notes first.end first.noted noted in
+      let notes = single_from (IsNoted file) (single_noted chains file) (0, None) first.notes second.notes first.end first.end first.noted noted in
       record {
-        notes = first.notes_are ∙ ap (λ l. flat_map (λ own. own) l) notes ∙ sym second.notes_are;
+        notes = first.notes_are ∙ ap (λ l. flat_map (λ own. own) l) notes.0 ∙ sym second.notes_are;
         pages = ends.0;
         rows = first.rows_are ∙ ap (λ l. length l) rows.0 ∙ sym second.rows_are;
         fault = ends.1;

@@ -3,7 +3,7 @@ use Rattle.std.proofs.Common.{◌≡◌, ℕ, ◌+◌, ◌<◌, ◌≤◌, Bool,
 use Rattle.std.proofs.Common.{ap, ◌∙◌, arith}
 use Rattle.std.proofs.lemmas.Bool.Decides.{nat_tests}
 use Rattle.std.specs.Prelude.{slice_get, ◌==◌, ◌&&◌, if◌then◌else◌}
-use Rattle.std.proofs.lemmas.Option.{slice_get_past, slice_get_cases, slice_get_within}
+use Rattle.std.proofs.lemmas.Option.{slice_get_past, slice_get_within}
 use Rattle.fax_files.specs.declared.FileFault.{FileFault}
 use Rattle.fax_files.specs.declared.Cause.TheVariants.{File}
 use Rattle.fax_files.specs.declared.PageForm.{PageForm}
@@ -19,14 +19,7 @@ use Rattle.fax_walk.specs.Pages.{IsPageAt}
 use Rattle.fax_walk.specs.code.Opening.{end_past_chain, page_or_end}
 use Rattle.fax_walk.specs.code.Opening.{EndsAt, IsChainBefore, IsFilePage, IsNamed, IsNoPage, IsPageAnswer, IsPageDue, PageDue, page_with}
 use Rattle.fax_walk.proofs.OpeningLemmas.{due_some, due_none, due_fault}
-use Rattle.fax_walk.proofs.PageLawLemmas.{page_here, proper_end}
-
--- past the end of a list there is no element
-pub none_past : (offsets : List ℕ) (i : ℕ) → slice_get offsets i ≡ None → length offsets ≤ i
-none_past offsets i none = elim (slice_get_cases offsets i).1 [
-  | inl (q, within, some, same) ↦ absurd (cc (none, some))
-  | inr past ↦ past.0
-]
+use Rattle.fax_walk.proofs.PageLawLemmas.{none_past, page_here, proper_end}
 
 -- after more pages than a chain has, all is outside
 outside_past : (pages : ℕ) (at : Cursor) → pages < at.page → end_past_chain pages None at ≡ Outside

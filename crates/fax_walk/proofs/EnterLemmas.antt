@@ -1,10 +1,9 @@
 -- A walk that enters its first page.
-use Rattle.std.proofs.Common.{◌≡◌, ℕ, ◌*◌, ◌<◌, ◌≤◌, ◌⊎◌, inl, inr, true, false, List, [], drop, Some, Result, Ok, Err, refl, sym}
+use Rattle.std.proofs.Common.{◌≡◌, ℕ, ◌*◌, ◌<◌, ◌≤◌, ◌⊎◌, inl, inr, List, [], drop, Some, Result, Ok, Err, refl, sym}
 use Rattle.std.proofs.Common.{◌∙◌, zero, suc, arith}
 use Rattle.std.proofs.Math.Nat.{div-add-mod}
 use Rattle.std.proofs.lemmas.Bool.{cases_lt}
-use Rattle.std.proofs.lemmas.Bool.Decides.{nat_tests}
-use Rattle.std.specs.Prelude.{IfOk, IfErr, OnOk, nat_lt, ◌==◌}
+use Rattle.std.specs.Prelude.{IfOk, IfErr, OnOk}
 use Rattle.fax_walk.specs.declared.begun.Begun.{Begun}
 use Rattle.fax_walk.specs.declared.begun.Begun.TheVariants.{At, Inside}
 use Rattle.fax_walk.specs.declared.cursor.Cursor.{Cursor}
@@ -12,15 +11,14 @@ use Rattle.fax_walk.specs.declared.end.End.{End}
 use Rattle.fax_walk.specs.declared.opening.OpenFault.{OpenFault}
 use Rattle.fax_walk.specs.declared.opening.OpenFault.TheVariants.{Memory, Ended}
 use Rattle.fax_walk.specs.Pages.{LongPlace}
-use Rattle.fax_walk.specs.views.Walk.{EndsBefore}
+use Rattle.fax_walk.specs.views.Walk.{Begins, EndsBefore}
 use Rattle.fax_walk.specs.Items.{IsInnerOn, IsRow, RowItem, RowPlace, begun_cursor, first_at, inner_at}
 use Rattle.fax_walk.specs.code.Places.{row_in_strip, strip_at}
-use Rattle.fax_walk.specs.code.Places.{Begins}
 use Rattle.fax_walk.specs.code.Opening.{EndsAt, IsFilePage, IsNamed, PageDue, page_with}
 use Rattle.fax_walk.specs.code.Stages.{IsNoInner, IsNoStrip, IsOpenedAt, IsRefusal, PageState}
 use Rattle.fax_walk.specs.code.Walk.{HasNoRows, IsOpenedFirst}
 use Rattle.fax_walk.specs.Pages.{ends_as}
-use Rattle.fax_walk.proofs.TailLemmas.{before_begun, tail_of_begun}
+use Rattle.fax_walk.proofs.TailLemmas.{begins_in, begins_after, begins_past}
 
 none_dropped : (n : ℕ) → drop n (let items : List RowItem = [] in items) ≡ []
 none_dropped zero = refl
@@ -29,18 +27,24 @@ none_dropped (suc n) = refl
 -- a walk that begins at no place of the file
 no_beginning : (file : List ℕ) (begun : Begun) (end : End) → Begins file begun (Err end) → HasNoRows file begun end
 no_beginning file begun end begins = record {
-  tail = tail_of_begun file begun [] end (Err end, begins, (refl, refl));
-  read = record { before = 0; are_before = before_begun file begun (Err end) begins; most = omega arith; all = λ some. omega arith; told = λ told is. inl refl };
+  tail = (Err end, begins, (refl, refl));
+  read = record {
+    before = 0;
+    are_before = (Err end, begins, refl);
+    most = omega arith;
+    all = λ some. omega arith;
+    told = λ told is. inl refl;
+  };
 }
 
 -- a walk whose first place has no row
 no_row : (file : List ℕ) (begun : Begun) (end : End) (at : RowPlace) (n : ℕ) → Begins file begun (Ok (at, n)) → IsRow file at (ends_as end)
     → (n ≡ 0) ⊎ EndsBefore end (begun_cursor begun) → HasNoRows file begun end
 no_row file begun end at n begins stop before = record {
-  tail = tail_of_begun file begun [] end (Ok (at, n), begins, ([], stop, sym (none_dropped n)));
+  tail = (Ok (at, n), begins, ([], stop, sym (none_dropped n)));
   read = record {
     before = n;
-    are_before = before_begun file begun (Ok (at, n)) begins;
+    are_before = (Ok (at, n), begins, refl);
     most = omega arith;
     all = λ some. absurd (omega (arith, some));
     told = λ told is. elim before [
@@ -53,10 +57,7 @@ no_row file begun end at n begins stop before = record {
 module _ (file : List ℕ) (at : Cursor) where
   ends_at : (end : End) → EndsAt file at end → Begins file (At at) (Err end)
   ends_at end (inl none) = (Err end, none, refl)
-  ends_at end (inr (here, page, above, end_is)) =
-      let below : nat_lt at.row here.form.rows ≡ false = grind (arith, nat_tests, above) in
-      let last : (at.row == here.form.rows) ≡ false = grind (arith, nat_tests, above) in
-      (Ok here, page, rw (below, last, end_is) refl)
+  ends_at end (inr (here, page, above, end_is)) = rw end_is (begins_past file at here page above)
 
   pub no_page : (end : End) → EndsAt file at end → HasNoRows file (At at) end
   no_page end ends = no_beginning file (At at) end (ends_at end ends)
@@ -66,9 +67,7 @@ module _ (file : List ℕ) (at : Cursor) where
     here r = first_at due.page (strip_at due.form r * due.form.rows_per_strip)
 
     begins_on : at.row < due.form.rows → Begins file (At at) (Ok (here at.row, row_in_strip due.form at.row))
-    begins_on below =
-        let test : nat_lt at.row due.form.rows ≡ true = grind (arith, nat_tests, below) in
-        (Ok (page_with due.directory due.form), named.3, rw (test, named.1) refl)
+    begins_on below = rw named.1 (begins_in file at (page_with due.directory due.form) named.3 below)
 
     pub opened_on : at.row < due.form.rows → (result : Result PageState OpenFault)
         → IfOk result (IsOpenedAt due.directory.file (here at.row) (row_in_strip due.form at.row) 0)
@@ -99,9 +98,8 @@ module _ (file : List ℕ) (at : Cursor) where
       begins_next : due.form.rows ≤ at.row → Begins file (At at) (Ok (first_at due.chain.given 0, 0))
       begins_next past =
           let within = named.2 in
-          let below : nat_lt at.row due.form.rows ≡ false = grind (arith, nat_tests, past) in
-          let last : (at.row == due.form.rows) ≡ true = grind (arith, nat_tests, past, within) in
-          (Ok (page_with due.directory due.form), named.3, rw (below, last, its.after.given, named.1) refl)
+          rw (its.after.given, named.1)
+          (begins_after file at (page_with due.directory due.form) named.3 (omega (arith, past, within)))
 
       its_file : due.chain.tiff.file ≡ file
       its_file = its.after.file_is ∙ named.0

@@ -1,11 +1,10 @@
 -- What is handed out in order: one answer at each place makes one list, and what follows an item begins after it.
-use Rattle.std.proofs.Common.{◌≡◌, ℕ, zero, suc, ◌+◌, List, [], ◌∷◌, ◌++◌, length, take, drop, Some, Result, Ok, Err, refl, sym, ap, ◌∙◌}
+use Rattle.std.proofs.Common.{◌≡◌, ℕ, zero, suc, ◌+◌, List, [], ◌∷◌, ◌++◌, length, take, drop, Some, refl, sym, ap, ◌∙◌}
 use Rattle.std.proofs.Common.{subst, arith, append_assoc}
 use Rattle.std.proofs.lemmas.List.{take-append-drop}
 use Rattle.std.specs.Prelude.{slice_get}
 use Rattle.fax_walk.specs.declared.end.End.{End}
 use Rattle.fax_walk.specs.Pages.{AreFrom}
-use Rattle.fax_walk.specs.code.Places.{AreBegun}
 use Rattle.fax_walk.specs.laws.InOrder.{LeadTo}
 use Rattle.fax_bits.specs.laws.Codes.{IsOne}
 use Rattle.fax_walk.specs.Pages.{Step, goes_on, ends_as}
@@ -16,22 +15,28 @@ pub record IsOneAnswer {A : Type 0} (holds : A → Type 0) : Type 0 where
   pub is : holds it
   pub one : (other : A) → holds other → other ≡ it
 
-pub same_answer : {A : Type 0} {holds : A → Type 0} → IsOneAnswer holds → (x y : A) → holds x → holds y → x ≡ y
+-- there is one answer at most
+abbrev pub IsSingle : {A : Type 0} → (A → Type 0) → Type 0
+IsSingle {A} holds = (x y : A) → holds x → holds y → x ≡ y
+
+pub same_answer : {A : Type 0} {holds : A → Type 0} → IsOneAnswer holds → IsSingle holds
 same_answer only x y is is_too = only.one x is ∙ sym (only.one y is_too)
+
+-- steps that are the same have the same item and lead to the same place
+pub step_parts : {S A : Type 0} (x y : A) (to place : S) → ◌≡◌ {A = Step A S} (goes_on x to) (goes_on y place) → (x ≡ y) × (to ≡ place)
+step_parts x y to place same = (cc same, cc same)
 
 pub same_step : {S A : Type 0} {next : Step A S → Type 0} → IsOneAnswer next → (x y : A) (to place : S)
     → next (goes_on x to) → next (goes_on y place) → (x ≡ y) × (to ≡ place)
-same_step {S} {A} only x y to place is is_too =
-    let same = same_answer only (goes_on x to) (goes_on y place) is is_too in
-    (ap (item_of x) same, ap (place_of to) same)
-  where
-    item_of : A → Step A S → A
-    item_of other (ends_as end) = other
-    item_of other (goes_on item to) = item
+same_step only x y to place is is_too = step_parts x y to place (same_answer only (goes_on x to) (goes_on y place) is is_too)
 
-    place_of : S → Step A S → S
-    place_of other (ends_as end) = other
-    place_of other (goes_on item to) = to
+-- what is one list with one end is single
+pub two_of : {A E : Type 0} {holds : List A → E → Type 0} → IsOne holds → (items others : List A) (end other : E) → holds items end
+    → holds others other → (items ≡ others) × (end ≡ other)
+two_of one items others end other is is_too =
+    let first = one.one items end is in
+    let second = one.one others other is_too in
+    (first.0 ∙ sym second.0, first.1 ∙ sym second.1)
 
 -- what is handed out from a place on, if something is
 pub record IsListed {S A : Type 0} (next : S → Step A S → Type 0) (at : S) : Type 0 where
@@ -39,23 +44,24 @@ pub record IsListed {S A : Type 0} (next : S → Step A S → Type 0) (at : S) :
   pub end : End
   pub is : AreFrom next at items end
 
+-- where each place has at most one answer, two lists from a place on are one
+pub single_from : {S A : Type 0} (next : S → Step A S → Type 0) → ((at : S) → IsSingle (next at)) → (at : S) (items others : List A)
+    (end other : End) → AreFrom next at items end → AreFrom next at others other → (items ≡ others) × (end ≡ other)
+single_from next single at [] [] end other first second =
+    let same = single at (ends_as end) (ends_as other) first second in (refl, cc)
+single_from next single at [] (y ∷ others) end other first (to, second, rest) =
+    let same = single at (ends_as end) (goes_on y to) first second in absurd cc
+single_from next single at (x ∷ items) [] end other (to, first, rest) second =
+    let same = single at (goes_on x to) (ends_as other) first second in absurd cc
+single_from {S} {A} next single at (x ∷ items) (y ∷ others) end other (to, first, rest) (to', second, rest') =
+    let same = step_parts x y to to' (single at (goes_on x to) (goes_on y to') first second) in
+    let later = single_from next single to' items others end other (subst (λ (p : S). AreFrom next p items end) same.1 rest) rest' in
+    (ap (λ (i : A). i ∷ items) same.0 ∙ ap (λ (l : List A). y ∷ l) later.0, later.1)
+
 module _ {S A : Type 0} (next : S → Step A S → Type 0) (answers : (at : S) → IsOneAnswer (next at)) where
-  -- two lists from a place on are one
   pub one_from : (at : S) (items others : List A) (end other : End) → AreFrom next at items end → AreFrom next at others other
       → (items ≡ others) × (end ≡ other)
-  one_from at [] [] end other is is_too =
-      let same = same_answer (answers at) (ends_as end) (ends_as other) is is_too in
-      (refl, cc)
-  one_from at [] (y ∷ others) end other is (to, is_too, rest) =
-      let same = same_answer (answers at) (ends_as end) (goes_on y to) is is_too in
-      absurd cc
-  one_from at (x ∷ items) [] end other (to, is, rest) is_too =
-      let same = same_answer (answers at) (ends_as other) (goes_on x to) is_too is in
-      absurd cc
-  one_from at (x ∷ items) (y ∷ others) end other (to, is, rest) (to', is_too, rest') =
-      let same = same_step (answers at) x y to to' is is_too in
-      let later = one_from to' items others end other (rw same.1 at rest) rest' in
-      (ap (λ (i : A). i ∷ items) same.0 ∙ ap (λ (l : List A). y ∷ l) later.0, later.1)
+  one_from = single_from next (λ at. same_answer (answers at))
 
   -- as many items lead to one place
   pub one_led : (at : S) (items others : List A) (to another : S) → length items ≡ length others → LeadTo next at items to
@@ -74,20 +80,6 @@ module _ {S A : Type 0} (next : S → Step A S → Type 0) (answers : (at : S) �
     is = listed.is;
     one = λ others other is. one_from at others listed.items other listed.end is listed.is;
   }
-
-  -- the same from a beginning
-  pub one_begun : (begin : Result (S × ℕ) End) → ((at : S) (n : ℕ) → begin ≡ Ok (at, n) → IsListed next at) → IsOne (AreBegun next begin)
-  one_begun (Err none) listed = record { items = []; end = none; is = (refl, refl); one = λ others other is. is }
-  one_begun (Ok (at, n)) listed =
-      let all = one_list at (listed at n refl) in
-      record {
-        items = drop n all.items;
-        end = all.end;
-        is = (all.items, all.is, refl);
-        one = λ others other is.
-            let same = all.one is.0 other is.1 in
-            (is.2 ∙ ap (drop n) same.0, same.1);
-      }
 
 module _ {S A : Type 0} (next : S → Step A S → Type 0) where
   -- the first items of what is handed out lead to a place, and the others are handed out from there
@@ -128,7 +120,7 @@ module _ {S A : Type 0} (next : S → Step A S → Type 0) where
   kept holds keeps at to (x ∷ items) (place, step, leads) here = kept holds keeps place to items leads (keeps at x place here step)
 
 -- what stands after so many elements of a list, of which some are dropped
-get_after : {A : Type 0} (front : List A) (x : A) (more : List A) (n : ℕ) → length front ≡ n → slice_get (front ++ x ∷ more) n ≡ Some x
+pub get_after : {A : Type 0} (front : List A) (x : A) (more : List A) (n : ℕ) → length front ≡ n → slice_get (front ++ x ∷ more) n ≡ Some x
 get_after [] x more zero e = refl
 get_after [] x more (suc n) e = absurd (omega (arith, e))
 get_after (y ∷ front) x more zero e = absurd (omega (arith, e))
@@ -157,10 +149,7 @@ divided_at {A} (y ∷ xs) (suc n) x e =
 
 module _ {S A : Type 0} (next : S → Step A S → Type 0) where
   -- an item, the place where it was read, and what is handed out after it
-  pub record IsSplit (begin : Result (S × ℕ) End) (item : A) (after : List A) (end : End) : Type 0 where
-    pub from : S
-    pub dropped : ℕ
-    pub begin_is : begin ≡ Ok (from, dropped)
+  pub record IsSplit (from : S) (item : A) (after : List A) (end : End) : Type 0 where
     pub front : List A
     pub at : S
     pub lead : LeadTo next from front at
@@ -168,16 +157,10 @@ module _ {S A : Type 0} (next : S → Step A S → Type 0) where
     pub step : next at (goes_on item to)
     pub rest : AreFrom next to after end
 
-  nothing : (n : ℕ) (item : A) → slice_get [] n ≡ Some item → ⊥
-  nothing n item e = cc
-
-  -- item number n and what is handed out after it
-  pub split_at_number : (begin : Result (S × ℕ) End) (all : List A) (end : End) (n : ℕ) (item : A) → AreBegun next begin all end
-      → slice_get all n ≡ Some item
-      → IsSplit begin item (drop (n + 1) all) end
-  split_at_number (Err none) all end n item are there =
-      absurd (nothing n item (subst (λ (l : List A). slice_get l n ≡ Some item) are.0 there))
-  split_at_number (Ok (from, k)) all end n item (whole, are, all_is) there =
+  -- item number n after the first k, and what is handed out after it
+  pub split_at_number : (from : S) (k : ℕ) (whole all : List A) (end : End) (n : ℕ) (item : A) → AreFrom next from whole end
+      → all ≡ drop k whole → slice_get all n ≡ Some item → IsSplit from item (drop (n + 1) all) end
+  split_at_number from k whole all end n item are all_is there =
       let split = divided_at all n item there in
       let after = drop (n + 1) all in
       let front = take k whole ++ split.0 in
@@ -185,14 +168,4 @@ module _ {S A : Type 0} (next : S → Step A S → Type 0) where
       sym (take-append-drop k whole) ∙ ap (λ (l : List A). take k whole ++ l) (sym all_is ∙ split.1)
       ∙ sym (append_assoc (take k whole) split.0 (item ∷ after)) in
       let parts = split_at next from front (item ∷ after) end (subst (λ (l : List A). AreFrom next from l end) e are) in
-      record {
-        from = from;
-        dropped = k;
-        begin_is = refl;
-        front = front;
-        at = parts.0;
-        lead = parts.1;
-        to = parts.2.0;
-        step = parts.2.1;
-        rest = parts.2.2;
-      }
+      record { front = front; at = parts.0; lead = parts.1; to = parts.2.0; step = parts.2.1; rest = parts.2.2 }

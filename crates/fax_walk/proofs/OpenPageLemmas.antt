@@ -28,9 +28,9 @@ use Rattle.fax_walk.specs.declared.opening.OpenFault.{OpenFault}
 use Rattle.fax_walk.specs.declared.opening.OpenFault.TheVariants.{Memory, Ended}
 use Rattle.fax_walk.specs.Pages.{LongPlace}
 use Rattle.fax_walk.specs.Items.{Inner, RowItem, RowPlace, IsRow, before, exchanged, first_at}
-use Rattle.fax_walk.specs.Items.{IsInnerOn, inner_at}
+use Rattle.fax_walk.specs.Items.{IsInnerOn, inner_at, long_at}
 use Rattle.fax_walk.specs.code.Places.{place_over}
-use Rattle.fax_walk.specs.code.Places.{IsInner, long_at}
+use Rattle.fax_walk.specs.code.Places.{IsInner, cursor_at}
 use Rattle.fax_walk.specs.code.Places.{row_in_strip, strip_at}
 use Rattle.fax_walk.specs.code.Places.{place_on}
 use Rattle.fax_walk.specs.Pages.{IsPageAt}
@@ -511,7 +511,7 @@ module _ (due : PageDue) (place : LongPlace) (its : IsFilePage due.page due.chai
 module _ (page : PageState) (limits : IsPageForm page.form) (within : page.number < page.form.strips)
     (strip_is : IsStripOf page.form page.directory page.number page.strip) where
   abbrev long_of : Option LongPlace
-  long_of = let at = place_of page in long_at at.page at.row at.inner
+  long_of = let at = place_of page in long_at (cursor_at at) at.inner
 
   none_first : (p r : ℕ) → place_of page ≡ first_at p r → None ≡ long_of
   none_first p r is = rw is refl

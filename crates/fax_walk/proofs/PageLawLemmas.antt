@@ -1,29 +1,30 @@
 -- What is asked of a file's pages has one answer, and so have its forms.
-use Rattle.std.proofs.Common.{inl, inr, ◌≡◌, ℕ, zero, suc, ◌+◌, List, [], ◌∷◌, length, drop, Option, Some, None, Result, Ok, Err, refl, sym}
+use Rattle.std.proofs.Common.{◌≤◌, ◌⊎◌, inl, inr, ◌≡◌, ℕ, zero, suc, ◌+◌, List, [], ◌∷◌, length, drop, Option, Some, None, Result, Ok, Err, refl, sym}
 use Rattle.std.proofs.Common.{ap, ◌∙◌}
 use Rattle.std.proofs.Common.{subst, arith, true}
-use Rattle.std.specs.Prelude.{slice_get, ◌==◌}
+use Rattle.std.proofs.lemmas.Option.{slice_get_cases, slice_get_within}
+use Rattle.std.specs.Prelude.{MatchResult, slice_get, ◌==◌, nat_le, if◌then◌else◌}
 use Rattle.std.proofs.lemmas.Bool.Decides.{nat_tests}
 use Rattle.fax_files.specs.declared.FileFault.{FileFault}
+use Rattle.fax_files.specs.declared.Cause.{Cause}
 use Rattle.fax_files.specs.declared.Cause.TheVariants.{File}
+use Rattle.fax_files.specs.declared.Endian.{Endian}
 use Rattle.fax_files.specs.declared.PageForm.{PageForm}
 use Rattle.fax_files.specs.Directory.{Header, header, IsChain}
 use Rattle.fax_files.specs.Page.{page}
 use Rattle.fax_files.specs.laws.Files.{FilesHaveOneChain}
 use Rattle.fax_walk.specs.declared.cursor.Cursor.{Cursor}
 use Rattle.fax_walk.specs.declared.end.End.{End}
-use Rattle.fax_walk.specs.declared.end.End.TheVariants.{Fault, Proper}
+use Rattle.fax_walk.specs.declared.end.End.TheVariants.{Fault, Outside, Proper}
 use Rattle.fax_walk.specs.Pages.{AreFrom, FormItem, FilePage}
 use Rattle.fax_walk.specs.code.Opening.{page_over}
 use Rattle.fax_walk.specs.code.Opening.{IsPageUnder}
 use Rattle.fax_walk.specs.Pages.{IsPageAt, IsOnPage, IsForm, IsFormTail}
-use Rattle.fax_walk.specs.code.Pages.{first_form}
 use Rattle.fax_walk.specs.code.Opening.{end_past_chain, page_or_end}
 use Rattle.fax_walk.specs.laws.Tails.{FilesHaveOneForms, CursorsHaveOneFormTail, FormTailOfPage, FormTailOfStart, FormsStandByNumber}
 use Rattle.fax_walk.specs.laws.Tails.{FormTailsGoOn}
-use Rattle.fax_walk.specs.code.Places.{AreBegun}
-use Rattle.fax_walk.proofs.TailLemmas.{begun_of_forms, forms_of_begun}
-use Rattle.fax_walk.proofs.InOrderLemmas.{IsOneAnswer, IsListed, one_list, one_begun, split_at_number}
+use Rattle.fax_bits.specs.laws.Codes.{IsOne}
+use Rattle.fax_walk.proofs.InOrderLemmas.{IsOneAnswer, IsSingle, IsListed, one_list, same_answer, split_at_number, step_parts}
 use Rattle.fax_walk.specs.Pages.{Step, goes_on, ends_as}
 
 -- an equation has one answer
@@ -57,6 +58,57 @@ dropped_at (suc n) (x ∷ xs) y e = let m : suc n + 1 ≡ suc (n + 1) = omega ar
 pub proper_end : (pages : ℕ) → end_past_chain pages None (record { page = pages; row = 0 }) ≡ Proper
 proper_end pages = let test : (pages == pages) ≡ true = grind (arith, nat_tests) in rw test refl
 
+-- past the end of a list there is no element
+pub none_past : (offsets : List ℕ) (i : ℕ) → slice_get offsets i ≡ None → length offsets ≤ i
+none_past offsets i none = elim (slice_get_cases offsets i).1 [
+  | inl (q, within, some, same) ↦ absurd (cc (none, some))
+  | inr past ↦ past.0
+]
+
+-- page p of a file, in the chain of its directories
+pub record IsInChain (file : List ℕ) (p : ℕ) (here : FilePage) : Type 0 where
+  pub head : Header
+  pub is_head : header file ≡ Ok head
+  pub offsets : List ℕ
+  pub fault : Option FileFault
+  pub chain : IsChain head file offsets fault
+  pub there : slice_get offsets p ≡ Some here.offset
+  pub endian : head.endian ≡ here.endian
+  pub fields : page here.endian file here.offset ≡ Ok here.form
+
+pub in_chain : (file : List ℕ) (at : Cursor) (here : FilePage) → IsPageAt file at (Ok here) → IsInChain file at.page here
+in_chain file at here is = under (header file) refl is
+  where
+    of_form : (head : Header) → header file ≡ Ok head → (offsets : List ℕ) (fault : Option FileFault) → IsChain head file offsets fault
+        → (q : ℕ) → slice_get offsets at.page ≡ Some q → (answer : Result PageForm FileFault) → page head.endian file q ≡ answer
+        → Ok here ≡ page_or_end head.endian q at.page answer → IsInChain file at.page here
+    of_form head is_head offsets fault chain q there (Err refused) fields e = absurd cc
+    of_form head is_head offsets fault chain q there (Ok form) fields e =
+        let this : FilePage = record { endian = head.endian; offset = q; form = form } in
+        let same : this ≡ here = cc in
+        subst (IsInChain file at.page) same (record {
+          head = head;
+          is_head = is_head;
+          offsets = offsets;
+          fault = fault;
+          chain = chain;
+          there = there;
+          endian = refl;
+          fields = fields;
+        })
+
+    over : (head : Header) → header file ≡ Ok head → (offsets : List ℕ) (fault : Option FileFault) → IsChain head file offsets fault
+        → (found : Option ℕ) → slice_get offsets at.page ≡ found → Ok here ≡ page_over head.endian file offsets fault at found
+        → IsInChain file at.page here
+    over head is_head offsets fault chain None there e = absurd cc
+    over head is_head offsets fault chain (Some q) there e =
+        of_form head is_head offsets fault chain q there (page head.endian file q) refl e
+
+    under : (answer : Result Header FileFault) → header file ≡ answer → IsPageUnder file at answer (Ok here)
+        → IsInChain file at.page here
+    under (Err fault) is_head e = absurd cc
+    under (Ok head) is_head (offsets, fault, chain, e) = over head is_head offsets fault chain (slice_get offsets at.page) refl e
+
 module _ (chains : FilesHaveOneChain) (file : List ℕ) where
   page_under : (at : Cursor) (answer : Result Header FileFault) → IsOneAnswer (IsPageUnder file at answer)
   page_under at (Err fault) = record { it = Err (Fault 0 0 (File fault)); is = refl; one = λ other same. same }
@@ -74,40 +126,105 @@ module _ (chains : FilesHaveOneChain) (file : List ℕ) where
   pub one_page : (at : Cursor) → IsOneAnswer (IsPageAt file at)
   one_page at = let only = page_under at (header file) in record { it = only.it; is = only.is; one = only.one }
 
-  asked_one : {A : Type 0} (at : Cursor) (asked : FilePage → A → Type 0) (ended : End → A) → ((here : FilePage) → IsOneAnswer (asked here))
-      → (found : Result FilePage End) → IsPageAt file at found
-      → ((other : Result FilePage End) → IsPageAt file at other → other ≡ found)
-      → IsOneAnswer (λ (answer : A). IsOnPage file at (λ here. asked here answer) (λ end. answer ≡ ended end))
-  asked_one {A} at asked ended answers (Err end) is only = record { it = ended end; is = (Err end, is, refl); one = one }
+  -- what is single on each page is single on the page that a cursor names
+  pub single_on_page : {A : Type 0} (at : Cursor) (asked : FilePage → A → Type 0) (ended : End → A)
+      → ((here : FilePage) → IsSingle (asked here)) → IsSingle (λ (x : A). IsOnPage file at (λ here. asked here x) (λ end. x ≡ ended end))
+  single_on_page at asked ended single x y (found, page, is) (other, page', is') =
+      by_page found other (same_answer (one_page at) other found page' page) is is'
     where
-      one : (other : A) → IsOnPage file at (λ here. asked here other) (λ end. other ≡ ended end) → other ≡ ended end
-      one other (Err its, page, e) =
-          let err : ◌≡◌ {A = Result FilePage End} (Err its) (Err end) = only (Err its) page in
-          let same : its ≡ end = cc in e ∙ ap ended same
-      one other (Ok here, page, e) =
-          let none : ◌≡◌ {A = Result FilePage End} (Ok here) (Err end) = only (Ok here) page in absurd cc
-  asked_one {A} at asked ended answers (Ok here) is only =
-      record { it = (answers here).it; is = (Ok here, is, (answers here).is); one = one }
-    where
-      one : (other : A) → IsOnPage file at (λ there. asked there other) (λ end. other ≡ ended end) → other ≡ (answers here).it
-      one other (Err its, page, e) =
-          let none : ◌≡◌ {A = Result FilePage End} (Err its) (Ok here) = only (Err its) page in absurd cc
-      one other (Ok there, page, e) =
-          let ok : ◌≡◌ {A = Result FilePage End} (Ok there) (Ok here) = only (Ok there) page in
-          let same : there ≡ here = cc in (answers here).one other (subst (λ (h : FilePage). asked h other) same e)
+      by_page : (found other : Result FilePage End) → other ≡ found → MatchResult found (λ here. asked here x) (λ end. x ≡ ended end)
+          → MatchResult other (λ here. asked here y) (λ end. y ≡ ended end) → x ≡ y
+      by_page (Err end) (Err other) same is is' = let ends : other ≡ end = cc in is ∙ sym (is' ∙ ap ended ends)
+      by_page (Err end) (Ok there) same is is' = absurd cc
+      by_page (Ok here) (Err other) same is is' = absurd cc
+      by_page (Ok here) (Ok there) same is is' =
+          let pages : there ≡ here = cc in single here x y is (subst (λ (h : FilePage). asked h y) pages is')
 
   -- what has one answer on each page has one on the page that a cursor names
   pub one_on_page : {A : Type 0} (at : Cursor) (asked : FilePage → A → Type 0) (ended : End → A)
       → ((here : FilePage) → IsOneAnswer (asked here))
       → IsOneAnswer (λ (answer : A). IsOnPage file at (λ here. asked here answer) (λ end. answer ≡ ended end))
-  one_on_page at asked ended answers =
-      let found = one_page at in asked_one at asked ended answers found.it found.is found.one
+  one_on_page {A} at asked ended answers = by_page (one_page at).it (one_page at).is
+    where
+      single : IsSingle (λ (x : A). IsOnPage file at (λ here. asked here x) (λ end. x ≡ ended end))
+      single = single_on_page at asked ended (λ here. same_answer (answers here))
+
+      by_page : (found : Result FilePage End) → IsPageAt file at found
+          → IsOneAnswer (λ (answer : A). IsOnPage file at (λ here. asked here answer) (λ end. answer ≡ ended end))
+      by_page (Err end) page = record {
+        it = ended end;
+        is = (Err end, page, refl);
+        one = λ other is. single other (ended end) is (Err end, page, refl);
+      }
+      by_page (Ok here) page = record {
+        it = (answers here).it;
+        is = (Ok here, page, (answers here).is);
+        one = λ other is. single other (answers here).it is (Ok here, page, (answers here).is);
+      }
 
   pub one_form : (p : ℕ) → IsOneAnswer (IsForm file p)
   one_form p =
       let form_of : FilePage → Step FormItem ℕ = λ here. goes_on (record { page = p; form = here.form }) (p + 1) in
       let only = one_on_page (record { page = p; row = 0 }) (λ here step. step ≡ form_of here) ends_as (λ here. only_it (form_of here)) in
       record { it = only.it; is = only.is; one = only.one }
+
+-- page p is due: it is the first one, or the one after a page
+abbrev pub IsDue : List ℕ → ℕ → Type 0
+IsDue file p = (p ≡ 0) ⊎ ((at : Cursor) × (here : FilePage) × IsPageAt file at (Ok here) × (p ≡ at.page + 1))
+
+-- the end in the place of a page that is due: a proper one, or a fault there
+abbrev pub EndsDue : ℕ → End → Type 0
+EndsDue p end = (end ≡ Proper) ⊎ ((cause : Cause) × (end ≡ Fault p 0 cause))
+
+module _ (chains : FilesHaveOneChain) (file : List ℕ) (p : ℕ) (due : IsDue file p) (end : End) where
+  in_due : (head : Header) → header file ≡ Ok head → (offsets : List ℕ) (fault : Option FileFault) → IsChain head file offsets fault
+      → p ≤ length offsets
+  in_due head is_head offsets fault chain = elim due [
+    | inl none ↦ omega (arith, none)
+    | inr (at, here, page, next) ↦
+        let found = in_chain file at here page in
+        let both : ◌≡◌ {A = Result Header FileFault} (Ok found.head) (Ok head) = sym found.is_head ∙ is_head in
+        let heads : found.head ≡ head = cc in
+        let one = chains head file in
+        let same : found.offsets ≡ offsets =
+        (one.one found.offsets found.fault (subst (λ (h : Header). IsChain h file found.offsets found.fault) heads found.chain)).0
+        ∙ sym (one.one offsets fault chain).0 in
+        omega (arith, next, slice_get_within found.offsets at.page here.offset found.there, ap (λ (l : List ℕ). length l) same)
+  ]
+
+  no_fields : (endian : Endian) (q : ℕ) (answer : Result PageForm FileFault) → ◌≡◌ {A = Result FilePage End} (Err end)
+      (page_or_end endian q p answer) → EndsDue p end
+  no_fields endian q (Ok form) e = absurd cc
+  no_fields endian q (Err refused) e = inr (File refused, cc)
+
+  past : (pages : ℕ) → pages ≡ p → (fault : Option FileFault) → end ≡ end_past_chain pages fault (record { page = p; row = 0 })
+      → EndsDue p end
+  past pages all (Some met) e = inr (File met, e ∙ ap (λ (n : ℕ). Fault n 0 (File met)) all)
+  past pages all None e = let test : (p == pages) ≡ true = grind (arith, nat_tests, all) in inl (rw test at e)
+
+  over : (head : Header) (offsets : List ℕ) (fault : Option FileFault) → p ≤ length offsets → (found : Option ℕ)
+      → slice_get offsets p ≡ found → ◌≡◌ {A = Result FilePage End} (Err end) (page_over head.endian file offsets fault (record { page = p; row = 0 }) found)
+      → EndsDue p end
+  over head offsets fault within (Some q) there e = no_fields head.endian q (page head.endian file q) e
+  over head offsets fault within None there e =
+      let few = none_past offsets p there in
+      let end_is : end ≡ end_past_chain (length offsets) fault (record { page = p; row = 0 }) = cc in
+      past (length offsets) (omega (arith, few, within)) fault end_is
+
+  under : (answer : Result Header FileFault) → header file ≡ answer → IsPageUnder file (record { page = p; row = 0 }) answer (Err end)
+      → EndsDue p end
+  under (Err met) is_head e = elim due [
+    | inl none ↦ let end_is : end ≡ Fault 0 0 (File met) = cc in inr (File met, rw none end_is)
+    | inr (at, here, page, next) ↦
+        let found = in_chain file at here page in
+        let both : ◌≡◌ {A = Result Header FileFault} (Err met) (Ok found.head) = sym is_head ∙ found.is_head in
+        absurd cc
+  ]
+  under (Ok head) is_head (offsets, fault, chain, e) =
+      over head offsets fault (in_due head is_head offsets fault chain) (slice_get offsets p) refl e
+
+  pub end_due : IsPageAt file (record { page = p; row = 0 }) (Err end) → EndsDue p end
+  end_due there = under (header file) refl there
 
 -- the pages after a directory that stands in the chain
 module _ (file : List ℕ) (head : Header) (is_head : header file ≡ Ok head) (offsets : List ℕ) (fault : Option FileFault)
@@ -153,61 +270,56 @@ module _ (chains : FilesHaveOneChain) (file : List ℕ) where
 pub one_forms : FilesHaveOneChain → FilesHaveOneForms
 one_forms chains file = one_list (IsForm file) (one_form chains file) 0 (forms_listed chains file 0 (header file) refl)
 
+-- the page that a reader of pages begins with
+abbrev first_form : Cursor → PageForm → Result ℕ End
+first_form at form =
+    if at.row == 0 then Ok at.page
+    else (if nat_le at.row form.rows then Ok (at.page + 1) else Err Outside)
+
+abbrev Begins : List ℕ → Cursor → Result ℕ End → Type 0
+Begins file at begin = IsOnPage file at (λ here. begin ≡ first_form at here.form) (λ none. begin ≡ Err none)
+
 pub one_form_tail : FilesHaveOneChain → CursorsHaveOneFormTail
 one_form_tail chains file at =
-    let begin = one_on_page chains file at (λ here (b : Result (ℕ × ℕ) End). b ≡ first_form at here.form) Err
+    let only = one_on_page chains file at (λ here (b : Result ℕ End). b ≡ first_form at here.form) Err
     (λ here. only_it (first_form at here.form)) in
-    let all = one_begun (IsForm file) (one_form chains file) begin.it (λ p n e. forms_listed chains file p (header file) refl) in
-    record {
-      items = all.items;
-      end = all.end;
-      is = forms_of_begun file at all.items all.end (begin.it, begin.is, all.is);
-      one = λ others other is.
-          let was = begun_of_forms file at others other is in
-          all.one others other (subst (λ (b : Result (ℕ × ℕ) End). AreBegun (IsForm file) b others other) (begin.one was.0 was.1) was.2);
+    by_begin only.it only.is only.one
+  where
+    by_begin : (begin : Result ℕ End) → Begins file at begin → ((other : Result ℕ End) → Begins file at other → other ≡ begin) → IsOne (IsFormTail file at)
+    by_begin (Err none) is only = record {
+      items = [];
+      end = none;
+      is = (Err none, is, (refl, refl));
+      one = λ others other tail. rw (only tail.0 tail.1) at tail.2;
     }
+    by_begin (Ok p) is only =
+        let all = one_list (IsForm file) (one_form chains file) p (forms_listed chains file p (header file) refl) in
+        record {
+          items = all.items;
+          end = all.end;
+          is = (Ok p, is, all.is);
+          one = λ others other tail. all.one others other (rw (only tail.0 tail.1) at tail.2);
+        }
 
 module _ (file : List ℕ) where
   to_forms : (p : ℕ) (forms : List FormItem) (end : End) → IsFormTail file (record { page = p; row = 0 }) forms end
       → AreFrom (IsForm file) p forms end
-  to_forms p forms end (Err none, page, is) =
+  to_forms p forms end (begin, (Err none, page, e), are) =
+      let both = rw e at are in
       let there : AreFrom (IsForm file) p [] none = (Err none, page, refl) in
-      subst (λ (l : List FormItem). AreFrom (IsForm file) p l end) (sym is.0) (subst (AreFrom (IsForm file) p []) (sym is.1) there)
-  to_forms p forms end (Ok here, page, inl (first, are)) = are
-  to_forms p forms end (Ok here, page, inr (inl (some, within, are))) = absurd (omega (arith, some))
-  to_forms p forms end (Ok here, page, inr (inr (past, none, end_is))) = absurd (omega (arith, past))
+      subst (λ (l : List FormItem). AreFrom (IsForm file) p l end) (sym both.0) (subst (AreFrom (IsForm file) p []) (sym both.1) there)
+  to_forms p forms end (begin, (Ok here, page, e), are) = let here : begin ≡ Ok p = e in rw here at are
 
   of_forms : (p : ℕ) (forms : List FormItem) (end : End) → AreFrom (IsForm file) p forms end
       → IsFormTail file (record { page = p; row = 0 }) forms end
-  of_forms p [] end (Err none, page, e) = let same : end ≡ none = cc in (Err none, page, (refl, same))
+  of_forms p [] end (Err none, page, e) = let same : end ≡ none = cc in (Err none, (Err none, page, refl), (refl, same))
   of_forms p [] end (Ok here, page, e) = absurd cc
   of_forms p (x ∷ forms) end (to, (Err none, page, e), rest) = absurd cc
-  of_forms p (x ∷ forms) end (to, (Ok here, page, e), rest) = (Ok here, page, inl (refl, (to, (Ok here, page, e), rest)))
+  of_forms p (x ∷ forms) end (to, (Ok here, page, e), rest) = (Ok p, (Ok here, page, refl), (to, (Ok here, page, e), rest))
 
-  form_step : (p : ℕ) (item : FormItem) (to : ℕ) → IsForm file p (goes_on item to) → to ≡ item.page + 1
-  form_step p item to (Err none, page, e) = absurd cc
-  form_step p item to (Ok here, page, e) = ap to_of e ∙ ap (λ (i : FormItem). i.page + 1) (sym (ap item_of e))
-    where
-      to_of : Step FormItem ℕ → ℕ
-      to_of (goes_on item to) = to
-      to_of (ends_as none) = to
-
-      item_of : Step FormItem ℕ → FormItem
-      item_of (goes_on item to) = item
-      item_of (ends_as none) = item
-
-module _ (file : List ℕ) where
   form_page : (p : ℕ) (item : FormItem) (to : ℕ) → IsForm file p (goes_on item to) → (item.page ≡ p) × (to ≡ p + 1)
   form_page p item to (Err none, page, e) = absurd cc
-  form_page p item to (Ok here, page, e) = (ap (λ (i : FormItem). i.page) (ap item_of e), ap to_of e)
-    where
-      to_of : Step FormItem ℕ → ℕ
-      to_of (goes_on item to) = to
-      to_of (ends_as none) = to
-
-      item_of : Step FormItem ℕ → FormItem
-      item_of (goes_on item to) = item
-      item_of (ends_as none) = item
+  form_page p item to (Ok here, page, e) = let same = step_parts item _ to (p + 1) e in (ap (λ (i : FormItem). i.page) same.0, same.1)
 
   stand_by_number : (forms : List FormItem) (p n : ℕ) (item : FormItem) (end : End) → AreFrom (IsForm file) p forms end
       → slice_get forms n ≡ Some item
@@ -234,8 +346,13 @@ pub form_tail_of_page : FormTailOfPage
 form_tail_of_page file p forms end = (to_forms file p forms end, of_forms file p forms end)
 
 pub form_tails_go_on : FormTailsGoOn
-form_tails_go_on file at all end n item tail there =
-    let was = begun_of_forms file at all end tail in
-    let split = split_at_number (IsForm file) was.0 all end n item was.2 there in
+form_tails_go_on file at all end n item (Err none, begins, is) there =
+    absurd (nothing (subst (λ (l : List FormItem). slice_get l n ≡ Some item) is.0 there))
+  where
+    nothing : (let forms : List FormItem = [] in slice_get forms n) ≡ Some item → ⊥
+    nothing e = cc
+form_tails_go_on file at all end n item (Ok from, begins, are) there =
+    let split = split_at_number (IsForm file) from 0 all all end n item are refl there in
+    let next = form_page file split.at item split.to split.step in
     of_forms file (item.page + 1) (drop (n + 1) all) end
-    (subst (λ (p : ℕ). AreFrom (IsForm file) p (drop (n + 1) all) end) (form_step file split.at item split.to split.step) split.rest)
+    (subst (λ (p : ℕ). AreFrom (IsForm file) p (drop (n + 1) all) end) (next.1 ∙ ap (λ (n : ℕ). n + 1) (sym next.0)) split.rest)

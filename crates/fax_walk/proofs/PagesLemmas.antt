@@ -1,20 +1,19 @@
 -- Steps of a reader of pages.
-use Rattle.std.proofs.Common.{◌≡◌, ℕ, zero, suc, ◌+◌, ◌^◌, ◌<◌, Bool, true, false, List, [], ◌∷◌, ◌++◌, length, Option, Some, None, Result}
+use Rattle.std.proofs.Common.{◌≡◌, ℕ, ◌+◌, ◌^◌, ◌<◌, Bool, true, false, List, [], ◌∷◌, ◌++◌, length, Option, Some, None, Result}
 use Rattle.std.proofs.Common.{Ok}
-use Rattle.std.proofs.Common.{Err, inl, inr, refl, sym, ap, ◌∙◌, subst, arith, append-nil, length-append}
+use Rattle.std.proofs.Common.{Err, inl, inr, refl, sym, ap, ◌∙◌, subst, arith, append-nil, append_assoc, length-append}
 use Rattle.std.proofs.lemmas.Bool.Decides.{nat_tests}
 use Rattle.std.proofs.lemmas.List.{drop_at, drop_all, length_push}
-use Rattle.std.specs.Prelude.{IfOk, IfErr, slice_get, nat_le, ◌==◌}
+use Rattle.std.specs.Prelude.{IfOk, IfErr, nat_le, ◌==◌}
 use Rattle.fax_files.specs.declared.PageForm.{PageForm}
 use Rattle.fax_files.specs.views.Chain.{ChainState}
 use Rattle.fax_files.specs.views.Tiff.{TiffDirectory}
 use Rattle.fax_walk.specs.declared.cursor.Cursor.{Cursor}
 use Rattle.fax_walk.specs.declared.end.End.{End}
 use Rattle.fax_walk.specs.Pages.{AreFrom, FormItem, IsForm, IsFormTail}
-use Rattle.fax_walk.specs.code.Pages.{AreFormsBegun, HasGiven, IsPageAfter, IsFirstDue, IsDueIn}
+use Rattle.fax_walk.specs.code.Pages.{GoesOnAt, HasGiven, IsPageAfter, IsFirstDue, IsDueIn}
 use Rattle.fax_walk.specs.code.Pages.{EndsNow}
 use Rattle.fax_walk.specs.views.InOrder.{EndsAfter, HasEndedAs, HasToldNoOther}
-use Rattle.fax_walk.specs.laws.InOrder.{LeadTo}
 use Rattle.fax_walk.specs.declared.end.End.TheVariants.{Fault, Outside, Proper}
 use Rattle.fax_walk.specs.declared.end.WalkFault.{WalkFault}
 use Rattle.fax_walk.specs.declared.end.WalkFault.TheVariants.{AtRow, CursorOutside}
@@ -23,8 +22,7 @@ use Rattle.fax_walk.specs.views.Pages.{PagesView, HandsOutPage, IsNextPage}
 use Rattle.fax_walk.specs.laws.Forms.{AreFormsLeft}
 use Rattle.fax_walk.specs.laws.Tails.{CursorsHaveOneFormTail, FormTailOfPage}
 use Rattle.fax_walk.specs.code.Opening.{PageDue, IsPageDue, IsFilePage, IsChainBefore, IsNamed, EndsAt, page_with}
-use Rattle.fax_walk.proofs.InOrderLemmas.{joined, leads_on}
-use Rattle.fax_walk.proofs.TailLemmas.{forms_of_begun}
+use Rattle.fax_walk.proofs.InOrderLemmas.{get_after}
 use Rattle.fax_walk.specs.Pages.{goes_on, ends_as}
 
 -- a page of a file is the form of its number
@@ -37,14 +35,17 @@ module _ (file : List ℕ) (at : Cursor) (due : PageDue) (named : IsNamed file a
   pub begins_here : at.row ≡ 0 → IsFirstDue file at due
   begins_here first =
       let test : (at.row == 0) ≡ true = grind (arith, nat_tests, first) in
-      record { begins = (Ok (page_with due.directory due.form), named.3, rw (test, named.1) refl); file_is = named.0 }
+      record {
+        on = λ forms end are. (Ok due.page, (Ok (page_with due.directory due.form), named.3, rw (test, named.1) refl), are);
+        file_is = named.0;
+      }
 
-  begins_next : 0 < at.row → AreFormsBegun file at (Ok (at.page + 1, 0))
-  begins_next some =
+  begins_next : 0 < at.row → GoesOnAt file at [] (at.page + 1)
+  begins_next some forms end are =
       let within = named.2 in
       let later : (at.row == 0) ≡ false = grind (arith, nat_tests, some) in
       let near : nat_le at.row due.form.rows ≡ true = grind (arith, nat_tests, within) in
-      (Ok (page_with due.directory due.form), named.3, rw (later, near) refl)
+      (Ok (at.page + 1), (Ok (page_with due.directory due.form), named.3, rw (later, near) refl), are)
 
 module _ (file : List ℕ) (at : Cursor) (due : PageDue) (named : IsNamed file at (Some due))
     (its : IsFilePage due.page due.chain due.directory due.form) where
@@ -57,7 +58,7 @@ module _ (file : List ℕ) (at : Cursor) (due : PageDue) (named : IsNamed file a
   -- from a later row with the page after it
   pub begins_after : 0 < at.row → (result : Result PageDue End) → IfOk result (IsPageAfter due.chain) → IfOk result (IsFirstDue file at)
   begins_after some (Ok next) after = record {
-    begins = subst (λ (n : ℕ). AreFormsBegun file at (Ok (n, 0))) (sym (after.0 ∙ number)) (begins_next file at due named some);
+    on = subst (GoesOnAt file at []) (sym (after.0 ∙ number)) (begins_next file at due named some);
     file_is = after.1 ∙ chain_file;
   }
   begins_after some (Err end) after = after
@@ -65,14 +66,15 @@ module _ (file : List ℕ) (at : Cursor) (due : PageDue) (named : IsNamed file a
   pub ends_after : 0 < at.row → (result : Result PageDue End)
       → IfErr result (λ end. IsForm due.chain.tiff.file due.chain.given (ends_as end)) → IfErr result (IsFormTail file at [])
   ends_after some (Ok next) after = after
-  ends_after some (Err end) after =
-      forms_of_begun file at [] end
-      (Ok (at.page + 1, 0), begins_next file at due named some, ([], rw (chain_file, number) at after, refl))
+  ends_after some (Err end) after = begins_next file at due named some [] end (rw (chain_file, number) at after)
 
 -- from a cursor on there are no pages
 pub no_forms : (file : List ℕ) (at : Cursor) (end : End) → EndsAt file at end → IsFormTail file at [] end
-no_forms file at end (inl none) = (Err end, none, (refl, refl))
-no_forms file at end (inr (here, page, above, end_is)) = (Ok here, page, inr (inr (above, refl, end_is)))
+no_forms file at end (inl none) = (Err end, (Err end, none, refl), (refl, refl))
+no_forms file at end (inr (here, page, above, end_is)) =
+    let first : (at.row == 0) ≡ false = grind (arith, nat_tests, above) in
+    let near : nat_le at.row here.form.rows ≡ false = grind (arith, nat_tests, above) in
+    (Err end, (Ok here, page, rw (first, near, end_is) refl), (refl, refl))
 
 no_other : (told : Option End) (end : End) → told ≡ None → HasToldNoOther told end
 no_other None end e = tt
@@ -81,12 +83,8 @@ no_other (Some told) end e = absurd cc
 -- after the forms that lead to a page the pages end
 ended_after : (file : List ℕ) (begun : Cursor) (given p : ℕ) (end : End) → HasGiven file begun given p → IsForm file p (ends_as end)
     → EndsAfter (IsFormTail file begun) given end
-ended_after file begun given p end come is = (
-  come.forms ++ [],
-  forms_of_begun file begun (come.forms ++ []) end
-      (Ok (come.first, 0), come.begins, (come.forms ++ [], joined (IsForm file) come.first p come.forms [] end come.lead is, refl)),
-  ap (λ (l : List FormItem). length l) (append-nil come.forms) ∙ come.count,
-)
+ended_after file begun given p end come is =
+    (come.forms ++ [], come.on [] end is, ap (λ (l : List FormItem). length l) (append-nil come.forms) ∙ come.count)
 
 pub ends_later : (file : List ℕ) (begun : Cursor) (given : ℕ) (told : Option End) (chain : ChainState) (result : Result PageDue End)
     → told ≡ None
@@ -110,25 +108,12 @@ pub ends_again : (file : List ℕ) (begun : Cursor) (given : ℕ) (told : Option
     → EndsNow (record { file = file; begun = begun; given = given; told = told }) end
 ends_again file begun given told end is after = (after, rw is refl)
 
-number_of : (front : List FormItem) (item : FormItem) (more : List FormItem) (n : ℕ) → length front ≡ n
-    → slice_get (front ++ item ∷ more) n ≡ Some item
-number_of [] item more zero e = refl
-number_of [] item more (suc n) e = absurd (omega (arith, e))
-number_of (x ∷ front) item more zero e = absurd (omega (arith, e))
-number_of (x ∷ front) item more (suc n) e = number_of front item more n (omega (arith, e))
-
 -- what is handed out from a page on
 module _ (tails : CursorsHaveOneFormTail) (of_page : FormTailOfPage) where
   forms_on : (file : List ℕ) (p : ℕ) → (forms : List FormItem) × (end : End) × AreFrom (IsForm file) p forms end
   forms_on file p =
       let one = tails file (record { page = p; row = 0 }) in
       (one.items, one.end, (of_page file p one.items one.end).0 one.is)
-
-  all_of : (file : List ℕ) (begun : Cursor) (given p : ℕ) → (come : HasGiven file begun given p) → (forms : List FormItem) (end : End)
-      → AreFrom (IsForm file) p forms end → IsFormTail file begun (come.forms ++ forms) end
-  all_of file begun given p come forms end are =
-      forms_of_begun file begun (come.forms ++ forms) end
-      (Ok (come.first, 0), come.begins, (come.forms ++ forms, joined (IsForm file) come.first p come.forms forms end come.lead are, refl))
 
   -- the page that is due is handed out
   pub page_given : (pages : PagesView) (due : PageDue) → IsDueIn pages due → IsPageDue due.page due.chain due.directory due.form
@@ -145,8 +130,8 @@ module _ (tails : CursorsHaveOneFormTail) (of_page : FormTailOfPage) where
           number = (
             is.come.forms ++ item ∷ more.0,
             more.1,
-            all_of pages.file pages.begun pages.given due.page is.come (item ∷ more.0) more.1 from,
-            number_of is.come.forms item more.0 pages.given is.come.count,
+            is.come.on (item ∷ more.0) more.1 from,
+            get_after is.come.forms item more.0 pages.given is.come.count,
           );
           few = omega (arith, is.come.few, short);
           new_is = ap (λ (t : Option End). record pages { given = pages.given + 1; told = t }) (sym is.untold);
@@ -163,7 +148,7 @@ module _ (tails : CursorsHaveOneFormTail) (of_page : FormTailOfPage) where
         more.1,
         record {
           all = come.forms ++ more.0;
-          is = all_of file begun given p come more.0 more.1 more.2;
+          is = come.on more.0 more.1 more.2;
           within = omega (arith, come.count, length-append come.forms more.0);
           rest = sym (drop_at come.forms more.0 given come.count);
           is_told = tt;
@@ -193,12 +178,14 @@ pub given_more : (file : List ℕ) (begun : Cursor) (given : ℕ) (due : PageDue
     → HasGiven file begun (given + 1) due.chain.given × IsChainBefore file due.chain.given due.chain
 given_more file begun given due come file_is its = (
   record {
-    first = come.first;
-    begins = come.begins;
     forms = come.forms ++ record { page = due.page; form = due.form } ∷ [];
-    lead = subst (LeadTo (IsForm file) come.first (come.forms ++ record { page = due.page; form = due.form } ∷ [])) (sym its.after.given)
-        (leads_on (IsForm file) come.first due.page come.forms (record { page = due.page; form = due.form }) (due.page + 1) come.lead
-        (rw file_is at (form_here due.page due.chain due.directory due.form its)));
+    on = λ forms end are.
+        rw (append_assoc come.forms (record { page = due.page; form = due.form } ∷ []) forms)
+        (come.on (record { page = due.page; form = due.form } ∷ forms) end (
+          due.page + 1,
+          rw file_is at (form_here due.page due.chain due.directory due.form its),
+          rw its.after.given at are,
+        ));
     count = length_push come.forms (record { page = due.page; form = due.form }) ∙ ap (λ (n : ℕ). n + 1) come.count;
     few = omega (arith, come.few, its.after.given);
   },

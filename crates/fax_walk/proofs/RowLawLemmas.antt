@@ -1,6 +1,6 @@
 -- What a walk begins with has one tail and one end.
 use Rattle.std.proofs.Common.{◌≡◌, ℕ, zero, suc, ◌+◌, ◌*◌, ◌<◌, ◌≤◌, ◌⊎◌, inl, inr, Bool, true, false, List, [], ◌∷◌, map, length, drop}
-use Rattle.std.proofs.Common.{Option, Some, None, Result, Ok, Err, refl, sym, ap, ◌∙◌, subst, arith, length-drop}
+use Rattle.std.proofs.Common.{Option, Some, None, Result, Ok, Err, refl, sym, ap, ◌∙◌, arith, length-drop}
 use Rattle.std.proofs.lemmas.Bool.{cases_lt}
 use Rattle.std.proofs.lemmas.Bool.Decides.{nat_tests}
 use Rattle.std.specs.Prelude.{if◌then◌else◌, nat_lt, ◌==◌}
@@ -33,13 +33,13 @@ use Rattle.fax_walk.specs.Items.{before, IsInStrip, IsRow}
 use Rattle.fax_walk.specs.code.Places.{place_over}
 use Rattle.fax_walk.specs.Items.{place_after}
 use Rattle.fax_walk.specs.code.Places.{IsItem}
-use Rattle.fax_walk.specs.Items.{IsInnerOn, inner_at, begun_cursor}
-use Rattle.fax_walk.specs.code.Places.{AreBegun, IsBegunOn}
-use Rattle.fax_walk.proofs.TailLemmas.{begun_of_tail, tail_of_begun}
-use Rattle.fax_walk.specs.code.Places.{first_row, FitsStrip}
+use Rattle.fax_walk.specs.Items.{IsBegunOn, IsInnerOn, IsTailFrom, inner_at, begun_cursor}
+use Rattle.fax_walk.specs.views.Walk.{Begins}
+use Rattle.fax_walk.specs.code.Places.{FitsStrip}
 use Rattle.fax_walk.specs.code.Places.{cursor_at}
 use Rattle.fax_walk.specs.laws.Tails.{BeginningsHaveOneTail}
-use Rattle.fax_walk.proofs.InOrderLemmas.{IsOneAnswer, IsListed, one_begun}
+use Rattle.fax_bits.specs.laws.Codes.{IsOne}
+use Rattle.fax_walk.proofs.InOrderLemmas.{IsOneAnswer, IsListed, one_list}
 use Rattle.fax_walk.proofs.PageLawLemmas.{one_on_page, no_page, some_page, next_dropped}
 use Rattle.fax_walk.proofs.RestLemmas.{rest_at}
 use Rattle.fax_walk.specs.Pages.{Step, goes_on, ends_as}
@@ -311,9 +311,9 @@ module _ (file : List ℕ) (here : FilePage) where
       only other (inl (is, e)) = absurd (not is)
       only other (inr (not_too, e)) = e
 
-  one_beginning : (begun : Begun) → IsOneAnswer (IsBegunOn file begun here)
-  one_beginning (At at) = record { it = first_row at here.form; is = refl; one = λ other same. same }
-  one_beginning (Inside place) = let only = by_inner place (inner_or_not place) in record { it = only.it; is = only.is; one = only.one }
+  pub one_on : (begun : Begun) → IsOneAnswer (IsBegunOn file begun here)
+  one_on (At at) = record { it = _; is = refl; one = λ other same. same }
+  one_on (Inside place) = let only = by_inner place (inner_or_not place) in record { it = only.it; is = only.is; one = only.one }
 
 module _ (by_place : AreBitsByPlace) (lines_read : LinesAreRead) (chains : FilesHaveOneChain) (file : List ℕ) where
   pub rows_listed : (at : RowPlace) (answer : Result Header FileFault) → header file ≡ answer → IsListed (IsRow file) at
@@ -323,16 +323,33 @@ module _ (by_place : AreBitsByPlace) (lines_read : LinesAreRead) (chains : Files
       let chain = chains head file in
       rows_from by_place lines_read file head e chain.offsets chain.end chain.is (drop at.page chain.offsets) at refl
 
+-- a walk begins in one way
+pub one_beginning : FilesHaveOneChain → (file : List ℕ) (begun : Begun) → IsOneAnswer (Begins file begun)
+one_beginning chains file begun =
+    let only = one_on_page chains file (begun_cursor begun) (IsBegunOn file begun) Err (λ here. one_on file here begun) in
+    record { it = only.it; is = only.is; one = only.one }
+
 pub one_tail_from : AreBitsByPlace → LinesAreRead → FilesHaveOneChain → BeginningsHaveOneTail
 one_tail_from by_place lines_read chains file begun =
-    let begin = one_on_page chains file (begun_cursor begun) (IsBegunOn file begun) Err (λ here. one_beginning file here begun) in
-    let all = one_begun (IsRow file) (one_row by_place lines_read chains file) begin.it
-    (λ at n e. rows_listed by_place lines_read chains file at (header file) refl) in
-    record {
-      items = all.items;
-      end = all.end;
-      is = tail_of_begun file begun all.items all.end (begin.it, begin.is, all.is);
-      one = λ others other is.
-          let was = begun_of_tail file begun others other is in
-          all.one others other (subst (λ (b : Result (RowPlace × ℕ) End). AreBegun (IsRow file) b others other) (begin.one was.0 was.1) was.2);
+    let only = one_beginning chains file begun in by_begin only.it only.is only.one
+  where
+    by_begin : (begin : Result (RowPlace × ℕ) End) → Begins file begun begin
+        → ((other : Result (RowPlace × ℕ) End) → Begins file begun other → other ≡ begin) → IsOne (IsTailFrom file begun)
+    by_begin (Err none) is only = record {
+      items = [];
+      end = none;
+      is = (Err none, is, (refl, refl));
+      one = λ others other tail. rw (only tail.0 tail.1) at tail.2;
     }
+    by_begin (Ok (at, n)) is only =
+        let listed = rows_listed by_place lines_read chains file at (header file) refl in
+        let all = one_list (IsRow file) (one_row by_place lines_read chains file) at listed in
+        record {
+          items = drop n all.items;
+          end = all.end;
+          is = (Ok (at, n), is, (all.items, all.is, refl));
+          one = λ others other tail.
+              let was = rw (only tail.0 tail.1) at tail.2 in
+              let same = all.one was.0 other was.1 in
+              (was.2 ∙ ap (drop n) same.0, same.1);
+        }

@@ -1,7 +1,7 @@
 -- Cursors after items have numbers of 32 bits.
-use Rattle.std.proofs.Common.{◌≡◌, ℕ, ◌+◌, ◌^◌, ◌<◌, true, false, List, [], ◌∷◌, length, drop, Option, Some, None, Ok, Err}
-use Rattle.std.proofs.Common.{Result, refl, sym, ap, ◌∙◌, subst, arith}
-use Rattle.std.specs.Prelude.{if◌then◌else◌, nat_lt, slice_get}
+use Rattle.std.proofs.Common.{◌≡◌, ℕ, ◌+◌, ◌^◌, ◌<◌, true, false, List, [], ◌∷◌, length, drop, Ok}
+use Rattle.std.proofs.Common.{sym, ap, ◌∙◌, subst, arith}
+use Rattle.std.specs.Prelude.{if◌then◌else◌, nat_lt}
 use Rattle.std.specs.List.{All}
 use Rattle.std.proofs.lemmas.Bool.Decides.{nat_tests}
 use Rattle.std.proofs.lemmas.List.Elements.{All-cons, All-nil}
@@ -9,34 +9,24 @@ use Rattle.std.proofs.lemmas.Option.{slice_get_within}
 use Rattle.fax_bits.specs.declared.Colour.{Colour}
 use Rattle.fax_bits.specs.declared.Colour.TheVariants.{White}
 use Rattle.fax_rows.specs.Rows.{other, runs_after, runs_of, same_colour}
-use Rattle.fax_files.specs.declared.FileFault.{FileFault}
-use Rattle.fax_files.specs.Directory.{IsChain, Header, header}
 use Rattle.fax_files.specs.laws.Files.{FilesHaveOneChain, FormsAreWhole}
 use Rattle.fax_walk.specs.declared.cursor.Cursor.{Cursor}
 use Rattle.fax_walk.specs.Pages.{IsLongCursor}
 use Rattle.fax_walk.specs.Pages.{FilePage, IsPageAt}
-use Rattle.fax_walk.specs.code.Opening.{page_over}
-use Rattle.fax_walk.specs.code.Opening.{IsPageUnder}
 use Rattle.fax_walk.specs.Items.{exchanged}
 use Rattle.fax_walk.specs.laws.Cursors.{CursorsAreShort, PlacesAreShort}
+use Rattle.fax_walk.proofs.PageLawLemmas.{in_chain}
 use Rattle.fax_walk.proofs.TailLawLemmas.{facts, here_from, inner, long_of, pels_are, read, split_at_number}
 use Rattle.fax_walk.proofs.TailLawLemmas.{this, whole_page}
 
 -- a page's number is below that of the file's bytes
 module _ (chains : FilesHaveOneChain) (file : List ℕ) where
   page_few : (at : Cursor) (here : FilePage) → IsPageAt file at (Ok here) → at.page < length file
-  page_few at here is = under (header file) is
-    where
-      over : (head : Header) (offsets : List ℕ) (fault : Option FileFault) (found : Option ℕ) → slice_get offsets at.page ≡ found
-          → IsChain head file offsets fault → Ok here ≡ page_over head.endian file offsets fault at found → at.page < length file
-      over head offsets fault None none chain e = absurd cc
-      over head offsets fault (Some q) there chain e =
-          let one = chains head file in
-          omega (arith, slice_get_within offsets at.page q there, ap (λ (l : List ℕ). length l) (one.one offsets fault chain).0, one.few)
-
-      under : (answer : Result Header FileFault) → IsPageUnder file at answer (Ok here) → at.page < length file
-      under (Err fault) e = absurd cc
-      under (Ok head) (offsets, fault, chain, e) = over head offsets fault (slice_get offsets at.page) refl chain e
+  page_few at here is =
+      let found = in_chain file at here is in
+      let one = chains found.head file in
+      let counts = ap (λ (l : List ℕ). length l) (one.one found.offsets found.fault found.chain).0 in
+      omega (arith, slice_get_within found.offsets at.page here.offset found.there, counts, one.few)
 
 -- the longest runs of pels are no longer than all of them
 runs_short : (colour : Colour) (n most : ℕ) (pels : List Colour) → n + length pels < most

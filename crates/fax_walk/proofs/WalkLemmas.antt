@@ -20,12 +20,12 @@ use Rattle.fax_walk.specs.Pages.{AreFrom}
 use Rattle.fax_walk.specs.views.InOrder.{EndsAfter, HandsOut, HasEndedAs, HasToldNoOther}
 use Rattle.fax_walk.specs.laws.InOrder.{LeadTo, IsLeftOf}
 use Rattle.fax_walk.specs.Pages.{LongPlace}
-use Rattle.fax_walk.specs.views.Walk.{AreRead, EndsBefore, EntersPage, IsCursorOf, IsItemNumber, IsLongOf, row_limit}
+use Rattle.fax_walk.specs.views.Walk.{AreRead, dropped, EndsBefore, EntersPage, IsCursorOf, IsItemNumber, IsLongOf, row_limit}
 use Rattle.fax_walk.specs.laws.Left.{IsLeft}
 use Rattle.fax_walk.specs.views.Walk.{WalkView}
-use Rattle.fax_walk.specs.Items.{IsRow, IsTailFrom, RowItem, RowPlace, begun_cursor, first_at}
+use Rattle.fax_walk.specs.Items.{IsRow, IsTailFrom, RowItem, RowPlace, begun_cursor, first_at, long_after, long_at, place_after}
 use Rattle.fax_walk.specs.code.Places.{place_over}
-use Rattle.fax_walk.specs.code.Places.{dropped, long_at}
+use Rattle.fax_walk.specs.code.Places.{cursor_at}
 use Rattle.fax_walk.specs.laws.Tails.{BeginningsHaveOneTail}
 use Rattle.fax_walk.specs.code.Stages.{GivesNone, GivesRow, IsOpen, IsOpenedAt, PageState, place_of, row_of, skipped}
 use Rattle.fax_walk.specs.code.Walk.{IsAdvance, answer_of, GoesOnFrom, HasCome, HasEndedOn, HasReadTo, IsAfterItem, IsEntered, IsOpenOrNone}
@@ -35,7 +35,6 @@ use Rattle.fax_walk.proofs.InOrderLemmas.{IsListed, joined, leads_both, number_d
 use Rattle.fax_walk.proofs.OpenPageLemmas.{at_end}
 use Rattle.fax_walk.proofs.RowLawLemmas.{LinesAreRead, cases_after, rows_listed}
 use Rattle.fax_walk.specs.Pages.{ends_as}
-use Rattle.fax_walk.proofs.TailLemmas.{before_begun, begun_of_tail, tail_of_begun}
 
 module _ (file : List ℕ) (begun : Begun) (given : ℕ) (cursor : Cursor) where
   -- the first page is open
@@ -177,7 +176,7 @@ module _ (by_place : AreBitsByPlace) (lines_read : LinesAreRead) (chains : Files
         ap (λ (l : List RowItem). l ++ more.items) all_is ∙ append_assoc (come.items ++ gives.front) (gives.item ∷ []) more.items in (
           drop come.dropped whole,
           more.end,
-          tail_of_begun file begun (drop come.dropped whole) more.end (Ok (come.first, come.dropped), come.begins, (whole, is, refl)),
+          (Ok (come.first, come.dropped), come.begins, (whole, is, refl)),
           ap (λ (l : List RowItem). slice_get (drop come.dropped l) given) parts
               ∙ number_dropped come.dropped given (come.items ++ gives.front) gives.item more.items front_count,
         )
@@ -308,8 +307,7 @@ module _ (file : List ℕ) (begun : Begun) (given : ℕ) (cursor : Cursor) where
       let none_left = come.none_left in
       let all = ap (λ (l : List RowItem). length l) (append-nil come.items) in (
         drop come.dropped (come.items ++ []),
-        tail_of_begun file begun (drop come.dropped (come.items ++ [])) end
-            (Ok (come.first, come.dropped), come.begins, (come.items ++ [], is, refl)),
+        (Ok (come.first, come.dropped), come.begins, (come.items ++ [], is, refl)),
         length-drop come.dropped (come.items ++ []) ∙ (elim (cases_lt 0 given) [
           | inl some ↦ let none = none_left some in omega (arith, all, count, total, none)
           | inr none ↦ omega (arith, all, count, total, none)
@@ -355,8 +353,15 @@ module _ (walk : WalkView) (cursor : Cursor) (page : Option PageState) where
   ]
 
   -- the place inside a strip
+  long_at_after : (item : RowItem) → long_at (cursor_at (place_after item)) (place_after item).inner ≡ long_after item
+  long_at_after item = elim (cases_after item.form item) [
+    | inl (last, is) ↦ rw is refl
+    | inr (inl (within, first, is)) ↦ rw is refl
+    | inr (inr (within, inside, is)) ↦ rw is refl
+  ]
+
   pub long_is : Sound walk.told → 0 < walk.given → (at : PageState) → page ≡ Some at → (place : Option LongPlace)
-      → place ≡ (let to = place_of at in long_at to.page to.row to.inner) → IsLongOf walk place
+      → place ≡ (let to = place_of at in long_at (cursor_at to) to.inner) → IsLongOf walk place
   long_is sound some at page_is place place_is = elim (stands_on page walk.told sound) [
     | inl first ↦ absurd (omega (arith, some, first.0))
     | inr (on, is, last) ↦
@@ -367,7 +372,7 @@ module _ (walk : WalkView) (cursor : Cursor) (page : Option PageState) where
           last.item,
           last.count,
           last.number,
-          place_is ∙ ap (λ (t : RowPlace). long_at t.page t.row t.inner) to,
+          place_is ∙ ap (λ (t : RowPlace). long_at (cursor_at t) t.inner) to ∙ long_at_after last.item,
         )
   ]
 
@@ -389,7 +394,7 @@ module _ (walk : WalkView) (cursor : Cursor) (page : Option PageState) where
       let come = on.0.come in
       record {
         before = come.dropped;
-        are_before = before_begun file begun (Ok (come.first, come.dropped)) come.begins;
+        are_before = (Ok (come.first, come.dropped), come.begins, refl);
         most = omega (arith, come.total);
         all = λ some. let none = come.none_left some in omega (arith, come.total, none);
         told = λ end is. elim (on.1 end is) [
@@ -402,10 +407,9 @@ module _ (walk : WalkView) (cursor : Cursor) (page : Option PageState) where
       → AreRead walk 0
   none_read tails None is sound =
       let one = tails file begun in
-      let was = begun_of_tail file begun one.items one.end one.is in
       record {
-        before = dropped was.0;
-        are_before = before_begun file begun was.0 was.1;
+        before = dropped one.is.0;
+        are_before = (one.is.0, one.is.1, refl);
         most = omega arith;
         all = λ some. absurd (omega (arith, some, sound.0.0));
         told = λ end ends. absurd cc;
@@ -468,7 +472,7 @@ module _ (walk : WalkView) (cursor : Cursor) (page : Option PageState) where
           more.end,
           record {
             all = all;
-            is = tail_of_begun file begun all more.end (Ok (come.first, come.dropped), come.begins, (whole, is, refl));
+            is = (Ok (come.first, come.dropped), come.begins, (whole, is, refl));
             within = within;
             rest = refl;
             is_told = rw untold tt;

@@ -8,8 +8,8 @@ ghost use Rattle.fax_page.specs.views.Strip.{IsStripForm};
 ghost use Rattle.fax_files.specs.views.Page.{IsPageForm};
 ghost use Rattle.fax_walk.specs.Items.{IsRow, exchanged, first_at, inner_at};
 ghost use Rattle.fax_walk.specs.code.Places.{row_in_strip};
-ghost use Rattle.fax_walk.specs.code.Places.{long_at};
-ghost use Rattle.fax_walk.specs.Items.{IsInnerOn};
+ghost use Rattle.fax_walk.specs.code.Places.{cursor_at};
+ghost use Rattle.fax_walk.specs.Items.{IsInnerOn, long_at};
 ghost use Rattle.fax_walk.specs.code.Places.{strip_at};
 ghost use Rattle.fax_walk.specs.code.Opening.{IsFileChain, page_with};
 ghost use Rattle.fax_walk.specs.views.Walk.{HasPage, place_inside};
@@ -281,7 +281,7 @@ impl<'a> OpenPage<'a> {
     /// it, and its bits have a number of 32 bits.
     pub(crate) fn inside(&self) -> Option<PlaceInside<'_>>
         ensures { let at = place_of self.now in
-            place_inside result ≡ long_at at.page at.row at.inner }
+            place_inside result ≡ long_at (cursor_at at) at.inner }
     {
         let place = self.strip.bit_place();
         let row = self.strip.row();
@@ -305,7 +305,7 @@ impl<'a> OpenPage<'a> {
     /// `Memory` where a growth was refused.
     pub(crate) fn long_cursor(&self, alloc: Global) -> Result<Option<LongCursor>, Memory>
         ensures { IfOk result (λ place. let at = place_of self.now in
-            place ≡ long_at at.page at.row at.inner) }
+            place ≡ long_at (cursor_at at) at.inner) }
     {
         let Some(place) = self.inside() else {
             return Ok(None);

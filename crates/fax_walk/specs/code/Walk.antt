@@ -12,11 +12,10 @@ use Rattle.fax_walk.specs.declared.opening.OpenFault.{OpenFault}
 use Rattle.fax_walk.specs.declared.opening.OpenFault.TheVariants.{Memory as NoMemory, Ended}
 use Rattle.fax_walk.specs.laws.InOrder.{LeadTo}
 use Rattle.fax_walk.specs.Items.{RowItem, RowPlace, IsRow, IsTailFrom, begun_cursor, cursor_after}
-use Rattle.fax_walk.specs.code.Places.{Begins}
 use Rattle.fax_walk.specs.code.Places.{place_over}
 use Rattle.fax_walk.specs.views.InOrder.{HasEndedAs}
 use Rattle.fax_walk.specs.views.Walk.{WalkView, IsItemNumber, EntersPage, HasPage, AreRead}
-use Rattle.fax_walk.specs.views.Walk.{EndsBefore}
+use Rattle.fax_walk.specs.views.Walk.{Begins, EndsBefore}
 use Rattle.fax_walk.specs.views.Walk.{walk_from}
 use Rattle.fax_walk.specs.code.Stages.{PageState, row_of, skipped, place_of, IsOpen, IsOpenedAt}
 use Rattle.fax_walk.specs.code.Stages.{IsOpenedFrom, IsRefusal}

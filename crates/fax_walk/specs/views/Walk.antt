@@ -1,6 +1,6 @@
 -- A walk, as contracts see it.
 use Rattle.std.specs.Prelude.{◌≡◌, ℕ, ◌+◌, ◌^◌, ◌<◌, ◌≤◌, ◌⊎◌, List, Option, Some, None, Result, Ok}
-use Rattle.std.specs.Prelude.{Err, ◌%◌, if◌then◌else◌, nat_lt, ⊤}
+use Rattle.std.specs.Prelude.{Err, ⊤}
 use Rattle.std.specs.Borrow.{Bor}
 use Rattle.fax_bits.specs.declared.Colour.{Colour}
 use Rattle.fax_walk.specs.declared.begun.Begun.{Begun}
@@ -17,8 +17,8 @@ use Rattle.fax_walk.specs.Pages.{start, LongPlace}
 use Rattle.fax_walk.specs.views.InOrder.{Reading, reading_from, HandsOut, HasEndedAs, IsAfterLast}
 use Rattle.fax_walk.specs.views.InOrder.{IsNumber}
 use Rattle.fax_walk.specs.Pages.{IsOnPage}
-use Rattle.fax_walk.specs.Items.{RowItem, IsTailFrom, begun_cursor, cursor_after}
-use Rattle.fax_walk.specs.Items.{long_after}
+use Rattle.fax_walk.specs.Items.{RowItem, RowPlace, IsBegunOn, IsTailFrom, begun_cursor}
+use Rattle.fax_walk.specs.Items.{cursor_after, long_after}
 
 -- a walk: its file, what it began with, how many rows it handed out, and how the rows ended, once
 -- it told that
@@ -91,14 +91,22 @@ place_inside None = None
 place_inside (Some lent) =
     Some (record { at = lent.at; bits = lent.bits; runs = runs_of lent.reference.now })
 
+-- where a walk begins in its file, and how many rows it reads there that it does not hand out
+abbrev pub Begins : List ℕ → Begun → Result (RowPlace × ℕ) End → Type 0
+Begins file begun begin =
+    IsOnPage file (begun_cursor begun) (λ here. IsBegunOn file begun here begin)
+    (λ none. begin ≡ Err none)
+
+-- their number, which is 0 where there is nothing but an end
+abbrev pub dropped : Result (RowPlace × ℕ) End → ℕ
+dropped (Ok from) = from.1
+dropped (Err none) = 0
+
 -- so many rows stand in its strip before what a walk begins with: those above the cursor's, and
 -- none where that stands after its page's last row, where its page is not there, or inside a strip
 abbrev pub AreBeforeIt : List ℕ → Begun → ℕ → Type 0
-AreBeforeIt file (At at) count =
-    IsOnPage file at (λ here.
-    count ≡ (if nat_lt at.row here.form.rows then at.row % here.form.rows_per_strip else 0))
-    (λ end. count ≡ 0)
-AreBeforeIt file (Inside place) count = count ≡ 0
+AreBeforeIt file begun count =
+    (begin : Result (RowPlace × ℕ) End) × Begins file begun begin × (count ≡ dropped begin)
 
 -- the rows end on the cursor's page, before its row
 abbrev pub EndsBefore : End → Cursor → Type 0

@@ -5,7 +5,8 @@ use Rattle.fax_files.specs.views.Chain.{ChainState}
 use Rattle.fax_files.specs.views.Tiff.{TiffFile, TiffDirectory}
 use Rattle.fax_walk.specs.code.Check.{IsRestChecked, ArePagesChecked, before_page}
 use Rattle.fax_walk.specs.code.Opening.{IsChainBefore}
-use Rattle.fax_walk.proofs.EndingLemmas.{goes_on, none_past}
+use Rattle.fax_walk.proofs.EndingLemmas.{goes_on}
+use Rattle.fax_walk.proofs.PageLawLemmas.{none_past}
 use Rattle.fax_walk.proofs.OpeningLemmas.{due_some, due_none, due_fault}
 use Rattle.fax_walk.proofs.PageCheckLemmas.{none_checked, directory_there, proper_there, fault_there, page_after, last_report, stop_report}
 use Rattle.fax_walk.proofs.checking.check_pages.Goals as goal
