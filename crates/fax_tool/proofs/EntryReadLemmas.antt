@@ -1,4 +1,4 @@
--- What the entries of a number and of a flag are, where they passed.
+-- What getters read of the entries of a number and of a flag.
 use Rattle.std.proofs.Common.{◌≡◌, ◌∙◌, ◌<◌, ◌≤◌, ◌^◌, ◌==◌, ◌||◌, ap, arith, cond, drop, codes, inl, inr, sym, refl, Bool, true, false, ℕ}
 use Rattle.std.proofs.Common.{List, [], ◌∷◌, Option, Some, None, Result, Ok, Err}
 use Rattle.std.specs.Prelude.{option_map, pos, unwrap_or}
@@ -23,74 +23,6 @@ use Rattle.clap.proofs.WalkLemmas.{one_text-rows}
 use Rattle.fax_tool.specs.code.Entries.{HasFlag, HasNumber, given_by}
 use Rattle.fax_tool.specs.Grammar.{IsNumberText}
 use Rattle.fax_tool.specs.Job.{is_set, number_in}
-use Rattle.fax_tool.proofs.EntryLemmas.{ArePassed, entry_passed, entry_read}
-
--- a value without a fault passes its parser
-passes : (p : ValueParser) (t : Text) → value_kinds false p t ≡ [] → Accepts false p t
-passes p t none = go (accepts false p t) refl none
-  where
-    go : (b : Bool) → accepts false p t ≡ b → cond b [] (refused_kind p ∷ []) ≡ [] → Accepts false p t
-    go true is none = accepts-Accepts false p t is
-    go false is none = cc
-
-without_minus-cond : (t : Text) → without_minus t ≡ cond (starts_with_minus t) (drop 1 t) t
-without_minus-cond [] = refl
-without_minus-cond (x ∷ xs) = go (x == 45)
-  where
-    go : (b : Bool) → unwrap_or (cond b (Some xs) None) (x ∷ xs) ≡ cond b xs (x ∷ xs)
-    go true = refl
-    go false = refl
-
--- a text that reads as 1 or more has no minus
-number_text : (most : ℕ) (t : Text) → IsSignedIn (pos 1) (pos most) t → (without_minus t ≡ t) × IsNumberText most t
-number_text most t passed = go (starts_with_minus t) refl
-  where
-    go : (b : Bool) → starts_with_minus t ≡ b → (without_minus t ≡ t) × IsNumberText most t
-    go true minus =
-        let low = rw minus at passed.2 in
-        absurd (omega (arith, ints))
-    go false minus =
-        let low = rw minus at passed.2 in
-        let high = rw minus at passed.3 in
-        let digits : IsNumeral 10 (without_leading_plus t) = rw minus at passed.0 in
-        let same : without_minus t ≡ t = without_minus-cond t ∙ ap (λ (b : Bool). cond b (drop 1 t) t) minus in
-        (same, record { digits = digits; some = omega (arith, ints); within = omega (arith, ints) })
-
-as_it_is : (f : Text → Text) (o : Option Text) → ((t : Text) → o ≡ Some t → f t ≡ t) → option_map f o ≡ o
-as_it_is f None same = refl
-as_it_is f (Some t) same = ap Some (same t refl)
-
-pub has_number : (name : Text) (most : ℕ) (entries : List Row) → ArePassed name (parser.Signed (pos 1) (pos most)) entries
-    → HasNumber name most entries
-has_number name most entries all =
-    let p = parser.Signed (pos 1) (pos most) in
-    let text = λ (t : Text) (is : first_of name entries ≡ Some t). number_text most t (passes p t (entry_passed name p entries t all is)) in
-    record {
-      read = entry_read name p entries all ∙ as_it_is without_minus (first_of name entries) (λ t is. (text t is).0);
-      is = λ t is. (text t is).1;
-    }
-
-pub has_flag : (name : Text) (entries : List Row) → ArePassed name parser.Bool entries → HasFlag name entries
-has_flag name entries all = go (first_of name entries) refl
-  where
-    read : one_of name entries ≡ first_of name entries
-    read = entry_read name parser.Bool entries all ∙ as_it_is (λ t. t) (first_of name entries) (λ t is. refl)
-
-    word : (t : Text) → first_of name entries ≡ Some t → (a b : Bool) → bytes_eq t (codes "true") ≡ a → bytes_eq t (codes "false") ≡ b
-        → (a || b) ≡ true → HasFlag name entries
-    word t is true b first second some =
-        let at : first_of name entries ≡ Some (codes "true") = is ∙ ap Some ((bytes_eq-Decides t (codes "true")).0 first) in
-        (read, inr (inl at))
-    word t is false true first second some =
-        let at : first_of name entries ≡ Some (codes "false") = is ∙ ap Some ((bytes_eq-Decides t (codes "false")).0 second) in
-        (read, inr (inr at))
-    word t is false false first second some = cc
-
-    go : (o : Option Text) → first_of name entries ≡ o → HasFlag name entries
-    go None is = (read, inl is)
-    go (Some t) is =
-        word t is (bytes_eq t (codes "true")) (bytes_eq t (codes "false")) refl refl
-        (passes parser.Bool t (entry_passed name parser.Bool entries t all is))
 
 -- what a typed getter reads of a number
 pub number_read : (E : Type 0) (G : Text → Result ℕ E → Type 0) (f : Found) (name : Text) (most : ℕ) (r : Option ℕ)

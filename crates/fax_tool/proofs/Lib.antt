@@ -7,7 +7,6 @@ mod BeginLemmas
 mod EntryLemmas
 mod EntryReadLemmas
 mod GetterLemmas
-mod LevelLemmas
 mod ExampleLemmas
 mod RuleLemmas
 mod UseLemmas

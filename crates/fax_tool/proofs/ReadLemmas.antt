@@ -4,6 +4,7 @@ use Rattle.std.proofs.Common.{true, false, ℕ}
 use Rattle.std.proofs.Common.{List, [], ◌∷◌, Option, Some, None, is_some}
 use Rattle.std.specs.Prelude.{find, not, option_and_then, option_map}
 use Rattle.std.specs.List.{fold, slice_index_or}
+use Rattle.std.specs.Option.{option_map_or}
 use Rattle.std.specs.Str.{bytes_eq}
 use Rattle.std.proofs.lemmas.Slice.Eq.{bytes_eq-Decides}
 use Rattle.clap.specs.Takes.{is_given}
@@ -220,72 +221,70 @@ pub record Agrees (entries : List Row) (uses : List Use) : Type 0 where
   pub long : is_true (first_of (codes "long") entries) ≡ is_true (text_in uses (codes "long"))
   pub align : is_true (first_of (codes "align") entries) ≡ is_true (text_in uses (codes "align"))
 
-agree_by : (items : List Item) (uses : List Use) (entries : List Row) → entries ≡ filled_rows items uses
+agree_by : (items : List Item) (uses : List Use)
     → is_no_flag (codes "cursor") items ≡ true → is_no_flag (codes "max") items ≡ true → is_no_flag (codes "o") items ≡ true
     → is_no_flag (codes "order") items ≡ true → is_no_flag (codes "k") items ≡ true → is_no_flag (codes "strip") items ≡ true
-    → is_no_flag (codes "FILE") items ≡ true → Agrees entries uses
-agree_by items uses entries is cursor max target order k strip name = record {
-  cursor = ap (first_of (codes "cursor")) is ∙ text_filled (codes "cursor") items uses cursor;
-  max = ap (first_of (codes "max")) is ∙ text_filled (codes "max") items uses max;
-  target = ap (first_of (codes "o")) is ∙ text_filled (codes "o") items uses target;
-  order = ap (first_of (codes "order")) is ∙ text_filled (codes "order") items uses order;
-  k = ap (first_of (codes "k")) is ∙ text_filled (codes "k") items uses k;
-  strip = ap (first_of (codes "strip")) is ∙ text_filled (codes "strip") items uses strip;
-  name = ap (first_of (codes "FILE")) is ∙ text_filled (codes "FILE") items uses name;
-  long = ap (λ rows. is_true (first_of (codes "long") rows)) is ∙ flag_filled (codes "long") items uses;
-  align = ap (λ rows. is_true (first_of (codes "align") rows)) is ∙ flag_filled (codes "align") items uses;
+    → is_no_flag (codes "FILE") items ≡ true → Agrees (filled_rows items uses) uses
+agree_by items uses cursor max target order k strip name = record {
+  cursor = text_filled (codes "cursor") items uses cursor;
+  max = text_filled (codes "max") items uses max;
+  target = text_filled (codes "o") items uses target;
+  order = text_filled (codes "order") items uses order;
+  k = text_filled (codes "k") items uses k;
+  strip = text_filled (codes "strip") items uses strip;
+  name = text_filled (codes "FILE") items uses name;
+  long = flag_filled (codes "long") items uses;
+  align = flag_filled (codes "align") items uses;
 }
 
--- the words are read as this command, with uses that the entries agree with
+-- what may stand after a command's name
+abbrev pub items_of : Text → List Item
+items_of name = option_map_or (λ command. command.1) (find (λ command. bytes_eq command.0 name) commands) []
+
+-- the words are read as this command, and the entries are those of its uses, with which they agree
 abbrev pub IsReadAs : List Text → Text → List Row → Type 0
 IsReadAs words name entries = (uses : List Use) × (read words ≡ Some (name, uses)) × Agrees entries uses
+    × (entries ≡ filled_rows (items_of name) uses)
 
 abbrev pub IsUnread : List Text → Type 0
 IsUnread words = (read words ≡ None) ⊎ ((uses : List Use) × (read words ≡ Some (codes "convert", uses)) × (text_in uses (codes "o") ≡ None))
 
-read_from : (name : Text) (items : List Item) (o : Option (List Use)) (uses : List Use) (given : Text) → o ≡ Some uses → given ≡ name
-    → option_map {U = Text × List Use} (λ uses. (name, uses)) o ≡ Some (given, uses)
-read_from name items o uses given is same = rw (is, same) refl
+abbrev pub ReadsTaken : List Text → Type 0
+ReadsTaken words = (name : Text) (entries : List Row) → AreTaken words → command_of words ≡ Some (name, entries)
+    → IsReadAs words name entries
 
-taken_list : (own : Text) (rest : List Text) (given : Text) (entries : List Row) → AreTaken (own ∷ codes "list" ∷ rest)
-    → command_of (own ∷ codes "list" ∷ rest) ≡ Some (given, entries) → IsReadAs (own ∷ codes "list" ∷ rest) given entries
-unfolding clap_on_literals
-taken_list own rest given entries taken named =
-    let of = taken_at (name_at 0) (items_at 0) refl refl list_level own rest given entries taken named in (
+reads_taken : (name : Text) (items : List Item) (met : subcommand_met (names_of program) idle name ≡ Some name)
+    (found : find (λ s. answers_to name (label_of s)) program.subs ≡ Some (leaf name items)) → IsLevel name items
+    → items_of name ≡ items → ((uses : List Use) → Agrees (filled_rows items uses) uses) → (own : Text) (rest : List Text)
+    → read (own ∷ name ∷ rest) ≡ option_map {U = Text × List Use} (λ uses. (name, uses)) (uses_of items rest)
+    → ReadsTaken (own ∷ name ∷ rest)
+reads_taken name items met found is_level items_are agrees own rest reads given entries taken named =
+    let of = taken_at name items met found is_level own rest given entries taken named in (
       of.0,
-      read_from (name_at 0) (items_at 0) (uses_of (items_at 0) rest) of.0 given of.1 of.2,
-      agree_by (items_at 0) of.0 entries of.3 refl refl refl refl refl refl refl,
+      reads ∙ ap (option_map {U = Text × List Use} (λ uses. (name, uses))) of.1 ∙ ap (λ name. Some (name, of.0)) (sym of.2),
+      subst (λ entries. Agrees entries of.0) (sym of.3) (agrees of.0),
+      of.3 ∙ ap (λ items. filled_rows items of.0) (sym items_are) ∙ ap (λ name. filled_rows (items_of name) of.0) (sym of.2),
     )
 
-taken_rows : (own : Text) (rest : List Text) (given : Text) (entries : List Row) → AreTaken (own ∷ codes "rows" ∷ rest)
-    → command_of (own ∷ codes "rows" ∷ rest) ≡ Some (given, entries) → IsReadAs (own ∷ codes "rows" ∷ rest) given entries
+taken_list : (own : Text) (rest : List Text) → ReadsTaken (own ∷ codes "list" ∷ rest)
 unfolding clap_on_literals
-taken_rows own rest given entries taken named =
-    let of = taken_at (name_at 1) (items_at 1) refl refl rows_level own rest given entries taken named in (
-      of.0,
-      read_from (name_at 1) (items_at 1) (uses_of (items_at 1) rest) of.0 given of.1 of.2,
-      agree_by (items_at 1) of.0 entries of.3 refl refl refl refl refl refl refl,
-    )
+taken_list own rest = reads_taken (name_at 0) (items_at 0) refl refl list_level refl
+    (λ uses. agree_by (items_at 0) uses refl refl refl refl refl refl refl) own rest refl
 
-taken_convert : (own : Text) (rest : List Text) (given : Text) (entries : List Row) → AreTaken (own ∷ codes "convert" ∷ rest)
-    → command_of (own ∷ codes "convert" ∷ rest) ≡ Some (given, entries) → IsReadAs (own ∷ codes "convert" ∷ rest) given entries
+taken_rows : (own : Text) (rest : List Text) → ReadsTaken (own ∷ codes "rows" ∷ rest)
 unfolding clap_on_literals
-taken_convert own rest given entries taken named =
-    let of = taken_at (name_at 2) (items_at 2) refl refl convert_level own rest given entries taken named in (
-      of.0,
-      read_from (name_at 2) (items_at 2) (uses_of (items_at 2) rest) of.0 given of.1 of.2,
-      agree_by (items_at 2) of.0 entries of.3 refl refl refl refl refl refl refl,
-    )
+taken_rows own rest = reads_taken (name_at 1) (items_at 1) refl refl rows_level refl
+    (λ uses. agree_by (items_at 1) uses refl refl refl refl refl refl refl) own rest refl
 
-taken_check : (own : Text) (rest : List Text) (given : Text) (entries : List Row) → AreTaken (own ∷ codes "check" ∷ rest)
-    → command_of (own ∷ codes "check" ∷ rest) ≡ Some (given, entries) → IsReadAs (own ∷ codes "check" ∷ rest) given entries
+taken_convert : (own : Text) (rest : List Text) → ReadsTaken (own ∷ codes "convert" ∷ rest)
 unfolding clap_on_literals
-taken_check own rest given entries taken named =
-    let of = taken_at (name_at 3) (items_at 3) refl refl check_level own rest given entries taken named in (
-      of.0,
-      read_from (name_at 3) (items_at 3) (uses_of (items_at 3) rest) of.0 given of.1 of.2,
-      agree_by (items_at 3) of.0 entries of.3 refl refl refl refl refl refl refl,
-    )
+taken_convert own rest = reads_taken (name_at 2) (items_at 2) refl refl convert_level refl
+    (λ uses. agree_by (items_at 2) uses refl refl refl refl refl refl refl) own rest refl
+
+taken_check : (own : Text) (rest : List Text) → ReadsTaken (own ∷ codes "check" ∷ rest)
+unfolding clap_on_literals
+taken_check own rest = reads_taken (name_at 3) (items_at 3) refl refl check_level refl
+    (λ uses. agree_by (items_at 3) uses refl refl refl refl refl refl refl) own rest refl
 
 -- where nothing is required, nothing lacks
 unread_from : (name : Text) (items : List Item) (rest : List Text)
@@ -356,10 +355,6 @@ unnamed_taken : (own word : Text) (rest : List Text) → bytes_eq (codes "list")
     → bytes_eq (codes "convert") word ≡ false → bytes_eq (codes "check") word ≡ false → AreTaken (own ∷ word ∷ rest) → ⊥
 unnamed_taken own word rest list rows convert check taken =
     unnamed word rest (view word) (unnamed_met word list rows convert check) taken
-
-abbrev pub ReadsTaken : List Text → Type 0
-ReadsTaken words = (name : Text) (entries : List Row) → AreTaken words → command_of words ≡ Some (name, entries)
-    → IsReadAs words name entries
 
 abbrev pub ReadsUntaken : List Text → Type 0
 ReadsUntaken words = (AreTaken words → ⊥) → IsUnread words

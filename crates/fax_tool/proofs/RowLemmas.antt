@@ -84,7 +84,7 @@ abbrev pub is_flag : Text → Item → Bool
 is_flag name (flag own) = bytes_eq own name
 is_flag name item = false
 
-abbrev default_row : Text → Row
+abbrev pub default_row : Text → Row
 default_row name = record {
   id = name;
   values = codes "false" ∷ [];
@@ -94,12 +94,12 @@ default_row name = record {
       (rule_of (flag name));
 }
 
-same_either : (b : Bool) (rows : List Row) → cond b rows rows ≡ rows
+pub same_either : (b : Bool) (rows : List Row) → cond b rows rows ≡ rows
 same_either true rows = refl
 same_either false rows = refl
 
 -- a flag's default is one more row, where it has none
-flag_default : (name : Text) (rows : List Row)
+pub flag_default : (name : Text) (rows : List Row)
     → with_default rows (rule_of (flag name)) ≡ cond (has_row name rows) rows (rows ++ default_row name ∷ [])
 flag_default name rows = go (has_row name rows) refl
   where

@@ -16,7 +16,7 @@ use Rattle.fax_tool.specs.Job.{IsFault, target_of}
 use Rattle.fax_tool.specs.declared.words.WordsFault.{WordsFault}
 use Rattle.fax_tool.specs.declared.words.WordsFault.TheVariants.{Memory, NotACursor, Usage}
 use Rattle.fax_tool.proofs.AgreeLemmas.{command_agrees, fault_agrees}
-use Rattle.fax_tool.proofs.LevelLemmas.{taken_entries}
+use Rattle.fax_tool.proofs.EntryLemmas.{taken_entries}
 use Rattle.fax_tool.proofs.ReadLemmas.{AreTaken, IsReadAs, command_of, read_as}
 use Rattle.fax_tool.proofs.ShapeLemmas.{read_is_of_command}
 use Rattle.fax_tool.proofs.SpellLemmas.{unread_is_no_command}
@@ -29,10 +29,6 @@ taken c = search rules
 named : (c : In-Some) → command_of (texts c.args.words.now) ≡ Some (c.in-Some.name.now, entries_of c.in-Some.of_command.now)
 named c = search rules
 
-pub command_of-requires : goal.command_of-requires
-command_of-requires c =
-    taken_entries (texts c.args.words.now) c.in-Some.name.now (entries_of c.in-Some.of_command.now) (taken c) (named c)
-
 -- the words are texts
 utf8 : (c : In-Some) → All IsUtf8 (texts c.args.words.now)
 utf8 c = search rules
@@ -41,6 +37,10 @@ utf8 c = search rules
 of_words : (c : In-Some) → IsReadAs (texts c.args.words.now) c.in-Some.name.now (entries_of c.in-Some.of_command.now)
 of_words c =
     (read_as (texts c.args.words.now)).0 c.in-Some.name.now (entries_of c.in-Some.of_command.now) (taken c) (named c)
+
+pub command_of-requires : goal.command_of-requires
+command_of-requires c =
+    taken_entries (texts c.args.words.now) c.in-Some.name.now (entries_of c.in-Some.of_command.now) (utf8 c) (of_words c)
 
 refused : (words : List Text) (name : Text) (entries : List Row) (fault : WordsFault) → All IsUtf8 words → IsReadAs words name entries
     → IsCommandFault name (given_by entries) fault → IsFault words fault
