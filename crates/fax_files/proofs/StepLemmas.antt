@@ -1,230 +1,167 @@
--- A page's form is found in the steps that the code takes.
-use Rattle.std.proofs.Common.{◌≡◌, ℕ, ◌-◌, ◌/◌, ◌%◌, ◌^◌, Bool, true, false, List, Option, Some, None, Result, Ok, Err, refl, sym, ap}
-use Rattle.std.proofs.Common.{◌∙◌, arith}
-use Rattle.std.specs.Prelude.{◌==◌, ◌||◌, min, not, nat_lt, if◌then◌else◌}
+-- The form of a page is that of its fields, and within the limits.
+use Rattle.std.proofs.Common.{◌≡◌, ◌≢◌, ℕ, ◌-◌, ◌/◌, ◌%◌, ◌^◌, ◌≤◌, min, Bool, true, false, List, Option, Some, None, Result, Ok, Err}
+use Rattle.std.proofs.Common.{refl, sym, ap, subst, ◌∙◌, arith}
 use Rattle.std.specs.Int.{div_ceil}
-use Rattle.fax_bits.specs.declared.FillOrder.{FillOrder}
-use Rattle.fax_bits.specs.declared.FillOrder.TheVariants.{MsbFirst, LsbFirst}
+use Rattle.fax_bits.specs.declared.FillOrder.TheVariants.{LsbFirst, MsbFirst}
+use Rattle.fax_page.specs.declared.Coding.TheVariants.{Mh, Mr, Mmr}
+use Rattle.std.specs.Prelude.{IfOk, option_and_then, nat_lt, ◌==◌, if◌then◌else◌}
 use Rattle.std.proofs.lemmas.Bool.Decides.{nat_tests}
-use Rattle.fax_files.specs.Directory.{◌>>=◌, Endian, FileFault, Entry, check, entries, field, has_integers, value_at, needed, scalar}
-use Rattle.fax_files.specs.Page.{Mh, Mr, Mmr, PageForm, Resolution, is_between, rational_of, resolution_of, usual_resolution, page}
-use Rattle.fax_files.specs.Page.{strip_bytes}
-use Rattle.fax_files.specs.code.Steps.{first_value, needed_scalar, scalar_or, RowCoding, t4_coding, resolution_from}
-use Rattle.fax_files.specs.code.Steps.{page_size, pel_format, are_exchanged, fill_order, strip_rows, page_coding, strip_field}
-use Rattle.fax_files.specs.code.Steps.{page_resolution, page_in_steps, bytes_at, placed_bytes}
-use Rattle.fax_files.specs.declared.FileFault.TheVariants.{BadField, Unsupported, OutOfLimits, MissingField}
+use Rattle.fax_files.specs.Directory.{◌>>=◌, Endian, FileFault, Entry, check, entries, field, has_integers, needed, scalar, value_at}
+use Rattle.fax_files.specs.Page.{PageForm, form_in, is_between, most_pels, most_rows, page, strip_bytes}
+use Rattle.fax_files.specs.declared.FileFault.TheVariants.{BadField, OutOfLimits, Unsupported}
 use Rattle.fax_files.specs.declared.tags.TheConstants as Tags
+use Rattle.fax_files.specs.code.Steps.{IsFormOf, bytes_at, first_number, placed_bytes, resolution_in, strip_field}
 
--- steps after the same answer
-bind_on : {A B : Type 0} (r : Result A FileFault) (f g : A → Result B FileFault) → ((x : A) → f x ≡ g x) → (r >>= f) ≡ (r >>= g)
-bind_on (Ok x) f g same = same x
-bind_on (Err fault) f g same = refl
+-- the value of a step that did not fail
+pub bind_ok : {A B : Type 0} (r : Result A FileFault) (next : A → Result B FileFault) (y : B) → (r >>= next) ≡ Ok y
+    → (x : A) × (r ≡ Ok x) × (next x ≡ Ok y)
+bind_ok (Ok x) next y e = (x, refl, e)
+bind_ok (Err fault) next y e = absurd cc
 
-bind_in : {A B C : Type 0} (r : Result A FileFault) (k : A → Result B FileFault) (g : B → Result C FileFault) (f : A → Result C FileFault)
-    → ((x : A) → f x ≡ (k x >>= g)) → (r >>= f) ≡ ((r >>= k) >>= g)
-bind_in (Ok x) k g f same = same x
-bind_in (Err fault) k g f same = refl
+pub checked : {A : Type 0} (test : Bool) (fault : FileFault) (next : Unit {0} → Result A FileFault) (y : A)
+    → (check test fault >>= next) ≡ Ok y → (test ≡ true) × (next tt ≡ Ok y)
+checked true fault next y e = (refl, e)
+checked false fault next y e = absurd cc
 
-bind_in_in : {A B C D : Type 0} (r : Result A FileFault) (k : A → Result B FileFault) (g : B → Result C FileFault)
-    (h : C → Result D FileFault) (f : A → Result D FileFault)
-    → ((x : A) → f x ≡ ((k x >>= g) >>= h)) → (r >>= f) ≡ (((r >>= k) >>= g) >>= h)
-bind_in_in (Ok x) k g h f same = same x
-bind_in_in (Err fault) k g h f same = refl
-
--- a test of a number
-checked : {B : Type 0} (test : Bool) (fault : FileFault) (n : ℕ) (next : ℕ → Result B FileFault)
-    → ((check test fault >>= λ _. Ok n) >>= next) ≡ (check test fault >>= λ _. next n)
-checked true fault n next = refl
-checked false fault n next = refl
-
-tested : {B : Type 0} (r : Result ℕ FileFault) (test other : ℕ → Bool) (fault : FileFault) (next : ℕ → Result B FileFault)
-    → ((n : ℕ) → test n ≡ other n)
-    → ((r >>= λ n. check (test n) fault >>= λ _. Ok n) >>= next) ≡ (r >>= λ n. check (other n) fault >>= λ _. next n)
-tested (Ok n) test other fault next same =
-    ap (λ v. (check v fault >>= λ _. Ok n) >>= next) (same n) ∙ checked (other n) fault n next
-tested (Err f) test other fault next same = refl
-
-module _ {B : Type 0} (endian : Endian) (file : List ℕ) (fields : List Entry) (tag : ℕ) (test other : ℕ → Bool) (fault : ℕ → FileFault)
-    (next : ℕ → Result B FileFault) (same : (n : ℕ) → test n ≡ other n) where
-  needed_from : (found : Option Entry)
-      → (((elim found [
-        | None ↦ Err (MissingField tag)
-        | Some entry ↦ if has_integers endian file entry 1 then (Ok (value_at endian file entry 0)) else (Err (BadField entry.tag))
-      ]) >>= λ n. check (test n) (fault tag) >>= λ _. Ok n) >>= next)
-      ≡ (((elim found [ None ↦ Err (MissingField tag) | Some entry ↦ Ok entry ]) >>= first_value endian file)
-      >>= λ n. check (other n) (fault tag) >>= λ _. next n)
-  unfolding first_value
-  needed_from None = refl
-  needed_from (Some entry) = tested (first_value endian file entry) test other (fault tag) next same
-
-  needed_step : (scalar endian file fields tag None test fault >>= next)
-      ≡ (needed_scalar endian file fields tag >>= λ n. check (other n) (fault tag) >>= λ _. next n)
-  unfolding scalar needed_scalar
-  needed_step = needed_from (field fields tag)
-
-  or_from : (absent : ℕ) (found : Option Entry)
-      → (((elim found [
-        | None ↦ Ok absent
-        | Some entry ↦ if has_integers endian file entry 1 then (Ok (value_at endian file entry 0)) else (Err (BadField entry.tag))
-      ]) >>= λ n. check (test n) (fault tag) >>= λ _. Ok n) >>= next)
-      ≡ ((elim found [ None ↦ Ok absent | Some entry ↦ first_value endian file entry ])
-      >>= λ n. check (other n) (fault tag) >>= λ _. next n)
-  unfolding first_value
-  or_from absent None = tested (Ok absent) test other (fault tag) next same
-  or_from absent (Some entry) = tested (first_value endian file entry) test other (fault tag) next same
-
-  or_step : (absent : ℕ) → (scalar endian file fields tag (Some absent) test fault >>= next)
-      ≡ (scalar_or endian file fields tag absent >>= λ n. check (other n) (fault tag) >>= λ _. next n)
-  unfolding scalar scalar_or
-  or_step absent = or_from absent (field fields tag)
-
--- tests that are the same
-is_known_coding : (n : ℕ) → is_between 3 4 n ≡ ((n == 3) || (n == 4))
-is_known_coding n = grind (arith, nat_tests)
-
-is_known_white : (n : ℕ) → is_between 0 1 n ≡ ((n == 0) || (n == 1))
-is_known_white n = grind (arith, nat_tests)
-
-is_known_order : (n : ℕ) → is_between 1 2 n ≡ ((n == 1) || (n == 2))
-is_known_order n = grind (arith, nat_tests)
-
-is_one : (n : ℕ) → is_between 1 1 n ≡ (n == 1)
-is_one n = grind (arith, nat_tests)
-
-is_some : (n : ℕ) → nat_lt 0 n ≡ not (n == 0)
-is_some n = grind (arith, nat_tests)
-
-module _ {B : Type 0} (endian : Endian) (file : List ℕ) (fields : List Entry) where
-  -- how the rows are coded
-  coding_step : (is_t6 : Bool) (next : RowCoding → Result B FileFault)
-      → ((if is_t6 then (Ok 0) else (scalar endian file fields Tags.T4_OPTIONS (Some 0) (λ _. true) BadField))
-      >>= λ options. next (record {
-        coding = if is_t6 then Mmr else (if options % 2 == 1 then Mr else Mh);
-        aligned = options / 4 % 2 == 1;
-      }))
-      ≡ ((if is_t6 then (Ok (record { coding = Mmr; aligned = false })) else (t4_coding endian file fields)) >>= next)
-  coding_step true next = refl
-  coding_step false next =
-      or_step endian file fields Tags.T4_OPTIONS (λ _. true) (λ _. true) BadField
-      (λ options. next (record { coding = if options % 2 == 1 then Mr else Mh; aligned = options / 4 % 2 == 1 })) (λ _. refl) 0
-      ∙ bind_in (scalar_or endian file fields Tags.T4_OPTIONS 0) _ _ _ (λ _. refl)
-
-answered : (r : Result ℕ FileFault) → (r >>= λ n. Ok n) ≡ r
-answered (Ok n) = refl
-answered (Err fault) = refl
-
-unit_tested : (x y : ℕ × ℕ) (unit : ℕ) (fault : FileFault) (test : Bool)
-    → resolution_of (Some x) (Some y) (check test fault >>= λ _. Ok unit)
-    ≡ (if test then (record { x = x; y = y; unit = unit }) else usual_resolution)
-unit_tested x y unit fault true = refl
-unit_tested x y unit fault false = refl
-
-resolution_from_parts : (x y : Option (ℕ × ℕ)) (unit : Result ℕ FileFault) (fault : FileFault)
-    → resolution_of x y (unit >>= λ n. check (is_between 1 3 n) fault >>= λ _. Ok n) ≡ resolution_from x y unit
-resolution_from_parts None y unit fault = refl
-resolution_from_parts (Some x) None unit fault = refl
-resolution_from_parts (Some x) (Some y) (Err f) fault = refl
-resolution_from_parts (Some x) (Some y) (Ok unit) fault = unit_tested x y unit fault (is_between 1 3 unit)
+-- what holds after a step holds, where the step did not fail
+after : {A B : Type 0} (P : B → Type 0) (r : Result A FileFault) (next : A → Result B FileFault)
+    → ((x : A) → r ≡ Ok x → IfOk (next x) P) → IfOk (r >>= next) P
+after P (Ok x) next holds = holds x refl
+after P (Err fault) next holds = tt
 
 module _ (endian : Endian) (file : List ℕ) (fields : List Entry) where
-  abbrev found : Resolution
-  found =
-      resolution_of (rational_of endian file fields Tags.X_RESOLUTION) (rational_of endian file fields Tags.Y_RESOLUTION)
-      (scalar endian file fields Tags.RESOLUTION_UNIT (Some 2) (is_between 1 3) Unsupported)
+  -- a scalar passed its test
+  pub passed : (tag : ℕ) (absent : Option ℕ) (test : ℕ → Bool) (fault : ℕ → FileFault) (n : ℕ)
+      → scalar endian file fields tag absent test fault ≡ Ok n → test n ≡ true
+  unfolding scalar
+  passed tag absent test fault n is =
+      let first = bind_ok _ (λ n. check (test n) (fault tag) >>= λ _. Ok n) n is in
+      let test_is = checked (test first.0) (fault tag) (λ _. Ok first.0) n first.2 in
+      let same : first.0 ≡ n = cc in
+      rw same at test_is.0
 
-  resolution_same : found ≡ page_resolution endian file fields
-  unfolding page_resolution
-  resolution_same =
-      let x = rational_of endian file fields Tags.X_RESOLUTION in
-      let y = rational_of endian file fields Tags.Y_RESOLUTION in
-      let unit = scalar endian file fields Tags.RESOLUTION_UNIT (Some 2) (is_between 1 3) Unsupported in
-      ap (resolution_of x y) (sym (answered unit)
-      ∙ or_step endian file fields Tags.RESOLUTION_UNIT (is_between 1 3) (is_between 1 3) Unsupported (λ n. Ok n) (λ _. refl) 2)
-      ∙ resolution_from_parts x y (scalar_or endian file fields Tags.RESOLUTION_UNIT 2) (Unsupported Tags.RESOLUTION_UNIT)
+  -- a scalar whose first value passes its test
+  pub taken : (tag : ℕ) (absent : Option ℕ) (test : ℕ → Bool) (fault : ℕ → FileFault) (n : ℕ)
+      → first_number endian file fields tag absent ≡ Ok n → test n ≡ true → scalar endian file fields tag absent test fault ≡ Ok n
+  unfolding scalar
+  taken tag absent test fault n first passes = rw (first, passes) refl
 
--- a form, where the strips have their offsets and byte counts
-abbrev where_placed : Endian → List ℕ → List Entry → ℕ → PageForm → Result PageForm FileFault
-where_placed endian file fields strips form = do
-  offsets ← needed fields Tags.STRIP_OFFSETS
-  _ ← check (has_integers endian file offsets strips) (BadField Tags.STRIP_OFFSETS)
-  byte_counts ← needed fields Tags.STRIP_BYTE_COUNTS
-  _ ← check (has_integers endian file byte_counts strips) (BadField Tags.STRIP_BYTE_COUNTS)
-  Ok form
+  abbrev t4_options : Result ℕ FileFault
+  t4_options = scalar endian file fields Tags.T4_OPTIONS (Some 0) (λ _. true) BadField
 
-strips_step : (endian : Endian) (file : List ℕ) (fields : List Entry) (strips : ℕ) (form : PageForm)
-    → where_placed endian file fields strips form
-    ≡ (strip_field endian file fields Tags.STRIP_OFFSETS strips >>= λ _. strip_field endian file fields Tags.STRIP_BYTE_COUNTS strips
-    >>= λ _. Ok form)
-unfolding strip_field
-strips_step endian file fields strips form =
-    bind_in (needed fields Tags.STRIP_OFFSETS) _ _ _ (λ offsets.
-    bind_in (check (has_integers endian file offsets strips) (BadField Tags.STRIP_OFFSETS)) _ _ _ (λ _.
-    bind_in (needed fields Tags.STRIP_BYTE_COUNTS) _ _ _ (λ counts.
-    bind_in (check (has_integers endian file counts strips) (BadField Tags.STRIP_BYTE_COUNTS)) _ _ _ (λ _. refl))))
+  -- EOLs are aligned only where rows have them
+  no_mmr : (compression options : ℕ) (is_t6 odd : Bool) → (if is_t6 then (Ok 0) else t4_options) ≡ Ok options
+      → (options / 4 % 2 == 1) ≡ true → (if is_t6 then Mmr else (if odd then Mr else Mh)) ≢ Mmr
+  no_mmr compression options true odd options_are aligned =
+      let none : options ≡ 0 = cc in
+      let no : false ≡ true = rw none at aligned in
+      absurd cc
+  no_mmr compression options false true options_are aligned = λ same. cc
+  no_mmr compression options false false options_are aligned = λ same. cc
 
--- a form of these parts
-abbrev form_with : ℕ → ℕ → ℕ → FillOrder → Bool → Resolution → RowCoding → PageForm
-form_with width rows in_strip order exchanged found coded = record {
-  width = width;
-  rows = rows;
-  coding = coded.coding;
-  order = order;
-  aligned = coded.aligned;
-  exchanged = exchanged;
-  rows_per_strip = min in_strip rows;
-  strips = div_ceil rows (min in_strip rows);
-  x = found.x;
-  y = found.y;
-  unit = found.unit;
-}
+  -- the form that fields say is within the limits
+  pub form_within : IfOk (form_in endian file fields) (IsFormOf endian file fields)
+  unfolding form_in
+  form_within =
+      after (IsFormOf endian file fields) _ _ (λ width width_is.
+      after (IsFormOf endian file fields) _ _ (λ rows rows_is.
+      after (IsFormOf endian file fields) (scalar endian file fields Tags.BITS_PER_SAMPLE (Some 1) (is_between 1 1) Unsupported) _ (λ bits bits_are.
+      after (IsFormOf endian file fields) (scalar endian file fields Tags.COMPRESSION None (is_between 3 4) Unsupported) _ (λ compression compression_is.
+      after (IsFormOf endian file fields) (scalar endian file fields Tags.PHOTOMETRIC_INTERPRETATION None (is_between 0 1) Unsupported) _ (λ white white_is.
+      after (IsFormOf endian file fields) (scalar endian file fields Tags.FILL_ORDER (Some 1) (is_between 1 2) Unsupported) _ (λ order order_is.
+      after (IsFormOf endian file fields) (scalar endian file fields Tags.SAMPLES_PER_PIXEL (Some 1) (is_between 1 1) Unsupported) _ (λ samples samples_are.
+      after (IsFormOf endian file fields) _ _ (λ in_strip in_strip_is.
+      after (IsFormOf endian file fields) (if compression == 4 then (Ok 0) else t4_options) _ (λ options options_are.
+      let wide = passed Tags.IMAGE_WIDTH None (is_between 1 most_pels) OutOfLimits width width_is in
+      let high = passed Tags.IMAGE_LENGTH None (is_between 1 most_rows) OutOfLimits rows rows_is in
+      let some = passed Tags.ROWS_PER_STRIP (Some (2 ^ 32 - 1)) (nat_lt 0) BadField in_strip in_strip_is in
+      let some_rows : 1 ≤ rows = grind (arith, nat_tests, high) in
+      let some_in_strip : 1 ≤ in_strip = grind (arith, nat_tests, some) in
+      let found = resolution_in endian file fields in
+      let form : PageForm = record {
+        width = width;
+        rows = rows;
+        coding = if compression == 4 then Mmr else (if options % 2 == 1 then Mr else Mh);
+        order = if order == 2 then LsbFirst else MsbFirst;
+        aligned = options / 4 % 2 == 1;
+        exchanged = white == 1;
+        rows_per_strip = min in_strip rows;
+        strips = div_ceil rows (min in_strip rows);
+        x = found.x;
+        y = found.y;
+        unit = found.unit;
+      } in
+      let within : IsFormOf endian file fields form = record {
+        some_width = grind (arith, nat_tests, wide);
+        width = grind (arith, nat_tests, wide);
+        some_rows = some_rows;
+        rows = grind (arith, nat_tests, high);
+        some_in_strip = omega arith;
+        in_strip = omega arith;
+        strips = refl;
+        aligned = no_mmr compression options (compression == 4) (options % 2 == 1) options_are;
+        found = refl;
+      } in
+      within)))))))))
 
-pub page_is_in_steps : (endian : Endian) (file : List ℕ) (q : ℕ) → page endian file q ≡ page_in_steps endian file q
-unfolding page page_size pel_format are_exchanged fill_order strip_rows page_coding strip_field
-page_is_in_steps endian file q =
-    let fields = entries endian file q in
-    needed_step endian file fields Tags.IMAGE_WIDTH _ _ OutOfLimits _ (λ _. refl)
-    ∙ bind_in (needed_scalar endian file fields Tags.IMAGE_WIDTH) _ _ _ (λ width.
-    bind_in (check (is_between 1 65535 width) (OutOfLimits Tags.IMAGE_WIDTH)) _ _ _ (λ _.
-    needed_step endian file fields Tags.IMAGE_LENGTH _ _ OutOfLimits _ (λ _. refl)
-    ∙ bind_in (needed_scalar endian file fields Tags.IMAGE_LENGTH) _ _ _ (λ rows.
-    bind_in (check (is_between 1 1000000 rows) (OutOfLimits Tags.IMAGE_LENGTH)) _ _ _ (λ _.
-    or_step endian file fields Tags.BITS_PER_SAMPLE _ _ Unsupported _ is_one 1
-    ∙ bind_in (scalar_or endian file fields Tags.BITS_PER_SAMPLE 1) _ _ _ (λ bits.
-    bind_in (check (bits == 1) (Unsupported Tags.BITS_PER_SAMPLE)) _ _ _ (λ _.
-    needed_step endian file fields Tags.COMPRESSION _ _ Unsupported _ is_known_coding
-    ∙ bind_in (needed_scalar endian file fields Tags.COMPRESSION) _ _ _ (λ compression.
-    bind_in (check ((compression == 3) || (compression == 4)) (Unsupported Tags.COMPRESSION)) _ _ _ (λ _.
-    needed_step endian file fields Tags.PHOTOMETRIC_INTERPRETATION _ _ Unsupported _ is_known_white
-    ∙ bind_in_in (needed_scalar endian file fields Tags.PHOTOMETRIC_INTERPRETATION) _ _ _ _ (λ white.
-    bind_in_in (check ((white == 0) || (white == 1)) (Unsupported Tags.PHOTOMETRIC_INTERPRETATION)) _ _ _ _ (λ _.
-    or_step endian file fields Tags.FILL_ORDER _ _ Unsupported _ is_known_order 1
-    ∙ bind_in_in (scalar_or endian file fields Tags.FILL_ORDER 1) _ _ _ _ (λ order.
-    bind_in_in (check ((order == 1) || (order == 2)) (Unsupported Tags.FILL_ORDER)) _ _ _ _ (λ _.
-    or_step endian file fields Tags.SAMPLES_PER_PIXEL _ _ Unsupported _ is_one 1
-    ∙ bind_in (scalar_or endian file fields Tags.SAMPLES_PER_PIXEL 1) _ _ _ (λ samples.
-    bind_in (check (samples == 1) (Unsupported Tags.SAMPLES_PER_PIXEL)) _ _ _ (λ _.
-    or_step endian file fields Tags.ROWS_PER_STRIP _ _ BadField _ is_some (2 ^ 32 - 1)
-    ∙ bind_in (scalar_or endian file fields Tags.ROWS_PER_STRIP (2 ^ 32 - 1)) _ _ _ (λ in_strip.
-    bind_in (check (not (in_strip == 0)) (BadField Tags.ROWS_PER_STRIP)) _ _ _ (λ _.
-    let form = form_with width rows in_strip (if order == 2 then LsbFirst else MsbFirst) (white == 1) in
-    let strips = div_ceil rows (min in_strip rows) in
-    coding_step endian file fields (compression == 4)
-    (λ coded. where_placed endian file fields strips (form (found endian file fields) coded))
-    ∙ bind_on (page_coding endian file fields compression) _ _ (λ coded.
-    strips_step endian file fields strips (form (found endian file fields) coded)
-    ∙ ap (λ r. strip_field endian file fields Tags.STRIP_OFFSETS strips
-    >>= λ _. strip_field endian file fields Tags.STRIP_BYTE_COUNTS strips >>= λ _. Ok (form r coded)) (resolution_same endian file fields))
-    ))))))))))))))))
+-- a form that is handed out after two steps
+same_end : {A B C : Type 0} (a : Result A FileFault) (b : Result B FileFault) (made form : C) → (a >>= λ _. b >>= λ _. Ok made) ≡ Ok form
+    → form ≡ made
+same_end (Ok x) (Ok y) made form e = cc
+same_end (Ok x) (Err fault) made form e = absurd cc
+same_end (Err fault) b made form e = absurd cc
+
+-- the entry of a tag and its test, and then what is left
+strip_step : {A : Type 0} (r : Result Entry FileFault) (test : Entry → Bool) (fault : FileFault) (next : Result A FileFault)
+    → (r >>= λ entry. check (test entry) fault >>= λ _. next) ≡ ((r >>= λ entry. check (test entry) fault >>= λ _. Ok entry) >>= λ _. next)
+strip_step (Err f) test fault next = refl
+strip_step (Ok entry) test fault next = go (test entry)
+  where
+    go : (b : Bool) → (check b fault >>= λ _. next) ≡ ((check b fault >>= λ _. Ok entry) >>= λ _. next)
+    go true = refl
+    go false = refl
+
+module _ (endian : Endian) (file : List ℕ) (q : ℕ) where
+  abbrev pub after_form : PageForm → Result PageForm FileFault
+  after_form form =
+      strip_field endian file (entries endian file q) Tags.STRIP_OFFSETS form.strips
+      >>= λ _. strip_field endian file (entries endian file q) Tags.STRIP_BYTE_COUNTS form.strips >>= λ _. Ok form
+
+  -- a page has the form that its fields say, where its strips have their entries
+  pub page_is : page endian file q ≡ (form_in endian file (entries endian file q) >>= after_form)
+  unfolding page
+  page_is = go (form_in endian file (entries endian file q))
+    where
+      fields : List Entry
+      fields = entries endian file q
+
+      go : (r : Result PageForm FileFault)
+          → (r >>= λ form. needed fields Tags.STRIP_OFFSETS
+          >>= λ offsets. check (has_integers endian file offsets form.strips) (BadField Tags.STRIP_OFFSETS)
+          >>= λ _. needed fields Tags.STRIP_BYTE_COUNTS
+          >>= λ counts. check (has_integers endian file counts form.strips) (BadField Tags.STRIP_BYTE_COUNTS) >>= λ _. Ok form)
+          ≡ (r >>= after_form)
+      go (Err fault) = refl
+      go (Ok form) =
+          strip_step (needed fields Tags.STRIP_OFFSETS) (λ offsets. has_integers endian file offsets form.strips) (BadField Tags.STRIP_OFFSETS) _
+          ∙ ap (λ next. strip_field endian file fields Tags.STRIP_OFFSETS form.strips >>= λ _. next)
+          (strip_step (needed fields Tags.STRIP_BYTE_COUNTS) (λ counts. has_integers endian file counts form.strips)
+          (BadField Tags.STRIP_BYTE_COUNTS) (Ok form))
+
+  -- so it is within the limits
+  pub form_of_fields : (form : PageForm) → page endian file q ≡ Ok form → IsFormOf endian file (entries endian file q) form
+  form_of_fields form e =
+      let fields = entries endian file q in
+      let made = bind_ok (form_in endian file fields) after_form form (sym page_is ∙ e) in
+      let field : ℕ → Result Entry FileFault = λ tag. strip_field endian file fields tag made.0.strips in
+      let within = subst (λ r. IfOk r (IsFormOf endian file fields)) made.1 (form_within endian file fields) in
+      subst (IsFormOf endian file fields) (sym (same_end (field Tags.STRIP_OFFSETS) (field Tags.STRIP_BYTE_COUNTS) made.0 form made.2)) within
 
 -- the bytes of a strip are found by two entries
 placed_from : (endian : Endian) (file : List ℕ) (s : ℕ) (offsets counts : Option Entry)
-    → (elim offsets [
-      | None ↦ None
-      | Some at_offsets ↦ elim counts [
-        | None ↦ None
-        | Some at_counts ↦ bytes_at file (value_at endian file at_offsets s) (value_at endian file at_counts s)
-      ]
-    ]) ≡ placed_bytes endian file offsets counts s
+    → option_and_then (λ at_offsets. option_and_then
+    (λ at_counts. bytes_at file (value_at endian file at_offsets s) (value_at endian file at_counts s)) counts) offsets
+    ≡ placed_bytes endian file offsets counts s
 placed_from endian file s None None = refl
 placed_from endian file s None (Some counts) = refl
 placed_from endian file s (Some offsets) None = refl

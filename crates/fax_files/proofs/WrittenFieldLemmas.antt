@@ -4,10 +4,10 @@ use Rattle.std.proofs.lemmas.List.{length-append}
 use Rattle.std.proofs.lemmas.Bool.{le-leb, lt-ltb, ltb-true, eqb-true, and_parts}
 use Rattle.std.specs.List.{list_all}
 use Rattle.std.specs.Prelude.{◌&&◌, flat_map, Option, Some, nat_lt, find, ◌==◌}
-use Rattle.fax_files.specs.Directory.{Entry, is_inside, entries_at, field, needed}
+use Rattle.fax_files.specs.Directory.{Entry, FileFault, is_inside, entries_at, field, scalar}
 use Rattle.fax_files.specs.Directory.{values_place, value_at, has_integers}
-use Rattle.fax_files.specs.code.Steps.{needed_scalar, first_value}
-use Rattle.fax_files.specs.code.Steps.{scalar_or}
+use Rattle.fax_files.specs.code.Steps.{first_number, first_value}
+use Rattle.fax_files.proofs.StepLemmas.{taken}
 use Rattle.fax_files.specs.code.Entries.{entry_at}
 use Rattle.fax_files.specs.declared.Endian.TheVariants.{Little}
 use Rattle.fax_files.specs.views.Page.{IsGoodRational}
@@ -134,7 +134,7 @@ field_there file place tag (first ∷ fields) written values found =
 -- the value of a field with one Tags.LONG
 pub long_there : (file : List ℕ) (p tag n : ℕ) → n < 4294967296 → HasBytesAt file p (four n)
     → first_value Little file (record { tag = tag; kind = Tags.LONG; count = 1; place = p }) ≡ Ok n
-unfolding first_value has_integers value_at values_place
+unfolding has_integers value_at values_place
 long_there file p tag n lt h =
     let zero_on : p + 0 * 4 ≡ p = omega arith in
     let inside : is_inside file p 4 ≡ true = le-leb _ _ (at_inside (four n) h) in
@@ -143,7 +143,7 @@ long_there file p tag n lt h =
 -- the value of a field with one Tags.SHORT
 pub short_there : (file : List ℕ) (p tag n : ℕ) → n < 65536 → HasBytesAt file p (two n ++ two 0)
     → first_value Little file (record { tag = tag; kind = Tags.SHORT; count = 1; place = p }) ≡ Ok n
-unfolding first_value has_integers value_at values_place
+unfolding has_integers value_at values_place
 short_there file p tag n lt h =
     let zero_on : p + 0 * 2 ≡ p = omega arith in
     let short = at_left (two n) (two 0) h in
@@ -165,37 +165,21 @@ rational_there file p tag place x y lt some_x x_lt some_y y_lt h there =
     rw (at, inside, top, bottom, top_above, bottom_above) refl
 
 -- So a field is read by its tag alone, wherever it stands.
-pub needed_long : (file : List ℕ) (place tag n : ℕ) (fields : List WrittenField) → HasValues file place fields
-    → written_field fields tag ≡ Some (long_field tag 1 n) → n < 4294967296
-    → needed_scalar Little file (read_fields place fields) tag ≡ Ok n
-unfolding needed_scalar
-needed_long file place tag n fields values found lt =
-    let there = field_there file place tag fields (long_field tag 1 n) values found in
-    rw (needed_scalar, needed, there.entry_is) (long_there file (there.at_entry + 8) tag n lt there.value_is)
+module _ (file : List ℕ) (place tag n : ℕ) (fields : List WrittenField) (values : HasValues file place fields) (absent : Option ℕ)
+    (test : ℕ → Bool) (fault : ℕ → FileFault) (passes : test n ≡ true) where
+  pub long_read : written_field fields tag ≡ Some (long_field tag 1 n) → n < 4294967296
+      → scalar Little file (read_fields place fields) tag absent test fault ≡ Ok n
+  long_read found lt =
+      let there = field_there file place tag fields (long_field tag 1 n) values found in
+      taken Little file (read_fields place fields) tag absent test fault n
+      (rw (first_number, there.entry_is) (long_there file (there.at_entry + 8) tag n lt there.value_is)) passes
 
-pub needed_short : (file : List ℕ) (place tag n : ℕ) (fields : List WrittenField) → HasValues file place fields
-    → written_field fields tag ≡ Some (short_field tag n) → n < 65536
-    → needed_scalar Little file (read_fields place fields) tag ≡ Ok n
-unfolding needed_scalar
-needed_short file place tag n fields values found lt =
-    let there = field_there file place tag fields (short_field tag n) values found in
-    rw (needed_scalar, needed, there.entry_is) (short_there file (there.at_entry + 8) tag n lt there.value_is)
-
-pub long_or : (file : List ℕ) (place tag n absent : ℕ) (fields : List WrittenField) → HasValues file place fields
-    → written_field fields tag ≡ Some (long_field tag 1 n) → n < 4294967296
-    → scalar_or Little file (read_fields place fields) tag absent ≡ Ok n
-unfolding scalar_or
-long_or file place tag n absent fields values found lt =
-    let there = field_there file place tag fields (long_field tag 1 n) values found in
-    rw (scalar_or, there.entry_is) (long_there file (there.at_entry + 8) tag n lt there.value_is)
-
-pub short_or : (file : List ℕ) (place tag n absent : ℕ) (fields : List WrittenField) → HasValues file place fields
-    → written_field fields tag ≡ Some (short_field tag n) → n < 65536
-    → scalar_or Little file (read_fields place fields) tag absent ≡ Ok n
-unfolding scalar_or
-short_or file place tag n absent fields values found lt =
-    let there = field_there file place tag fields (short_field tag n) values found in
-    rw (scalar_or, there.entry_is) (short_there file (there.at_entry + 8) tag n lt there.value_is)
+  pub short_read : written_field fields tag ≡ Some (short_field tag n) → n < 65536
+      → scalar Little file (read_fields place fields) tag absent test fault ≡ Ok n
+  short_read found lt =
+      let there = field_there file place tag fields (short_field tag n) values found in
+      taken Little file (read_fields place fields) tag absent test fault n
+      (rw (first_number, there.entry_is) (short_there file (there.at_entry + 8) tag n lt there.value_is)) passes
 
 pub rational_back : (file : List ℕ) (place tag at_value : ℕ) (value : ℕ × ℕ) (fields : List WrittenField) → HasValues file place fields
     → written_field fields tag ≡ Some (rational_field tag at_value) → at_value < 4294967296 → IsGoodRational value

@@ -1,31 +1,32 @@
 -- A page that stands written in a file is read as it was written.
-use Rattle.std.proofs.Common.{◌≡◌, ◌≢◌, ℕ, zero, suc, ◌+◌, ◌-◌, ◌*◌, ◌^◌, ◌<◌, ◌≤◌, Bool, true, false, List, [], ◌∷◌, ◌++◌, length, get_or}
+use Rattle.std.proofs.Common.{◌≡◌, ◌≢◌, ℕ, zero, suc, ◌+◌, ◌-◌, ◌*◌, ◌/◌, ◌%◌, ◌^◌, ◌<◌, ◌≤◌, Option, None, Bool, true, false, List, [], ◌∷◌, ◌++◌, length, get_or}
 use Rattle.std.proofs.Common.{Some, Result, Ok, Err, refl, sym, ap, ◌∙◌, arith}
 use Rattle.std.proofs.lemmas.List.{length-append}
-use Rattle.std.proofs.lemmas.Bool.{le-leb, lt-ltb, ne_eqb, false≢true}
+use Rattle.std.proofs.lemmas.Bool.{le-leb, lt-ltb, false≢true}
+use Rattle.std.proofs.lemmas.Bool.Decides.{nat_tests}
 use Rattle.std.proofs.lemmas.Grind.{div_ceil_times}
 use Rattle.std.proofs.Math.Nat.{div-le_self}
 use Rattle.std.specs.List.{list_all}
-use Rattle.std.specs.Prelude.{flat_map, nat_le, nat_lt, IsOk, ◌==◌, ◌||◌, min, if◌then◌else◌}
+use Rattle.std.specs.Prelude.{flat_map, nat_lt, IsOk, ◌==◌, min, if◌then◌else◌}
 use Rattle.fax_bits.specs.declared.FillOrder.{FillOrder}
 use Rattle.fax_bits.specs.declared.FillOrder.TheVariants.{MsbFirst, LsbFirst}
 use Rattle.fax_page.specs.declared.Coding.{Coding}
 use Rattle.fax_page.specs.declared.Coding.TheVariants.{Mh, Mr, Mmr}
 use Rattle.fax_files.specs.declared.FileFault.{FileFault}
-use Rattle.fax_files.specs.Directory.{Entry, is_inside, number_at, ◌>>=◌}
+use Rattle.fax_files.specs.Directory.{Entry, is_inside, number_at, scalar, ◌>>=◌}
+use Rattle.fax_files.specs.declared.FileFault.TheVariants.{BadField, OutOfLimits, Unsupported}
 use Rattle.fax_files.specs.code.Entries.{entry_count}
 use Rattle.fax_files.specs.Directory.{entries, is_directory, next_offset}
 use Rattle.fax_files.specs.declared.Endian.TheVariants.{Little}
 use Rattle.fax_files.specs.declared.PageForm.{PageForm}
-use Rattle.fax_files.specs.code.Steps.{page_resolution, page_size, pel_format, strip_rows, are_exchanged, fill_order}
-use Rattle.fax_files.specs.Page.{page, strip_bytes}
-use Rattle.fax_files.specs.code.Steps.{page_coding}
-use Rattle.fax_files.specs.Page.{fill_order_of}
+use Rattle.fax_files.specs.Page.{fill_order_of, form_in, is_between, most_pels, most_rows, page}
+use Rattle.fax_files.specs.Page.{strip_bytes}
+use Rattle.fax_files.specs.code.Steps.{resolution_in}
 use Rattle.fax_files.specs.views.Page.{strip_count}
 use Rattle.fax_files.specs.Layout.{to_link, two, WrittenField}
 use Rattle.fax_files.specs.code.Parts.{field_count, to_x, to_y, to_offsets}
 use Rattle.fax_files.specs.Layout.{field_bytes, compression_of, options_field}
-use Rattle.fax_files.specs.code.Parts.{short_field}
+use Rattle.fax_files.specs.code.Parts.{long_field, short_field}
 use Rattle.fax_files.specs.Layout.{offsets_from, array_bytes}
 use Rattle.fax_files.specs.code.Parts.{lengths_of, rational_bytes}
 use Rattle.fax_files.specs.code.Parts.{fields_of, fields_bytes, values_bytes, joined_strips}
@@ -33,10 +34,10 @@ use Rattle.fax_files.specs.Layout.{WrittenPage}
 use Rattle.fax_files.specs.laws.Files.{IsWritable, IsReadAt}
 use Rattle.fax_files.proofs.PlaceLemmas.{HasBytesAt, at_place, at_left, at_right, at_inside, number_there}
 use Rattle.fax_files.proofs.WrittenFieldLemmas.{AllFit, fits, all_fit, length-fields, read_fields, HasValues, written_field, entries_there}
-use Rattle.fax_files.proofs.WrittenFieldLemmas.{needed_long, needed_short, long_or, short_or, rational_back}
+use Rattle.fax_files.proofs.WrittenFieldLemmas.{long_read, short_read, rational_back}
 use Rattle.fax_files.proofs.WrittenStripLemmas.{ArrayThere, array_back, array_checked, array_is_longs, length-longs, length-offsets_from}
 use Rattle.fax_files.proofs.WrittenStripLemmas.{length-lengths_of, strip_there}
-use Rattle.fax_files.proofs.StepLemmas.{page_is_in_steps, strip_is_placed}
+use Rattle.fax_files.proofs.StepLemmas.{after_form, page_is, strip_is_placed}
 use Rattle.fax_files.specs.declared.tags.TheConstants as Tags
 
 -- the fields of page k of `total`, of which the strips begin at `start` and the directory stands at q
@@ -65,22 +66,46 @@ last_fields total k form =
     short_field Tags.RESOLUTION_UNIT form.unit
     ∷ record { tag = Tags.PAGE_NUMBER; kind = Tags.SHORT; count = 2; value = two k ++ two total } ∷ []
 
+-- T4Options of rows that are coded so
+abbrev options_number : Coding → Bool → ℕ
+options_number Mh true = 4
+options_number Mh false = 0
+options_number Mr true = 5
+options_number Mr false = 1
+options_number Mmr aligned = 0
+
 -- T4Options among fields, of which the one for options is the only one with its tag
-coding_from : (coding : Coding) (aligned : Bool) (file : List ℕ) (place : ℕ) (fields : List WrittenField) → HasValues file place fields
-    → (aligned ≡ true → coding ≢ Mmr)
+options_from : (coding : Coding) (aligned : Bool) (file : List ℕ) (place : ℕ) (fields : List WrittenField) → HasValues file place fields
     → written_field fields Tags.T4_OPTIONS ≡ written_field (options_field coding aligned ∷ []) Tags.T4_OPTIONS
-    → page_coding Little file (read_fields place fields) (compression_of coding) ≡ Ok (record { coding = coding; aligned = aligned })
-unfolding page_coding
-coding_from Mh true file place fields values has_eols found =
-    rw (long_or file place Tags.T4_OPTIONS 4 0 fields values found (omega arith)) refl
-coding_from Mh false file place fields values has_eols found =
-    rw (long_or file place Tags.T4_OPTIONS 0 0 fields values found (omega arith)) refl
-coding_from Mr true file place fields values has_eols found =
-    rw (long_or file place Tags.T4_OPTIONS 5 0 fields values found (omega arith)) refl
-coding_from Mr false file place fields values has_eols found =
-    rw (long_or file place Tags.T4_OPTIONS 1 0 fields values found (omega arith)) refl
-coding_from Mmr true file place fields values has_eols found = absurd (has_eols refl refl)
-coding_from Mmr false file place fields values has_eols found = refl
+    → (if compression_of coding == 4 then (Ok 0)
+    else (scalar Little file (read_fields place fields) Tags.T4_OPTIONS (Some 0) (λ _. true) BadField))
+    ≡ Ok (options_number coding aligned)
+options_from Mh true file place fields values found =
+    long_read file place Tags.T4_OPTIONS 4 fields values (Some 0) _ BadField refl found (omega arith)
+options_from Mh false file place fields values found =
+    long_read file place Tags.T4_OPTIONS 0 fields values (Some 0) _ BadField refl found (omega arith)
+options_from Mr true file place fields values found =
+    long_read file place Tags.T4_OPTIONS 5 fields values (Some 0) _ BadField refl found (omega arith)
+options_from Mr false file place fields values found =
+    long_read file place Tags.T4_OPTIONS 1 fields values (Some 0) _ BadField refl found (omega arith)
+options_from Mmr aligned file place fields values found = refl
+
+-- they say how the rows are coded
+coding_back : (coding : Coding) (aligned : Bool)
+    → (if compression_of coding == 4 then Mmr else (if options_number coding aligned % 2 == 1 then Mr else Mh)) ≡ coding
+coding_back Mh true = refl
+coding_back Mh false = refl
+coding_back Mr true = refl
+coding_back Mr false = refl
+coding_back Mmr aligned = refl
+
+aligned_back : (coding : Coding) (aligned : Bool) → (aligned ≡ true → coding ≢ Mmr) → (options_number coding aligned / 4 % 2 == 1) ≡ aligned
+aligned_back Mh true has_eols = refl
+aligned_back Mh false has_eols = refl
+aligned_back Mr true has_eols = refl
+aligned_back Mr false has_eols = refl
+aligned_back Mmr true has_eols = absurd (has_eols refl refl)
+aligned_back Mmr false has_eols = refl
 
 -- which it is
 options_found : (coding : Coding) (aligned : Bool) (total k : ℕ) (form : PageForm)
@@ -102,7 +127,7 @@ compression_small Mh = omega arith
 compression_small Mr = omega arith
 compression_small Mmr = omega arith
 
-compression_known : (coding : Coding) → ((compression_of coding == 3) || (compression_of coding == 4)) ≡ true
+compression_known : (coding : Coding) → is_between 3 4 (compression_of coding) ≡ true
 compression_known Mh = refl
 compression_known Mr = refl
 compression_known Mmr = refl
@@ -111,7 +136,7 @@ order_small : (order : FillOrder) → fill_order_of order < 65536
 order_small MsbFirst = omega arith
 order_small LsbFirst = omega arith
 
-order_known : (order : FillOrder) → ((fill_order_of order == 1) || (fill_order_of order == 2)) ≡ true
+order_known : (order : FillOrder) → is_between 1 2 (fill_order_of order) ≡ true
 order_known MsbFirst = refl
 order_known LsbFirst = refl
 
@@ -208,61 +233,23 @@ module _ (file : List ℕ) (q start total k : ℕ) (written : WrittenPage) (know
   values : HasValues file (q + 2) fields
   values = what_is_read.1
 
-  size_there : page_size Little file entries_read ≡ Ok (written.form.width, written.form.rows)
-  unfolding page_size
-  size_there =
-      let w = known.writable in
-      let width = needed_long file (q + 2) Tags.IMAGE_WIDTH written.form.width fields values refl (omega (arith, w.limits.width)) in
-      let rows = needed_long file (q + 2) Tags.IMAGE_LENGTH written.form.rows fields values refl (omega (arith, w.limits.rows)) in
-      let width_low : nat_le 1 written.form.width ≡ true = le-leb _ _ w.limits.some_width in
-      let width_high : nat_le written.form.width 65535 ≡ true = le-leb _ _ w.limits.width in
-      let rows_low : nat_le 1 written.form.rows ≡ true = le-leb _ _ w.limits.some_rows in
-      let rows_high : nat_le written.form.rows 1000000 ≡ true = le-leb _ _ w.limits.rows in
-      rw (width, width_low, width_high, rows, rows_low, rows_high) refl
+  abbrev long : (tag n : ℕ) (absent : Option ℕ) (test : ℕ → Bool) (fault : ℕ → FileFault) → test n ≡ true
+      → written_field fields tag ≡ Some (long_field tag 1 n) → n < 4294967296
+      → scalar Little file entries_read tag absent test fault ≡ Ok n
+  long tag n absent test fault passes = long_read file (q + 2) tag n fields values absent test fault passes
 
-  exchanged_there : are_exchanged Little file entries_read ≡ Ok false
-  unfolding are_exchanged
-  exchanged_there = rw (needed_short file (q + 2) Tags.PHOTOMETRIC_INTERPRETATION 0 fields values refl (omega arith)) refl
+  abbrev short : (tag n : ℕ) (absent : Option ℕ) (test : ℕ → Bool) (fault : ℕ → FileFault) → test n ≡ true
+      → written_field fields tag ≡ Some (short_field tag n) → n < 65536
+      → scalar Little file entries_read tag absent test fault ≡ Ok n
+  short tag n absent test fault passes = short_read file (q + 2) tag n fields values absent test fault passes
 
-  order_there : fill_order Little file entries_read ≡ Ok written.form.order
-  unfolding fill_order
-  order_there =
-      let order = written.form.order in
-      let number = short_or file (q + 2) Tags.FILL_ORDER (fill_order_of order) 1 fields values refl (order_small order) in
-      rw (number, order_known order, order_back order) refl
-
-  format_there : pel_format Little file entries_read
-      ≡ Ok (record { compression = compression_of written.form.coding; exchanged = false; order = written.form.order })
-  unfolding pel_format
-  format_there =
-      let coding = written.form.coding in
-      let bits = short_or file (q + 2) Tags.BITS_PER_SAMPLE 1 1 fields values refl (omega arith) in
-      let compression = needed_short file (q + 2) Tags.COMPRESSION (compression_of coding) fields values refl (compression_small coding) in
-      let samples = short_or file (q + 2) Tags.SAMPLES_PER_PIXEL 1 1 fields values refl (omega arith) in
-      rw (bits, compression, compression_known coding, exchanged_there, order_there, samples) refl
-
-  rows_there : strip_rows Little file entries_read written.form.rows ≡ Ok written.form.rows_per_strip
-  unfolding strip_rows
-  rows_there =
-      let w = known.writable in
-      let rows = long_or file (q + 2) Tags.ROWS_PER_STRIP written.form.rows_per_strip (2 ^ 32 - 1) fields values refl
-      (omega (arith, w.limits.rows_per_strip, w.limits.rows)) in
-      let above : (written.form.rows_per_strip == 0) ≡ false = ne_eqb _ _ (λ e. absurd (omega (arith, e, w.limits.some_rows_per_strip))) in
-      let least : min written.form.rows_per_strip written.form.rows ≡ written.form.rows_per_strip =
-      omega (arith, w.limits.rows_per_strip) in
-      rw (rows, above, least) refl
-
-  coding_there : page_coding Little file entries_read (compression_of written.form.coding)
-      ≡ Ok (record { coding = written.form.coding; aligned = written.form.aligned })
-  coding_there =
-      coding_from written.form.coding written.form.aligned file (q + 2) fields values known.writable.limits.aligned
-      (options_found written.form.coding written.form.aligned total k written.form)
+  between : (low high n : ℕ) → low ≤ n → n ≤ high → is_between low high n ≡ true
+  between low high n above below = grind (arith, nat_tests)
 
   parts : ValuesThere file q written.form (offsets_from start written.strips) (lengths_of written.strips)
   parts = values_there file q written.form (offsets_from start written.strips) (lengths_of written.strips) known.here.values
 
-  resolution_there : page_resolution Little file entries_read ≡ record { x = written.form.x; y = written.form.y; unit = written.form.unit }
-  unfolding page_resolution
+  resolution_there : resolution_in Little file entries_read ≡ record { x = written.form.x; y = written.form.y; unit = written.form.unit }
   resolution_there =
       let w = known.writable in
       let inside = at_inside (rational_bytes written.form.y) parts.y in
@@ -270,11 +257,10 @@ module _ (file : List ℕ) (q start total k : ℕ) (written : WrittenPage) (know
       w.limits.x parts.x in
       let y = rational_back file (q + 2) Tags.Y_RESOLUTION (q + to_y) written.form.y fields values refl (omega (arith, inside, known.small))
       w.limits.y parts.y in
-      let unit = short_or file (q + 2) Tags.RESOLUTION_UNIT written.form.unit 2 fields values
+      let unit = short Tags.RESOLUTION_UNIT written.form.unit (Some 2) (is_between 1 3) Unsupported
+      (between 1 3 written.form.unit w.limits.some_unit w.limits.unit)
       (unit_found written.form.coding written.form.aligned total k written.form) (omega (arith, w.limits.unit)) in
-      let unit_low : nat_le 1 written.form.unit ≡ true = le-leb _ _ w.limits.some_unit in
-      let unit_high : nat_le written.form.unit 3 ≡ true = le-leb _ _ w.limits.unit in
-      rw (x, y, unit, unit_low, unit_high) refl
+      rw (x, y, unit) refl
 
   offsets_there : ArrayThere file entries_read Tags.STRIP_OFFSETS (offsets_from start written.strips)
   offsets_there =
@@ -302,19 +288,55 @@ module _ (file : List ℕ) (q start total k : ℕ) (written : WrittenPage) (know
       (omega (arith, some, lengths_len)) known.small (λ many. at_place (place many) parts.lengths_there)
 
   -- so the page has the form that was written
+  fields_there : form_in Little file entries_read ≡ Ok written.form
+  unfolding form_in
+  fields_there =
+      let form = written.form in
+      let limits = known.writable.limits in
+      let width = long Tags.IMAGE_WIDTH form.width None (is_between 1 most_pels) OutOfLimits
+      (between 1 most_pels form.width limits.some_width limits.width) refl (omega (arith, limits.width)) in
+      let rows = long Tags.IMAGE_LENGTH form.rows None (is_between 1 most_rows) OutOfLimits
+      (between 1 most_rows form.rows limits.some_rows limits.rows) refl (omega (arith, limits.rows)) in
+      let bits = short Tags.BITS_PER_SAMPLE 1 (Some 1) (is_between 1 1) Unsupported refl refl (omega arith) in
+      let compression = short Tags.COMPRESSION (compression_of form.coding) None (is_between 3 4) Unsupported (compression_known form.coding)
+      refl (compression_small form.coding) in
+      let white = short Tags.PHOTOMETRIC_INTERPRETATION 0 None (is_between 0 1) Unsupported refl refl (omega arith) in
+      let order = short Tags.FILL_ORDER (fill_order_of form.order) (Some 1) (is_between 1 2) Unsupported (order_known form.order) refl
+      (order_small form.order) in
+      let samples = short Tags.SAMPLES_PER_PIXEL 1 (Some 1) (is_between 1 1) Unsupported refl refl (omega arith) in
+      let in_strip = long Tags.ROWS_PER_STRIP form.rows_per_strip (Some (2 ^ 32 - 1)) (nat_lt 0) BadField
+      (lt-ltb _ _ limits.some_rows_per_strip) refl (omega (arith, limits.rows_per_strip, limits.rows)) in
+      let options = options_from form.coding form.aligned file (q + 2) fields values
+      (options_found form.coding form.aligned total k form) in
+      let least : min form.rows_per_strip form.rows ≡ form.rows_per_strip = omega (arith, limits.rows_per_strip) in
+      rw (
+        width,
+        rows,
+        bits,
+        compression,
+        white,
+        order,
+        samples,
+        in_strip,
+        options,
+        resolution_there,
+        coding_back form.coding form.aligned,
+        aligned_back form.coding form.aligned limits.aligned,
+        order_back form.order,
+        least,
+        sym limits.strips,
+        sym known.writable.exchanged,
+      ) refl
+
   form_there : page Little file q ≡ Ok written.form
   form_there =
       let w = known.writable in
-      let strips = strip_count written.form.rows written.form.rows_per_strip in
-      let counted : strips ≡ length written.strips = sym w.limits.strips ∙ sym w.strips in
+      let strips = written.form.strips in
       let offsets = array_checked file entries_read Tags.STRIP_OFFSETS strips _ offsets_there
-      (counted ∙ sym (length-offsets_from start written.strips)) in
+      (sym w.strips ∙ sym (length-offsets_from start written.strips)) in
       let lengths = array_checked file entries_read Tags.STRIP_BYTE_COUNTS strips _ lengths_there
-      (counted ∙ sym (length-lengths_of written.strips)) in
-      let exchanged : false ≡ written.form.exchanged = sym w.exchanged in
-      page_is_in_steps Little file q ∙ rw (what_is_read.0, size_there, format_there, rows_there, coding_there)
-      (checked_on _ _ offsets ∙ checked_on _ _ lengths
-      ∙ rw (resolution_there, sym w.limits.strips, exchanged) refl)
+      (sym w.strips ∙ sym (length-lengths_of written.strips)) in
+      page_is Little file q ∙ rw (after_form, what_is_read.0, fields_there) (checked_on _ _ offsets ∙ checked_on _ _ lengths)
 
   -- and each strip the bytes that were written
   strip_back : (s : ℕ) → s < written.form.strips → strip_bytes Little file q s ≡ Some (get_or written.strips s [])

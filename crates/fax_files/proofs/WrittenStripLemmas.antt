@@ -6,7 +6,7 @@ use Rattle.std.specs.Prelude.{nat_le, IsOk}
 use Rattle.fax_files.specs.Directory.{Entry, is_inside, field, needed, values_place, value_at}
 use Rattle.fax_files.specs.Directory.{has_integers}
 use Rattle.fax_files.specs.declared.Endian.TheVariants.{Little}
-use Rattle.fax_files.specs.code.Steps.{strip_field, placed_bytes}
+use Rattle.fax_files.specs.code.Steps.{placed_bytes, strip_field}
 use Rattle.fax_files.specs.Layout.{four, WrittenField, offsets_from, one_or_place, array_bytes}
 use Rattle.fax_files.specs.code.Parts.{long_field, lengths_of, longs}
 use Rattle.fax_files.specs.code.Parts.{joined_strips}
@@ -82,7 +82,6 @@ longs_inside file p tag numbers h =
 pub array_checked : (file : List ℕ) (fields : List Entry) (tag n : ℕ) (numbers : List ℕ) → ArrayThere file fields tag numbers
     → n ≡ length numbers
     → IsOk (strip_field Little file fields tag n)
-unfolding strip_field
 array_checked file fields tag n numbers array count =
     rw (needed, array.entry_is, count, longs_inside file array.at_entry tag numbers array.stands) refl
 

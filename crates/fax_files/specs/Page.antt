@@ -3,7 +3,7 @@
 -- A definition without a citation is this project's profile.
 use Rattle.std.specs.Prelude.{ℕ, ◌+◌, ◌-◌, ◌*◌, ◌/◌, ◌%◌, ◌^◌, min, Bool, true, nat_le, nat_lt}
 use Rattle.std.specs.Prelude.{◌==◌, ◌&&◌, if◌then◌else◌, List, take, drop, Option, Some}
-use Rattle.std.specs.Prelude.{None, Result, Ok}
+use Rattle.std.specs.Prelude.{None, option_and_then, Result, Ok}
 use Rattle.std.specs.Int.{div_ceil}
 use Rattle.fax_bits.specs.declared.FillOrder.{FillOrder}
 use Rattle.fax_bits.specs.declared.FillOrder.TheVariants.{MsbFirst, LsbFirst}
@@ -62,11 +62,10 @@ abbrev pub resolution_of : Option (ℕ × ℕ) → Option (ℕ × ℕ) → Resul
 resolution_of (Some x) (Some y) (Ok unit) = record { x = x; y = y; unit = unit }
 resolution_of _ _ _ = usual_resolution
 
--- The form of the page whose directory stands whole at offset q, or the first fault of its fields,
--- in this order (TIFF 6.0, the fields of these names; the limits are ours)
-unfoldable pub page : Endian → List ℕ → ℕ → Result PageForm FileFault
-page endian file q = do
-  let fields = entries endian file q
+-- The form that the fields of a page say, or their first fault, in this order (TIFF 6.0, the fields
+-- of these names; the limits are ours)
+unfoldable pub form_in : Endian → List ℕ → List Entry → Result PageForm FileFault
+form_in endian file fields = do
   width ← scalar endian file fields Tags.IMAGE_WIDTH None (is_between 1 most_pels) OutOfLimits
   rows ← scalar endian file fields Tags.IMAGE_LENGTH None (is_between 1 most_rows) OutOfLimits
   _ ← scalar endian file fields Tags.BITS_PER_SAMPLE (Some 1) (is_between 1 1) Unsupported
@@ -78,16 +77,10 @@ page endian file q = do
   -- the rows of each strip but the last: more than the page's rows means all of these (ours)
   in_strip ← scalar endian file fields Tags.ROWS_PER_STRIP (Some (2 ^ 32 - 1)) (nat_lt 0) BadField
   let rows_per_strip = min in_strip rows
-  let strips = div_ceil rows rows_per_strip
   -- where Compression is 4, T4Options is not read: bit 0 says MR, bit 2 aligned EOLs, and its other
   -- bits are ignored
   options ← if compression == 4 then (Ok 0)
       else (scalar endian file fields Tags.T4_OPTIONS (Some 0) (λ _. true) BadField)
-  -- a value for each strip
-  offsets ← needed fields Tags.STRIP_OFFSETS
-  _ ← check (has_integers endian file offsets strips) (BadField Tags.STRIP_OFFSETS)
-  byte_counts ← needed fields Tags.STRIP_BYTE_COUNTS
-  _ ← check (has_integers endian file byte_counts strips) (BadField Tags.STRIP_BYTE_COUNTS)
   let found = resolution_of (rational_of endian file fields Tags.X_RESOLUTION)
       (rational_of endian file fields Tags.Y_RESOLUTION)
       (scalar endian file fields Tags.RESOLUTION_UNIT (Some 2) (is_between 1 3) Unsupported)
@@ -99,27 +92,34 @@ page endian file q = do
     aligned = options / 4 % 2 == 1;
     exchanged = white == 1;
     rows_per_strip = rows_per_strip;
-    strips = strips;
+    strips = div_ceil rows rows_per_strip;
     x = found.x;
     y = found.y;
     unit = found.unit;
   })
+
+-- the form of the page whose directory stands whole at offset q, or the first fault of its fields,
+-- of which those of its strips, with a value for each, come last
+unfoldable pub page : Endian → List ℕ → ℕ → Result PageForm FileFault
+page endian file q = do
+  let fields = entries endian file q
+  form ← form_in endian file fields
+  offsets ← needed fields Tags.STRIP_OFFSETS
+  _ ← check (has_integers endian file offsets form.strips) (BadField Tags.STRIP_OFFSETS)
+  byte_counts ← needed fields Tags.STRIP_BYTE_COUNTS
+  _ ← check (has_integers endian file byte_counts form.strips) (BadField Tags.STRIP_BYTE_COUNTS)
+  Ok form
 
 -- the bytes of strip s of the page whose directory stands at q, where they lie in the file
 -- (TIFF 6.0, StripOffsets and StripByteCounts)
 unfoldable pub strip_bytes : Endian → List ℕ → ℕ → ℕ → Option (List ℕ)
 strip_bytes endian file q s =
     let fields = entries endian file q in
-    elim (field fields Tags.STRIP_OFFSETS) [
-      | None ↦ None
-      | Some offsets ↦ elim (field fields Tags.STRIP_BYTE_COUNTS) [
-        | None ↦ None
-        | Some counts ↦
-            let offset = value_at endian file offsets s in
-            let len = value_at endian file counts s in
-            if is_inside file offset len then (Some (take len (drop offset file))) else None
-      ]
-    ]
+    option_and_then (λ offsets. option_and_then (λ counts.
+    let offset = value_at endian file offsets s in
+    let len = value_at endian file counts s in
+    if is_inside file offset len then (Some (take len (drop offset file))) else None)
+    (field fields Tags.STRIP_BYTE_COUNTS)) (field fields Tags.STRIP_OFFSETS)
 
 -- the form of strip s: it holds the page's rows from s * rows_per_strip on (TIFF 6.0, RowsPerStrip)
 abbrev pub strip_form : PageForm → ℕ → StripForm

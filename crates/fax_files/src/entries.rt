@@ -121,7 +121,6 @@ impl<'a> File<'a> {
     }
 
     /// The value of a scalar.
-    #[tactic(auto, unfolding(crate::specs::code::Steps::first_value))]
     pub fn scalar(&self, entry: &Entry) -> Result<u32, FileFault>
         requires { entry.now.place + 4 ≤ length self.now.bytes.now }
         ensures { result ≡ first_value self.now.endian self.now.bytes.now entry.now }

@@ -3,7 +3,7 @@
 ghost use Rattle.std.specs.Prelude.{◌≡◌, ◌+◌, ◌≤◌, length, IsTrue, IfOk, IfSome, List, [], ◌∷◌};
 ghost use Rattle.fax_files.specs.Directory as Spec;
 ghost use Rattle.fax_files.specs.Page.{rational_of};
-ghost use Rattle.fax_files.specs.code.Steps.{needed_scalar, scalar_or};
+ghost use Rattle.fax_files.specs.code.Steps.{fault_of, first_number, test_of};
 ghost use Rattle.fax_files.specs.views.Page.{IsGoodRational};
 ghost use Rattle.fax_files.specs.code.Fields.{is_sought};
 ghost use Rattle.fax_files.specs.views.Fields.{entries_of};
@@ -76,6 +76,49 @@ impl FirstEntries {
     }
 }
 
+/// The numbers of a field that are taken.
+#[derive(Clone, Copy)]
+pub(crate) enum Limits {
+    /// From the first of these to the second.
+    Between(u32, u32),
+    AboveZero,
+    Any,
+}
+
+impl Limits {
+    /// Whether they allow a number.
+    fn allow(self, number: u32) -> bool
+        ensures { result ≡ test_of self number }
+    {
+        match self {
+            Limits::Between(low, high) => low <= number && number <= high,
+            Limits::AboveZero => number > 0,
+            Limits::Any => true,
+        }
+    }
+}
+
+/// How a field is refused whose number is not taken.
+#[derive(Clone, Copy)]
+pub(crate) enum Refusal {
+    OutOfLimits,
+    Unsupported,
+    BadField,
+}
+
+impl Refusal {
+    /// The fault of a tag.
+    fn fault(self, tag: u16) -> FileFault
+        ensures { result ≡ fault_of self tag }
+    {
+        match self {
+            Refusal::OutOfLimits => FileFault::OutOfLimits(tag),
+            Refusal::Unsupported => FileFault::Unsupported(tag),
+            Refusal::BadField => FileFault::BadField(tag),
+        }
+    }
+}
+
 /// A directory with the first entry of each tag of `TAGS`.
 #[derive(Drop)]
 pub(crate) struct Fields<'d, 'a> {
@@ -138,28 +181,39 @@ impl<'d, 'a> Fields<'d, 'a> {
         self.first(tag).ok_or(FileFault::MissingField(tag))
     }
 
-    /// The scalar of a tag, which has to be there.
-    #[tactic(auto, unfolding(crate::specs::code::Steps::needed_scalar))]
-    pub fn needed_scalar(&self, tag: u16) -> Result<u32, FileFault>
+    /// The first value of a tag, or `absent` where no entry has the tag, if it is given.
+    fn first_number(&self, tag: u16, absent: Option<u32>) -> Result<u32, FileFault>
         requires { IsTrue (is_sought tag) }
         ensures { result
-            ≡ needed_scalar self.now.endian self.now.file (entries_of self.now) tag }
+            ≡ first_number self.now.endian self.now.file (entries_of self.now) tag absent }
     {
-        let entry = self.needed(tag)?;
-        self.file().scalar(&entry)
+        match (self.first(tag), absent) {
+            (Some(entry), _) => self.file().scalar(&entry),
+            (None, Some(number)) => Ok(number),
+            (None, None) => Err(FileFault::MissingField(tag)),
+        }
     }
 
-    /// The scalar of a tag, or `absent` where no entry has the tag.
-    #[tactic(auto, unfolding(crate::specs::code::Steps::scalar_or))]
-    pub fn scalar_or(&self, tag: u16, absent: u32) -> Result<u32, FileFault>
+    /// The scalar of a tag, or `absent` where no entry has the tag, if it is given: a number within
+    /// the limits, else it is refused so.
+    #[tactic(auto, unfolding(crate::specs::Directory::scalar))]
+    pub fn scalar(
+        &self,
+        tag: u16,
+        absent: Option<u32>,
+        limits: Limits,
+        refusal: Refusal,
+    ) -> Result<u32, FileFault>
         requires { IsTrue (is_sought tag) }
-        ensures { result
-            ≡ scalar_or self.now.endian self.now.file (entries_of self.now) tag absent }
+        ensures exact { result ≡ Spec.scalar self.now.endian self.now.file (entries_of self.now)
+            tag absent (test_of limits) (fault_of refusal) }
+        ensures allowed { IfOk result (λ number. IsTrue (test_of limits number)) }
     {
-        match self.first(tag) {
-            Some(entry) => self.file().scalar(&entry),
-            None => Ok(absent),
+        let number = self.first_number(tag, absent)?;
+        if !limits.allow(number) {
+            return Err(refusal.fault(tag));
         }
+        Ok(number)
     }
 
     /// The fraction of a tag, where it is there and good.

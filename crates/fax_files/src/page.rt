@@ -1,17 +1,21 @@
 //! The form of a page, from the fields of its directory (TIFF 6.0; RFC 2306).
 
-ghost use Rattle.std.specs.Prelude.{◌≡◌, ◌≢◌, ◌+◌, ◌≤◌, length, true, Ok, Err, Some, IsTrue, IfOk};
-ghost use Rattle.std.specs.Prelude.{IfErr};
-ghost use Rattle.fax_page.specs.declared.Coding.TheVariants.{Mmr};
+ghost use Rattle.std.specs.Prelude.{◌≡◌, ◌+◌, ◌%◌, ◌≤◌, ◌==◌, length, true, Ok, Err, Some, IsTrue};
+ghost use Rattle.std.specs.Prelude.{IfErr, IfOk, if◌then◌else◌};
+ghost use Rattle.fax_bits.specs.declared.FillOrder.TheVariants.{LsbFirst, MsbFirst};
+ghost use Rattle.fax_page.specs.declared.Coding.TheVariants.{Mh, Mr, Mmr};
 ghost use Rattle.fax_files.specs.Directory as Entries;
-ghost use Rattle.fax_files.specs.code.Steps as Spec;
-ghost use Rattle.fax_files.specs.views.Page.{IsGoodRational, IsPageForm};
+ghost use Rattle.fax_files.specs.Page as Spec;
+ghost use Rattle.fax_files.specs.code.Steps as Steps;
+ghost use Rattle.fax_files.specs.declared.FileFault.TheVariants.{BadField};
+ghost use Rattle.fax_files.specs.declared.tags.TheConstants as Tags;
+ghost use Rattle.fax_files.specs.views.Page.{IsPageForm};
 ghost use Rattle.fax_files.specs.views.Fields.{entries_of};
 ghost use Rattle.fax_files.specs.code.Fields.{is_sought};
 ghost use Rattle.fax_files.specs.views.Tiff.{form_of};
 
 use crate::entries::Entry;
-use crate::fields::Fields;
+use crate::fields::{Fields, Limits, Refusal};
 use crate::strips::Strips;
 use crate::tags::{
     BITS_PER_SAMPLE, COMPRESSION, FILL_ORDER, IMAGE_LENGTH, IMAGE_WIDTH,
@@ -32,44 +36,8 @@ const MAX_WIDTH: u32 = 65_535;
 /// The most rows of a page.
 const MAX_ROWS: u32 = 1_000_000;
 
-/// How the pels of a page are coded.
-struct PelFormat {
-    /// Compression: 3 or 4.
-    compression: u32,
-    /// Whether black is coded as white, and white as black.
-    exchanged: bool,
-    /// Which bit of a byte comes first.
-    order: FillOrder,
-}
-
-impl Model for PelFormat {
-    ghost use Rattle.fax_files.specs.code.Steps.{PelFormat};
-
-    ghost Value = { PelFormat };
-
-    ghost view = { λ p. record {
-      compression = p.compression;
-      exchanged = p.exchanged;
-      order = p.order;
-    } };
-}
-
-/// How the rows of a page are coded.
-struct RowCoding {
-    coding: Coding,
-    /// Whether each EOL ends on a byte boundary.
-    aligned: bool,
-}
-
-impl Model for RowCoding {
-    ghost use Rattle.fax_files.specs.code.Steps.{RowCoding};
-
-    ghost Value = { RowCoding };
-
-    ghost view = { λ c. record { coding = c.coding; aligned = c.aligned } };
-}
-
 /// The resolution of a page.
+#[derive(Drop)]
 struct Resolution {
     x: (u32, u32),
     y: (u32, u32),
@@ -85,7 +53,7 @@ impl Model for Resolution {
 }
 
 /// The form of a page and the places of its strips, or its first fault.
-#[tactic(auto, using(crate::proofs::StepLemmas::page_is_in_steps))]
+#[tactic(auto, using(crate::proofs::StepLemmas::page_is))]
 pub(crate) fn read_page<'a>(fields: &Fields<'_, 'a>) -> Result<(PageForm, Strips<'a>), FileFault>
     ensures form { IfOk result (λ page. form_of fields.now ≡ Ok page.0) }
     ensures fault { IfErr result (λ fault. form_of fields.now ≡ Err fault) }
@@ -93,161 +61,100 @@ pub(crate) fn read_page<'a>(fields: &Fields<'_, 'a>) -> Result<(PageForm, Strips
     ensures directory { IfOk result (λ page. page.1.directory ≡ fields.now) }
     ensures count { IfOk result (λ page. page.1.count ≡ page.0.strips) }
 {
-    let (width, rows) = page_size(fields)?;
-    let PelFormat {
-        compression,
-        exchanged,
-        order,
-    } = pel_format(fields)?;
-    let rows_per_strip = strip_rows(fields, rows)?;
-    let strips = rows.div_ceil(rows_per_strip);
-    let RowCoding { coding, aligned } = page_coding(fields, compression)?;
-    let offsets = strip_field(fields, STRIP_OFFSETS, strips)?;
-    let byte_counts = strip_field(fields, STRIP_BYTE_COUNTS, strips)?;
-    let Resolution { x, y, unit } = page_resolution(fields);
-    let form = PageForm {
-        width,
-        rows,
-        coding,
-        order,
-        aligned,
-        exchanged,
-        rows_per_strip,
-        strips,
-        x,
-        y,
-        unit,
-    };
-    let strips = Strips::new(fields.directory(), strips, offsets, byte_counts);
+    let form = read_form(fields)?;
+    let offsets = strip_field(fields, STRIP_OFFSETS, form.strips)?;
+    let byte_counts = strip_field(fields, STRIP_BYTE_COUNTS, form.strips)?;
+    let strips = Strips::new(fields.directory(), form.strips, offsets, byte_counts);
     Ok((form, strips))
 }
 
-/// The width and the rows of a page.
-#[tactic(auto, unfolding(crate::specs::code::Steps::page_size))]
-fn page_size(fields: &Fields) -> Result<(u32, u32), FileFault>
+/// The form that a page's fields say, in the order of their checks.
+#[tactic(auto, unfolding(crate::specs::Page::form_in), using(crate::proofs::FormLemmas::limits))]
+fn read_form(fields: &Fields) -> Result<PageForm, FileFault>
     ensures exact { result
-        ≡ Spec.page_size fields.now.endian fields.now.file (entries_of fields.now) }
-    ensures some_width { IfOk result (λ size. 1 ≤ size.0) }
-    ensures width { IfOk result (λ size. size.0 ≤ 65535) }
-    ensures some_rows { IfOk result (λ size. 1 ≤ size.1) }
-    ensures rows { IfOk result (λ size. size.1 ≤ 1000000) }
+        ≡ Spec.form_in fields.now.endian fields.now.file (entries_of fields.now) }
+    ensures limits { IfOk result IsPageForm }
 {
-    let width = fields.needed_scalar(IMAGE_WIDTH)?;
-    if width < 1 || width > MAX_WIDTH {
-        return Err(FileFault::OutOfLimits(IMAGE_WIDTH));
-    }
-    let rows = fields.needed_scalar(IMAGE_LENGTH)?;
-    if rows < 1 || rows > MAX_ROWS {
-        return Err(FileFault::OutOfLimits(IMAGE_LENGTH));
-    }
-    Ok((width, rows))
-}
-
-/// How pels are coded, by the fields that say so.
-#[tactic(auto, unfolding(crate::specs::code::Steps::pel_format))]
-fn pel_format(fields: &Fields) -> Result<PelFormat, FileFault>
-    ensures { result ≡ Spec.pel_format fields.now.endian fields.now.file (entries_of fields.now) }
-{
-    if fields.scalar_or(BITS_PER_SAMPLE, 1)? != 1 {
-        return Err(FileFault::Unsupported(BITS_PER_SAMPLE));
-    }
-    let compression = fields.needed_scalar(COMPRESSION)?;
-    if compression != COMPRESSION_T4 && compression != COMPRESSION_T6 {
-        return Err(FileFault::Unsupported(COMPRESSION));
-    }
-    let exchanged = are_exchanged(fields)?;
-    let order = fill_order(fields)?;
-    if fields.scalar_or(SAMPLES_PER_PIXEL, 1)? != 1 {
-        return Err(FileFault::Unsupported(SAMPLES_PER_PIXEL));
-    }
-    Ok(PelFormat {
-        compression,
-        exchanged,
-        order,
+    use Limits::{AboveZero, Between};
+    use Refusal::{BadField, OutOfLimits, Unsupported};
+    let width = fields.scalar(IMAGE_WIDTH, None, Between(1, MAX_WIDTH), OutOfLimits)?;
+    let rows = fields.scalar(IMAGE_LENGTH, None, Between(1, MAX_ROWS), OutOfLimits)?;
+    fields.scalar(BITS_PER_SAMPLE, Some(1), Between(1, 1), Unsupported)?;
+    let codings = Between(COMPRESSION_T4, COMPRESSION_T6);
+    let compression = fields.scalar(COMPRESSION, None, codings, Unsupported)?;
+    // The value of a white pel: where it is 1, black is coded as white, and white as black.
+    let white = fields.scalar(PHOTOMETRIC_INTERPRETATION, None, Between(0, 1), Unsupported)?;
+    let order = fields.scalar(FILL_ORDER, Some(1), Between(1, 2), Unsupported)?;
+    fields.scalar(SAMPLES_PER_PIXEL, Some(1), Between(1, 1), Unsupported)?;
+    let in_strip = fields.scalar(ROWS_PER_STRIP, Some(u32::MAX), AboveZero, BadField)?;
+    let rows_per_strip = in_strip.min(rows);
+    let options = read_options(fields, compression)?;
+    let Resolution { x, y, unit } = page_resolution(fields);
+    Ok(PageForm {
+        width,
+        rows,
+        coding: coding_of(compression, options),
+        order: order_of(order),
+        aligned: options / 4 % 2 == 1,
+        exchanged: white == 1,
+        rows_per_strip,
+        strips: rows.div_ceil(rows_per_strip),
+        x,
+        y,
+        unit,
     })
 }
 
-/// Whether black is coded as white, and white as black.
-#[tactic(auto, unfolding(crate::specs::code::Steps::are_exchanged))]
-fn are_exchanged(fields: &Fields) -> Result<bool, FileFault>
-    ensures { result
-        ≡ Spec.are_exchanged fields.now.endian fields.now.file (entries_of fields.now) }
-{
-    match fields.needed_scalar(PHOTOMETRIC_INTERPRETATION)? {
-        0 => Ok(false),
-        1 => Ok(true),
-        _ => Err(FileFault::Unsupported(PHOTOMETRIC_INTERPRETATION)),
-    }
-}
-
-/// Which bit of a byte comes first.
-#[tactic(auto, unfolding(crate::specs::code::Steps::fill_order))]
-fn fill_order(fields: &Fields) -> Result<FillOrder, FileFault>
-    ensures { result ≡ Spec.fill_order fields.now.endian fields.now.file (entries_of fields.now) }
-{
-    match fields.scalar_or(FILL_ORDER, 1)? {
-        1 => Ok(FillOrder::MsbFirst),
-        2 => Ok(FillOrder::LsbFirst),
-        _ => Err(FileFault::Unsupported(FILL_ORDER)),
-    }
-}
-
-/// The rows of each strip but the last, of a page with so many rows.
-#[tactic(auto, unfolding(crate::specs::code::Steps::strip_rows))]
-fn strip_rows(fields: &Fields, rows: u32) -> Result<u32, FileFault>
-    requires { 1 ≤ rows }
-    ensures exact { result
-        ≡ Spec.strip_rows fields.now.endian fields.now.file (entries_of fields.now) rows }
-    ensures some_rows { IfOk result (λ rows_per_strip. 1 ≤ rows_per_strip) }
-    ensures within { IfOk result (λ rows_per_strip. rows_per_strip ≤ rows) }
-{
-    let rows_per_strip = fields.scalar_or(ROWS_PER_STRIP, u32::MAX)?;
-    if rows_per_strip == 0 {
-        return Err(FileFault::BadField(ROWS_PER_STRIP));
-    }
-    Ok(rows_per_strip.min(rows))
-}
-
-/// How the rows of a page are coded. T4Options is looked at in T.4 alone.
-#[tactic(auto, unfolding(crate::specs::code::Steps::page_coding))]
-fn page_coding(fields: &Fields, compression: u32) -> Result<RowCoding, FileFault>
-    ensures exact { result
-        ≡ Spec.page_coding fields.now.endian fields.now.file (entries_of fields.now) compression }
-    ensures aligned { IfOk result (λ rows. rows.aligned ≡ true → rows.coding ≢ Mmr) }
+/// T4Options, which are looked at in T.4 alone, and 0 in T.6.
+fn read_options(fields: &Fields, compression: u32) -> Result<u32, FileFault>
+    ensures { result ≡ (if compression == 4 then (Ok 0)
+        else (Entries.scalar fields.now.endian fields.now.file (entries_of fields.now)
+        Tags.T4_OPTIONS (Some 0) (λ _. true) BadField)) }
 {
     if compression == COMPRESSION_T6 {
-        return Ok(RowCoding {
-            coding: Coding::Mmr,
-            aligned: false,
-        });
+        return Ok(0);
     }
-    let options = fields.scalar_or(T4_OPTIONS, 0)?;
-    let coding = if options % 2 == 1 {
+    fields.scalar(T4_OPTIONS, Some(0), Limits::Any, Refusal::BadField)
+}
+
+/// How the rows are coded, by Compression and T4Options.
+fn coding_of(compression: u32, options: u32) -> Coding
+    ensures { result ≡ (if compression == 4 then Mmr else (if options % 2 == 1 then Mr else Mh)) }
+{
+    if compression == COMPRESSION_T6 {
+        Coding::Mmr
+    } else if options % 2 == 1 {
         Coding::Mr
     } else {
         Coding::Mh
-    };
-    Ok(RowCoding {
-        coding,
-        aligned: options / 4 % 2 == 1,
-    })
+    }
+}
+
+/// Which bit of a byte comes first, by FillOrder.
+fn order_of(order: u32) -> FillOrder
+    ensures { result ≡ (if order == 2 then LsbFirst else MsbFirst) }
+{
+    match order {
+        2 => FillOrder::LsbFirst,
+        _ => FillOrder::MsbFirst,
+    }
 }
 
 /// The resolution of a page: 204 by 196 dots an inch where its fields have no good one.
-#[tactic(auto, unfolding(crate::specs::code::Steps::page_resolution))]
 fn page_resolution(fields: &Fields) -> Resolution
     ensures exact { result
-        ≡ Spec.page_resolution fields.now.endian fields.now.file (entries_of fields.now) }
-    ensures x { IsGoodRational result.x }
-    ensures y { IsGoodRational result.y }
-    ensures some_unit { 1 ≤ result.unit }
-    ensures unit { result.unit ≤ 3 }
+        ≡ Steps.resolution_in fields.now.endian fields.now.file (entries_of fields.now) }
+    ensures good { Steps.IsGoodResolution result }
 {
     let x = fields.rational_of(X_RESOLUTION);
     let y = fields.rational_of(Y_RESOLUTION);
-    let unit = fields.scalar_or(RESOLUTION_UNIT, 2);
-    match (x, y, unit) {
-        (Some(x), Some(y), Ok(unit)) if 1 <= unit && unit <= 3 => Resolution {
+    let units = Limits::Between(1, 3);
+    match (
+        x,
+        y,
+        fields.scalar(RESOLUTION_UNIT, Some(2), units, Refusal::Unsupported),
+    ) {
+        (Some(x), Some(y), Ok(unit)) => Resolution {
             x,
             y,
             unit: unit as u16,
@@ -261,11 +168,10 @@ fn page_resolution(fields: &Fields) -> Resolution
 }
 
 /// The entry of a tag, which has to have a value for each strip.
-#[tactic(auto, unfolding(crate::specs::code::Steps::strip_field))]
 fn strip_field(fields: &Fields, tag: u16, strips: u32) -> Result<Entry, FileFault>
     requires { IsTrue (is_sought tag) }
     ensures exact { result
-        ≡ Spec.strip_field fields.now.endian fields.now.file (entries_of fields.now) tag strips }
+        ≡ Steps.strip_field fields.now.endian fields.now.file (entries_of fields.now) tag strips }
     ensures found { IfOk result (λ entry. Entries.field (entries_of fields.now) tag ≡ Some entry) }
     ensures inside { IfOk result (λ entry. entry.place + 4 ≤ length fields.now.file) }
     ensures enough { IfOk result (λ entry.
