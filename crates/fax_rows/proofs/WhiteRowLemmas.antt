@@ -1,5 +1,7 @@
 -- White rows: their places of change, and their codes.
-use Rattle.std.proofs.Common.{◌≡◌, ℕ, zero, suc, ◌+◌, ◌-◌, ◌*◌, ◌<◌, ◌↔◌, List, [], ◌∷◌, ◌++◌, length, get_or, map, replicate, Bool, true, false, not}
+use Rattle.std.specs.Simd.{first_chunks}
+use Rattle.fax_bits.specs.Bits.{packed}
+use Rattle.std.proofs.Common.{◌≡◌, ℕ, zero, suc, ◌+◌, ◌-◌, ◌*◌, ◌<◌, ◌≤◌, ◌↔◌, List, [], ◌∷◌, ◌++◌, length, get_or, map, replicate, Bool, true, false, not}
 use Rattle.std.proofs.Common.{refl, ap, sym, ◌∙◌, arith, IsTrue, append-nil, inl, inr}
 use Rattle.std.proofs.Math.Nat.{eq-or-lt_of_le}
 use Rattle.std.specs.Prelude.{Option, Some, None, pos, ◌&&◌, ◌-ℤ◌, nat_eq}
@@ -7,8 +9,6 @@ use Rattle.std.proofs.lemmas.Int.{ints}
 use Rattle.std.proofs.lemmas.Bool.{and_parts}
 use Rattle.std.proofs.lemmas.Bool.Decides.{nat_tests}
 use Rattle.std.proofs.lemmas.List.{get_or-replicate, length-replicate, replicate-append-replicate, drop-replicate, take-replicate}
-use Rattle.fax_rows.specs.code.PackedByte.{packed_byte}
-use Rattle.fax_rows.proofs.PackedLemmas.{packed_at}
 use Rattle.fax_bits.specs.declared.Colour.{Colour}
 use Rattle.fax_bits.specs.declared.Colour.TheVariants.{White}
 use Rattle.fax_bits.specs.Bits.{code_bits, bits_number}
@@ -136,27 +136,17 @@ white_bits : (width : ℕ) → map is_black (white width) ≡ replicate width fa
 white_bits zero = refl
 white_bits (suc width) = ap (λ b. false ∷ b) (white_bits width)
 
-zeros_spell : (n : ℕ) → bits_number (replicate n false) ≡ 0
-zeros_spell zero = refl
-zeros_spell (suc n) = zeros_spell n
-
 -- and so are its bytes
-white_byte : (width from : ℕ) → from < width → packed_byte (white width) from ≡ 0
-unfolding packed_byte
-white_byte width from inside =
-    rw (
-      white_bits width,
-      replicate-append-replicate width 7 false,
-      drop-replicate from (width + 7) false,
-      take-replicate 8 (width + 7 - from) false (omega arith),
-    ) (zeros_spell 8)
+zero_bytes : (n m : ℕ) → 8 * n ≤ m → map bits_number (first_chunks 8 n (replicate m false)) ≡ replicate n 0
+zero_bytes zero m within = refl
+zero_bytes (suc n) m within =
+    rw (take-replicate 8 m false (omega arith), drop-replicate 8 m false) (ap (λ bytes. 0 ∷ bytes) (zero_bytes n (m - 8) (omega arith)))
+
+white_packed : (width : ℕ) → packed_row (white width) ≡ replicate (packed_len width) 0
+unfolding packed_row packed
+white_packed width =
+    rw (white_bits width, length-replicate width false, replicate-append-replicate width 7 false)
+    (zero_bytes (packed_len width) (width + 7) (omega arith))
 
 pub white_bytes : (row : List Colour) → row ≡ replicate (length row) White → packed_row row ≡ replicate (packed_len (length row)) 0
-white_bytes row is =
-    let width = length row in
-    let bytes = replicate (packed_len width) 0 in
-    let long : length bytes ≡ packed_len width = length-replicate (packed_len width) 0 in
-    let same : length (white width) ≡ width = length-replicate width White in
-    ap packed_row is
-    ∙ sym (packed_at (white width) bytes (long ∙ ap packed_len (sym same))
-    (λ k h. get_or-replicate (packed_len width) k 0 0 (omega (arith, long)) ∙ sym (white_byte width (8 * k) (omega (arith, long)))))
+white_bytes row is = ap packed_row is ∙ white_packed (length row)
