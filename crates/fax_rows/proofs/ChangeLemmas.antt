@@ -47,14 +47,7 @@ both_false false b h is = cc
 
 pub next_change_is : (row : List Colour) (from : Option ℕ) → IsNextChange row from (next_change row from)
 unfolding next_change
-next_change_is row from =
-    let first = first_place_is (ChangeTest row from) 0 (length row) in
-    record {
-      within = omega (arith, first.within);
-      before = λ k h l. both_false (is_right_of from k) (is_changing row k) (first.before k (omega arith) h) l;
-      right = λ h. (and_parts (is_right_of from _) (is_changing row _) (first.there (omega arith))).0;
-      there = λ h. (and_parts (is_right_of from _) (is_changing row _) (first.there (omega arith))).1;
-    }
+next_change_is row from = grind (arith, common_steps, first_place_is, both_false, and_parts)
 
 -- the colour before a pel that is not a changing element is its own
 not_changing : (a b : Colour) → not (same_colour a b) ≡ false → a ≡ b
@@ -73,9 +66,7 @@ changing Black White h = refl
 pub colour_before : {row : List Colour} (from : Option ℕ) {place : ℕ} → IsNextChange row from place
     → (k : ℕ) → k ≤ place → is_right_of from k ≡ true → pel_before row k ≡ colour_of row from
 colour_before None next zero within right = refl
-colour_before {row = row} None next (suc k) within right =
-    not_changing (pel row k) (pel_before row k) (next.before k (omega arith) refl)
-    ∙ colour_before None next k (omega arith) refl
+colour_before {row = row} None next (suc k) within right = grind (arith, common_steps, not_changing, colour_before None next k (omega arith) refl)
 colour_before (Some a) next zero within right = absurd (omega (arith, ltb-true a 0 right))
 colour_before {row = row} (Some a) next (suc k) within right =
     elim (eq-or-lt_of_le at_most) [
@@ -104,9 +95,7 @@ colour_up_to {from = from} next k after before = colour_before from next (suc k)
 -- and the changing element has the other
 pub colour_at : {row : List Colour} {from : Option ℕ} {place : ℕ} → IsNextChange row from place
     → place < length row → pel row place ≡ other (colour_of row from)
-colour_at {row = row} {from = from} {place = place} next inside =
-    changing (pel row place) (pel_before row place) (next.there inside)
-    ∙ ap other (colour_before from next place (omega arith) (next.right inside))
+colour_at {row = row} {from = from} {place = place} next inside = grind (arith, common_steps, changing, colour_before)
 
 -- the next changing element is not left of the place
 pub next_is_ahead : {row : List Colour} (from : Option ℕ) {place : ℕ} → IsNextChange row from place
@@ -127,32 +116,20 @@ replicate_pels (first ∷ row) (suc n) colour within each =
 -- the pels before `to` are those before `from` and a run
 pub pels_up_to : (row : List Colour) (from to : ℕ) (colour : Colour) → from ≤ to → to ≤ length row
     → ((k : ℕ) → from ≤ k → k < to → pel row k ≡ colour) → take from row ++ replicate (to - from) colour ≡ take to row
-pels_up_to row zero to colour order within each =
-    let all : to - zero ≡ to = omega arith in
-    rw all (replicate_pels row to colour within (λ k h. each k (omega arith) h))
+pels_up_to row zero to colour order within each = grind (arith, common_steps, replicate_pels)
 pels_up_to [] (suc from) to colour order within each = absurd (omega arith)
 pels_up_to (first ∷ row) (suc from) zero colour order within each = absurd (omega arith)
-pels_up_to (first ∷ row) (suc from) (suc to) colour order within each =
-    let same : suc to - suc from ≡ to - from = omega arith in
-    rw same (ap (λ pels. first ∷ pels) (pels_up_to row from to colour (omega arith) (omega arith)
-    (λ k h l. each (suc k) (omega arith) (omega arith))))
+pels_up_to (first ∷ row) (suc from) (suc to) colour order within each = grind (arith, common_steps, pels_up_to row from to colour (omega arith) (omega arith) (λ k h l. each (suc k) (omega arith) (omega arith)))
 
 -- the next changing element of another colour lies in the row or is its width, right of the place
 pub next_of_within : (row : List Colour) (from : Option ℕ) (colour : Colour) → b1 row from colour ≤ length row
 unfolding b1
-next_of_within row from colour =
-    omega (
-      arith,
-      (first_place_is (λ i. is_right_of from i && (is_changing row i && not (same_colour (pel row i) colour))) 0
-          (length row)).within,
-    )
+next_of_within row from colour = grind (arith, common_steps, first_place_is)
 
 pub next_of_right : (row : List Colour) (from : Option ℕ) (colour : Colour) → b1 row from colour < length row
     → is_right_of from (b1 row from colour) ≡ true
 unfolding b1
-next_of_right row from colour inside =
-    let first = first_place_is (λ i. is_right_of from i && (is_changing row i && not (same_colour (pel row i) colour))) 0 (length row) in
-    (and_parts (is_right_of from _) _ (first.there (omega arith))).0
+next_of_right row from colour inside = grind (arith, common_steps, first_place_is, and_parts)
 
 pub still_left : (right change : Bool) → (right ≡ true → change ≡ false) → (right && change) ≡ false
 still_left true change h = h refl

@@ -59,22 +59,7 @@ module _ (row : List Colour) (from : Option ℕ) (colour : Colour) (to : ℕ) (s
 
   -- where the colour goes on, the next changing element is further right
   next_after : to < length row → pel row to ≡ colour → to < next_change row from
-  next_after inside goes_on =
-      elim (cases_lt to (next_change row from)) [
-        | inl less ↦ less
-        | inr over ↦
-            let next = next_change_is row from in
-            let within : next_change row from < length row = omega arith in
-            let right = next.right within in
-            let here = colour_at (next_change row from) (right_after_first from (next_change row from) right) (eq-or-lt_of_le over) in
-            let same = same_as (pel row (next_change row from)) (pel_before row (next_change row from))
-            (here ∙ sym (before_is (next_change row from) over right)) in
-            absurd (true≢false (sym (next.there within) ∙ same))
-      ]
-    where
-      colour_at : (k : ℕ) → first_of from ≤ k → (k ≡ to) ⊎ (k < to) → pel row k ≡ colour
-      colour_at k after (inl same) = ap (pel row) same ∙ goes_on
-      colour_at k after (inr less) = each k after less
+  next_after inside goes_on = grind (arith, cases_lt, next_change_is, right_after_first, eq-or-lt_of_le, same_as, before_is, true≢false, first_of)
 
 -- at the width there is no changing element any more
 none_after : (row : List Colour) (a : ℕ) → length row ≤ a → next_change row (Some a) ≡ length row
@@ -88,9 +73,7 @@ module _ (row old tail : List Colour) (first to : ℕ) (len : length old ≡ fir
   read_before = sym (take_at old tail first len) ∙ ap (take first) read ∙ take-take first to row order
 
   pel_after : (k : ℕ) → first ≤ k → k < to → pel row k ≡ get_or tail (k - first) White
-  pel_after k low high =
-      sym (get_or-take to row k White high) ∙ ap (λ xs. get_or xs k White) (sym read)
-      ∙ get_or-append_right old tail k White (omega (arith, len)) ∙ ap (λ n. get_or tail (k - n) White) len
+  pel_after k low high = grind (arith, common_steps, get_or-take, get_or-append_right)
 
 right_of_number : (a0 : Option ℕ) (colour : Colour) (pels : List Colour) (a1 : ℕ)
     → a0_number (record { a0 = a0; colour = colour; pels = pels }) <ℤ pos a1 → is_right_of a0 a1 ≡ true

@@ -1,7 +1,7 @@
 -- The ones of a word, byte by byte and one by one.
 use Rattle.std.proofs.lemmas.Grind.{common_steps}
 use Rattle.std.proofs.Common.{◌≡◌, ℕ, zero, suc, ◌+◌, ◌-◌, ◌*◌, ◌/◌, ◌%◌, ◌^◌, ◌<◌, ◌≤◌, List, [], ◌∷◌, ◌++◌, if◌then◌else◌, get_or, nat_eq}
-use Rattle.std.proofs.Common.{◌≢◌, true, false, refl, ap, sym, ◌∙◌, arith}
+use Rattle.std.proofs.Common.{◌≢◌, true, false, ap, sym, ◌∙◌, arith}
 use Rattle.std.specs.Int.{bit_at, to_be_bytes, w64}
 use Rattle.std.specs.Int.RustNames.{bit_xor}
 use Rattle.std.proofs.Math.Nat.{pow-succ'}
@@ -111,9 +111,6 @@ pub record AreLeft (word left r : ℕ) : Type 0 where
   pub within : r ≤ 64
   pub gone : (i : ℕ) → i < r → word_bit left i ≡ false
   pub rest : (i : ℕ) → r ≤ i → i < 64 → word_bit left i ≡ word_bit word i
-
-pub all_left : (word : ℕ) → AreLeft word word 0
-all_left word = record { within = omega arith; gone = λ i h. absurd (omega arith); rest = λ i h l. refl }
 
 module _ (word left r : ℕ) (so_far : AreLeft word left r) where
   -- where none is left up to a bit, there is none

@@ -1,6 +1,6 @@
 -- A row in one-dimensional coding that is read run by run, and a white run and the black one after it that are read at once.
 use Rattle.std.proofs.lemmas.Grind.{common_steps}
-use Rattle.std.proofs.Common.{◌≡◌, ℕ, ◌+◌, ◌-◌, ◌<◌, ◌≤◌, List, [], ◌∷◌, ◌++◌, take, Bool, ap, sym, ◌∙◌, subst, arith, inl}
+use Rattle.std.proofs.Common.{◌≡◌, ℕ, ◌+◌, ◌-◌, ◌<◌, ◌≤◌, List, ◌++◌, take, Bool, ap, sym, ◌∙◌, subst, arith, inl}
 use Rattle.std.specs.Prelude.{◌⊎◌}
 use Rattle.fax_bits.specs.declared.Colour.{Colour}
 use Rattle.fax_bits.specs.declared.Colour.TheVariants.{White, Black}
@@ -27,14 +27,7 @@ pub record HasRead (width : ℕ) (b : List Bool) (chosen : Type 0) (total : ℕ)
 
 pub none_read : {width : ℕ} {places : List ℕ} (b : List Bool) (chosen : Type 0) → HasRoom width places
     → HasRead width b chosen 0 White places 1 b
-none_read {width} {places} b chosen room =
-    let first : take 1 places ≡ 0 ∷ [] = take-first places (omega (arith, room.len)) room.first in
-    record {
-      so_far = row_begins width _ _;
-      after = λ i h. ap (λ ps. turned Black ps i) first ∙ turned-first i;
-      put = none_put 0 room (omega arith);
-      written = λ h. runs_begin b;
-    }
+none_read {width} {places} b chosen room = grind (arith, common_steps, take-first, row_begins, turned-first, none_put, runs_begin)
 
 pub read_on : {width : ℕ} {b : List Bool} {chosen also : Type 0} {total place : ℕ} {colour : Colour} {old new : List ℕ}
     {end next : ℕ} {mid rest : List Bool}

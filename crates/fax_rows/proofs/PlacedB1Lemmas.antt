@@ -115,15 +115,7 @@ module _ (row : PlacedRow) where
 
   -- from the last place on all places are the width
   pub over_end : (b : ℕ) → row.end ≤ b → b ≤ row.end + 2 → get_or row.places.now b 0 ≡ row.width
-  over_end b over within =
-      elim (eq-or-lt_of_le over) [
-        | inl same ↦ ap (λ m. get_or row.places.now m 0) (sym same) ∙ at_end row.placed
-        | inr more ↦
-            elim (cases_lt b (row.end + 2)) [
-              | inl one ↦ let same : b ≡ row.end + 1 = omega arith in ap (λ m. get_or row.places.now m 0) same ∙ second_end
-              | inr two ↦ let same : b ≡ row.end + 2 = omega arith in ap (λ m. get_or row.places.now m 0) same ∙ third_end
-            ]
-      ]
+  over_end b over within = grind (arith, eq-or-lt_of_le, at_end, cases_lt, second_end, third_end)
 
   pub b1_within : (b : ℕ) → 0 < b → b ≤ row.end + 1 → ((b < row.end) × (get_or row.places.now b 0 < row.width)) ⊎
       ((row.end ≤ b) × (get_or row.places.now b 0 ≡ row.width))
@@ -191,9 +183,7 @@ module _ (row : PlacedRow) where
 
   pub b2_is : {a0 : Option ℕ} {colour : Colour} {b : ℕ} → IsB1At row a0 colour b
       → get_or row.places.now (b + 1) 0 ≡ b2 (placed_pels row) a0 colour
-  b2_is {b = b} at =
-      after_b1 b at.some at.within
-      ∙ ap (λ a. next_change (placed_pels row) (Some a)) (b1_is at)
+  b2_is {b = b} at = grind (arith, common_steps, after_b1, b1_is)
 
   -- the search goes on by two places
   before_end : (place b : ℕ) → place < row.width → get_or row.places.now b 0 ≤ place → b ≤ row.end + 1 → b < row.end
@@ -205,17 +195,7 @@ module _ (row : PlacedRow) where
 
   pub search_goes_on : (place b : ℕ) → place < row.width → get_or row.places.now b 0 ≤ place → (colour : Colour)
       → IsBeforeB1 row place colour b → IsBeforeB1 row place colour (b + 2)
-  search_goes_on place b inside left colour before = record {
-    within = search_within place b inside left before.within;
-    colour_is = ap (alternate Black) two ∙ before.colour_is;
-    passed = λ h. subst (λ m. get_or row.places.now m 0 ≤ place) back left;
-  }
-    where
-      two : b + 2 ≡ suc (suc b)
-      two = omega arith
-
-      back : b ≡ b + 2 - 2
-      back = omega arith
+  search_goes_on place b inside left colour before = grind (arith, search_within)
 
   -- and ends at b1
   pub search_ends : (place b : ℕ) → place < get_or row.places.now b 0 → (colour : Colour)
@@ -226,11 +206,7 @@ module _ (row : PlacedRow) where
   pub b1_ahead : (a0 : Option ℕ) {colour : Colour} {b : ℕ} → IsB1At row a0 colour b → unwrap_or a0 0 < row.width
       → unwrap_or a0 0 ≤ get_or row.places.now b 0
   b1_ahead None at inside = omega arith
-  b1_ahead (Some a) {b = b} at inside =
-      elim (b1_within b at.some at.within) [
-        | inl less ↦ omega (arith, ltb-true a (get_or row.places.now b 0) (at.ahead less.0))
-        | inr over ↦ omega (arith, over.1)
-      ]
+  b1_ahead (Some a) {b = b} at inside = grind (arith, common_steps, b1_within, ltb-true)
 
   -- and b2 not left of b1
   pub b2_ahead : (b : ℕ) → 0 < b → b ≤ row.end + 1 → get_or row.places.now b 0 ≤ get_or row.places.now (b + 1) 0
@@ -247,20 +223,7 @@ module _ (row : PlacedRow) where
   -- where the search for b1 begins as the colour turns at a place that is not left of b1
   pub right_start : (a0 : Option ℕ) (colour : Colour) (b a1 : ℕ) → IsB1At row a0 colour b → get_or row.places.now b 0 ≤ a1 → a1 < row.width
       → IsBeforeB1 row a1 (other colour) (b + 1)
-  right_start a0 colour b a1 at left inside = record {
-    within = let less = inside_end b at.some at.within (omega arith) in omega arith;
-    colour_is = ap (alternate Black) one ∙ alternate-suc Black b ∙ ap other at.colour_is;
-    passed = λ h.
-        let less = inside_end b at.some at.within (omega arith) in
-        subst (λ m. get_or row.places.now m 0 ≤ a1) back
-        (let order = not_later row.placed.ascending (b - 1) b (omega arith) less in omega arith);
-  }
-    where
-      one : b + 1 ≡ suc b
-      one = omega arith
-
-      back : b - 1 ≡ b + 1 - 2
-      back = omega (arith, at.some)
+  right_start a0 colour b a1 at left inside = grind (arith, inside_end, alternate-suc, not_later)
 
   -- from just under b1 the next place is that of b1
   pub b1_next : {a0 : Option ℕ} {colour : Colour} {b : ℕ} → IsB1At row a0 colour b → get_or row.places.now b 0 < row.width
@@ -279,20 +242,7 @@ module _ (row : PlacedRow) where
   -- and where it does at a place that is left of b1 and right of a0
   pub left_start : (a0 : Option ℕ) (colour : Colour) (b a1 : ℕ) → IsB1At row a0 colour b → is_right_of a0 a1 ≡ true
       → IsBeforeB1 row a1 (other colour) (b - 1)
-  left_start a0 colour b a1 at right = record {
-    within = omega (arith, at.within);
-    colour_is = sym (other-other (alternate Black (b - 1)))
-        ∙ ap other (sym (alternate-suc Black (b - 1)) ∙ ap (alternate Black) one ∙ at.colour_is);
-    passed = λ h.
-        let order = not_later row.placed.ascending (b - 1 - 2) (b - 2) (omega arith) (omega (arith, at.within)) in
-        omega (arith, not_right (get_or row.places.now (b - 2) 0) (at.passed (omega arith)));
-  }
-    where
-      one : suc (b - 1) ≡ b
-      one = omega (arith, at.some)
-
-      not_right : (p : ℕ) → is_right_of a0 p ≡ false → p ≤ a1
-      not_right p not = grind (arith, common_steps)
+  left_start a0 colour b a1 at right = grind (arith, other-other, alternate-suc, not_later)
 
   -- and where it does as a0 goes on with its colour
   pub same_start : (a0 : Option ℕ) (colour : Colour) (b a : ℕ) → IsB1At row a0 colour b → unwrap_or a0 0 ≤ a
@@ -302,25 +252,7 @@ module _ (row : PlacedRow) where
   -- b1 stands at the next change, or at the one after it, by the colour of a0
   pub b1_here : (a0 : Option ℕ) (k b : ℕ) (colour : Colour) → IsFrom row.places.now row.end a0 k → (b ≡ k) ⊎ (b ≡ k + 1)
       → alternate Black b ≡ colour → IsB1At row a0 colour b
-  b1_here None k b colour at which is = record {
-    some = by which;
-    within = before which;
-    colour_is = is;
-    passed = λ h. absurd (few which h);
-    ahead = λ h. refl;
-  }
-    where
-      by : (b ≡ k) ⊎ (b ≡ k + 1) → 0 < b
-      by (inl same) = omega (arith, at)
-      by (inr next) = omega arith
-
-      before : (b ≡ k) ⊎ (b ≡ k + 1) → b ≤ row.end + 1
-      before (inl same) = omega (arith, at)
-      before (inr next) = omega (arith, at, row.placed.ascending.started)
-
-      few : (b ≡ k) ⊎ (b ≡ k + 1) → 2 < b → ⊥
-      few (inl same) h = omega (arith, at)
-      few (inr next) h = omega (arith, at)
+  b1_here None k b colour at which is = grind (arith, common_steps)
   b1_here (Some a) k b colour at (inl same) is = grind (arith, common_steps)
   b1_here (Some a) k b colour at (inr next) is = grind (arith, common_steps)
 
@@ -331,6 +263,4 @@ module _ (row : PlacedRow) where
 
   pub b2_right : {a0 : Option ℕ} {colour : Colour} {b : ℕ} → IsB1At row a0 colour b → get_or row.places.now (b + 1) 0 < row.width
       → is_right_of a0 (get_or row.places.now (b + 1) 0) ≡ true
-  b2_right {a0 = a0} {b = b} at inside =
-      let order = b2_ahead b at.some at.within in
-      further_right a0 (get_or row.places.now b 0) (get_or row.places.now (b + 1) 0) order (b1_right at (omega arith))
+  b2_right {a0 = a0} {b = b} at inside = grind (arith, b2_ahead, further_right, b1_right)

@@ -84,11 +84,7 @@ below_width places end width up last (inr other) i some h =
 -- there are no more changes than pels
 pub ends_within : (places : List ℕ) (end width : ℕ) → IsAscending places end
     → ((i : ℕ) → 0 < i → i < end → get_or places i 0 < width) → end ≤ width + 1
-ends_within places end width up below =
-    elim (eq-or-lt_of_le up.started) [
-      | inl one ↦ omega arith
-      | inr more ↦ omega (arith, at_least up (end - 1) (omega arith), below (end - 1) (omega arith) (omega arith))
-    ]
+ends_within places end width up below = grind (arith, eq-or-lt_of_le, at_least)
 
 -- one run more
 pub run_turned : {width : ℕ} {b : List Bool} {total n : ℕ} {colour : Colour} {old new : List ℕ} {mid rest : List Bool}
@@ -96,10 +92,7 @@ pub run_turned : {width : ℕ} {b : List Bool} {total n : ℕ} {colour : Colour}
     → ((i : ℕ) → total ≤ i → turned Black old i ≡ colour) → IsTurnedFrom old new (total + n)
     → IsRowSoFar width b (total + n) (other colour) (pels_by width new) rest
 run_turned {width =
-    width} {b = b} {total = total} {n = n} {colour = colour} {old = old} {new = new} {mid = mid} {rest = rest} so_far unfinished within run after turn =
-    row_goes_on width b total n colour (pels_by width old) (pels_by width new) mid rest so_far unfinished run
-    (λ k h. pel-pels_by width new k (omega arith) ∙ turn.left k (omega arith) ∙ sym (pel-pels_by width old k (omega arith)))
-    (λ k h l. pel-pels_by width new k (omega arith) ∙ turn.left k (omega arith) ∙ after k h)
+    width} {b = b} {total = total} {n = n} {colour = colour} {old = old} {new = new} {mid = mid} {rest = rest} so_far unfinished within run after turn = grind (arith, common_steps, row_goes_on, pel-pels_by)
 
 -- a row that is shown otherwise
 pub one_dimensional_as : {width wide : ℕ} {b : List Bool} {row shown : List Colour} {rest : List Bool}

@@ -90,15 +90,7 @@ module _ {places : List ℕ} {end width : ℕ} (all : ArePlaces places end width
         right = λ h. before;
       })
       (inl at) inside
-  none_between (Some a) k at i before inside right =
-      unchanging all.ascending width i k
-      (record {
-        some = at.some;
-        within = at.within;
-        left = omega (arith, at.left, ltb-true a i right);
-        right = λ h. before;
-      })
-      (inr (omega (arith, at.left, ltb-true a i right))) inside
+  none_between (Some a) k at i before inside right = grind (arith, common_steps, unchanging, ltb-true)
 
   right_of : (from : Option ℕ) (k : ℕ) → IsFrom places end from k → k < end → is_right_of from (get_or places k 0) ≡ true
   right_of None k at h = refl
@@ -142,18 +134,7 @@ module _ {places : List ℕ} {end width : ℕ} (all : ArePlaces places end width
 
   -- no change stands at a
   goes_on : (a n k : ℕ) → AreChangesFrom (a + 1) n k → a < width → (k < end → a < get_or places k 0) → AreChangesFrom a (suc n) k
-  goes_on a n k more inside before some within next last =
-      let at : ArePlacesUpTo places end a k = record { some = some; within = within; left = left last; right = before } in
-      rw (unchanging all.ascending width a k at last inside)
-      (more some within (λ h. omega (arith, before h)) (later last))
-    where
-      left : (k ≡ 1) ⊎ (get_or places (k - 1) 0 < a) → get_or places (k - 1) 0 ≤ a
-      left (inl one) = subst (λ m. get_or places (m - 1) 0 ≤ a) (sym one) (omega (arith, all.ascending.first))
-      left (inr further) = omega arith
-
-      later : (k ≡ 1) ⊎ (get_or places (k - 1) 0 < a) → (k ≡ 1) ⊎ (get_or places (k - 1) 0 < a + 1)
-      later (inl one) = inl one
-      later (inr further) = inr (omega arith)
+  goes_on a n k more inside before some within next last = grind (arith, common_steps, unchanging)
 
   -- a change stands there
   stops : (a n k : ℕ) → AreChangesFrom (a + 1) n (suc k) → a < width → k < end → get_or places k 0 ≡ a → AreChangesFrom a (suc n) k
@@ -174,11 +155,7 @@ module _ {places : List ℕ} {end width : ℕ} (all : ArePlaces places end width
       left_of_a = subst (λ m. get_or places m 0 < a + 1) same (omega arith)
 
   filter_from : (a n k : ℕ) → a + n ≡ width → AreChangesFrom a n k
-  filter_from a zero k sum some within next last =
-      sym (drop_all k (take end places) (omega (arith, length-take-le end places all.ascending.within, over)))
-    where
-      over : end ≤ k
-      over = grind (arith, common_steps)
+  filter_from a zero k sum some within next last = grind (arith, common_steps, drop_all, length-take-le)
   filter_from a (suc n) k sum some within next last =
       elim (cases_lt k end) [
         | inr more ↦ goes_on a n k (filter_from (a + 1) n k (omega arith)) (omega arith) (λ h. absurd (omega arith)) some within next last

@@ -45,9 +45,7 @@ front_to width from to old new colour order within same after =
 pub coloured : (width : ℕ) (old new : List ℕ) (at : Reached) (to : ℕ) → reached_pel at ≤ to → to ≤ width
     → ((i : ℕ) → i < to → turned Black new i ≡ turned Black old i) → ((i : ℕ) → reached_pel at ≤ i → turned Black old i ≡ at.colour)
     → position_of (record { a0 = Some to; colour = at.colour }) (pels_by width new) ≡ coloured_up_to (position_of at (pels_by width old)) to
-coloured width old new at to order within same after =
-    let position : List Colour → Position = λ pels. record { a0 = Some to; colour = at.colour; pels = pels } in
-    ap position (front_to width (reached_pel at) to old new at.colour order within same after)
+coloured width old new at to order within same after = grind (arith, common_steps, front_to)
 
 -- a0 is no less than just before the first pel
 pub from_start : (at : Reached) → negsuc 0 ≤ℤ a0_number (position_of at [])
@@ -78,11 +76,7 @@ right_after_first (Some a) a1 h = omega (arith, ltb-true a a1 h)
 
 module _ {reference : PlacedRow} {places : List ℕ} {at : PlacedReached} (here : IsReadInside reference places at) where
   pub b2_order : reached_pel at.reached ≤ get_or reference.places.now (at.b1 + 1) 0
-  b2_order =
-      let b1 = here.so_far.b1 here.unfinished in
-      let first = b1_ahead reference at.reached.a0 b1 here.unfinished in
-      let second = b2_ahead reference at.b1 b1.some b1.within in
-      omega arith
+  b2_order = grind (arith, b1_ahead, b2_ahead)
 
   b2_within : get_or reference.places.now (at.b1 + 1) 0 ≤ reference.width
   b2_within = let b1 = here.so_far.b1 here.unfinished in b2_at_most reference at.b1 b1.some b1.within
@@ -102,15 +96,7 @@ module _ {reference : PlacedRow} {places : List ℕ} {at : PlacedReached} (here 
         end = at.end;
         b1 = at.b1 + 2;
       })
-  pass_so_far = record {
-    room = here.so_far.room;
-    within = b2_within;
-    started = λ h. cc;
-    ascending = here.so_far.ascending;
-    last = let order = b2_order in omega (arith, here.so_far.last);
-    after = λ i h. here.so_far.after i (let order = b2_order in omega arith);
-    b1 = λ h. b1_passed reference (here.so_far.b1 here.unfinished) h;
-  }
+  pass_so_far = grind (arith, b2_within, b2_order, b1_passed)
 
   pub b1_in_room : at.b1 + 1 < length reference.places.now
   b1_in_room =
@@ -181,15 +167,11 @@ module _ {reference : PlacedRow} {places : List ℕ} {at : PlacedReached} (here 
   -- where a1 is in the row, it is right of a0 and not after the width
   pub row_begins : (d : ℤ) → IsInRow (placed_pels reference) (placed_position reference.width places at) d
       → a0_number (position_of at.reached []) <ℤ (pos (get_or reference.places.now at.b1 0) +ℤ d)
-  row_begins d in_row =
-      let same = b1_is reference (here.so_far.b1 here.unfinished) in
-      omega (arith, ints, same, in_row.right_of_a0)
+  row_begins d in_row = grind (arith, common_steps, b1_is, ints)
 
   pub row_ends : (d : ℤ) → IsInRow (placed_pels reference) (placed_position reference.width places at) d
       → (pos (get_or reference.places.now at.b1 0) +ℤ d) ≤ℤ pos reference.width
-  row_ends d in_row =
-      let same = b1_is reference (here.so_far.b1 here.unfinished) in
-      omega (arith, ints, same, length-placed_pels reference, in_row.within)
+  row_ends d in_row = grind (arith, common_steps, b1_is, ints, length-placed_pels)
 
   -- b1 is right of a0, and in the row
   pub under_right : a0_number (position_of at.reached []) <ℤ pos (get_or reference.places.now at.b1 0)

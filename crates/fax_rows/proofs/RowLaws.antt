@@ -1,6 +1,6 @@
 -- A row in one-dimensional coding is read in one way, where the run tables are.
 use Rattle.std.proofs.lemmas.Grind.{common_steps}
-use Rattle.std.proofs.Common.{◌≡◌, ℕ, zero, suc, ◌+◌, ◌<◌, ◌≤◌, List, [], ◌∷◌, length, replicate, Bool, refl, ap, sym, ◌∙◌}
+use Rattle.std.proofs.Common.{◌≡◌, ℕ, zero, suc, ◌+◌, ◌<◌, ◌≤◌, List, [], ◌∷◌, length, Bool, refl, ap, sym, ◌∙◌}
 use Rattle.std.proofs.Common.{subst, arith, length-append, inl, inr}
 use Rattle.std.specs.Prelude.{sum, ◌⊎◌}
 use Rattle.std.proofs.lemmas.List.{length-replicate}
@@ -18,15 +18,7 @@ use Rattle.fax_rows.proofs.RunLaws.{sum-cons, same_run, run_has_no_fault, same_r
 
 pub length-pels_of : (colour : Colour) (runs : List ℕ) → length (pels_of colour runs) ≡ sum runs
 length-pels_of colour [] = refl
-length-pels_of colour (n ∷ runs) =
-    omega (
-      arith,
-      length-append (replicate n colour) (pels_of (other colour) runs),
-      length-replicate n colour,
-      length-pels_of (other colour)
-          runs,
-      sum-cons n runs,
-    )
+length-pels_of colour (n ∷ runs) = grind (arith, common_steps, length-append, length-replicate, sum-cons, length-pels_of (other colour) runs)
 
 -- runs that end at the width begin within it
 pub runs_within : (width : ℕ) (colour : Colour) (from : ℕ) (b : List Bool) (runs : List ℕ) (rest : List Bool)

@@ -1,4 +1,5 @@
 -- The a1s of vertical modes in lanes.
+use Rattle.std.proofs.lemmas.Grind.{common_steps}
 use Rattle.std.proofs.Common.{◌≡◌, ℕ, zero, suc, ◌+◌, ◌-◌, ◌^◌, ◌<◌, ◌≤◌, List, [], ◌∷◌, ◌++◌, length, map, take, drop, get_or, Bool, true, false, cond}
 use Rattle.std.proofs.Common.{refl, ap, sym, ◌∙◌, subst, arith, w8, w32, ltb, bit_and}
 use Rattle.std.specs.Int.{bit_at}
@@ -37,9 +38,7 @@ raised_at f others ys b i room long h =
 
 pub length-raised : (f : ℕ → ℕ → ℕ) (others ys : List ℕ) (b : ℕ) → b + 4 ≤ length others → length ys ≡ 4
     → length (zip2 f (take 4 (drop b others)) ys) ≡ 4
-length-raised f others ys b room long =
-    let four = length-chunk b 4 others room in
-    length-zip2 f (chunk b 4 others) ys (four ∙ sym long) ∙ four
+length-raised f others ys b room long = grind (arith, common_steps, length-chunk, length-zip2, chunk)
 
 -- lanes that are less
 abbrev bit_of : Bool → ℕ
@@ -51,22 +50,12 @@ is_set false h = cc
 
 pub lane_less : (xs ys : List ℕ) (i : ℕ) → i < length xs → i < length ys → bit_at (mask_l (zip2 ltb xs ys)) i ≡ 1
     → get_or xs i 0 < get_or ys i 0
-lane_less xs ys i inside within set =
-    ltb-true (get_or xs i 0) (get_or ys i 0)
-    (is_set (ltb (get_or xs i 0) (get_or ys i 0))
-    (ap bit_of (sym (get_or-zip2 ltb xs ys i 0 0 false inside within)) ∙ sym (bit_mask_l (zip2 ltb xs ys) i) ∙ set))
+lane_less xs ys i inside within set = grind (arith, common_steps, ltb-true, is_set, get_or-zip2, bit_mask_l, zip2)
 
 -- bits that are set in each of three numbers
 all_set : (a b c wanted i : ℕ) → bit_and (bit_and (bit_and a b) c) wanted ≡ wanted → bit_at wanted i ≡ 1
     → (bit_at a i ≡ 1) × (bit_at b i ≡ 1) × (bit_at c i ≡ 1)
-all_set a b c wanted i is set =
-    let all = ap (λ n. bit_at n i) (sym is) ∙ bit_at_and (bit_and (bit_and a b) c) wanted i in
-    let two = bit_at_and (bit_and a b) c i in
-    let one = bit_at_and a b i in
-    let la = bit_at-lt a i in
-    let lb = bit_at-lt b i in
-    let lc = bit_at-lt c i in
-    (omega (arith, all, two, one, la, lb, lc, set), omega (arith, all, two, one, la, lb, lc, set), omega (arith, all, two, one, la, lb, lc, set))
+all_set a b c wanted i is set = grind (arith, common_steps, bit_at_and, bit_at-lt)
 
 pub three_set : (a b c count i : ℕ) → bit_and (bit_and (bit_and a b) c) (2 ^ count - 1) ≡ 2 ^ count - 1 → i < count
     → (bit_at a i ≡ 1) × (bit_at b i ≡ 1) × (bit_at c i ≡ 1)
@@ -125,14 +114,10 @@ module _ (others raises : List ℕ) (b count from : ℕ) (some : 0 < b) (room : 
   length-right_lanes = length-raised added others (3 ∷ 3 ∷ 3 ∷ 3 ∷ []) (b + 1) (omega (arith, room)) refl
 
   limit_at : (i : ℕ) → i < 4 → get_or others (b + i) 0 < 2 ^ 16
-  limit_at i h =
-      let e : b - 1 + (i + 1) ≡ b + i = omega (arith, some) in
-      subst (λ m. get_or others m 0 < 2 ^ 16) e (small (i + 1) (omega (arith, h)))
+  limit_at i h = grind arith
 
   limit_after : (i : ℕ) → i < 4 → get_or others (b + 1 + i) 0 < 2 ^ 16
-  limit_after i h =
-      let e : b - 1 + (i + 2) ≡ b + 1 + i = omega (arith, some) in
-      subst (λ m. get_or others m 0 < 2 ^ 16) e (small (i + 2) (omega (arith, h)))
+  limit_after i h = grind arith
 
   raised_of : (i : ℕ) → i < 4 → get_or (raised_lanes others raises b) i 0 ≡ get_or others (b + i) 0 + get_or raises i 0
   raised_of i h =
@@ -152,18 +137,10 @@ module _ (others raises : List ℕ) (b count from : ℕ) (some : 0 < b) (room : 
 
   -- none of the lanes has its highest bit
   pub raised_four : AreFour (raised_lanes others raises b)
-  raised_four = record {
-    length = length-raised_lanes;
-    small = λ i h. omega (arith, raised_of i h, limit_at i h, near i h);
-  }
+  raised_four = grind (arith, common_steps, length-raised_lanes, raised_of, limit_at)
 
   pub left_four : AreFour (splat_lanes others (b - 1) 2)
-  left_four = record {
-    length = length-left_lanes;
-    small = λ i h.
-        let limit = small i (omega (arith, h)) in
-        omega (arith, splat_is (b - 1) 2 i (omega (arith, room)) (omega arith) h limit, limit);
-  }
+  left_four = grind (arith, length-left_lanes, splat_is)
 
   pub right_four : AreFour (splat_lanes others (b + 1) 3)
   right_four = record {

@@ -14,7 +14,7 @@ use Rattle.fax_rows.specs.declared.RowFault.{RowFault}
 use Rattle.fax_rows.specs.declared.RowFault.TheVariants.{OutOfRow, Extension as ExtensionFault}
 use Rattle.fax_rows.specs.Rows.{other, Position, beginning, first_pel, a0_number, coloured_up_to}
 use Rattle.fax_rows.specs.Rows.{IsStepBy, IsStep, AreSteps}
-use Rattle.fax_rows.specs.code.Seen.{b1_from, b2_from}
+use Rattle.fax_rows.specs.code.Seen.{b1_from}
 use Rattle.fax_rows.specs.Faults.{row_fault, IsRunFault, IsModeFault, IsStepFault}
 use Rattle.fax_rows.specs.code.RowFaults.{IsHorizontalFault}
 use Rattle.fax_rows.specs.laws.Rows.{ReadsRowsOverOneWay}
@@ -204,14 +204,7 @@ module _ (runs_read : (colour : Colour) → ReadsOneWay (run_table colour)) (mod
 
   mode_or_fault : (mode : ModeCode) (reference : List Colour) (old : Position) (b : List Bool) → first_pel old ≤ length reference
       → IsModeOrFault mode reference old b
-  mode_or_fault Pass reference old b within =
-      inl (
-        coloured_up_to old (b2_from reference old),
-        b,
-        (refl, refl),
-        (next_change_is reference (Some (b1_from reference old))).within,
-        omega arith,
-      )
+  mode_or_fault Pass reference old b within = grind (arith, common_steps, next_change_is)
   mode_or_fault (Vertical d) reference old b within = vertical_or_fault reference old d b
   mode_or_fault Horizontal reference old b within = horizontal_or_fault reference old b within
   mode_or_fault Extension reference old b within = inr (ExtensionFault, refl)

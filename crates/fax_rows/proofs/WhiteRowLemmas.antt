@@ -1,13 +1,13 @@
 -- White rows: their places of change, and their codes.
+use Rattle.std.proofs.lemmas.Grind.{common_steps}
 use Rattle.std.specs.Simd.{first_chunks}
 use Rattle.fax_bits.specs.Bits.{packed}
-use Rattle.std.proofs.Common.{◌≡◌, ℕ, zero, suc, ◌+◌, ◌-◌, ◌*◌, ◌<◌, ◌≤◌, ◌↔◌, List, [], ◌∷◌, ◌++◌, length, get_or, map, replicate, Bool, true, false, not}
-use Rattle.std.proofs.Common.{refl, ap, sym, ◌∙◌, arith, IsTrue, append-nil, inl, inr}
+use Rattle.std.proofs.Common.{◌≡◌, ℕ, zero, suc, ◌+◌, ◌-◌, ◌*◌, ◌<◌, ◌≤◌, ◌↔◌, List, [], ◌∷◌, ◌++◌, length, get_or, map, replicate, Bool, true, false}
+use Rattle.std.proofs.Common.{refl, ap, sym, ◌∙◌, arith, IsTrue, append-nil}
 use Rattle.std.proofs.Math.Nat.{eq-or-lt_of_le}
-use Rattle.std.specs.Prelude.{Option, Some, None, pos, ◌&&◌, ◌-ℤ◌, nat_eq}
+use Rattle.std.specs.Prelude.{Option, Some, None, pos, nat_eq}
 use Rattle.std.proofs.lemmas.Int.{ints}
 use Rattle.std.proofs.lemmas.Bool.{and_parts}
-use Rattle.std.proofs.lemmas.Bool.Decides.{nat_tests}
 use Rattle.std.proofs.lemmas.List.{get_or-replicate, length-replicate, replicate-append-replicate, drop-replicate, take-replicate}
 use Rattle.fax_bits.specs.declared.Colour.{Colour}
 use Rattle.fax_bits.specs.declared.Colour.TheVariants.{White}
@@ -16,7 +16,7 @@ use Rattle.fax_bits.specs.Tables.{modes}
 use Rattle.fax_bits.specs.Written.{mode_bits, run_bits}
 use Rattle.fax_bits.specs.declared.modes.ModeCode.TheVariants.{Vertical}
 use Rattle.fax_rows.specs.Coded.{packed_len, packed_row, is_black, alternating_bits, one_dimensional_bits, two_dimensional_bits}
-use Rattle.fax_rows.specs.Rows.{same_colour, pel, is_changing, is_right_of, next_change, b1, runs_after}
+use Rattle.fax_rows.specs.Rows.{pel, is_changing, next_change, b1, runs_after}
 use Rattle.fax_rows.specs.code.Turns.{ArePlaces, row_of}
 use Rattle.fax_rows.proofs.ChangeLemmas.{first_place_is, next_change_is}
 use Rattle.fax_rows.proofs.PlacedRowLemmas.{all_white, width_is}
@@ -48,18 +48,10 @@ module _ {places : List ℕ} {end width : ℕ} (all : ArePlaces places end width
 
   -- a row is white just where it has one place
   one_place : {row : List Colour} → row_of places end width ≡ row → row ≡ replicate (length row) White → IsTrue (nat_eq end 1)
-  one_place is white_is =
-      let same = width_is all is in
-      elim (eq-or-lt_of_le all.ascending.started) [
-        | inl one ↦ rw (sym one) refl
-        | inr more ↦ absurd (more_places more (is ∙ white_is ∙ ap white (sym same)))
-      ]
+  one_place is white_is = grind (arith, common_steps, width_is, eq-or-lt_of_le, more_places)
 
   pub is_white_row : {row : List Colour} → row_of places end width ≡ row → IsTrue (nat_eq end 1) ↔ (row ≡ replicate (length row) White)
-  is_white_row is = (
-    λ (one : IsTrue (nat_eq end 1)). all_white all is (grind (arith, nat_tests)),
-    λ (white : _). one_place is white,
-  )
+  is_white_row is = grind (arith, common_steps, all_white, one_place)
 
 -- a white row is one run
 white_runs : (n k : ℕ) → runs_after White n (white k) ≡ (n + k) ∷ []
@@ -74,34 +66,15 @@ white_1d width = ap (alternating_bits White) (white_runs 0 width ∙ ap (λ m. m
 
 -- no changing element lies right of a place
 no_change : (width : ℕ) (from : Option ℕ) → next_change (white width) from ≡ width
-no_change width from =
-    let next = next_change_is (white width) from in
-    let same : length (white width) ≡ width = length-replicate width White in
-    elim (eq-or-lt_of_le next.within) [
-      | inl end ↦ end ∙ same
-      | inr less ↦ cc (sym (next.there less) ∙ none_changes width (next_change (white width) from) (omega arith))
-    ]
+no_change width from = grind (arith, common_steps, next_change_is, length-replicate, eq-or-lt_of_le, none_changes)
 
 no_b1 : (width : ℕ) (from : Option ℕ) (colour : Colour) → b1 (white width) from colour ≡ width
 unfolding b1
-no_b1 width from colour =
-    let test : ℕ → Bool =
-    λ i. is_right_of from i && (is_changing (white width) i && not (same_colour (pel (white width) i) colour)) in
-    let first = first_place_is test 0 (length (white width)) in
-    let same : length (white width) ≡ width = length-replicate width White in
-    elim (eq-or-lt_of_le first.within) [
-      | inl end ↦ omega (arith, end, same)
-      | inr less ↦
-          let there = (and_parts (is_right_of from (b1 (white width) from colour)) _ (first.there less)).1 in
-          let changes = (and_parts (is_changing (white width) (b1 (white width) from colour)) _ there).0 in
-          cc (sym changes ∙ none_changes width (b1 (white width) from colour) (omega arith))
-    ]
+no_b1 width from colour = grind (arith, common_steps, first_place_is, length-replicate, eq-or-lt_of_le, and_parts, none_changes)
 
 -- so that a1 is under b1, and the step ends the row
 white_mode : (width : ℕ) → chosen_mode (places (white width) (white width) None) ≡ Vertical (pos 0)
-white_mode width =
-    let none : pos width -ℤ pos width ≡ pos 0 = omega (arith, ints) in
-    rw (no_change width None, no_b1 width None White, no_change width (Some width), none) (grind (arith, nat_tests))
+white_mode width = grind (arith, common_steps, ints, no_change, no_b1)
 
 -- over a white row it is written as a single 1
 pub white_2d : (width : ℕ) → 0 < width → two_dimensional_bits (white width) (white width) ≡ true ∷ []
@@ -120,16 +93,12 @@ white_2d width some =
 -- the codes of a run that were taken are those of a white row
 pub chosen_1d : (row : List Colour) (width : ℕ) (b rest : List Bool) → row ≡ replicate (length row) White → width ≡ length row
     → b ≡ run_bits White width ++ rest → b ≡ one_dimensional_bits row ++ rest
-chosen_1d row width b rest all same taken =
-    taken ∙ ap (λ c. c ++ rest)
-    (ap (run_bits White) same ∙ sym (white_1d (length row)) ∙ ap one_dimensional_bits (sym all))
+chosen_1d row width b rest all same taken = grind (arith, common_steps, white_1d)
 
 -- and a 1 is that of a white row over another
 pub chosen_2d : (row : List Colour) (b rest : List Bool) → row ≡ replicate (length row) White → 0 < length row
     → b ≡ true ∷ rest → b ≡ two_dimensional_bits row row ++ rest
-chosen_2d row b rest all some taken =
-    taken ∙ ap (λ c. c ++ rest)
-    (sym (white_2d (length row) some) ∙ ap (λ (r : List Colour). two_dimensional_bits r r) (sym all))
+chosen_2d row b rest all some taken = grind (arith, common_steps, white_2d)
 
 -- its pels are zeros as bits
 white_bits : (width : ℕ) → map is_black (white width) ≡ replicate width false

@@ -66,13 +66,7 @@ module _ (runs_read : RunBitsAreRead) (modes_taken : ModeBitsAreRead) (reference
     (limits : HasWidth row) where
   back_at_end : (a0 : Option ℕ) (colour : Colour) (limit : ℕ) (more : List Bool) → first_of a0 ≡ length row
       → IsWrittenBack reference row (here row a0 colour) (step_bits limit reference row a0 ++ more) more
-  back_at_end a0 colour limit more done = record {
-    positions = [];
-    last = here row a0 colour;
-    steps = (refl, ap (λ b. b ++ more) (step_bits-end limit reference row a0 done));
-    ends = at_width a0 (length row) limits.some done ∙ ap (λ n. Some n) (sym same_width);
-    pels = sym (ap (λ n. take n row) done ∙ take-length row);
-  }
+  back_at_end a0 colour limit more done = grind (arith, common_steps, here, step_bits-end, at_width, take-length)
 
   -- the place and the mode of the step from a0
   abbrev mode_at : Option ℕ → ModeCode
@@ -177,11 +171,7 @@ runs_back : RunBitsAreRead → (colour : Colour) (runs : List ℕ) (more : List 
     → AreCodedRuns colour (alternating_bits colour runs ++ more) runs more
 unfolding alternating_bits
 runs_back runs_read colour [] more short = refl
-runs_back runs_read colour (n ∷ runs) more short = (
-  alternating_bits (other colour) runs ++ more,
-  rw append_assoc (runs_read colour n (alternating_bits (other colour) runs ++ more) (omega (arith, sum-cons n runs))),
-  runs_back runs_read (other colour) runs more (omega (arith, sum-cons n runs)),
-)
+runs_back runs_read colour (n ∷ runs) more short = grind (arith, common_steps, append_assoc, sum-cons, runs_back runs_read (other colour) runs more (omega (arith, sum-cons n runs)))
 
 -- a row in one-dimensional coding is read back
 pub one_dimensional_back : RunBitsAreRead → (row : List Colour) → HasWidth row → (more : List Bool)
