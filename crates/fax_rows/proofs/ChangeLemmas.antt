@@ -1,4 +1,5 @@
 -- Changing elements: where the next one stands, and the pels before it.
+use Rattle.fax_rows.proofs.ColourLemmas.{same_is, other_is}
 use Rattle.std.proofs.lemmas.Grind.{common_steps}
 use Rattle.std.proofs.Common.{◌≡◌, ℕ, zero, suc, ◌+◌, ◌-◌, ◌<◌, ◌≤◌, List, [], ◌∷◌, ◌++◌, length, take, replicate, Bool, true, false, not}
 use Rattle.std.proofs.Common.{refl, ap, sym, ◌∙◌, arith, inl, inr}
@@ -49,30 +50,17 @@ pub next_change_is : (row : List Colour) (from : Option ℕ) → IsNextChange ro
 unfolding next_change
 next_change_is row from = grind (arith, common_steps, first_place_is, both_false, and_parts)
 
--- the colour before a pel that is not a changing element is its own
-not_changing : (a b : Colour) → not (same_colour a b) ≡ false → a ≡ b
-not_changing White White h = refl
-not_changing Black Black h = refl
-not_changing White Black h = cc
-not_changing Black White h = cc
-
-changing : (a b : Colour) → not (same_colour a b) ≡ true → a ≡ other b
-changing White White h = cc
-changing Black Black h = cc
-changing White Black h = refl
-changing Black White h = refl
-
 -- up to the next changing element the pel before each has the colour
 pub colour_before : {row : List Colour} (from : Option ℕ) {place : ℕ} → IsNextChange row from place
     → (k : ℕ) → k ≤ place → is_right_of from k ≡ true → pel_before row k ≡ colour_of row from
 colour_before None next zero within right = refl
-colour_before {row = row} None next (suc k) within right = grind (arith, common_steps, not_changing, colour_before None next k (omega arith) refl)
+colour_before {row = row} None next (suc k) within right = grind (arith, common_steps, same_is, colour_before None next k (omega arith) refl)
 colour_before (Some a) next zero within right = absurd (omega (arith, ltb-true a 0 right))
 colour_before {row = row} (Some a) next (suc k) within right =
     elim (eq-or-lt_of_le at_most) [
       | inl same ↦ ap (λ i. pel row i) (sym same)
       | inr less ↦
-          not_changing (pel row k) (pel_before row k) (next.before k (omega arith) (lt-ltb a k less))
+          same_is (pel row k) (pel_before row k) (next.before k (omega arith) (lt-ltb a k less))
           ∙ colour_before (Some a) next k (omega arith) (lt-ltb a k less)
     ]
   where
@@ -95,7 +83,7 @@ colour_up_to {from = from} next k after before = colour_before from next (suc k)
 -- and the changing element has the other
 pub colour_at : {row : List Colour} {from : Option ℕ} {place : ℕ} → IsNextChange row from place
     → place < length row → pel row place ≡ other (colour_of row from)
-colour_at {row = row} {from = from} {place = place} next inside = grind (arith, common_steps, changing, colour_before)
+colour_at {row = row} {from = from} {place = place} next inside = grind (arith, common_steps, other_is, colour_before)
 
 -- the next changing element is not left of the place
 pub next_is_ahead : {row : List Colour} (from : Option ℕ) {place : ℕ} → IsNextChange row from place
@@ -134,9 +122,3 @@ next_of_right row from colour inside = grind (arith, common_steps, first_place_i
 pub still_left : (right change : Bool) → (right ≡ true → change ≡ false) → (right && change) ≡ false
 still_left true change h = h refl
 still_left false change h = refl
-
-pub same_as : (a b : Colour) → a ≡ b → not (same_colour a b) ≡ false
-same_as White White h = refl
-same_as Black Black h = refl
-same_as White Black h = cc
-same_as Black White h = cc

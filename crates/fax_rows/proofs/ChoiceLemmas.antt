@@ -1,4 +1,5 @@
 -- The step that T.4 chooses is a step to the place that it leads to.
+use Rattle.fax_rows.proofs.ColourLemmas.{other-other}
 use Rattle.std.proofs.lemmas.Grind.{common_steps}
 use Rattle.std.proofs.Common.{◌≡◌, ℕ, suc, ◌+◌, ◌-◌, ◌<◌, ◌≤◌, List, ◌++◌, length, take, replicate, Bool, true, false, refl, ap, sym, ◌∙◌}
 use Rattle.std.proofs.Common.{arith, append_assoc}
@@ -61,10 +62,6 @@ number_passes : (from : Option ℕ) (colour : Colour) (pels : List Colour) (plac
     → a0_number (record { a0 = from; colour = colour; pels = pels }) <ℤ pos place
 number_passes None colour pels place h = omega (arith, ints)
 number_passes (Some a) colour pels place h = omega (arith, ints)
-
-other_twice : (colour : Colour) → other (other colour) ≡ colour
-other_twice White = refl
-other_twice Black = refl
 
 -- a difference of at most 3 places
 near_is_written : (d : ℤ) → nat_abs d ≤ 3 → (negsuc 2 ≤ℤ d) × (d ≤ℤ pos 3)
@@ -166,7 +163,7 @@ module _ (reference row : List Colour) (same_width : length reference ≡ length
   third_run h =
       sym (colour_at a2_is h
       ∙ ap other (colour_at a1_is (omega (arith, a2_ahead)))
-      ∙ other_twice (colour_of row a0))
+      ∙ other-other (colour_of row a0))
 
   horizontal_chosen : RunBitsAreRead → HasWidth row → (rest : List Bool) → IsChosen reference row a0 rest Horizontal
   horizontal_chosen runs_read limits rest =

@@ -1,4 +1,5 @@
 -- A step that is read as T.4 would have chosen it.
+use Rattle.fax_rows.proofs.ColourLemmas.{other-other, other_than, same_as}
 use Rattle.std.proofs.lemmas.Grind.{common_steps}
 use Rattle.std.proofs.Common.{◌≡◌, ℕ, zero, suc, ◌+◌, ◌-◌, ◌<◌, ◌≤◌, ℤ, negsuc, ◌-ℤ◌, List, ◌++◌, length, take, replicate, get_or}
 use Rattle.std.proofs.Common.{Bool, true, false, pos, refl, ap, sym, ◌∙◌, subst, arith, inl, inr, take-take, take_at, append_assoc}
@@ -21,17 +22,10 @@ use Rattle.fax_rows.specs.Rows.{IsVerticalStep}
 use Rattle.fax_rows.specs.code.Seen.{b1_from, b2_from}
 use Rattle.fax_rows.specs.code.Choice.{Places, places, colour_of, chosen_mode, run_pair_bits, next_a0}
 use Rattle.fax_rows.specs.code.Chosen.{GoesOnFrom, IsStepOf, IsChosenPair}
-use Rattle.fax_rows.proofs.ChangeLemmas.{first_of, next_change_is, still_left, same_as}
+use Rattle.fax_rows.proofs.ChangeLemmas.{first_of, next_change_is, still_left}
 use Rattle.fax_rows.proofs.PlaceLemmas.{next_change_at}
 use Rattle.fax_rows.proofs.PlacedStepLemmas.{right_after_first}
 use Rattle.fax_rows.proofs.TakenModeLemmas.{is_near}
-use Rattle.fax_rows.proofs.TurnLemmas.{other-other}
-
-turned_apart : (a b : Colour) → a ≡ other b → not (same_colour a b) ≡ true
-turned_apart White Black h = refl
-turned_apart Black White h = refl
-turned_apart White White h = cc
-turned_apart Black Black h = cc
 
 -- ---- pels of one colour from a place on
 
@@ -55,7 +49,7 @@ module _ (row : List Colour) (from : Option ℕ) (colour : Colour) (to : ℕ) (s
       (λ k h. still_left (is_right_of from k) (is_changing row k)
       (λ l. same_as (pel row k) (pel_before row k) (each k (right_after_first from k l) h ∙ sym (before_is k (omega arith) l))))
       (λ h. and_from (is_right_of from to) (is_changing row to) right
-      (turned_apart (pel row to) (pel_before row to) (turn h ∙ ap other (sym (before_is to (omega arith) right)))))
+      (other_than (pel row to) (pel_before row to) (turn h ∙ ap other (sym (before_is to (omega arith) right)))))
 
   -- where the colour goes on, the next changing element is further right
   next_after : to < length row → pel row to ≡ colour → to < next_change row from

@@ -204,15 +204,3 @@ pub first_other_stands : (bytes : List ℕ) (from r : ℕ) (colour : Colour) →
     → IsFirstPlace (is_other bytes colour) from (8 * length bytes - from) r
 unfolding first_other
 first_other_stands bytes from r colour is = grind (arith, common_steps, first_place_is)
-
-pub plain_pel : (pel colour : Colour) → not (same_colour pel colour) ≡ false → pel ≡ colour
-plain_pel White White h = refl
-plain_pel Black Black h = refl
-plain_pel White Black h = cc
-plain_pel Black White h = cc
-
-pub other_pel : (pel colour : Colour) → not (same_colour pel colour) ≡ true → other colour ≡ pel
-other_pel White White h = cc
-other_pel Black Black h = cc
-other_pel White Black h = refl
-other_pel Black White h = refl

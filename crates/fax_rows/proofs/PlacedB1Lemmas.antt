@@ -1,4 +1,5 @@
 -- b1 and b2 by an index into the reference row's places of change.
+use Rattle.fax_rows.proofs.ColourLemmas.{differs_is, other-other, other_than, same_as}
 use Rattle.std.proofs.lemmas.Grind.{common_steps}
 use Rattle.std.proofs.Common.{◌≡◌, ◌≢◌, ℕ, zero, suc, ◌+◌, ◌-◌, ◌<◌, ◌≤◌, List, length, take, get_or, true, false, not, refl, ap, sym, ◌∙◌}
 use Rattle.std.proofs.Common.{subst, arith, inl, inr}
@@ -14,7 +15,7 @@ use Rattle.fax_rows.specs.code.PlacedRow.{placed_pels, IsBeforeB1, IsB1At}
 use Rattle.fax_rows.specs.code.Turns.{alternate, ArePlacesUpTo, IsFrom}
 use Rattle.fax_rows.proofs.ChangeLemmas.{still_left, next_change_is}
 use Rattle.fax_rows.proofs.PlaceLemmas.{next_of_at}
-use Rattle.fax_rows.proofs.TurnLemmas.{other-other, length-pels_by, alternate-suc, below_later, not_later, pel_after, changing_at}
+use Rattle.fax_rows.proofs.TurnLemmas.{length-pels_by, alternate-suc, below_later, not_later, pel_after, changing_at}
 use Rattle.fax_rows.proofs.TurnLemmas.{unchanging}
 use Rattle.fax_rows.proofs.PlacedRowLemmas.{at_end, next_here, end_within}
 
@@ -30,13 +31,6 @@ length-placed_pels row = length-pels_by row.width (take row.end row.places.now)
 -- and so has the row of these pels
 pub placed_width : (row : PlacedRow) (pels : List Colour) → placed_pels row ≡ pels → row.width ≡ length pels
 placed_width row pels is = sym (length-placed_pels row) ∙ ap length is
-
--- a colour that is not this one is the other
-pub differs_is : (colour pel : Colour) → pel ≢ colour → pel ≡ other colour
-differs_is White Black h = refl
-differs_is Black White h = refl
-differs_is White White h = absurd (h refl)
-differs_is Black Black h = absurd (h refl)
 
 module _ (row : PlacedRow) where
   rank_from : (i n k : ℕ) → 0 < k → k + n ≡ row.end → get_or row.places.now (k - 1) 0 ≤ i
@@ -83,18 +77,6 @@ module _ (row : PlacedRow) where
       passed left =
           further_right a0 i (get_or row.places.now (b - 2) 0)
           (let order = not_later row.placed.ascending (j - 1) (b - 2) left (omega (arith, at.within)) in omega arith) right
-
-  same_as : (pel colour : Colour) → pel ≡ colour → not (same_colour pel colour) ≡ false
-  same_as White White h = refl
-  same_as Black Black h = refl
-  same_as White Black h = cc
-  same_as Black White h = cc
-
-  other_than : (pel colour : Colour) → pel ≡ other colour → not (same_colour pel colour) ≡ true
-  other_than White White h = cc
-  other_than Black Black h = cc
-  other_than White Black h = refl
-  other_than Black White h = refl
 
   -- no change of the other colour stands between a0 and that place
   none_left : (a0 : Option ℕ) (colour : Colour) (b i : ℕ) → IsB1At row a0 colour b → i < get_or row.places.now b 0 → i < row.width

@@ -1,4 +1,5 @@
 -- Places of change that are put one after the other while a row is read.
+use Rattle.fax_rows.proofs.ColourLemmas.{other-other}
 use Rattle.std.proofs.lemmas.Grind.{common_steps}
 use Rattle.std.proofs.Common.{◌≡◌, ℕ, ◌+◌, ◌-◌, ◌<◌, ◌≤◌, ◌≢◌, List, [], ◌∷◌, ◌++◌, length, take, drop, get_or, Bool}
 use Rattle.std.proofs.Common.{sym, ◌∙◌, subst, arith, inl, inr}
@@ -12,7 +13,7 @@ use Rattle.fax_bits.specs.Codes.{IsRun}
 use Rattle.fax_rows.specs.Rows.{other, IsOneDimensionalRow}
 use Rattle.fax_rows.specs.code.Put.{ArePut, HasRoom}
 use Rattle.fax_rows.specs.code.Turns.{turned, pels_by, IsAscending, IsTurnedFrom, TurnsAt}
-use Rattle.fax_rows.proofs.TurnLemmas.{other-other, length-pels_by, pel-pels_by, turned-push_left, turned-push_right, at_least, below_later}
+use Rattle.fax_rows.proofs.TurnLemmas.{length-pels_by, pel-pels_by, turned-push_left, turned-push_right, at_least, below_later}
 use Rattle.fax_rows.proofs.RowLemmas.{IsRowSoFar, row_goes_on}
 
 -- a place that is put

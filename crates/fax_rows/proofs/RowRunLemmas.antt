@@ -1,4 +1,5 @@
 -- The longest runs of a row, pel by pel.
+use Rattle.fax_rows.proofs.ColourLemmas.{same_is}
 use Rattle.std.proofs.lemmas.Grind.{common_steps}
 use Rattle.std.proofs.Common.{◌≡◌, ◌≢◌, ℕ, zero, suc, ◌+◌, ◌-◌, ◌<◌, ◌≤◌, List, [], ◌∷◌, ◌++◌, length, take, drop, get_or, Bool, true}
 use Rattle.std.proofs.Common.{false, not, refl, ap, sym, ◌∙◌, subst, arith, inl, inr, drop-cons, get_or-drop, length-drop}
@@ -47,13 +48,6 @@ pub turns : (colour first : Colour) (n i : ℕ) (pels : List Colour) → i < len
     → runs_after colour n (drop i pels) ≡ n ∷ runs_after first 1 (drop (i + 1) pels)
 turns colour first n i pels within at other = grind (arith, common_steps, drop-cons, runs_after-other, suc-eq-add-one)
 
--- the colour of a run goes on at a pel that is no changing element, and turns at one that is
-changes_not : (a b : Colour) → not (same_colour a b) ≡ false → a ≡ b
-changes_not White White h = refl
-changes_not Black Black h = refl
-changes_not White Black h = cc
-changes_not Black White h = cc
-
 changes_so : (a b : Colour) → not (same_colour a b) ≡ true → a ≢ b
 changes_so White White h e = cc
 changes_so Black Black h e = cc
@@ -84,7 +78,7 @@ gaps_more : (row : List Colour) (n i from : ℕ) (b : Bool) → is_changing row 
     → ((next : ℕ) → next ≤ i + 1 → GapsFrom row n (i + 1) next) → GapsFrom row (suc n) i from
 unfolding gaps_to
 gaps_more row n i from true is inside order more = grind (arith, common_steps, before_next, turns, changes_so)
-gaps_more row n i from false is inside order more = grind (arith, common_steps, changes_not, before_next, goes_on)
+gaps_more row n i from false is inside order more = grind (arith, common_steps, same_is, before_next, goes_on)
 
 -- they are the runs that are left
 gaps_from : (row : List Colour) (n i from : ℕ) → from ≤ i → i + n ≡ length row → GapsFrom row n i from

@@ -1,4 +1,5 @@
 -- Rows by their places of change: the pel at a place, and where it changes.
+use Rattle.fax_rows.proofs.ColourLemmas.{same_as, other_than}
 use Rattle.std.proofs.lemmas.Grind.{common_steps}
 use Rattle.std.proofs.Common.{◌≡◌, ℕ, zero, suc, ◌+◌, ◌-◌, ◌%◌, ◌<◌, ◌≤◌, List, [], ◌∷◌, ◌++◌, length, take, get_or, true, false, not, refl}
 use Rattle.std.proofs.Common.{ap, sym, ◌∙◌, subst, arith, inl, inr}
@@ -11,10 +12,6 @@ use Rattle.fax_bits.specs.declared.Colour.{Colour}
 use Rattle.fax_bits.specs.declared.Colour.TheVariants.{White, Black}
 use Rattle.fax_rows.specs.Rows.{other, same_colour, pel, is_changing}
 use Rattle.fax_rows.specs.code.Turns.{turned, pels_by, alternate, IsAscending, ArePlacesUpTo}
-
-pub other-other : (c : Colour) → other (other c) ≡ c
-other-other White = refl
-other-other Black = refl
 
 -- a row has its width
 pub length-pels_by : (width : ℕ) (places : List ℕ) → length (pels_by width places) ≡ width
@@ -144,7 +141,7 @@ module _ {places : List ℕ} {end : ℕ} (up : IsAscending places end) where
         left = last (eq-or-lt_of_le some);
         right = λ l. omega (arith, is);
       }) in
-      rw (here, before, alternate-suc Black j) (turns (alternate Black j))
+      rw (here, before, alternate-suc Black j) (other_than (other (alternate Black j)) (alternate Black j) refl)
     where
       same : suc j - 1 ≡ j
       same = omega arith
@@ -152,10 +149,6 @@ module _ {places : List ℕ} {end : ℕ} (up : IsAscending places end) where
       last : (1 ≡ j) ⊎ (1 < j) → get_or places (j - 1) 0 ≤ i
       last (inl one) = subst (λ m. get_or places (m - 1) 0 ≤ i) one (omega (arith, up.first))
       last (inr more) = let l = below_later (j - 1) j (omega arith) (omega arith) h in omega (arith, is)
-
-      turns : (c : Colour) → not (same_colour (other c) c) ≡ true
-      turns White = refl
-      turns Black = refl
 
   -- and nowhere else
   pub unchanging : (width i k : ℕ) → ArePlacesUpTo places end i k → (k ≡ 1) ⊎ (get_or places (k - 1) 0 < i) → i < width
@@ -173,12 +166,8 @@ module _ {places : List ℕ} {end : ℕ} (up : IsAscending places end) where
         left = left from;
         right = λ l. omega (arith, at.right l);
       }) in
-      rw (here, before) (same (alternate Black k))
+      rw (here, before) (same_as (alternate Black k) (alternate Black k) refl)
     where
       left : (k ≡ 1) ⊎ (get_or places (k - 1) 0 < suc i) → get_or places (k - 1) 0 ≤ i
       left (inl one) = subst (λ m. get_or places (m - 1) 0 ≤ i) (sym one) (omega (arith, up.first))
       left (inr less) = omega arith
-
-      same : (c : Colour) → not (same_colour c c) ≡ false
-      same White = refl
-      same Black = refl
