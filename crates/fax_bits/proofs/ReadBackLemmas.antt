@@ -61,11 +61,7 @@ one_make_up-suc k = let some : nat_eq (suc k) 0 ≡ false = grind (arith, nat_te
 spells_rest : (colour : Colour) (steps : ℕ) (more : List Bool) → steps ≤ 40
     → Spells (run_table colour) (flat_map (run_code_bits colour) (one_make_up steps) ++ more) (one_make_up steps) more
 spells_rest colour zero more few = refl
-spells_rest colour (suc k) more few =
-    let f = run_code_bits colour in
-    rw (one_make_up-suc k)
-    (subst (λ b. Spells (run_table colour) (b ++ more) (MakeUp (64 * suc k) ∷ []) more) (sym (append-nil (f (MakeUp (64 * suc k)))))
-    (spells_make_up colour (suc k) more (omega arith) few))
+spells_rest colour (suc k) more few = grind (arith, common_steps, one_make_up-suc, append-nil, spells_make_up)
 
 -- codes that are spelled by their own bits, whatever follows them
 abbrev SpelledByOwn : Colour → List RunCode → Type 0
@@ -81,13 +77,7 @@ spelled-terminating colour n short more =
     (spells_terminating colour n more short)
 
 spelled-run : (colour : Colour) (n : ℕ) → SpelledByOwn colour (run_codes n)
-spelled-run colour n =
-    let steps : n % 2560 / 64 ≤ 40 = omega arith in
-    let low : n % 64 < 64 = omega arith in
-    spelled-both colour (replicate (n / 2560) (MakeUp 2560) ++ one_make_up (n % 2560 / 64)) (Terminating (n % 64) ∷ [])
-    (spelled-both colour (replicate (n / 2560) (MakeUp 2560)) (one_make_up (n % 2560 / 64))
-    (spells_often colour (n / 2560)) (λ more. spells_rest colour (n % 2560 / 64) more steps))
-    (spelled-terminating colour (n % 64) low)
+spelled-run colour n = grind (arith, spelled-both, spells_often, spells_rest, spelled-terminating)
 
 -- the pels of one_make_up
 abbrev rest_pels : ℕ → List ℕ
@@ -143,9 +133,7 @@ same_run colour b (n ∷ pels) (m ∷ others) last end rest remaining first seco
 
 one_length : {colour : Colour} {b : List Bool} {n m : ℕ} {rest remaining : List Bool} → IsRun colour b n rest → IsRun colour b m remaining
     → (n ≡ m) × (rest ≡ remaining)
-one_length {colour = colour} {b = b} {rest = rest} {remaining = remaining} first second =
-    let same = same_run colour b first.make_up second.make_up first.last second.last rest remaining first.spelled second.spelled in
-    (omega (arith, first.length, second.length, ap sum same.0, same.1), same.2)
+one_length {colour = colour} {b = b} {rest = rest} {remaining = remaining} first second = grind (arith, common_steps, same_run)
 
 pub run_bits_are_one_run : RunBitsAreOneRun
 run_bits_are_one_run colour n m more rest few is = one_length (run_bits_are_read colour n more few) is

@@ -151,17 +151,6 @@ pub if_err : {A E : Type 0} {P Q : E → Type 0} (answer : Result A E) → ((e :
 if_err (Ok x) to is = tt
 if_err (Err e) to is = to e is
 
--- before the first row
-pub none_read : (form : StripForm) (b : List Bool) → AreRowsRead form b 0 (white_row form.width) b false
-none_read form b = record {
-  before = [];
-  count = refl;
-  lines = λ more end after lines. lines;
-  found = λ is more. absurd (cc is);
-  onward = λ more has. has;
-  back = λ more has. inr has;
-}
-
 -- the rows so far, and an end after them
 stopped : (form : StripForm) (b left : List Bool) (i : ℕ) (reference : List Colour) (other : Bool) (end : Option StripFault)
     (so_far : AreRowsRead form b i reference left other) → EndsAt form i reference left end

@@ -4,7 +4,7 @@ use Rattle.std.proofs.lemmas.Grind.{common_steps}
 use Rattle.std.proofs.Common.{◌≡◌, ℕ, zero, suc, ◌+◌, ◌-◌, ◌<◌, ◌≤◌, ℤ, negsuc, ◌-ℤ◌, List, ◌++◌, length, take, replicate, get_or}
 use Rattle.std.proofs.Common.{Bool, true, false, pos, refl, ap, sym, ◌∙◌, subst, arith, inl, inr, take-take, take_at, append_assoc}
 use Rattle.std.proofs.Common.{append-nil}
-use Rattle.std.specs.Prelude.{◌⊎◌, not, Option, Some, None, unwrap_or, ◌<ℤ◌, nat_abs, nat_lt, nat_le}
+use Rattle.std.specs.Prelude.{◌⊎◌, Option, Some, None, unwrap_or, ◌<ℤ◌, nat_abs, nat_lt, nat_le}
 use Rattle.std.proofs.lemmas.Bool.{and_from, cases_lt, ltb-true, lt-ltb, true≢false}
 use Rattle.std.proofs.lemmas.Bool.Decides.{nat_tests}
 use Rattle.std.proofs.lemmas.Int.{ints}
@@ -12,11 +12,11 @@ use Rattle.std.proofs.lemmas.List.{get_or-take, get_or-replicate}
 use Rattle.std.proofs.Math.Seq.{get_or-append_right}
 use Rattle.std.proofs.Math.Nat.{eq-or-lt_of_le}
 use Rattle.fax_bits.specs.declared.Colour.{Colour}
-use Rattle.fax_bits.specs.declared.Colour.TheVariants.{White, Black}
+use Rattle.fax_bits.specs.declared.Colour.TheVariants.{White}
 use Rattle.fax_bits.specs.declared.modes.ModeCode.{ModeCode}
 use Rattle.fax_bits.specs.declared.modes.ModeCode.TheVariants.{Pass, Horizontal, Vertical}
 use Rattle.fax_bits.specs.Written.{mode_bits, run_bits}
-use Rattle.fax_rows.specs.Rows.{other, same_colour, pel, pel_before, is_changing, is_right_of}
+use Rattle.fax_rows.specs.Rows.{other, pel, pel_before, is_changing, is_right_of}
 use Rattle.fax_rows.specs.Rows.{next_change, Position, first_pel, a0_number, coloured_up_to}
 use Rattle.fax_rows.specs.Rows.{IsVerticalStep}
 use Rattle.fax_rows.specs.code.Seen.{b1_from, b2_from}

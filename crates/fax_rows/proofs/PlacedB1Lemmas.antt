@@ -1,13 +1,13 @@
 -- b1 and b2 by an index into the reference row's places of change.
-use Rattle.fax_rows.proofs.ColourLemmas.{differs_is, other-other, other_than, same_as}
+use Rattle.fax_rows.proofs.ColourLemmas.{other-other, other_than, same_as}
 use Rattle.std.proofs.lemmas.Grind.{common_steps}
-use Rattle.std.proofs.Common.{◌≡◌, ◌≢◌, ℕ, zero, suc, ◌+◌, ◌-◌, ◌<◌, ◌≤◌, List, length, take, get_or, true, false, not, refl, ap, sym, ◌∙◌}
+use Rattle.std.proofs.Common.{◌≡◌, ℕ, zero, suc, ◌+◌, ◌-◌, ◌<◌, ◌≤◌, List, length, take, get_or, true, false, not, refl, ap, sym, ◌∙◌}
 use Rattle.std.proofs.Common.{subst, arith, inl, inr}
 use Rattle.std.specs.Prelude.{◌⊎◌, ◌&&◌, Option, Some, None, unwrap_or}
 use Rattle.std.proofs.lemmas.Bool.{and_from, cases_lt, ltb-true, lt-ltb, le-ltb, true≢false}
 use Rattle.std.proofs.Math.Nat.{eq-or-lt_of_le}
 use Rattle.fax_bits.specs.declared.Colour.{Colour}
-use Rattle.fax_bits.specs.declared.Colour.TheVariants.{White, Black}
+use Rattle.fax_bits.specs.declared.Colour.TheVariants.{Black}
 use Rattle.fax_rows.specs.Rows.{other, same_colour, pel, is_changing, is_right_of, next_change, b1}
 use Rattle.fax_rows.specs.Rows.{b2}
 use Rattle.fax_rows.specs.declared.rows.PlacedRow.{PlacedRow}

@@ -1,13 +1,12 @@
 use Rattle.std.proofs.Common.{◌<◌, ◌+◌, ◌*◌, ◌/◌, ◌%◌, sym, ◌∙◌, arith, length, get_or}
+use Rattle.std.proofs.lemmas.Grind.{common_steps}
 use Rattle.fax_rows.specs.code.FirstOther.{first_other_in_byte}
 use Rattle.fax_rows.proofs.FirstOtherLemmas.{first_other_is, plain_in_byte, other_in_byte, plain_before, plain_on, found_in_byte}
 use Rattle.fax_rows.proofs.FirstOtherLemmas.{in_byte-ge}
 use Rattle.fax_rows.proofs.lanes.first_other.Goals as goal
 
 pub returns-then-at-bytes : goal.returns-then-at-bytes
-returns-then-at-bytes c =
-    first_other_is c.args.bytes.now c.args.from c.args.from c.args.colour (omega arith) c.requires.within (λ k l h. absurd (omega arith))
-    (λ h. absurd (omega arith))
+returns-then-at-bytes c = grind (arith, common_steps, first_other_is, c.requires.within)
 
 pub returns-then-here-lt8 : goal.returns-then-here-lt8
 returns-then-here-lt8 c =

@@ -1,4 +1,5 @@
 use Rattle.std.proofs.Common.{refl, ◌<◌, ◌≤◌, length, arith}
+use Rattle.std.proofs.lemmas.Grind.{common_steps}
 use Rattle.std.proofs.lemmas.Result.{on_ok_weaker}
 use Rattle.fax_rows.specs.code.PlacedRow.{placed_pels}
 use Rattle.fax_rows.proofs.ChangeLemmas.{first_of}
@@ -9,11 +10,7 @@ use Rattle.fax_rows.proofs.WrittenStepLemmas.{starts}
 use Rattle.fax_rows.proofs.put.put_steps.Goals as goal
 
 pub loop-at-init : goal.loop-at-init
-loop-at-init c =
-    rw c.none-pending.ensures record {
-      placed = place_begins (placed_pels c.args.rows.reference) (placed_pels c.args.rows.row) c.args.sink.now;
-      places = starts c.args.rows;
-    }
+loop-at-init c = grind (arith, common_steps, place_begins, starts, c.none-pending.ensures)
 
 pub returns-in_err-at-clause-err : goal.returns-in_err-at-clause-err
 returns-in_err-at-clause-err c =
@@ -33,16 +30,7 @@ loop-at-smaller c =
     omega (arith, written_width c.args.rows, smaller)
 
 pub loop-at-preserved : goal.loop-at-preserved
-loop-at-preserved c =
-    let inside : first_of c.loop-at.at.a0 < length (placed_pels c.args.rows.row) = omega (arith, written_width c.args.rows) in
-    record {
-      placed = rw c.in_ok-at.ensures.next
-          (place_goes_on (placed_pels c.args.rows.reference) (placed_pels c.args.rows.row)
-          (same_widths c.args.rows) c.args.sink.now c.loop-at.sink
-          c.put_step.new.sink
-          c.loop-at.at.a0 c.loop-at.pending c.loop-at.invariant.placed inside _ c.in_ok-at.field-0-1 refl c.in_ok-at.ensures.ok);
-      places = c.in_ok-at.ensures.places;
-    }
+loop-at-preserved c = grind (arith, common_steps, first_of, written_width, place_goes_on, same_widths, c.in_ok-at.ensures.next, c.loop-at.invariant.placed, c.in_ok-at.ensures.ok, c.in_ok-at.ensures.places)
 
 pub returns-clause-ok : goal.returns-clause-ok
 returns-clause-ok c =
