@@ -11,7 +11,7 @@ use Rattle.fax_bits.specs.declared.Colour.{Colour}
 use Rattle.fax_bits.specs.declared.runs.RunCode.{RunCode}
 use Rattle.fax_bits.specs.declared.runs.RunCode.TheVariants.{Terminating, MakeUp}
 use Rattle.fax_bits.specs.Codes.{Takes, Spells, IsRun}
-use Rattle.fax_bits.specs.laws.Codes.{RunBitsAreRead, RunBitsAreOneRun}
+use Rattle.fax_bits.specs.laws.Codes.{HasOneAnswer, RunBitsAreRead, RunBitsAreOneRun}
 use Rattle.fax_bits.specs.Written.{run_code_bits, run_codes, run_bits}
 use Rattle.fax_bits.specs.code.Codes.{one_make_up}
 use Rattle.fax_bits.specs.code.TableLaws.{run_table_is_prefix_free}
@@ -131,9 +131,9 @@ same_run colour b (n ∷ pels) (m ∷ others) last end rest remaining first seco
     (subst (λ x. Spells (run_table colour) x (map MakeUp others ++ Terminating end ∷ []) remaining) (sym same.1) second.2) in
     (cc (here, after.0), after.1, after.2)
 
-one_length : {colour : Colour} {b : List Bool} {n m : ℕ} {rest remaining : List Bool} → IsRun colour b n rest → IsRun colour b m remaining
-    → (n ≡ m) × (rest ≡ remaining)
-one_length {colour = colour} {b = b} {rest = rest} {remaining = remaining} first second = grind (arith, common_steps, same_run)
+pub runs_are_one : (colour : Colour) → HasOneAnswer (IsRun colour)
+runs_are_one colour b n m rest remaining first second = grind (arith, common_steps, same_run)
 
 pub run_bits_are_one_run : RunBitsAreOneRun
-run_bits_are_one_run colour n m more rest few is = one_length (run_bits_are_read colour n more few) is
+run_bits_are_one_run colour n m more rest few is =
+    runs_are_one colour (run_bits colour n ++ more) n m more rest (run_bits_are_read colour n more few) is

@@ -7,9 +7,8 @@ use Rattle.std.proofs.lemmas.List.{length-replicate}
 use Rattle.std.proofs.Math.Nat.{eq-or-lt_of_le}
 use Rattle.fax_bits.specs.declared.Colour.{Colour}
 use Rattle.fax_bits.specs.declared.Colour.TheVariants.{White}
-use Rattle.fax_bits.specs.laws.Codes.{ReadsOneWay}
+use Rattle.fax_bits.specs.laws.Codes.{ReadsRunsOneWay}
 use Rattle.fax_bits.specs.Codes.{IsRun}
-use Rattle.fax_bits.specs.Tables.{run_table}
 use Rattle.fax_rows.specs.declared.RowFault.{RowFault}
 use Rattle.fax_rows.specs.Rows.{other, pels_of, AreRuns}
 use Rattle.fax_rows.specs.Faults.{IsRunFault, StopsAtRun}
@@ -38,7 +37,7 @@ AreRunsOrFault colour width from b =
     ((runs : List ℕ) × (rest : List Bool) × AreRuns width colour from b runs rest)
     ⊎ ((fault : RowFault) × (runs : List ℕ) × StopsAtRun width colour from b runs fault)
 
-module _ (reads : (colour : Colour) → ReadsOneWay (run_table colour)) where
+module _ (reads : (colour : Colour) → ReadsRunsOneWay colour) where
   same_runs : (colour : Colour) (width from place : ℕ) (b c : List Bool) (runs more : List ℕ) (rest remaining : List Bool) → b ≡ c
       → from ≡ place → AreRuns width colour from b runs rest → AreRuns width colour place c more remaining
       → (runs ≡ more) × (rest ≡ remaining)

@@ -8,8 +8,8 @@ use Rattle.fax_bits.specs.declared.Colour.{Colour}
 use Rattle.fax_bits.specs.declared.modes.ModeCode.{ModeCode}
 use Rattle.fax_bits.specs.declared.modes.ModeCode.TheVariants.{Pass, Horizontal, Vertical, Extension}
 use Rattle.fax_bits.specs.Codes.{Takes, IsFaultOf, IsRun}
-use Rattle.fax_bits.specs.laws.Codes.{ReadsOneWay}
-use Rattle.fax_bits.specs.Tables.{run_table, modes}
+use Rattle.fax_bits.specs.laws.Codes.{ReadsOneWay, ReadsRunsOneWay}
+use Rattle.fax_bits.specs.Tables.{modes}
 use Rattle.fax_rows.specs.declared.RowFault.{RowFault}
 use Rattle.fax_rows.specs.declared.RowFault.TheVariants.{OutOfRow, Extension as ExtensionFault}
 use Rattle.fax_rows.specs.Rows.{other, Position, beginning, first_pel, a0_number, coloured_up_to}
@@ -74,7 +74,7 @@ end_or_not : (a0 : Option ℕ) (width : ℕ) → (a0 ≡ Some width) ⊎ (a0 ≢
 end_or_not None width = inr (λ same. cc)
 end_or_not (Some a) width = grind (arith, common_steps)
 
-module _ (runs_read : (colour : Colour) → ReadsOneWay (run_table colour)) (modes_read : ReadsOneWay modes) where
+module _ (runs_read : (colour : Colour) → ReadsRunsOneWay colour) (modes_read : ReadsOneWay modes) where
   -- where a mode is taken the fault is that mode's
   fault_of_mode : (reference : List Colour) (old : Position) (b c : List Bool) (mode : ModeCode) (after : List Bool) (fault : RowFault)
       → b ≡ c
