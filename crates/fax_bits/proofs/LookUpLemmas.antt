@@ -1,5 +1,7 @@
 -- What one look-up finds, and what was read then.
 use Rattle.std.proofs.Common.{◌≡◌, ℕ, ◌+◌, ◌*◌, ◌/◌, ◌%◌, ◌^◌, ◌≤◌, List, [], ◌++◌, length, Bool, refl, ap, sym, ◌∙◌, arith}
+use Rattle.std.proofs.Common.{rules}
+use Rattle.std.proofs.Common.{◌≡◌, ℕ, ◌+◌, ◌*◌, ◌/◌, ◌%◌, ◌^◌, ◌≤◌, List, [], ◌++◌, length, Bool, refl, ap, sym, ◌∙◌, arith}
 use Rattle.std.proofs.lemmas.Grind.{common_steps}
 use Rattle.std.proofs.Common.{append_assoc, append-nil, length-append}
 use Rattle.fax_bits.specs.declared.codes.CodeEntry.{CodeEntry}
@@ -46,13 +48,7 @@ code_taken table old meaning new read = record {
 -- what begins the first thirteen of thirty-two bits begins them all
 pub begins_more : {F : Type 0} (means : List Bool → F → Type 0) (number len : ℕ) (found : F)
     → IsBegun means (code_bits 13 (number / 2 ^ 19)) len found → IsBegun means (code_bits 32 number) len found
-begins_more means number len found begun = record {
-  front = begun.front;
-  ahead = begins_all 13 19 number begun.front begun.ahead;
-  long = begun.long;
-  some = begun.some;
-  meaning = begun.meaning;
-}
+begins_more means number len found begun = search (rules, begins_all)
 
 -- a code for a run that begins the bits is taken of its own
 run_code_begins : (colour : Colour) (b : List Bool) (len : ℕ) (code : RunCode) → HasCodeAhead (run_table colour) b len code

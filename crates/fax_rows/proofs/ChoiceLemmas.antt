@@ -1,5 +1,6 @@
 -- The step that T.4 chooses is a step to the place that it leads to.
 use Rattle.fax_rows.proofs.ColourLemmas.{other-other}
+use Rattle.std.proofs.Common.{rules}
 use Rattle.std.proofs.lemmas.Grind.{common_steps}
 use Rattle.std.proofs.Common.{◌≡◌, ℕ, suc, ◌+◌, ◌-◌, ◌<◌, ◌≤◌, List, ◌++◌, length, take, replicate, Bool, true, false, refl, ap, sym, ◌∙◌}
 use Rattle.std.proofs.Common.{arith, append_assoc}
@@ -88,9 +89,7 @@ module _ (reference row : List Colour) (same_width : length reference ≡ length
   b1_within = omega (arith, next_of_within reference a0 (colour_of row a0))
 
   pub b1_right : passed a0 ≤ b1 reference a0 (colour_of row a0)
-  b1_right =
-      passes a0 (b1 reference a0 (colour_of row a0)) (length row) unfinished b1_within
-      (λ h. next_of_right reference a0 (colour_of row a0) (omega arith))
+  b1_right = search (rules, passes, b1_within, next_of_right)
 
   b2_is : IsNextChange reference (Some (b1 reference a0 (colour_of row a0))) (b2 reference a0 (colour_of row a0))
   b2_is = next_change_is reference (Some (b1 reference a0 (colour_of row a0)))

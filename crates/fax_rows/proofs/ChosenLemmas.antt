@@ -1,5 +1,6 @@
 -- A step that is read as T.4 would have chosen it.
 use Rattle.fax_rows.proofs.ColourLemmas.{other-other, other_than, same_as}
+use Rattle.std.proofs.Common.{rules}
 use Rattle.std.proofs.lemmas.Grind.{common_steps}
 use Rattle.std.proofs.Common.{◌≡◌, ℕ, zero, suc, ◌+◌, ◌-◌, ◌<◌, ◌≤◌, ℤ, negsuc, ◌-ℤ◌, List, ◌++◌, length, take, replicate, get_or}
 use Rattle.std.proofs.Common.{Bool, true, false, pos, refl, ap, sym, ◌∙◌, subst, arith, inl, inr, take-take, take_at, append_assoc}
@@ -91,10 +92,7 @@ module _ (reference row : List Colour) (same : length row ≡ length reference) 
   -- the pels that are read go on up to a place right of a0
   goes_on_from : (to : ℕ) (tail : List Colour) → first_pel old ≤ to → to ≤ length row → old.pels ++ tail ≡ take to row
       → ((a : ℕ) → old.a0 ≡ Some a → a < length row → pel row a ≡ old.colour) → GoesOnFrom row old
-  goes_on_from to tail order within read coloured = record {
-    read = read_before row old.pels tail (first_pel old) to len order within read;
-    coloured = coloured;
-  }
+  goes_on_from to tail order within read coloured = search (rules, read_before)
 
   old_colour : GoesOnFrom row old → first_pel old < length row → colour_of row old.a0 ≡ old.colour
   old_colour goes inside = grind (arith, common_steps)

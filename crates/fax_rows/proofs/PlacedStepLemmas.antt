@@ -1,4 +1,5 @@
 -- Steps of two-dimensional coding over places of change.
+use Rattle.std.proofs.Common.{rules}
 use Rattle.std.proofs.lemmas.Grind.{common_steps}
 use Rattle.std.proofs.Common.{◌≡◌, ℕ, ◌+◌, ◌-◌, ℤ, negsuc, ◌+ℤ◌, ◌≤ℤ◌, ◌<◌, ◌≤◌, List, [], ◌++◌, length, take, get_or, replicate, Bool}
 use Rattle.std.proofs.Common.{true, refl, ap, sym, ◌∙◌, arith, pos}
@@ -53,18 +54,10 @@ from_start at = grind (arith, common_steps)
 
 -- a0's number, just before the first pel and in the row
 pub number_at_start : (at : Reached) → at.a0 ≡ None → negsuc 0 ≡ a0_number (position_of at [])
-number_at_start at is = by at.a0 is
-  where
-    by : (a0 : Option ℕ) → a0 ≡ None → negsuc 0 ≡ a0_number (record { a0 = a0; colour = at.colour; pels = [] })
-    by None h = refl
-    by (Some a) h = cc
+number_at_start at is = search rules
 
 pub number_inside : (at : Reached) (place : ℕ) → at.a0 ≡ Some place → pos place ≡ a0_number (position_of at [])
-number_inside at place is = by at.a0 is
-  where
-    by : (a0 : Option ℕ) → a0 ≡ Some place → pos place ≡ a0_number (record { a0 = a0; colour = at.colour; pels = [] })
-    by None h = cc
-    by (Some a) h = let same : place ≡ a = cc in ap pos same
+number_inside at place is = search rules
 
 -- a place right of a0's number is right of a0
 pub number_right : (at : Reached) (a1 : ℕ) → a0_number (position_of at []) <ℤ pos a1 → is_right_of at.a0 a1 ≡ true
@@ -234,16 +227,7 @@ module _ {reference : PlacedRow} {places : List ℕ} {at : PlacedReached} (here 
         end = next_end;
         b1 = next_b1;
       })) rest
-  horizontal_placed {b} {mid} {rest} first second next_b1 run another within turns again =
-      record {
-        first = first;
-        second = second;
-        middle = mid;
-        first_run = run;
-        second_run = another;
-        within = omega (arith, length-placed_pels reference);
-        new_is = pair_placed first second next_b1 within turns again;
-      }
+  horizontal_placed {b} {mid} {rest} first second next_b1 run another within turns again = search (rules, length-placed_pels, pair_placed)
 
   pub horizontal_so_far : (first second : ℕ) {between new : List ℕ} {middle_end next_end next_b1 : ℕ}
       → reached_pel at.reached + first + second ≤ reference.width

@@ -1,4 +1,5 @@
 -- The a1s of vertical modes in lanes.
+use Rattle.std.proofs.Common.{rules}
 use Rattle.std.proofs.lemmas.Grind.{common_steps}
 use Rattle.std.proofs.Common.{◌≡◌, ℕ, zero, suc, ◌+◌, ◌-◌, ◌^◌, ◌<◌, ◌≤◌, List, [], ◌∷◌, ◌++◌, length, map, take, drop, get_or, Bool, true, false, cond}
 use Rattle.std.proofs.Common.{refl, ap, sym, ◌∙◌, subst, arith, w8, w32, ltb, bit_and}
@@ -130,10 +131,7 @@ module _ (others raises : List ℕ) (b count from : ℕ) (some : 0 < b) (room : 
 
   splat_is : (c n i : ℕ) → c + 4 ≤ length others → n < 8 → i < 4 → get_or others (c + i) 0 < 2 ^ 16
       → get_or (splat_lanes others c n) i 0 ≡ get_or others (c + i) 0 + n
-  splat_is c n i within less h limit =
-      raised_at added others (n ∷ n ∷ n ∷ n ∷ []) c i within refl h
-      ∙ ap (added (get_or others (c + i) 0)) (splat_at n i h)
-      ∙ added_is (get_or others (c + i) 0) n (omega (arith, limit, less))
+  splat_is c n i within less h limit = search (rules, raised_at, splat_at, added_is)
 
   -- none of the lanes has its highest bit
   pub raised_four : AreFour (raised_lanes others raises b)
@@ -143,11 +141,7 @@ module _ (others raises : List ℕ) (b count from : ℕ) (some : 0 < b) (room : 
   left_four = grind (arith, length-left_lanes, splat_is)
 
   pub right_four : AreFour (splat_lanes others (b + 1) 3)
-  right_four = record {
-    length = length-right_lanes;
-    small = λ i h.
-        omega (arith, splat_is (b + 1) 3 i (omega (arith, room)) (omega arith) h (limit_after i h), limit_after i h);
-  }
+  right_four = search (rules, length-right_lanes, splat_is, limit_after)
 
   pub before_four : from < 2 ^ 31 → AreFour (before (raised_lanes others raises b) from)
   before_four near_from = record {

@@ -233,11 +233,4 @@ pub one_read : (reference : PlacedRow) (places new : List ℕ) (at next : Placed
     → Takes modes b (Vertical (pos 0)) rest → IsReadInside reference places at
     → IsVerticalStep (placed_pels reference) (placed_position reference.width places at) (pos 0) (placed_position reference.width new next)
     → IsReadTo reference new next → IsReadOn true reference places new at next b rest
-one_read reference places new at next b rest taken here vertical read =
-    let position = placed_position reference.width new next in
-    record {
-      steps = step_goes_on here b position rest
-          (record { mode = Vertical (pos 0); after = rest; taken = taken; step = (vertical, refl) });
-      chosen = λ asked. chosen_goes_on here b position rest (under_chosen here taken vertical);
-      so_far = read;
-    }
+one_read reference places new at next b rest taken here vertical read = search (rules, step_goes_on, chosen_goes_on, under_chosen)
