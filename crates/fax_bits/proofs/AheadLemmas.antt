@@ -8,9 +8,8 @@ use Rattle.std.proofs.lemmas.List.{drop-drop, take-append-drop, take-take, take-
 use Rattle.fax_bits.specs.declared.FillOrder.{FillOrder}
 use Rattle.fax_bits.specs.declared.window.Window.{Window}
 use Rattle.fax_bits.specs.declared.modes.ModeCode.TheVariants.{Vertical}
-use Rattle.fax_bits.specs.Bits.{bits, code_bits}
+use Rattle.fax_bits.specs.Bits.{bits, code_bits, bits_number}
 use Rattle.fax_bits.specs.views.Source.{HasZerosAhead, Source, source_of, KeepsEnd}
-use Rattle.fax_bits.specs.Bits.{bits_number}
 use Rattle.fax_bits.specs.Tables.{modes}
 use Rattle.fax_bits.specs.code.BitsAhead.{bits_ahead, IsAhead, place_before}
 use Rattle.fax_bits.specs.code.LookUp.{IsBegun, IsCode, IsLookedUp}

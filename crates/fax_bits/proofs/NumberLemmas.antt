@@ -7,11 +7,9 @@ use Rattle.std.specs.Int.{bit_at}
 use Rattle.std.proofs.Math.Nat.{pow-succ'}
 use Rattle.std.proofs.lemmas.Nat.Bits.{bit_at_cat_high}
 use Rattle.fax_bits.specs.declared.FillOrder.TheVariants.{MsbFirst}
-use Rattle.fax_bits.specs.Bits.{code_bits, byte_bits}
-use Rattle.fax_bits.specs.Bits.{bits_number}
-use Rattle.fax_bits.proofs.CodeBitsLemmas.{code_bits-low}
+use Rattle.fax_bits.specs.Bits.{code_bits, byte_bits, bits_number}
+use Rattle.fax_bits.proofs.CodeBitsLemmas.{code_bits-low, length-code_bits}
 use Rattle.fax_bits.proofs.FindLemmas.{same_number}
-use Rattle.fax_bits.proofs.CodeBitsLemmas.{length-code_bits}
 use Rattle.fax_bits.proofs.PeekLemmas.{bits_number-lt}
 
 abbrev digit_of : Bool → ℕ

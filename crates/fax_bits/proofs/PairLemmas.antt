@@ -10,8 +10,7 @@ use Rattle.std.proofs.Math.Nat.{div-div-eq-div-mul, pow-succ'}
 use Rattle.std.specs.List.{range_with_len}
 use Rattle.fax_bits.specs.declared.Colour.{Colour}
 use Rattle.fax_bits.specs.declared.Colour.TheVariants.{White, Black}
-use Rattle.fax_bits.specs.declared.indexes.TheConstants.{PAIRS}
-use Rattle.fax_bits.specs.declared.indexes.TheConstants.{WHITE_PAIR_CODES, WHITE_PAIR_LENS, BLACK_PAIR_CODES, BLACK_PAIR_LENS}
+use Rattle.fax_bits.specs.declared.indexes.TheConstants.{PAIRS, WHITE_PAIR_CODES, WHITE_PAIR_LENS, BLACK_PAIR_CODES, BLACK_PAIR_LENS}
 use Rattle.fax_bits.specs.declared.runs.TheConstants.{WHITE_CODES, WHITE_LENS, BLACK_CODES, BLACK_LENS}
 use Rattle.fax_bits.specs.Bits.{code_bits}
 use Rattle.fax_bits.specs.Tables.{run_table}

@@ -7,14 +7,12 @@ use Rattle.std.proofs.lemmas.Bool.{and_parts, cases_Bool, leb-true, or_cases}
 use Rattle.std.proofs.lemmas.Nat.{pow-add, pow_pos, shl_below, shl-shr}
 use Rattle.std.proofs.Math.Nat.{div-div-eq-div-mul, lt-div-mul-add}
 use Rattle.fax_bits.specs.declared.codes.CodeEntry.{CodeEntry}
-use Rattle.fax_bits.specs.Bits.{code_bits}
+use Rattle.fax_bits.specs.Bits.{code_bits, BeginsWith}
 use Rattle.fax_bits.specs.Codes.{bits_of, HasNoCode}
 use Rattle.fax_bits.specs.views.Codes.{HasCodeAhead, HasShortCodes, IsPrefixFree}
-use Rattle.fax_bits.specs.Bits.{BeginsWith}
 use Rattle.fax_bits.specs.code.Places.{begins, place_after, place_of}
-use Rattle.fax_bits.proofs.CodeBitsLemmas.{code_bits-add}
+use Rattle.fax_bits.proofs.CodeBitsLemmas.{code_bits-add, length-code_bits}
 use Rattle.fax_bits.proofs.FindLemmas.{code_ahead, ahead_is_short, ahead_is_first}
-use Rattle.fax_bits.proofs.CodeBitsLemmas.{length-code_bits}
 use Rattle.fax_bits.proofs.PrefixLemmas.{takes_one}
 use Rattle.fax_bits.proofs.TableLemmas.{listed}
 

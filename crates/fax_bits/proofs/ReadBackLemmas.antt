@@ -13,10 +13,9 @@ use Rattle.fax_bits.specs.declared.runs.RunCode.TheVariants.{Terminating, MakeUp
 use Rattle.fax_bits.specs.Codes.{Takes, Spells, IsRun}
 use Rattle.fax_bits.specs.laws.Codes.{HasOneAnswer, RunBitsAreRead, RunBitsAreOneRun}
 use Rattle.fax_bits.specs.Written.{run_code_bits, run_codes, run_bits}
-use Rattle.fax_bits.specs.code.Codes.{one_make_up}
+use Rattle.fax_bits.specs.code.Codes.{one_make_up, run_meaning}
 use Rattle.fax_bits.specs.code.TableLaws.{run_table_is_prefix_free}
 use Rattle.fax_bits.specs.Tables.{run_table}
-use Rattle.fax_bits.specs.code.Codes.{run_meaning}
 use Rattle.fax_bits.proofs.PrefixLemmas.{takes_one}
 use Rattle.fax_bits.proofs.RunCodeLemmas.{takes_run_code, run_meaning-terminating, run_meaning-make_up}
 

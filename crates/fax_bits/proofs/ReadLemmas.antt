@@ -5,8 +5,7 @@ use Rattle.std.proofs.Common.{arith, append_assoc, length-append, length-take}
 use Rattle.std.proofs.Math.Seq.{take-append-add}
 use Rattle.std.proofs.lemmas.List.{take-append-drop, take-append-le}
 use Rattle.fax_bits.specs.declared.codes.CodeEntry.{CodeEntry}
-use Rattle.fax_bits.specs.Bits.{bits_number}
-use Rattle.fax_bits.specs.Bits.{code_bits}
+use Rattle.fax_bits.specs.Bits.{bits_number, code_bits}
 use Rattle.fax_bits.specs.Codes.{bits_of, HasNoCode, IsCutShort, Takes}
 use Rattle.fax_bits.specs.views.Codes.{HasCodeAhead, HasShortCodes}
 use Rattle.fax_bits.proofs.CodeBitsLemmas.{length-code_bits, ahead_fits}

@@ -7,10 +7,9 @@ use Rattle.fax_bits.specs.declared.codes.CodeEntry.{CodeEntry}
 use Rattle.fax_bits.specs.declared.Colour.{Colour}
 use Rattle.fax_bits.specs.declared.runs.RunCode.TheVariants.{Terminating, MakeUp}
 use Rattle.fax_bits.specs.Codes.{bits_of, Takes}
-use Rattle.fax_bits.specs.code.Codes.{bits_at}
+use Rattle.fax_bits.specs.code.Codes.{bits_at, run_meaning}
 use Rattle.fax_bits.specs.Written.{same_run_code, code_for, run_code_bits}
 use Rattle.fax_bits.specs.Tables.{run_table}
-use Rattle.fax_bits.specs.code.Codes.{run_meaning}
 use Rattle.fax_bits.proofs.TableLemmas.{listed}
 use Rattle.fax_bits.proofs.ArrayLemmas.{run_entries, codes_of, lens_of, length-codes_of, run_table_is, run_entry_at}
 

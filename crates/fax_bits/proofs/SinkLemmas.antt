@@ -1,8 +1,7 @@
 -- Bits that are put after others: into the pending bits, and from there into bytes.
 use Rattle.std.proofs.lemmas.Grind.{common_steps}
-use Rattle.std.proofs.Common.{◌≡◌, ℕ, ◌+◌, ◌-◌, ◌*◌, ◌/◌, ◌%◌, ◌^◌, ◌<◌, ◌≤◌, List, [], ◌∷◌, ◌++◌, length, map, take, drop}
-use Rattle.std.proofs.Common.{replicate, Bool, true, false, refl, ap, sym, ◌∙◌, arith, append_assoc, append-nil, add-zero}
-use Rattle.std.proofs.Common.{length-append}
+use Rattle.std.proofs.Common.{◌≡◌, ℕ, ◌+◌, ◌-◌, ◌*◌, ◌/◌, ◌%◌, ◌^◌, ◌<◌, ◌≤◌, List, [], ◌∷◌, ◌++◌, length, map, take, drop, replicate, Bool}
+use Rattle.std.proofs.Common.{true, false, refl, ap, sym, ◌∙◌, arith, append_assoc, append-nil, add-zero, length-append}
 use Rattle.std.specs.Prelude.{bit_and, bit_or, Result, Ok, Err, OnOk, is_ok}
 use Rattle.std.proofs.lemmas.List.{take_at}
 use Rattle.std.proofs.lemmas.List.Concat.{flat_map-append}
@@ -15,8 +14,7 @@ use Rattle.fax_bits.specs.declared.FillOrder.TheVariants.{MsbFirst, LsbFirst}
 use Rattle.fax_bits.specs.Bits.{bits, byte_bits, code_bits}
 use Rattle.fax_bits.specs.views.Sink.{Sink, IsPadded}
 use Rattle.fax_bits.specs.code.Sink.{sink_of}
-use Rattle.fax_bits.proofs.CodeBitsLemmas.{code_bits-add, code_bits-zeros, byte_bits-reversed}
-use Rattle.fax_bits.proofs.CodeBitsLemmas.{length-code_bits}
+use Rattle.fax_bits.proofs.CodeBitsLemmas.{code_bits-add, code_bits-zeros, byte_bits-reversed, length-code_bits}
 use Rattle.fax_bits.proofs.SourceLemmas.{length-bits}
 
 -- a call that succeeded

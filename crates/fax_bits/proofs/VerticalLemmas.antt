@@ -1,12 +1,11 @@
 -- The arrays of the vertical modes hold codes of vertical modes, one after another.
-use Rattle.std.proofs.lemmas.Bool.{eqb-true}
+use Rattle.std.proofs.lemmas.Bool.{eqb-true, and_parts}
 use Rattle.std.proofs.lemmas.Grind.{common_steps}
 use Rattle.std.proofs.Common.{◌≡◌, ℕ, zero, suc, ◌+◌, ◌-◌, ◌*◌, ◌/◌, ◌^◌, ◌<◌, ◌≤◌, List, [], ◌∷◌, ◌++◌, map, length, take, get_or, Bool, true}
 use Rattle.std.proofs.Common.{false, if◌then◌else◌, refl, ap, sym, ◌∙◌, subst, arith, append_assoc, zero-add, lit<}
 use Rattle.std.specs.Prelude.{◌&&◌, nat_lt, nat_le, nat_eq, flat_map, All, pos, negsuc, ◌≤ℤ◌}
 use Rattle.std.specs.Int.{to_le_bytes, w32}
 use Rattle.std.proofs.lemmas.Int.{ints}
-use Rattle.std.proofs.lemmas.Bool.{and_parts}
 use Rattle.std.proofs.lemmas.Bool.Decides.{nat_tests}
 use Rattle.std.proofs.lemmas.List.Elements.{All-nil, All-cons, All-head, All-tail}
 use Rattle.std.proofs.lemmas.Nat.{mul-add-lt, pow-add}
@@ -19,9 +18,8 @@ use Rattle.fax_bits.specs.Written.{mode_bits}
 use Rattle.fax_bits.specs.code.LookUp.{IsBegun, AreVerticals}
 use Rattle.fax_bits.specs.declared.verticals.Verticals.{Verticals}
 use Rattle.fax_bits.specs.views.Verticals.{shift, vertical, AreVerticalsRead}
-use Rattle.fax_bits.proofs.CodeBitsLemmas.{code_bits-add}
+use Rattle.fax_bits.proofs.CodeBitsLemmas.{code_bits-add, length-code_bits}
 use Rattle.fax_bits.proofs.FindLemmas.{code_ahead}
-use Rattle.fax_bits.proofs.CodeBitsLemmas.{length-code_bits}
 use Rattle.fax_bits.proofs.ModeLemmas.{mode_bits_are_read}
 
 -- the codes of the vertical modes, and their lengths

@@ -1,9 +1,8 @@
 -- Words of 64 bits: `count` bits, the highest first, with zeros after them.
-use Rattle.fax_bits.proofs.CodeBitsLemmas.{code_bits-zeros}
+use Rattle.fax_bits.proofs.CodeBitsLemmas.{code_bits-zeros, code_bits-add, length-code_bits}
 use Rattle.std.proofs.lemmas.Grind.{common_steps}
 use Rattle.std.proofs.Common.{◌≡◌, ℕ, zero, suc, ◌+◌, ◌-◌, ◌*◌, ◌/◌, ◌%◌, ◌^◌, ◌<◌, ◌≤◌, List, [], ◌∷◌, ◌++◌, length, take, drop, replicate}
-use Rattle.std.proofs.Common.{get_or, Bool, true, false, nat_eq, refl, append_assoc, ap, sym, ◌∙◌, subst, arith}
-use Rattle.std.proofs.Common.{add-zero}
+use Rattle.std.proofs.Common.{get_or, Bool, true, false, nat_eq, refl, append_assoc, ap, sym, ◌∙◌, subst, arith, add-zero}
 use Rattle.std.specs.Prelude.{bit_or}
 use Rattle.std.specs.Int.{bit_at}
 use Rattle.std.proofs.Math.Nat.{add-mul, pow-succ', div-div-eq-div-mul, mul_assoc, mul-mod_left}
@@ -12,12 +11,9 @@ use Rattle.std.proofs.lemmas.List.{take-append-le, take-append-drop, take-replic
 use lib.Count.{count_leading_zeros}
 use Rattle.std.proofs.lemmas.Nat.{leading_length, shr_high, mod-pow-add, mod_below, or_shifted, pow-add, pow_pos, shl_below, shl-shr}
 use Rattle.std.proofs.lemmas.Nat.{shl_whole, shr_below, shr_split}
-use Rattle.fax_bits.specs.Bits.{code_bits}
+use Rattle.fax_bits.specs.Bits.{code_bits, bits_number}
 use Rattle.fax_bits.specs.views.Source.{HasZerosAhead}
-use Rattle.fax_bits.specs.Bits.{bits_number}
 use Rattle.fax_bits.specs.code.Window.{first_bits}
-use Rattle.fax_bits.proofs.CodeBitsLemmas.{code_bits-add}
-use Rattle.fax_bits.proofs.CodeBitsLemmas.{length-code_bits}
 use Rattle.fax_bits.proofs.NumberLemmas.{number-code_bits}
 
 -- a word whose bits are those of a number below 2 ^ count

@@ -7,8 +7,7 @@ use Rattle.std.specs.Prelude.{◌&&◌, Option, Some, None, unwrap_or}
 use Rattle.std.proofs.lemmas.Bool.{and_parts, ltb-true, lt-ltb}
 use Rattle.std.proofs.Math.Nat.{eq-or-lt_of_le}
 use Rattle.fax_bits.specs.declared.Colour.{Colour}
-use Rattle.fax_rows.specs.Rows.{other, pel, pel_before, is_changing, is_right_of}
-use Rattle.fax_rows.specs.Rows.{first_place, next_change, b1}
+use Rattle.fax_rows.specs.Rows.{other, pel, pel_before, is_changing, is_right_of, first_place, next_change, b1}
 use Rattle.fax_rows.specs.code.Choice.{colour_of}
 
 -- the first of n places from i on that passes the test

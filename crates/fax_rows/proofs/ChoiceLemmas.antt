@@ -1,9 +1,8 @@
 -- The step that T.4 chooses is a step to the place that it leads to.
 use Rattle.fax_rows.proofs.ColourLemmas.{other-other}
-use Rattle.std.proofs.Common.{rules}
+use Rattle.std.proofs.Common.{rules, ◌≡◌, ℕ, suc, ◌+◌, ◌-◌, ◌<◌, ◌≤◌, List, ◌++◌, length, take, replicate, Bool, true, false, refl, ap, sym}
+use Rattle.std.proofs.Common.{◌∙◌, arith, append_assoc}
 use Rattle.std.proofs.lemmas.Grind.{common_steps}
-use Rattle.std.proofs.Common.{◌≡◌, ℕ, suc, ◌+◌, ◌-◌, ◌<◌, ◌≤◌, List, ◌++◌, length, take, replicate, Bool, true, false, refl, ap, sym, ◌∙◌}
-use Rattle.std.proofs.Common.{arith, append_assoc}
 use Rattle.std.specs.Prelude.{ℤ, pos, negsuc, ◌-ℤ◌, ◌+ℤ◌, ◌<ℤ◌, ◌≤ℤ◌, nat_abs, nat_lt, nat_le, if◌then◌else◌, Option, Some, None}
 use Rattle.std.proofs.lemmas.Bool.{ltb-true, lt-ltb}
 use Rattle.std.proofs.lemmas.Bool.Decides.{nat_tests}
@@ -14,8 +13,7 @@ use Rattle.fax_bits.specs.declared.modes.ModeCode.TheVariants.{Pass, Horizontal,
 use Rattle.fax_bits.specs.laws.Codes.{RunBitsAreRead}
 use Rattle.fax_bits.specs.views.Codes.{IsWritten}
 use Rattle.fax_bits.specs.Written.{run_bits}
-use Rattle.fax_rows.specs.Rows.{other, pel, next_change, is_right_of, b1, b2, Position, IsStepBy}
-use Rattle.fax_rows.specs.Rows.{a0_number}
+use Rattle.fax_rows.specs.Rows.{other, pel, next_change, is_right_of, b1, b2, Position, IsStepBy, a0_number}
 use Rattle.fax_rows.specs.laws.Rows.{HasWidth}
 use Rattle.fax_rows.specs.code.Choice.{places, colour_of, chosen_mode, run_pair_bits, next_a0}
 use Rattle.fax_rows.proofs.ChangeLemmas.{IsNextChange, next_change_is, colour_up_to, colour_at, next_is_ahead, pels_up_to, first_of}

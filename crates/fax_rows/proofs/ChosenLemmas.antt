@@ -1,10 +1,9 @@
 -- A step that is read as T.4 would have chosen it.
 use Rattle.fax_rows.proofs.ColourLemmas.{other-other, other_than, same_as}
-use Rattle.std.proofs.Common.{rules}
-use Rattle.std.proofs.lemmas.Grind.{common_steps}
-use Rattle.std.proofs.Common.{◌≡◌, ℕ, zero, suc, ◌+◌, ◌-◌, ◌<◌, ◌≤◌, ℤ, negsuc, ◌-ℤ◌, List, ◌++◌, length, take, replicate, get_or}
+use Rattle.std.proofs.Common.{rules, ◌≡◌, ℕ, zero, suc, ◌+◌, ◌-◌, ◌<◌, ◌≤◌, ℤ, negsuc, ◌-ℤ◌, List, ◌++◌, length, take, replicate, get_or}
 use Rattle.std.proofs.Common.{Bool, true, false, pos, refl, ap, sym, ◌∙◌, subst, arith, inl, inr, take-take, take_at, append_assoc}
 use Rattle.std.proofs.Common.{append-nil}
+use Rattle.std.proofs.lemmas.Grind.{common_steps}
 use Rattle.std.specs.Prelude.{◌⊎◌, Option, Some, None, unwrap_or, ◌<ℤ◌, nat_abs, nat_lt, nat_le}
 use Rattle.std.proofs.lemmas.Bool.{and_from, cases_lt, ltb-true, lt-ltb, true≢false}
 use Rattle.std.proofs.lemmas.Bool.Decides.{nat_tests}
@@ -17,9 +16,8 @@ use Rattle.fax_bits.specs.declared.Colour.TheVariants.{White}
 use Rattle.fax_bits.specs.declared.modes.ModeCode.{ModeCode}
 use Rattle.fax_bits.specs.declared.modes.ModeCode.TheVariants.{Pass, Horizontal, Vertical}
 use Rattle.fax_bits.specs.Written.{mode_bits, run_bits}
-use Rattle.fax_rows.specs.Rows.{other, pel, pel_before, is_changing, is_right_of}
-use Rattle.fax_rows.specs.Rows.{next_change, Position, first_pel, a0_number, coloured_up_to}
-use Rattle.fax_rows.specs.Rows.{IsVerticalStep}
+use Rattle.fax_rows.specs.Rows.{other, pel, pel_before, is_changing, is_right_of, next_change, Position, first_pel, a0_number}
+use Rattle.fax_rows.specs.Rows.{coloured_up_to, IsVerticalStep}
 use Rattle.fax_rows.specs.code.Seen.{b1_from, b2_from}
 use Rattle.fax_rows.specs.code.Choice.{Places, places, colour_of, chosen_mode, run_pair_bits, next_a0}
 use Rattle.fax_rows.specs.code.Chosen.{GoesOnFrom, IsStepOf, IsChosenPair}

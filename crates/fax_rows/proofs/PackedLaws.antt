@@ -1,5 +1,5 @@
 -- Packing and unpacking of rows undo one another.
-use Rattle.fax_bits.specs.laws.Codes.{PacksOneWay}
+use Rattle.fax_bits.specs.laws.Codes.{PacksOneWay, AreBitsByPlace}
 use Rattle.std.proofs.lemmas.Grind.{common_steps}
 use Rattle.std.proofs.Common.{◌≡◌, ℕ, ◌+◌, ◌-◌, ◌*◌, List, [], ◌∷◌, ◌++◌, map, length, take, replicate, get_or, Bool}
 use Rattle.std.proofs.Common.{true, false, refl, ap, sym, ◌∙◌, arith}
@@ -8,10 +8,8 @@ use Rattle.fax_bits.specs.declared.FillOrder.TheVariants.{MsbFirst}
 use Rattle.fax_bits.specs.declared.Colour.{Colour}
 use Rattle.fax_bits.specs.declared.Colour.TheVariants.{White, Black}
 use Rattle.fax_bits.specs.Bits.{bits}
-use Rattle.fax_bits.specs.laws.Codes.{AreBitsByPlace}
 use Rattle.fax_rows.specs.Coded.{packed_len, is_black, colour_of_bit, packed_row, unpacked_row}
-use Rattle.fax_rows.specs.laws.Packed.{HasBitsOfPels, IsReadBack}
-use Rattle.fax_rows.specs.laws.Packed.{IsPackedBack, PackingUndoesUnpacking}
+use Rattle.fax_rows.specs.laws.Packed.{HasBitsOfPels, IsReadBack, IsPackedBack, PackingUndoesUnpacking}
 use Rattle.fax_rows.proofs.PackedLemmas.{get_or-padded, unpacked_at}
 
 -- by the laws of the bits of bytes

@@ -1,18 +1,15 @@
 -- Rows as packed bytes, bit by bit.
 use Rattle.std.proofs.lemmas.List.{get_or_default}
-use Rattle.fax_bits.specs.laws.Codes.{PacksOneWay}
+use Rattle.fax_bits.specs.laws.Codes.{PacksOneWay, AreBitsByPlace}
 use Rattle.fax_rows.specs.code.PackedWord.{IsPackedByte}
 use Rattle.std.proofs.lemmas.Grind.{common_steps}
 use Rattle.std.proofs.Common.{◌≡◌, ℕ, zero, suc, ◌+◌, ◌-◌, ◌*◌, ◌/◌, ◌%◌, ◌<◌, ◌≤◌, List, [], ◌∷◌, ◌++◌, map, length, take, replicate}
-use Rattle.std.proofs.Common.{get_or}
-use Rattle.std.proofs.Common.{Bool, false, refl, ap, sym, ◌∙◌, arith}
-use Rattle.std.proofs.Common.{below_more}
+use Rattle.std.proofs.Common.{get_or, Bool, false, refl, ap, sym, ◌∙◌, arith, below_more}
 use Rattle.std.proofs.lemmas.List.{length-append, length-replicate, length-map, get_or-map, get_or-take, ext_get_or, length-take-le}
 use Rattle.fax_bits.specs.declared.FillOrder.TheVariants.{MsbFirst}
 use Rattle.fax_bits.specs.declared.Colour.{Colour}
 use Rattle.fax_bits.specs.declared.Colour.TheVariants.{White, Black}
 use Rattle.fax_bits.specs.Bits.{bits}
-use Rattle.fax_bits.specs.laws.Codes.{AreBitsByPlace}
 use Rattle.fax_rows.specs.Rows.{other}
 use Rattle.fax_rows.specs.code.Turns.{turned, IsTurnedFrom}
 use Rattle.fax_rows.specs.code.Unpacked.{IsUnpackedTo}

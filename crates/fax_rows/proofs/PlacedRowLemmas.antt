@@ -15,8 +15,7 @@ use Rattle.fax_rows.specs.Rows.{pel, is_changing, is_right_of, next_change}
 use Rattle.fax_rows.specs.code.Turns.{turned, pels_by, alternate, ArePlaces, ArePlacesUpTo, IsFrom}
 use Rattle.fax_rows.proofs.ChangeLemmas.{still_left}
 use Rattle.fax_rows.proofs.PlaceLemmas.{next_change_at}
-use Rattle.fax_rows.proofs.TurnLemmas.{length-pels_by, pel-pels_by, at_least, below_later, pel_after}
-use Rattle.fax_rows.proofs.TurnLemmas.{changing_at, unchanging}
+use Rattle.fax_rows.proofs.TurnLemmas.{length-pels_by, pel-pels_by, at_least, below_later, pel_after, changing_at, unchanging}
 
 -- after the first place alone all is white
 pub turned-first : (i : ℕ) → turned Black (0 ∷ []) i ≡ White

@@ -8,8 +8,7 @@ use Rattle.std.proofs.lemmas.List.{take_more, drop_all, length-take-le}
 use Rattle.fax_bits.specs.declared.Colour.{Colour}
 use Rattle.fax_bits.specs.declared.Colour.TheVariants.{White, Black}
 use Rattle.std.specs.List.{filter, range_with_len}
-use Rattle.fax_rows.specs.Rows.{other, same_colour, pel, pel_before, is_changing, runs_after}
-use Rattle.fax_rows.specs.Rows.{runs_of}
+use Rattle.fax_rows.specs.Rows.{other, same_colour, pel, pel_before, is_changing, runs_after, runs_of}
 use Rattle.fax_rows.specs.code.LongestRuns.{gaps, AreAheadOf}
 use Rattle.fax_rows.specs.code.Turns.{ArePlaces}
 use Rattle.std.proofs.lemmas.Bool.{cases_lt}

@@ -12,8 +12,7 @@ use Rattle.fax_bits.specs.laws.Codes.{ReadsOneWay, ReadsRunsOneWay}
 use Rattle.fax_bits.specs.Tables.{modes}
 use Rattle.fax_rows.specs.declared.RowFault.{RowFault}
 use Rattle.fax_rows.specs.declared.RowFault.TheVariants.{OutOfRow, Extension as ExtensionFault}
-use Rattle.fax_rows.specs.Rows.{other, Position, beginning, first_pel, a0_number, coloured_up_to}
-use Rattle.fax_rows.specs.Rows.{IsStepBy, IsStep, AreSteps}
+use Rattle.fax_rows.specs.Rows.{other, Position, beginning, first_pel, a0_number, coloured_up_to, IsStepBy, IsStep, AreSteps}
 use Rattle.fax_rows.specs.code.Seen.{b1_from}
 use Rattle.fax_rows.specs.Faults.{row_fault, IsRunFault, IsModeFault, IsStepFault}
 use Rattle.fax_rows.specs.code.RowFaults.{IsHorizontalFault}

@@ -1,7 +1,6 @@
 -- A row in two-dimensional coding is read in one way, where the tables are.
-use Rattle.std.proofs.Common.{arith}
+use Rattle.std.proofs.Common.{arith, ◌≡◌, List, [], ◌∷◌, length, Bool, sym, subst}
 use Rattle.std.proofs.lemmas.Grind.{common_steps}
-use Rattle.std.proofs.Common.{◌≡◌, List, [], ◌∷◌, length, Bool, sym, subst}
 use Rattle.std.specs.Prelude.{Some}
 use Rattle.fax_bits.specs.declared.Colour.{Colour}
 use Rattle.fax_bits.specs.declared.modes.ModeCode.{ModeCode}
@@ -9,8 +8,7 @@ use Rattle.fax_bits.specs.declared.modes.ModeCode.TheVariants.{Pass, Horizontal,
 use Rattle.fax_bits.specs.Codes.{Takes}
 use Rattle.fax_bits.specs.laws.Codes.{ReadsOneWay, ReadsRunsOneWay}
 use Rattle.fax_bits.specs.Tables.{modes}
-use Rattle.fax_rows.specs.Rows.{Position, IsStepBy, IsStep, AreSteps}
-use Rattle.fax_rows.specs.Rows.{IsTwoDimensionalRow}
+use Rattle.fax_rows.specs.Rows.{Position, IsStepBy, IsStep, AreSteps, IsTwoDimensionalRow}
 use Rattle.fax_rows.proofs.RunLaws.{same_run}
 
 module _ (runs_read : (colour : Colour) → ReadsRunsOneWay colour) (modes_read : ReadsOneWay modes) where

@@ -1,7 +1,7 @@
 -- White rows: their places of change, and their codes.
 use Rattle.std.proofs.lemmas.Grind.{common_steps}
 use Rattle.std.specs.Simd.{first_chunks}
-use Rattle.fax_bits.specs.Bits.{packed}
+use Rattle.fax_bits.specs.Bits.{packed, code_bits, bits_number}
 use Rattle.std.proofs.Common.{◌≡◌, ℕ, zero, suc, ◌+◌, ◌-◌, ◌*◌, ◌<◌, ◌≤◌, ◌↔◌, List, [], ◌∷◌, ◌++◌, length, get_or, map, replicate, Bool, true, false}
 use Rattle.std.proofs.Common.{refl, ap, sym, ◌∙◌, arith, IsTrue, append-nil}
 use Rattle.std.proofs.Math.Nat.{eq-or-lt_of_le}
@@ -11,7 +11,6 @@ use Rattle.std.proofs.lemmas.Bool.{and_parts}
 use Rattle.std.proofs.lemmas.List.{get_or-replicate, length-replicate, replicate-append-replicate, drop-replicate, take-replicate}
 use Rattle.fax_bits.specs.declared.Colour.{Colour}
 use Rattle.fax_bits.specs.declared.Colour.TheVariants.{White}
-use Rattle.fax_bits.specs.Bits.{code_bits, bits_number}
 use Rattle.fax_bits.specs.Tables.{modes}
 use Rattle.fax_bits.specs.Written.{mode_bits, run_bits}
 use Rattle.fax_bits.specs.declared.modes.ModeCode.TheVariants.{Vertical}

@@ -13,12 +13,10 @@ use Rattle.fax_bits.specs.Codes.{Takes}
 use Rattle.fax_bits.specs.laws.Codes.{RunBitsAreRead, ModeBitsAreRead}
 use Rattle.fax_bits.specs.Written.{mode_bits}
 use Rattle.fax_bits.specs.Tables.{modes}
-use Rattle.fax_rows.specs.Rows.{other, pels_of, runs_after, runs_of, IsOneDimensionalRow}
-use Rattle.fax_rows.specs.Rows.{Position, AreSteps, IsTwoDimensionalRow}
+use Rattle.fax_rows.specs.Rows.{other, pels_of, runs_after, runs_of, IsOneDimensionalRow, Position, AreSteps, IsTwoDimensionalRow}
 use Rattle.fax_rows.specs.laws.Rows.{HasWidth}
-use Rattle.fax_rows.specs.Coded.{step_bits, two_dimensional_bits, alternating_bits}
+use Rattle.fax_rows.specs.Coded.{step_bits, two_dimensional_bits, alternating_bits, one_dimensional_bits}
 use Rattle.fax_rows.specs.code.Choice.{places, colour_of, chosen_mode, run_pair_bits, next_a0}
-use Rattle.fax_rows.specs.Coded.{one_dimensional_bits}
 use Rattle.fax_rows.proofs.ChangeLemmas.{first_of}
 use Rattle.fax_rows.proofs.RowLaws.{length-pels_of}
 use Rattle.fax_rows.proofs.RunLaws.{sum-cons}

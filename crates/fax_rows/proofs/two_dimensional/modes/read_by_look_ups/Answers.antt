@@ -4,8 +4,7 @@ use Rattle.std.proofs.lemmas.Int.{ints}
 use Rattle.fax_rows.specs.Rows.{beginning}
 use Rattle.fax_rows.specs.code.PlacedRow.{placed_pels}
 use Rattle.fax_rows.proofs.PlacedB1Lemmas.{length-placed_pels}
-use Rattle.fax_rows.proofs.GoesOnLemmas.{no_step, no_chosen_step, goes_further, chosen_further}
-use Rattle.fax_rows.proofs.GoesOnLemmas.{goes_on_leaves, due_leaves, leaves_more}
+use Rattle.fax_rows.proofs.GoesOnLemmas.{no_step, no_chosen_step, goes_further, chosen_further, goes_on_leaves, due_leaves, leaves_more}
 use Rattle.fax_rows.proofs.ReadRowLemmas.{row_done}
 use Rattle.fax_rows.proofs.PlacedStepLemmas.{nothing_read, fault_here}
 use Rattle.fax_rows.proofs.two_dimensional.modes.read_by_look_ups.Goals as goal
