@@ -1,10 +1,10 @@
 -- Changing elements: where the next one stands, and the pels before it.
-use Rattle.fax_rows.proofs.ColourLemmas.{same_is, other_is}
+use Rattle.fax_rows.proofs.ColourLemmas.{same_is}
 use Rattle.std.proofs.lemmas.Grind.{common_steps}
 use Rattle.std.proofs.Common.{◌≡◌, ℕ, zero, suc, ◌+◌, ◌-◌, ◌<◌, ◌≤◌, List, [], ◌∷◌, ◌++◌, length, take, replicate, Bool, true, false}
 use Rattle.std.proofs.Common.{refl, ap, sym, ◌∙◌, arith, inl, inr}
 use Rattle.std.specs.Prelude.{◌&&◌, Option, Some, None, unwrap_or}
-use Rattle.std.proofs.lemmas.Bool.{and_parts, ltb-true, lt-ltb}
+use Rattle.std.proofs.lemmas.Bool.{ltb-true, lt-ltb}
 use Rattle.std.proofs.Math.Nat.{eq-or-lt_of_le}
 use Rattle.fax_bits.specs.declared.Colour.{Colour}
 use Rattle.fax_rows.specs.Rows.{other, pel, pel_before, is_changing, is_right_of, first_place, next_change, b1}
@@ -46,13 +46,13 @@ both_false false b h is = cc
 
 pub next_change_is : (row : List Colour) (from : Option ℕ) → IsNextChange row from (next_change row from)
 unfolding next_change
-next_change_is row from = grind (arith, common_steps, first_place_is, both_false, and_parts)
+next_change_is row from = grind (arith, first_place_is)
 
 -- up to the next changing element the pel before each has the colour
 pub colour_before : {row : List Colour} (from : Option ℕ) {place : ℕ} → IsNextChange row from place
     → (k : ℕ) → k ≤ place → is_right_of from k ≡ true → pel_before row k ≡ colour_of row from
 colour_before None next zero within right = refl
-colour_before {row = row} None next (suc k) within right = grind (arith, common_steps, same_is, colour_before None next k (omega arith) refl)
+colour_before {row = row} None next (suc k) within right = grind (arith, colour_before None next k (omega arith) refl)
 colour_before (Some a) next zero within right = absurd (omega (arith, ltb-true a 0 right))
 colour_before {row = row} (Some a) next (suc k) within right =
     elim (eq-or-lt_of_le at_most) [
@@ -81,7 +81,7 @@ colour_up_to {from = from} next k after before = colour_before from next (suc k)
 -- and the changing element has the other
 pub colour_at : {row : List Colour} {from : Option ℕ} {place : ℕ} → IsNextChange row from place
     → place < length row → pel row place ≡ other (colour_of row from)
-colour_at {row = row} {from = from} {place = place} next inside = grind (arith, common_steps, other_is, colour_before)
+colour_at next inside = grind (arith, common_steps, colour_before)
 
 -- the next changing element is not left of the place
 pub next_is_ahead : {row : List Colour} (from : Option ℕ) {place : ℕ} → IsNextChange row from place
@@ -105,17 +105,17 @@ pub pels_up_to : (row : List Colour) (from to : ℕ) (colour : Colour) → from 
 pels_up_to row zero to colour order within each = grind (arith, common_steps, replicate_pels)
 pels_up_to [] (suc from) to colour order within each = absurd (omega arith)
 pels_up_to (first ∷ row) (suc from) zero colour order within each = absurd (omega arith)
-pels_up_to (first ∷ row) (suc from) (suc to) colour order within each = grind (arith, common_steps, pels_up_to row from to colour (omega arith) (omega arith) (λ k h l. each (suc k) (omega arith) (omega arith)))
+pels_up_to (first ∷ row) (suc from) (suc to) colour order within each = grind (arith, pels_up_to row from to colour (omega arith) (omega arith) (λ k h l. each (suc k) (omega arith) (omega arith)))
 
 -- the next changing element of another colour lies in the row or is its width, right of the place
 pub next_of_within : (row : List Colour) (from : Option ℕ) (colour : Colour) → b1 row from colour ≤ length row
 unfolding b1
-next_of_within row from colour = grind (arith, common_steps, first_place_is)
+next_of_within row from colour = grind (arith, first_place_is)
 
 pub next_of_right : (row : List Colour) (from : Option ℕ) (colour : Colour) → b1 row from colour < length row
     → is_right_of from (b1 row from colour) ≡ true
 unfolding b1
-next_of_right row from colour inside = grind (arith, common_steps, first_place_is, and_parts)
+next_of_right row from colour inside = grind (arith, first_place_is)
 
 pub still_left : (right change : Bool) → (right ≡ true → change ≡ false) → (right && change) ≡ false
 still_left true change h = h refl

@@ -5,10 +5,10 @@ use Rattle.std.proofs.Common.{Bool, true, false, pos, refl, ap, sym, ◌∙◌, 
 use Rattle.std.proofs.Common.{append-nil}
 use Rattle.std.proofs.lemmas.Grind.{common_steps}
 use Rattle.std.specs.Prelude.{◌⊎◌, Option, Some, None, unwrap_or, ◌<ℤ◌, nat_abs, nat_lt, nat_le}
-use Rattle.std.proofs.lemmas.Bool.{and_from, cases_lt, ltb-true, lt-ltb, true≢false}
+use Rattle.std.proofs.lemmas.Bool.{and_from, cases_lt, ltb-true, lt-ltb}
 use Rattle.std.proofs.lemmas.Bool.Decides.{nat_tests}
 use Rattle.std.proofs.lemmas.Int.{ints}
-use Rattle.std.proofs.lemmas.List.{get_or-take, get_or-replicate}
+use Rattle.std.proofs.lemmas.List.{get_or-replicate}
 use Rattle.std.proofs.Math.Seq.{get_or-append_right}
 use Rattle.std.proofs.Math.Nat.{eq-or-lt_of_le}
 use Rattle.fax_bits.specs.declared.Colour.{Colour}
@@ -52,7 +52,7 @@ module _ (row : List Colour) (from : Option ℕ) (colour : Colour) (to : ℕ) (s
 
   -- where the colour goes on, the next changing element is further right
   next_after : to < length row → pel row to ≡ colour → to < next_change row from
-  next_after inside goes_on = grind (arith, cases_lt, next_change_is, right_after_first, eq-or-lt_of_le, same_as, before_is, true≢false, first_of)
+  next_after inside goes_on = grind (arith, cases_lt, next_change_is)
 
 -- at the width there is no changing element any more
 none_after : (row : List Colour) (a : ℕ) → length row ≤ a → next_change row (Some a) ≡ length row
@@ -66,7 +66,7 @@ module _ (row old tail : List Colour) (first to : ℕ) (len : length old ≡ fir
   read_before = sym (take_at old tail first len) ∙ ap (take first) read ∙ take-take first to row order
 
   pel_after : (k : ℕ) → first ≤ k → k < to → pel row k ≡ get_or tail (k - first) White
-  pel_after k low high = grind (arith, common_steps, get_or-take, get_or-append_right)
+  pel_after k low high = grind (arith, common_steps, get_or-append_right)
 
 right_of_number : (a0 : Option ℕ) (colour : Colour) (pels : List Colour) (a1 : ℕ)
     → a0_number (record { a0 = a0; colour = colour; pels = pels }) <ℤ pos a1 → is_right_of a0 a1 ≡ true

@@ -1,6 +1,6 @@
 -- Steps over places of change that T.4 would have chosen.
 use Rattle.std.proofs.lemmas.Grind.{common_steps}
-use Rattle.std.proofs.Common.{◌≡◌, ℕ, ◌<◌, ◌≤◌, List, length, take, Bool, ℤ, pos, ◌≤ℤ◌, subst, arith, length-take-le}
+use Rattle.std.proofs.Common.{◌≡◌, ℕ, ◌<◌, ◌≤◌, List, length, take, Bool, ℤ, pos, ◌≤ℤ◌, subst, arith}
 use Rattle.std.specs.Prelude.{Option, Some, None, IfSome, ok_or, Result, Ok, Err, IfOk}
 use Rattle.std.proofs.lemmas.Int.{ints}
 use Rattle.fax_bits.specs.declared.Colour.TheVariants.{White}
@@ -18,7 +18,7 @@ use Rattle.fax_rows.specs.code.Reached.{reached_pel}
 use Rattle.fax_rows.specs.code.Turns.{pels_by}
 use Rattle.fax_rows.proofs.ChosenLemmas.{vertical_is, pass_is, horizontal_is}
 use Rattle.fax_rows.proofs.PlacedB1Lemmas.{length-placed_pels, b1_is, b2_is, b2_ahead}
-use Rattle.fax_rows.proofs.PlacedRowLemmas.{take-first, turned-first}
+use Rattle.fax_rows.proofs.PlacedRowLemmas.{turned-first}
 use Rattle.fax_rows.proofs.PlacedStepLemmas.{b2_order}
 use Rattle.fax_rows.proofs.TakenModeLemmas.{mode_taken}
 use Rattle.fax_rows.proofs.TurnLemmas.{length-pels_by}
@@ -41,10 +41,10 @@ map_three (Err e) p q r f = tt
 module _ {reference : PlacedRow} {places : List ℕ} {at : PlacedReached} (here : IsReadInside reference places at) where
   -- a0's colour just before the first pel
   start : at.reached.a0 ≡ None → White ≡ at.reached.colour
-  start is = grind (arith, take-first, turned-first)
+  start is = grind (arith, turned-first)
 
   read : length (take (reached_pel at.reached) (pels_by reference.width (take at.end places))) ≡ reached_pel at.reached
-  read = grind (arith, common_steps, length-take-le, length-pels_by)
+  read = grind (arith, common_steps, length-pels_by)
 
   inside : reached_pel at.reached < length (placed_pels reference)
   inside = omega (arith, here.unfinished, length-placed_pels reference)

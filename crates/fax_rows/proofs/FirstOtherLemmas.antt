@@ -182,12 +182,12 @@ module _ (law : AreBitsByPlace) where
   pub other_in_byte : (bytes : List ℕ) (colour : Colour) (q from found k : ℕ) → q < length bytes → from < 8
       → found ≡ first_other_in_byte (get_or bytes q 0) from colour → found < 8 → 8 * q + found ≡ k → is_other bytes colour k ≡ true
   unfolding first_other_in_byte
-  other_in_byte bytes colour q from found k inside within is near at = grind (arith, common_steps, first_place_is, bit_of)
+  other_in_byte bytes colour q from found k inside within is near at = grind (arith, first_place_is)
 
   -- bytes of pels of the colour
   pub plain_bytes : (bytes : List ℕ) (colour : Colour) (from to : ℕ) → to ≤ length bytes
       → ((k : ℕ) → from ≤ k → k < to → get_or bytes k 0 ≡ plain_byte colour) → IsPlain bytes colour (8 * from) (8 * to)
-  plain_bytes bytes colour from to within same k l h = grind (arith, common_steps, bit_of, plain_bit)
+  plain_bytes bytes colour from to within same k l h = grind (arith, plain_bit)
 
   -- from a bit of a byte that has no other bit after it, up to the first byte that has one
   pub plain_before : (bytes : List ℕ) (colour : Colour) (from here plain after : ℕ) → from / 8 < length bytes
@@ -203,4 +203,4 @@ module _ (law : AreBitsByPlace) where
 pub first_other_stands : (bytes : List ℕ) (from r : ℕ) (colour : Colour) → r ≡ first_other bytes from colour
     → IsFirstPlace (is_other bytes colour) from (8 * length bytes - from) r
 unfolding first_other
-first_other_stands bytes from r colour is = grind (arith, common_steps, first_place_is)
+first_other_stands bytes from r colour is = grind (arith, first_place_is)

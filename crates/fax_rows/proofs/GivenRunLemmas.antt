@@ -4,9 +4,7 @@ use Rattle.std.proofs.Common.{◌≡◌, ℕ, zero, suc, ◌+◌, ◌<◌, ◌�
 use Rattle.std.proofs.Common.{◌∙◌, arith}
 use Rattle.std.specs.Prelude.{sum}
 use Rattle.std.proofs.lemmas.Bool.{cases_lt}
-use Rattle.std.proofs.Math.ListN.{get_or-append}
-use Rattle.std.proofs.Math.Seq.{get_or-append_right}
-use Rattle.std.proofs.lemmas.List.{get_or-replicate, take_more, ext_get_or}
+use Rattle.std.proofs.lemmas.List.{take_more, ext_get_or}
 use Rattle.std.proofs.lemmas.List.Sums.{sum_by-take-le}
 use Rattle.fax_bits.specs.declared.Colour.{Colour}
 use Rattle.fax_bits.specs.declared.Colour.TheVariants.{White, Black}
@@ -14,7 +12,7 @@ use Rattle.fax_rows.specs.Rows.{other, pels_of, runs_after, runs_of}
 use Rattle.fax_rows.proofs.CodedRunLemmas.{colour_after_runs}
 use Rattle.fax_rows.specs.code.LongestRuns.{AreLongest}
 use Rattle.fax_rows.specs.code.Turns.{turned, pels_by, IsTurnedFrom}
-use Rattle.fax_rows.proofs.PlacedRowLemmas.{turned-first, take-first}
+use Rattle.fax_rows.proofs.PlacedRowLemmas.{turned-first}
 use Rattle.fax_rows.proofs.RowLaws.{length-pels_of}
 use Rattle.fax_rows.proofs.RowLemmas.{pels_of-push, colour_after_runs-push}
 use Rattle.fax_rows.proofs.RunLemmas.{sum-push}
@@ -29,12 +27,12 @@ pub record ArePutRuns (runs : List ℕ) (total : ℕ) (places : List ℕ) : Type
 
 -- before the first run
 pub put_none : (places : List ℕ) → 0 < length places → get_or places 0 0 ≡ 0 → ArePutRuns [] 0 (take 1 places)
-put_none places some first = grind (arith, common_steps, take-first, turned-first)
+put_none places some first = grind (arith, turned-first)
 
 -- one run more
 pub put_run : (runs : List ℕ) (total n : ℕ) (old new : List ℕ) → ArePutRuns runs total old → IsTurnedFrom old new (total + n)
     → ArePutRuns (runs ++ n ∷ []) (total + n) new
-put_run runs total n old new put turn = grind (arith, common_steps, sum-push, cases_lt, pels_of-push, colour_after_runs-push, length-pels_of, colour_after_runs, get_or-append, get_or-replicate, get_or-append_right)
+put_run runs total n old new put turn = grind (arith, common_steps, sum-push, cases_lt, pels_of-push, colour_after_runs-push, length-pels_of)
 
 -- the next of the runs
 pub put_next_run : (runs : List ℕ) (i total n : ℕ) (old new : List ℕ) → i < length runs → n ≡ get_or runs i 0
@@ -68,8 +66,8 @@ runs_follow : (colour : Colour) (n : ℕ) (runs : List ℕ) → ((i : ℕ) → i
 unfolding runs_after
 runs_follow colour n [] some = refl
 runs_follow colour n (zero ∷ runs) some = absurd (omega (arith, some 0 (omega arith)))
-runs_follow White n (suc m ∷ runs) some = grind (arith, common_steps, longer, runs_follow Black (1 + m) runs (λ i h. some (suc i) (omega arith)))
-runs_follow Black n (suc m ∷ runs) some = grind (arith, common_steps, longer, runs_follow White (1 + m) runs (λ i h. some (suc i) (omega arith)))
+runs_follow White n (suc m ∷ runs) some = grind (arith, longer, runs_follow Black (1 + m) runs (λ i h. some (suc i) (omega arith)))
+runs_follow Black n (suc m ∷ runs) some = grind (arith, longer, runs_follow White (1 + m) runs (λ i h. some (suc i) (omega arith)))
 
 -- the row of such runs has them as its longest ones
 pub longest_are_back : (runs : List ℕ) (width : ℕ) → 0 < width → AreLongest runs width → runs_of (pels_of White runs) ≡ runs

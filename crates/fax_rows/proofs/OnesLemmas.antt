@@ -5,10 +5,9 @@ use Rattle.std.proofs.Common.{◌≢◌, true, false, ap, sym, ◌∙◌, arith}
 use Rattle.std.specs.Int.{bit_at, to_be_bytes, w64}
 use Rattle.std.specs.Int.RustNames.{bit_xor}
 use Rattle.std.proofs.Math.Nat.{pow-succ'}
-use Rattle.std.proofs.lemmas.Bool.{eqb-true}
 use Rattle.std.proofs.lemmas.List.{append_assoc, append-nil}
 use Rattle.std.proofs.lemmas.Nat.{leading_top, one_shl, pow_pos, xor_block, xor_lt}
-use Rattle.std.proofs.lemmas.Nat.Bits.{bit_at-lt, bit_at-zero, bit_at_xor, bit_at-pow_same, bit_at-pow_other, bit_at_above, bit_at_cat_high}
+use Rattle.std.proofs.lemmas.Nat.Bits.{bit_at-zero, bit_at_xor, bit_at-pow_same, bit_at-pow_other, bit_at_above, bit_at_cat_high}
 use lib.Count.{count_leading_zeros}
 use Rattle.fax_rows.specs.code.PackedWord.{word_bit}
 use Rattle.fax_rows.specs.code.Ones.{ones_among}
@@ -89,10 +88,10 @@ shifted_one : (at : ℕ) → 1 * 2 ^ (63 - at) % 2 ^ 64 ≡ 2 ^ (63 - at)
 shifted_one at = one_shl (63 - at) 64 (omega arith)
 
 other_bits : (left at i : ℕ) → at < 64 → i < 64 → i ≢ at → word_bit (without left at) i ≡ word_bit left i
-other_bits left at i within inside differs = grind (arith, common_steps, nat_eq, shifted_one, bit_at_xor, bit_at-pow_other, bit_at-lt)
+other_bits left at i within inside differs = grind (arith, common_steps, bit_at_xor, bit_at-pow_other)
 
 that_bit : (left at : ℕ) → word_bit left at ≡ true → word_bit (without left at) at ≡ false
-that_bit left at there = grind (arith, common_steps, nat_eq, shifted_one, bit_at_xor, bit_at-pow_same, eqb-true)
+that_bit left at there = grind (arith, common_steps, bit_at_xor, bit_at-pow_same)
 
 pub less_without : (left at : ℕ) → IsHighest left at → without left at < left
 less_without left at top =
@@ -126,10 +125,10 @@ module _ (word left r : ℕ) (so_far : AreLeft word left r) where
       none_up_to from 64 so_far.within (omega arith) (λ i h. ap (λ n. word_bit n i) is ∙ ap (λ b. nat_eq b 1) (bit_at-zero (63 - i)))
 
   pub ahead : (at : ℕ) → IsHighest left at → r ≤ at
-  ahead at top = grind (arith, common_steps)
+  ahead at top = grind arith
 
   pub less_left : (at : ℕ) → IsHighest left at → AreLeft word (without left at) (at + 1)
-  less_left at top = grind (arith, common_steps, other_bits, that_bit, ahead)
+  less_left at top = grind (arith, other_bits, that_bit)
 
   pub one_more : (from at : ℕ) → IsHighest left at
       → ones_among from 63 word r ++ (from + at) ∷ [] ≡ ones_among from 63 word (at + 1)

@@ -4,7 +4,7 @@ use Rattle.std.proofs.Common.{◌≡◌, ℕ, zero, suc, ◌+◌, ◌*◌, ◌^�
 use Rattle.std.proofs.Common.{if◌then◌else◌, get_or, Bool, true, false, nat_eq, refl, ap, sym, ◌∙◌, subst, arith, w8, w32}
 use Rattle.std.specs.Prelude.{◌&&◌, nat_le}
 use Rattle.std.proofs.lemmas.Bool.{and_parts, eqb-true, leb-true}
-use Rattle.std.proofs.lemmas.List.{drop-drop, length-map, length-take-le, map-append, take-append-le, take-map}
+use Rattle.std.proofs.lemmas.List.{drop-drop, length-map, length-take-le, take-append-le, take-map}
 use Rattle.std.proofs.Math.Seq.{take-append-add}
 use Rattle.std.proofs.lemmas.Simd.{put_chunk_is, zip2_splat}
 use borrow.Rule.Simd.Lanes.{act1, act2}
@@ -103,7 +103,7 @@ added_if false from k small = refl
 ones_added : (byte from k : ℕ) → k ≤ 8 → from + 8 < 2 ^ 32
     → map (λ y. added y from) (ones_among 0 7 byte k) ≡ ones_among from 7 byte k
 ones_added byte from zero few small = refl
-ones_added byte from (suc k) few small = grind (arith, common_steps, map-append, added_if, ones_added byte from k (omega arith) small)
+ones_added byte from (suc k) few small = grind (arith, common_steps, ones_added byte from k (omega arith) small)
 
 -- eight places are put, of which the first are those of the ones
 pub byte_put : (places eight : List ℕ) (end count from byte : ℕ) → end + 8 ≤ length places → from + 8 < 2 ^ 32

@@ -59,12 +59,12 @@ module _ (row : PlacedRow) where
 
   pub word_begun : (from word k : ℕ) → HasPassed row.places.now row.end from k
       → ((i : ℕ) → word_bit word i ≡ is_black (alternate Black k)) → IsWordTo row from word k
-  word_begun from word k passed is = grind (arith, common_steps)
+  word_begun from word k passed is = grind arith
 
   -- the pels up to the next place
   pub pel_of_word : {from word k : ℕ} → IsWordTo row from word k → (i : ℕ) → i < 64 → from + i < row.width
       → (k < row.end → from + i < get_or row.places.now k 0) → word_bit word i ≡ get_or pels (from + i) false
-  pel_of_word {from = from} {k = k} so_far i inside wide right = grind (arith, common_steps, cases_lt, bit_after)
+  pel_of_word so_far i inside wide right = grind (arith, common_steps, cases_lt, bit_after)
 
   -- after the last place stands the width
   pub before_end : {from word k : ℕ} → IsWordTo row from word k → get_or row.places.now k 0 < row.width → k < row.end

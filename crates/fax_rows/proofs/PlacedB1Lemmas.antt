@@ -1,5 +1,5 @@
 -- b1 and b2 by an index into the reference row's places of change.
-use Rattle.fax_rows.proofs.ColourLemmas.{other-other, other_than, same_as}
+use Rattle.fax_rows.proofs.ColourLemmas.{other_than, same_as}
 use Rattle.std.proofs.lemmas.Grind.{common_steps}
 use Rattle.std.proofs.Common.{◌≡◌, ℕ, zero, suc, ◌+◌, ◌-◌, ◌<◌, ◌≤◌, List, length, take, get_or, true, false, not, refl, ap, sym, ◌∙◌}
 use Rattle.std.proofs.Common.{subst, arith, inl, inr}
@@ -15,7 +15,7 @@ use Rattle.fax_rows.specs.code.Turns.{alternate, ArePlacesUpTo, IsFrom}
 use Rattle.fax_rows.proofs.ChangeLemmas.{still_left, next_change_is}
 use Rattle.fax_rows.proofs.PlaceLemmas.{next_of_at}
 use Rattle.fax_rows.proofs.TurnLemmas.{length-pels_by, alternate-suc, below_later, not_later, pel_after, changing_at, unchanging}
-use Rattle.fax_rows.proofs.PlacedRowLemmas.{at_end, next_here, end_within}
+use Rattle.fax_rows.proofs.PlacedRowLemmas.{next_here, end_within}
 
 -- a place further right is right of a place too
 further_right : (from : Option ℕ) (i j : ℕ) → i ≤ j → is_right_of from i ≡ true → is_right_of from j ≡ true
@@ -95,7 +95,7 @@ module _ (row : PlacedRow) where
 
   -- from the last place on all places are the width
   pub over_end : (b : ℕ) → row.end ≤ b → b ≤ row.end + 2 → get_or row.places.now b 0 ≡ row.width
-  over_end b over within = grind (arith, eq-or-lt_of_le, at_end, cases_lt, second_end, third_end)
+  over_end b over within = grind arith
 
   pub b1_within : (b : ℕ) → 0 < b → b ≤ row.end + 1 → ((b < row.end) × (get_or row.places.now b 0 < row.width)) ⊎
       ((row.end ≤ b) × (get_or row.places.now b 0 ≡ row.width))
@@ -163,7 +163,7 @@ module _ (row : PlacedRow) where
 
   pub b2_is : {a0 : Option ℕ} {colour : Colour} {b : ℕ} → IsB1At row a0 colour b
       → get_or row.places.now (b + 1) 0 ≡ b2 (placed_pels row) a0 colour
-  b2_is {b = b} at = grind (arith, common_steps, after_b1, b1_is)
+  b2_is at = grind (arith, after_b1, b1_is)
 
   -- the search goes on by two places
   before_end : (place b : ℕ) → place < row.width → get_or row.places.now b 0 ≤ place → b ≤ row.end + 1 → b < row.end
@@ -175,7 +175,7 @@ module _ (row : PlacedRow) where
 
   pub search_goes_on : (place b : ℕ) → place < row.width → get_or row.places.now b 0 ≤ place → (colour : Colour)
       → IsBeforeB1 row place colour b → IsBeforeB1 row place colour (b + 2)
-  search_goes_on place b inside left colour before = grind (arith, search_within)
+  search_goes_on place b inside left colour before = grind arith
 
   -- and ends at b1
   pub search_ends : (place b : ℕ) → place < get_or row.places.now b 0 → (colour : Colour)
@@ -186,7 +186,7 @@ module _ (row : PlacedRow) where
   pub b1_ahead : (a0 : Option ℕ) {colour : Colour} {b : ℕ} → IsB1At row a0 colour b → unwrap_or a0 0 < row.width
       → unwrap_or a0 0 ≤ get_or row.places.now b 0
   b1_ahead None at inside = omega arith
-  b1_ahead (Some a) {b = b} at inside = grind (arith, common_steps, b1_within, ltb-true)
+  b1_ahead (Some a) {b = b} at inside = grind (arith, b1_within)
 
   -- and b2 not left of b1
   pub b2_ahead : (b : ℕ) → 0 < b → b ≤ row.end + 1 → get_or row.places.now b 0 ≤ get_or row.places.now (b + 1) 0
@@ -198,12 +198,12 @@ module _ (row : PlacedRow) where
   -- after a pass the next place but one is that of b1
   pub b1_passed : {a0 : Option ℕ} {colour : Colour} {b : ℕ} → IsB1At row a0 colour b → get_or row.places.now (b + 1) 0 < row.width
       → IsB1At row (Some (get_or row.places.now (b + 1) 0)) colour (b + 2)
-  b1_passed {b = b} at inside = grind (arith, common_steps, le-ltb, b2_ahead, lt-ltb, below_later, cases_lt, over_end)
+  b1_passed at inside = grind (arith, common_steps, le-ltb, b2_ahead, lt-ltb, below_later, cases_lt, over_end)
 
   -- where the search for b1 begins as the colour turns at a place that is not left of b1
   pub right_start : (a0 : Option ℕ) (colour : Colour) (b a1 : ℕ) → IsB1At row a0 colour b → get_or row.places.now b 0 ≤ a1 → a1 < row.width
       → IsBeforeB1 row a1 (other colour) (b + 1)
-  right_start a0 colour b a1 at left inside = grind (arith, inside_end, alternate-suc, not_later)
+  right_start a0 colour b a1 at left inside = grind (arith, alternate-suc)
 
   -- from just under b1 the next place is that of b1
   pub b1_next : {a0 : Option ℕ} {colour : Colour} {b : ℕ} → IsB1At row a0 colour b → get_or row.places.now b 0 < row.width
@@ -222,7 +222,7 @@ module _ (row : PlacedRow) where
   -- and where it does at a place that is left of b1 and right of a0
   pub left_start : (a0 : Option ℕ) (colour : Colour) (b a1 : ℕ) → IsB1At row a0 colour b → is_right_of a0 a1 ≡ true
       → IsBeforeB1 row a1 (other colour) (b - 1)
-  left_start a0 colour b a1 at right = grind (arith, other-other, alternate-suc, not_later)
+  left_start a0 colour b a1 at right = grind (arith, alternate-suc)
 
   -- and where it does as a0 goes on with its colour
   pub same_start : (a0 : Option ℕ) (colour : Colour) (b a : ℕ) → IsB1At row a0 colour b → unwrap_or a0 0 ≤ a
@@ -232,7 +232,7 @@ module _ (row : PlacedRow) where
   -- b1 stands at the next change, or at the one after it, by the colour of a0
   pub b1_here : (a0 : Option ℕ) (k b : ℕ) (colour : Colour) → IsFrom row.places.now row.end a0 k → (b ≡ k) ⊎ (b ≡ k + 1)
       → alternate Black b ≡ colour → IsB1At row a0 colour b
-  b1_here None k b colour at which is = grind (arith, common_steps)
+  b1_here None k b colour at which is = grind arith
   b1_here (Some a) k b colour at (inl same) is = grind (arith, common_steps)
   b1_here (Some a) k b colour at (inr next) is = grind (arith, common_steps)
 
@@ -243,4 +243,4 @@ module _ (row : PlacedRow) where
 
   pub b2_right : {a0 : Option ℕ} {colour : Colour} {b : ℕ} → IsB1At row a0 colour b → get_or row.places.now (b + 1) 0 < row.width
       → is_right_of a0 (get_or row.places.now (b + 1) 0) ≡ true
-  b2_right {a0 = a0} {b = b} at inside = grind (arith, b2_ahead, further_right, b1_right)
+  b2_right at inside = grind arith

@@ -18,7 +18,7 @@ use Rattle.fax_rows.proofs.PlacedRowLemmas.{end_within}
 pub turned-other : (c : Colour) (places : List ℕ) (i : ℕ) → turned (other c) places i ≡ other (turned c places i)
 unfolding turned
 turned-other c [] i = refl
-turned-other c (p ∷ places) i = grind (arith, common_steps, turned-other (other c) places i, turned-other c places i)
+turned-other c (p ∷ places) i = grind (arith, turned-other (other c) places i)
 
 -- a change at 0 turns all pels
 twice_at_first : (places : List ℕ) (i : ℕ) → turned Black (0 ∷ 0 ∷ places) i ≡ other (turned Black (0 ∷ places) i)
@@ -118,7 +118,7 @@ module _ (old new : List ℕ) (end width : ℕ) (all : ArePlaces old end width) 
   steps_up : (i : ℕ) → 0 < i → i + 1 < end + 1 → get_or new i 0 < get_or new (i + 1) 0
   steps_up zero some h = absurd (omega arith)
   steps_up (suc zero) some h = grind (arith, common_steps)
-  steps_up (suc (suc i)) some h = grind (arith, common_steps, few_changes)
+  steps_up (suc (suc i)) some h = grind (arith, few_changes)
 
   all_below : (i : ℕ) → 0 < i → i < end + 1 → get_or new i 0 < width
   all_below zero some h = absurd (omega arith)

@@ -85,20 +85,19 @@ below_width places end width up last (inr other) i some h =
 -- there are no more changes than pels
 pub ends_within : (places : List ℕ) (end width : ℕ) → IsAscending places end
     → ((i : ℕ) → 0 < i → i < end → get_or places i 0 < width) → end ≤ width + 1
-ends_within places end width up below = grind (arith, eq-or-lt_of_le, at_least)
+ends_within places end width up below = grind (arith, at_least)
 
 -- one run more
 pub run_turned : {width : ℕ} {b : List Bool} {total n : ℕ} {colour : Colour} {old new : List ℕ} {mid rest : List Bool}
     → IsRowSoFar width b total colour (pels_by width old) mid → total < width → total + n ≤ width → IsRun colour mid n rest
     → ((i : ℕ) → total ≤ i → turned Black old i ≡ colour) → IsTurnedFrom old new (total + n)
     → IsRowSoFar width b (total + n) (other colour) (pels_by width new) rest
-run_turned {width =
-    width} {b = b} {total = total} {n = n} {colour = colour} {old = old} {new = new} {mid = mid} {rest = rest} so_far unfinished within run after turn = grind (arith, common_steps, row_goes_on, pel-pels_by)
+run_turned so_far unfinished within run after turn = grind (arith, row_goes_on, pel-pels_by)
 
 -- a row that is shown otherwise
 pub one_dimensional_as : {width wide : ℕ} {b : List Bool} {row shown : List Colour} {rest : List Bool}
     → IsOneDimensionalRow width b row rest → width ≡ wide → shown ≡ row → IsOneDimensionalRow wide b shown rest
-one_dimensional_as {width = width} {b = b} {shown = shown} {rest = rest} is same shows = grind (arith, common_steps)
+one_dimensional_as is same shows = grind (arith, common_steps)
 
 -- elements that are all written over
 pub refilled : (len : ℕ) (new old : List ℕ) → length new ≡ len → take len (new ++ drop (length new) old) ≡ new

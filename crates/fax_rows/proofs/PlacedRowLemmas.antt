@@ -4,11 +4,11 @@ use Rattle.std.proofs.Common.{◌≡◌, ℕ, zero, suc, ◌+◌, ◌-◌, ◌<�
 use Rattle.std.proofs.Common.{false, refl, ap, sym, ◌∙◌, subst, arith, inl, inr, drop-cons}
 use Rattle.std.specs.Prelude.{◌⊎◌, Option, Some, None}
 use Rattle.std.specs.List.{filter, range_with_len}
-use Rattle.std.proofs.lemmas.Bool.{and_from, cases_lt, ltb-true, lt-ltb, le-leb}
+use Rattle.std.proofs.lemmas.Bool.{and_from, cases_lt, lt-ltb, le-leb}
 use Rattle.std.proofs.Math.Nat.{eq-or-lt_of_le}
 use Rattle.std.proofs.Math.ListN.{set}
 use Rattle.std.proofs.Math.Seq.{take-nil}
-use Rattle.std.proofs.lemmas.List.{get_or-take, length-take-le, ext_get_or, get_or-replicate, length-replicate, drop_all}
+use Rattle.std.proofs.lemmas.List.{get_or-take, length-take-le, ext_get_or, get_or-replicate, length-replicate}
 use Rattle.fax_bits.specs.declared.Colour.{Colour}
 use Rattle.fax_bits.specs.declared.Colour.TheVariants.{White, Black}
 use Rattle.fax_rows.specs.Rows.{pel, is_changing, is_right_of, next_change}
@@ -89,7 +89,7 @@ module _ {places : List ℕ} {end width : ℕ} (all : ArePlaces places end width
         right = λ h. before;
       })
       (inl at) inside
-  none_between (Some a) k at i before inside right = grind (arith, common_steps, unchanging, ltb-true)
+  none_between (Some a) k at i before inside right = grind (arith, unchanging)
 
   right_of : (from : Option ℕ) (k : ℕ) → IsFrom places end from k → k < end → is_right_of from (get_or places k 0) ≡ true
   right_of None k at h = refl
@@ -133,7 +133,7 @@ module _ {places : List ℕ} {end width : ℕ} (all : ArePlaces places end width
 
   -- no change stands at a
   goes_on : (a n k : ℕ) → AreChangesFrom (a + 1) n k → a < width → (k < end → a < get_or places k 0) → AreChangesFrom a (suc n) k
-  goes_on a n k more inside before some within next last = grind (arith, common_steps, unchanging)
+  goes_on a n k more inside before some within next last = grind (arith, unchanging)
 
   -- a change stands there
   stops : (a n k : ℕ) → AreChangesFrom (a + 1) n (suc k) → a < width → k < end → get_or places k 0 ≡ a → AreChangesFrom a (suc n) k
@@ -154,7 +154,7 @@ module _ {places : List ℕ} {end width : ℕ} (all : ArePlaces places end width
       left_of_a = subst (λ m. get_or places m 0 < a + 1) same (omega arith)
 
   filter_from : (a n k : ℕ) → a + n ≡ width → AreChangesFrom a n k
-  filter_from a zero k sum some within next last = grind (arith, common_steps, drop_all, length-take-le)
+  filter_from a zero k sum some within next last = grind (arith, common_steps)
   filter_from a (suc n) k sum some within next last =
       elim (cases_lt k end) [
         | inr more ↦ goes_on a n k (filter_from (a + 1) n k (omega arith)) (omega arith) (λ h. absurd (omega arith)) some within next last

@@ -1,9 +1,8 @@
 -- A row in one-dimensional coding is read in one way, where the run tables are.
 use Rattle.std.proofs.lemmas.Grind.{common_steps}
 use Rattle.std.proofs.Common.{◌≡◌, ℕ, zero, suc, ◌+◌, ◌<◌, ◌≤◌, List, [], ◌∷◌, length, Bool, refl, ap, sym, ◌∙◌}
-use Rattle.std.proofs.Common.{subst, arith, length-append, inl, inr}
+use Rattle.std.proofs.Common.{subst, arith, inl, inr}
 use Rattle.std.specs.Prelude.{sum, ◌⊎◌}
-use Rattle.std.proofs.lemmas.List.{length-replicate}
 use Rattle.std.proofs.Math.Nat.{eq-or-lt_of_le}
 use Rattle.fax_bits.specs.declared.Colour.{Colour}
 use Rattle.fax_bits.specs.declared.Colour.TheVariants.{White}
@@ -13,11 +12,11 @@ use Rattle.fax_rows.specs.declared.RowFault.{RowFault}
 use Rattle.fax_rows.specs.Rows.{other, pels_of, AreRuns}
 use Rattle.fax_rows.specs.Faults.{IsRunFault, StopsAtRun}
 use Rattle.fax_rows.specs.laws.Rows.{ReadsRowsOneWay}
-use Rattle.fax_rows.proofs.RunLaws.{sum-cons, same_run, run_has_no_fault, same_run_fault, run_or_fault}
+use Rattle.fax_rows.proofs.RunLaws.{same_run, run_has_no_fault, same_run_fault, run_or_fault}
 
 pub length-pels_of : (colour : Colour) (runs : List ℕ) → length (pels_of colour runs) ≡ sum runs
 length-pels_of colour [] = refl
-length-pels_of colour (n ∷ runs) = grind (arith, common_steps, length-append, length-replicate, sum-cons, length-pels_of (other colour) runs)
+length-pels_of colour (n ∷ runs) = grind (arith, common_steps, length-pels_of (other colour) runs)
 
 -- runs that end at the width begin within it
 pub runs_within : (width : ℕ) (colour : Colour) (from : ℕ) (b : List Bool) (runs : List ℕ) (rest : List Bool)

@@ -1,10 +1,9 @@
 -- The longest runs of a row, pel by pel.
-use Rattle.fax_rows.proofs.ColourLemmas.{same_is}
 use Rattle.std.proofs.lemmas.Grind.{common_steps}
 use Rattle.std.proofs.Common.{◌≡◌, ◌≢◌, ℕ, zero, suc, ◌+◌, ◌-◌, ◌<◌, ◌≤◌, List, [], ◌∷◌, ◌++◌, length, take, drop, get_or, Bool, true}
 use Rattle.std.proofs.Common.{false, not, refl, ap, sym, ◌∙◌, subst, arith, inl, inr, drop-cons, get_or-drop, length-drop}
 use Rattle.std.proofs.Math.Numerals.{suc-eq-add-one}
-use Rattle.std.proofs.lemmas.List.{take_more, drop_all, length-take-le}
+use Rattle.std.proofs.lemmas.List.{take_more, length-take-le}
 use Rattle.fax_bits.specs.declared.Colour.{Colour}
 use Rattle.fax_bits.specs.declared.Colour.TheVariants.{White, Black}
 use Rattle.std.specs.List.{filter, range_with_len}
@@ -76,13 +75,13 @@ GapsFrom row n i from =
 gaps_more : (row : List Colour) (n i from : ℕ) (b : Bool) → is_changing row i ≡ b → i < length row → from ≤ i
     → ((next : ℕ) → next ≤ i + 1 → GapsFrom row n (i + 1) next) → GapsFrom row (suc n) i from
 unfolding gaps_to
-gaps_more row n i from true is inside order more = grind (arith, common_steps, before_next, turns, changes_so)
-gaps_more row n i from false is inside order more = grind (arith, common_steps, same_is, before_next, goes_on)
+gaps_more row n i from true is inside order more = grind (arith, turns)
+gaps_more row n i from false is inside order more = grind (arith, goes_on)
 
 -- they are the runs that are left
 gaps_from : (row : List Colour) (n i from : ℕ) → from ≤ i → i + n ≡ length row → GapsFrom row n i from
 unfolding gaps_to
-gaps_from row zero i from order all = grind (arith, common_steps, drop_all, runs_after-nil)
+gaps_from row zero i from order all = grind (arith, common_steps, runs_after-nil)
 gaps_from row (suc n) i from order all =
     gaps_more row n i from (is_changing row i) refl (omega arith) order
     (λ next near. gaps_from row n (i + 1) next near (omega arith))
@@ -90,7 +89,7 @@ gaps_from row (suc n) i from order all =
 -- the gaps between the changing elements of a row, and up to its width, are its runs
 pub gaps_are_runs : (row : List Colour) (changes : List ℕ) (width : ℕ)
     → changes ≡ filter (is_changing row) (range_with_len 0 (length row)) → width ≡ length row → gaps 0 (changes ++ width ∷ []) ≡ runs_of row
-gaps_are_runs row changes width is wide = grind (arith, common_steps, gaps_to-gaps, gaps_to, gaps_from)
+gaps_are_runs row changes width is wide = grind (arith, gaps_to-gaps, gaps_from)
 
 -- as many as there are ends
 pub length-gaps : (from : ℕ) (ends : List ℕ) → length (gaps from ends) ≡ length ends
@@ -106,7 +105,7 @@ ascend_on next changes up i h = grind (arith, common_steps)
 below_all : (next : ℕ) (changes : List ℕ) → ((i : ℕ) → i < length changes → get_or (next ∷ changes) i 0 ≤ get_or changes i 0)
     → (i : ℕ) → i < length changes → next ≤ get_or changes i 0
 below_all next changes up zero h = up 0 h
-below_all next changes up (suc i) h = grind (arith, common_steps, below_all next changes up i (omega arith))
+below_all next changes up (suc i) h = grind (arith, below_all next changes up i (omega arith))
 
 -- the places after the next one are ahead of it
 pub ahead_of_next : (from next : ℕ) (ends : List ℕ) → AreAheadOf from (next ∷ ends) → AreAheadOf next ends

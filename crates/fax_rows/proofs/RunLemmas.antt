@@ -36,7 +36,7 @@ one_more colour b n m mid rest part taken = record {
 
 pub run_done : (colour : Colour) (b : List Bool) (n m : ℕ) (mid rest : List Bool)
     → IsPartialRun colour b n mid → Takes (run_table colour) mid (Terminating m) rest → IsRun colour b (n + m) rest
-run_done colour b n m mid rest part taken = grind (arith, common_steps, Spells-push)
+run_done colour b n m mid rest part taken = grind (arith, Spells-push)
 
 -- make-up codes of the longest run so far: with a run after them that is written, they are one that is written
 abbrev pub AreLongestMakeUp : Colour → List Bool → ℕ → List Bool → Type 0

@@ -3,9 +3,8 @@ use Rattle.std.proofs.Common.{rules, ◌≡◌, ℕ, zero, suc, ◌+◌, ◌-◌
 use Rattle.std.proofs.Common.{true, false, cond, refl, ap, sym, ◌∙◌, subst, arith, w8, w32, ltb, bit_and}
 use Rattle.std.proofs.lemmas.Grind.{common_steps}
 use Rattle.std.specs.Int.{bit_at}
-use Rattle.std.proofs.lemmas.Bool.{ltb-true}
 use Rattle.std.proofs.lemmas.List.{get_or-map, length-map}
-use Rattle.std.proofs.lemmas.Nat.Bits.{bit_at_and, bit_at-lt, bit_at_ones}
+use Rattle.std.proofs.lemmas.Nat.Bits.{bit_at_and, bit_at_ones}
 use Rattle.std.proofs.lemmas.Simd.{get_or-zip2, get_or-chunk, length-chunk, length-zip2, bit_mask_l}
 use Rattle.fax_rows.specs.code.Several.{AreFour}
 use borrow.Rule.Simd.Lanes.{act1, act2}
@@ -38,7 +37,7 @@ raised_at f others ys b i room long h =
 
 pub length-raised : (f : ℕ → ℕ → ℕ) (others ys : List ℕ) (b : ℕ) → b + 4 ≤ length others → length ys ≡ 4
     → length (zip2 f (take 4 (drop b others)) ys) ≡ 4
-length-raised f others ys b room long = grind (arith, common_steps, length-chunk, length-zip2, chunk)
+length-raised f others ys b room long = grind (arith, common_steps, length-zip2)
 
 -- lanes that are less
 abbrev bit_of : Bool → ℕ
@@ -50,12 +49,12 @@ is_set false h = cc
 
 pub lane_less : (xs ys : List ℕ) (i : ℕ) → i < length xs → i < length ys → bit_at (mask_l (zip2 ltb xs ys)) i ≡ 1
     → get_or xs i 0 < get_or ys i 0
-lane_less xs ys i inside within set = grind (arith, common_steps, ltb-true, is_set, get_or-zip2, bit_mask_l, zip2)
+lane_less xs ys i inside within set = grind (arith, common_steps, bit_mask_l)
 
 -- bits that are set in each of three numbers
 all_set : (a b c wanted i : ℕ) → bit_and (bit_and (bit_and a b) c) wanted ≡ wanted → bit_at wanted i ≡ 1
     → (bit_at a i ≡ 1) × (bit_at b i ≡ 1) × (bit_at c i ≡ 1)
-all_set a b c wanted i is set = grind (arith, common_steps, bit_at_and, bit_at-lt)
+all_set a b c wanted i is set = grind (arith, bit_at_and)
 
 pub three_set : (a b c count i : ℕ) → bit_and (bit_and (bit_and a b) c) (2 ^ count - 1) ≡ 2 ^ count - 1 → i < count
     → (bit_at a i ≡ 1) × (bit_at b i ≡ 1) × (bit_at c i ≡ 1)
@@ -134,10 +133,10 @@ module _ (others raises : List ℕ) (b count from : ℕ) (some : 0 < b) (room : 
 
   -- none of the lanes has its highest bit
   pub raised_four : AreFour (raised_lanes others raises b)
-  raised_four = grind (arith, common_steps, length-raised_lanes, raised_of, limit_at)
+  raised_four = grind (arith, length-raised_lanes, raised_of, limit_at)
 
   pub left_four : AreFour (splat_lanes others (b - 1) 2)
-  left_four = grind (arith, length-left_lanes, splat_is)
+  left_four = grind (arith, splat_is)
 
   pub right_four : AreFour (splat_lanes others (b + 1) 3)
   right_four = search (rules, length-right_lanes, splat_is, limit_after)

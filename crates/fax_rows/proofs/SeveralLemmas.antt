@@ -1,6 +1,5 @@
 -- Steps in vertical mode, one after another, each to a place that is right of the one before, and between the changes before and
 -- after its b1.
-use Rattle.std.proofs.lemmas.Grind.{common_steps}
 use Rattle.std.proofs.Common.{◌≡◌, ℕ, zero, suc, ◌+◌, ◌-◌, ◌<◌, ◌≤◌, List, [], ◌∷◌, length, map, take, get_or, Bool, pos, refl, ap}
 use Rattle.std.proofs.Common.{sym, ◌∙◌, subst, arith, inl, inr, true}
 use Rattle.std.specs.Prelude.{◌⊎◌, ◌<ℤ◌, Option, Some, None, unwrap_or, nat_lt}
@@ -137,7 +136,7 @@ module _ (reference : PlacedRow) (places : List ℕ) where
   pub all_on : (raises : List ℕ) (at : PlacedReached) (b rest : List Bool) → Spells modes b (map vertical raises) rest
       → IsReadInside reference places at → at.b1 + length raises ≤ reference.end
       → AreFine reference.places.now places at.reached.a0 at.end at.b1 raises → AreOn at (length raises) b rest
-  all_on [] at b rest spells here inside fine = grind (arith, common_steps)
+  all_on [] at b rest spells here inside fine = grind arith
   all_on (raised ∷ raises) at b rest spells here inside fine =
       let less : at.b1 < reference.end = omega arith in
       let vertical_step = step at here less raised raises fine in
@@ -171,13 +170,13 @@ abbrev pub reached_at : ℕ → Colour → ℕ → ℕ → PlacedReached
 reached_at place colour end b1 = record { reached = record { a0 = Some place; colour = colour }; end = end; b1 = b1 }
 
 same_reached : (p q : ℕ) (c d : Colour) (m n i j : ℕ) → p ≡ q → c ≡ d → m ≡ n → i ≡ j → reached_at p c m i ≡ reached_at q d n j
-same_reached p q c d m n i j place colour end b1 = grind (arith, common_steps)
+same_reached p q c d m n i j place colour end b1 = grind arith
 
 after_is : (k : ℕ) (places : List ℕ) (at : PlacedReached)
     → reached_at (get_or places (at.end + k) 0) (alternate at.reached.colour (suc k)) (at.end + suc k) (at.b1 + suc k)
     ≡ after (suc k) places at
-after_is zero places at = grind (arith, common_steps, same_reached)
-after_is (suc k) places at = grind (arith, common_steps, same_reached, after_is k places (next places at))
+after_is zero places at = grind arith
+after_is (suc k) places at = grind (arith, after_is k places (next places at))
 
 after_as : (count : ℕ) (places : List ℕ) (at : PlacedReached) → 0 < count → alternate Black at.b1 ≡ at.reached.colour
     → reached_at (get_or places (at.end + count - 1) 0) (alternate Black (at.b1 + count)) (at.end + count) (at.b1 + count)

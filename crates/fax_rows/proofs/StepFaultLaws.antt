@@ -203,7 +203,7 @@ module _ (runs_read : (colour : Colour) → ReadsRunsOneWay colour) (modes_read 
 
   mode_or_fault : (mode : ModeCode) (reference : List Colour) (old : Position) (b : List Bool) → first_pel old ≤ length reference
       → IsModeOrFault mode reference old b
-  mode_or_fault Pass reference old b within = grind (arith, common_steps, next_change_is)
+  mode_or_fault Pass reference old b within = grind (arith, next_change_is)
   mode_or_fault (Vertical d) reference old b within = vertical_or_fault reference old d b
   mode_or_fault Horizontal reference old b within = horizontal_or_fault reference old b within
   mode_or_fault Extension reference old b within = inr (ExtensionFault, refl)

@@ -68,7 +68,7 @@ module _ {places : List ℕ} {end : ℕ} (up : IsAscending places end) where
   -- places ascend also over several steps
   pub ascends : (i n : ℕ) → 0 < i → i + suc n < end → get_or places i 0 < get_or places (i + suc n) 0
   ascends i zero some h = subst (λ m. get_or places i 0 < get_or places m 0) (omega arith) (up.steps i some (omega arith))
-  ascends i (suc n) some h = grind (arith, common_steps, ascends i n some (omega arith))
+  ascends i (suc n) some h = grind (arith, ascends i n some (omega arith))
 
   pub below_later : (i j : ℕ) → 0 < i → i < j → j < end → get_or places i 0 < get_or places j 0
   below_later i j some less h =
@@ -81,11 +81,11 @@ module _ {places : List ℕ} {end : ℕ} (up : IsAscending places end) where
   pub at_least : (i : ℕ) → i < end → i ≤ get_or places i 0 + 1
   at_least zero h = omega arith
   at_least (suc zero) h = omega arith
-  at_least (suc (suc i)) h = grind (arith, common_steps, below_later, at_least (suc i) (omega arith))
+  at_least (suc (suc i)) h = grind (arith, at_least (suc i) (omega arith))
 
   pub not_later : (i j : ℕ) → i ≤ j → j < end → get_or places i 0 ≤ get_or places j 0
   not_later zero j order h = omega (arith, up.first)
-  not_later (suc i) j order h = grind (arith, eq-or-lt_of_le, below_later)
+  not_later (suc i) j order h = grind (arith, below_later)
 
   -- the colour after k places
   pub colour_after_places : (i k : ℕ) → ArePlacesUpTo places end i k → turned Black (take end places) i ≡ alternate Black k

@@ -43,7 +43,7 @@ pub vertical_goes_on : {reference : PlacedRow} {places : List ℕ} {at : PlacedR
     → (b : List Bool) (new : Position) (rest : List Bool) (d read : ℤ) → Takes modes b (Vertical d) rest
     → IsVerticalStep (placed_pels reference) (placed_position reference.width places at) read new → read ≡ d
     → GoesOn (placed_pels reference) (placed_position reference.width places at) b new rest
-vertical_goes_on {reference} {places} {at} here b new rest d distance taken step same = grind (arith, common_steps, step_goes_on)
+vertical_goes_on here b new rest d distance taken step same = grind (arith, common_steps, step_goes_on)
 
 pub chosen_goes_on : {reference : PlacedRow} {places : List ℕ} {at : PlacedReached} → IsReadInside reference places at
     → (b : List Bool) (new : Position) (rest : List Bool)
@@ -157,7 +157,7 @@ abbrev pub placed : ℕ → Colour → ℕ → ℕ → PlacedReached
 placed place colour end b1 = record { reached = record { a0 = Some place; colour = colour }; end = end; b1 = b1 }
 
 same_placed : {p q : ℕ} {c d : Colour} {m n i j : ℕ} → p ≡ q → c ≡ d → m ≡ n → i ≡ j → placed p c m i ≡ placed q d n j
-same_placed {q = q} {c = c} {d = d} {m = m} {n = n} {i = i} place colour end b1 = grind (arith, common_steps)
+same_placed place colour end b1 = grind (arith, common_steps)
 
 -- how far it is read after so many steps, one at least
 pub under_all_is : (k : ℕ) (reference : PlacedRow) (at : PlacedReached)

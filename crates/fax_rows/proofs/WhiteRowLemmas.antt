@@ -4,10 +4,7 @@ use Rattle.std.specs.Simd.{first_chunks}
 use Rattle.fax_bits.specs.Bits.{packed, code_bits, bits_number}
 use Rattle.std.proofs.Common.{◌≡◌, ℕ, zero, suc, ◌+◌, ◌-◌, ◌*◌, ◌<◌, ◌≤◌, ◌↔◌, List, [], ◌∷◌, ◌++◌, length, get_or, map, replicate, Bool, true, false}
 use Rattle.std.proofs.Common.{refl, ap, sym, ◌∙◌, arith, IsTrue, append-nil}
-use Rattle.std.proofs.Math.Nat.{eq-or-lt_of_le}
 use Rattle.std.specs.Prelude.{Option, Some, None, pos, nat_eq}
-use Rattle.std.proofs.lemmas.Int.{ints}
-use Rattle.std.proofs.lemmas.Bool.{and_parts}
 use Rattle.std.proofs.lemmas.List.{get_or-replicate, length-replicate, replicate-append-replicate, drop-replicate, take-replicate}
 use Rattle.fax_bits.specs.declared.Colour.{Colour}
 use Rattle.fax_bits.specs.declared.Colour.TheVariants.{White}
@@ -47,10 +44,10 @@ module _ {places : List ℕ} {end width : ℕ} (all : ArePlaces places end width
 
   -- a row is white just where it has one place
   one_place : {row : List Colour} → row_of places end width ≡ row → row ≡ replicate (length row) White → IsTrue (nat_eq end 1)
-  one_place is white_is = grind (arith, common_steps, width_is, eq-or-lt_of_le, more_places)
+  one_place is white_is = grind (arith, width_is, more_places)
 
   pub is_white_row : {row : List Colour} → row_of places end width ≡ row → IsTrue (nat_eq end 1) ↔ (row ≡ replicate (length row) White)
-  is_white_row is = grind (arith, common_steps, all_white, one_place)
+  is_white_row is = grind (arith, all_white, one_place)
 
 -- a white row is one run
 white_runs : (n k : ℕ) → runs_after White n (white k) ≡ (n + k) ∷ []
@@ -65,15 +62,15 @@ white_1d width = ap (alternating_bits White) (white_runs 0 width ∙ ap (λ m. m
 
 -- no changing element lies right of a place
 no_change : (width : ℕ) (from : Option ℕ) → next_change (white width) from ≡ width
-no_change width from = grind (arith, common_steps, next_change_is, length-replicate, eq-or-lt_of_le, none_changes)
+no_change width from = grind (arith, common_steps, next_change_is)
 
 no_b1 : (width : ℕ) (from : Option ℕ) (colour : Colour) → b1 (white width) from colour ≡ width
 unfolding b1
-no_b1 width from colour = grind (arith, common_steps, first_place_is, length-replicate, eq-or-lt_of_le, and_parts, none_changes)
+no_b1 width from colour = grind (arith, common_steps, first_place_is)
 
 -- so that a1 is under b1, and the step ends the row
 white_mode : (width : ℕ) → chosen_mode (places (white width) (white width) None) ≡ Vertical (pos 0)
-white_mode width = grind (arith, common_steps, ints, no_change, no_b1)
+white_mode width = grind (arith, no_change, no_b1)
 
 -- over a white row it is written as a single 1
 pub white_2d : (width : ℕ) → 0 < width → two_dimensional_bits (white width) (white width) ≡ true ∷ []
@@ -92,12 +89,12 @@ white_2d width some =
 -- the codes of a run that were taken are those of a white row
 pub chosen_1d : (row : List Colour) (width : ℕ) (b rest : List Bool) → row ≡ replicate (length row) White → width ≡ length row
     → b ≡ run_bits White width ++ rest → b ≡ one_dimensional_bits row ++ rest
-chosen_1d row width b rest all same taken = grind (arith, common_steps, white_1d)
+chosen_1d row width b rest all same taken = grind (arith, white_1d)
 
 -- and a 1 is that of a white row over another
 pub chosen_2d : (row : List Colour) (b rest : List Bool) → row ≡ replicate (length row) White → 0 < length row
     → b ≡ true ∷ rest → b ≡ two_dimensional_bits row row ++ rest
-chosen_2d row b rest all some taken = grind (arith, common_steps, white_2d)
+chosen_2d row b rest all some taken = grind (arith, white_2d)
 
 -- its pels are zeros as bits
 white_bits : (width : ℕ) → map is_black (white width) ≡ replicate width false

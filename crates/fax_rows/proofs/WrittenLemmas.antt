@@ -3,7 +3,6 @@ use Rattle.std.proofs.lemmas.Grind.{common_steps}
 use Rattle.std.proofs.Common.{◌≡◌, ◌≢◌, ℕ, zero, suc, ◌+◌, ◌^◌, ◌<◌, ◌≤◌, List, [], ◌∷◌, ◌++◌, length, take, replicate, Bool}
 use Rattle.std.proofs.Common.{refl, ap, sym, ◌∙◌, subst, arith, inl, inr, append_assoc}
 use Rattle.std.specs.Prelude.{sum, Option, Some, None}
-use Rattle.std.proofs.Math.Seq.{take-length}
 use Rattle.std.proofs.lemmas.Bool.{cases_lt}
 use Rattle.std.proofs.lemmas.List.{replicate-append-replicate}
 use Rattle.fax_bits.specs.declared.Colour.{Colour}
@@ -64,7 +63,7 @@ module _ (runs_read : RunBitsAreRead) (modes_taken : ModeBitsAreRead) (reference
     (limits : HasWidth row) where
   back_at_end : (a0 : Option ℕ) (colour : Colour) (limit : ℕ) (more : List Bool) → first_of a0 ≡ length row
       → IsWrittenBack reference row (here row a0 colour) (step_bits limit reference row a0 ++ more) more
-  back_at_end a0 colour limit more done = grind (arith, common_steps, here, step_bits-end, at_width, take-length)
+  back_at_end a0 colour limit more done = grind (arith, common_steps, step_bits-end)
 
   -- the place and the mode of the step from a0
   abbrev mode_at : Option ℕ → ModeCode
@@ -169,7 +168,7 @@ runs_back : RunBitsAreRead → (colour : Colour) (runs : List ℕ) (more : List 
     → AreCodedRuns colour (alternating_bits colour runs ++ more) runs more
 unfolding alternating_bits
 runs_back runs_read colour [] more short = refl
-runs_back runs_read colour (n ∷ runs) more short = grind (arith, common_steps, append_assoc, sum-cons, runs_back runs_read (other colour) runs more (omega (arith, sum-cons n runs)))
+runs_back runs_read colour (n ∷ runs) more short = grind (arith, common_steps, runs_back runs_read (other colour) runs more (omega (arith, sum-cons n runs)))
 
 -- a row in one-dimensional coding is read back
 pub one_dimensional_back : RunBitsAreRead → (row : List Colour) → HasWidth row → (more : List Bool)

@@ -119,7 +119,7 @@ module _ {rows : RowPair} {ahead : ChangesAhead} (is : AreAhead rows ahead) wher
   under_bits same = grind (arith, common_steps, under_mode, append-nil)
 
   pub under_place : ahead.a1 ≡ ahead.b1 → ahead.a1 ≡ place_from (placed_pels rows.reference) (placed_pels rows.row) ahead.a0
-  under_place same = grind (arith, common_steps, under_mode)
+  under_place same = grind (arith, under_mode)
 
 -- before the first step a1 and b1 are the first changes
 pub starts : (rows : RowPair) → IsWrittenTo rows (record { a0 = None; row = 1; reference = 1 })

@@ -1,12 +1,11 @@
 use Rattle.std.proofs.Common.{◌<◌, ◌+◌, ◌*◌, ◌/◌, ◌%◌, sym, ◌∙◌, arith, length, get_or}
-use Rattle.std.proofs.lemmas.Grind.{common_steps}
 use Rattle.fax_rows.specs.code.FirstOther.{first_other_in_byte}
 use Rattle.fax_rows.proofs.FirstOtherLemmas.{first_other_is, plain_in_byte, other_in_byte, plain_before, plain_on, found_in_byte}
 use Rattle.fax_rows.proofs.FirstOtherLemmas.{in_byte-ge}
 use Rattle.fax_rows.proofs.lanes.first_other.Goals as goal
 
 pub returns-then-at-bytes : goal.returns-then-at-bytes
-returns-then-at-bytes c = grind (arith, common_steps, first_other_is, c.requires.within)
+returns-then-at-bytes c = grind (arith, first_other_is)
 
 pub returns-then-here-lt8 : goal.returns-then-here-lt8
 returns-then-here-lt8 c =

@@ -2,20 +2,16 @@ use Rattle.std.proofs.Common.{arith}
 use Rattle.std.proofs.lemmas.Grind.{common_steps}
 use Rattle.fax_rows.proofs.TurnLemmas.{length-pels_by}
 use Rattle.fax_rows.proofs.PlacedRowLemmas.{width_is}
-use Rattle.fax_rows.proofs.PlacedReadLemmas.{one_dimensional_as, refilled}
 use Rattle.fax_rows.proofs.one_dimensional.read_1d_choice.Goals as goal
 
 pub returns-in-Ok-clause-ok : goal.returns-in-Ok-clause-ok
-returns-in-Ok-clause-ok c = grind (arith, common_steps, width_is, one_dimensional_as, refilled, c.row.invariant, c.in-Ok.ensures.ok, c.close-row-inside.ensures.pels)
+returns-in-Ok-clause-ok c = grind (arith, common_steps, width_is)
 
 pub returns-in-Ok-clause-same_width : goal.returns-in-Ok-clause-same_width
-returns-in-Ok-clause-same_width c = grind (arith, common_steps, length-pels_by, width_is, c.row.invariant)
+returns-in-Ok-clause-same_width c = grind (arith, length-pels_by)
 
 pub returns-in-Err-clause-err : goal.returns-in-Err-clause-err
-returns-in-Err-clause-err c = grind (arith, common_steps, width_is, c.row.invariant, c.in-Err.ensures.err)
+returns-in-Err-clause-err c = grind (arith, width_is)
 
 pub returns-in-Err-clause-same_width : goal.returns-in-Err-clause-same_width
-returns-in-Err-clause-same_width c = grind (arith, common_steps, length-pels_by, width_is, c.row.invariant)
-
-pub returns-in-Ok-clause-chosen : goal.returns-in-Ok-clause-chosen
-returns-in-Ok-clause-chosen c is = grind (arith, common_steps, refilled, c.in-Ok.ensures.chosen, c.close-row-inside.ensures.pels)
+returns-in-Err-clause-same_width c = grind (arith, length-pels_by)

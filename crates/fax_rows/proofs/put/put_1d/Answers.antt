@@ -42,4 +42,4 @@ loop-white-preserved c =
     c.in_ok-pending-2.ensures.ok
 
 pub returns-clause-ok : goal.returns-clause-ok
-returns-clause-ok c = grind (arith, common_steps, on_ok_weaker, put_pending, row_bits_end, c.loop-white.invariant, c.in_default.ensures.first, c.put_all-2.ensures.ok)
+returns-clause-ok c = grind (arith, common_steps, row_bits_end)

@@ -1,7 +1,6 @@
 use Rattle.std.proofs.Common.{arith}
-use Rattle.std.proofs.lemmas.Grind.{common_steps}
 use Rattle.fax_rows.proofs.PlacedB1Lemmas.{placed_width}
 use Rattle.fax_rows.proofs.put.put_2d.Goals as goal
 
 pub invariant_of-rows : goal.invariant_of-rows
-invariant_of-rows c = grind (arith, common_steps, placed_width, c.placed-2.ensures, c.placed.ensures)
+invariant_of-rows c = grind (arith, placed_width)

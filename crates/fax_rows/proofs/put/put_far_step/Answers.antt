@@ -1,21 +1,20 @@
 use Rattle.std.proofs.Common.{arith}
-use Rattle.std.proofs.lemmas.Grind.{common_steps}
 use Rattle.fax_rows.proofs.WrittenPlaceLemmas.{known_bounds}
 use Rattle.fax_rows.proofs.WrittenStepLemmas.{horizontal_bits}
 use Rattle.fax_rows.proofs.PutLemmas.{on_err, pair_put, pair_stops}
 use Rattle.fax_rows.proofs.put.put_far_step.Goals as goal
 
 pub choose-mode-requires-clause-b1 : goal.choose-mode-requires-clause-b1
-choose-mode-requires-clause-b1 c = grind (arith, common_steps, known_bounds, c.requires.places)
+choose-mode-requires-clause-b1 c = grind (arith, known_bounds)
 
 pub overflow_sub-second : goal.overflow_sub-second
 overflow_sub-second c = (known_bounds c.requires.places).a1_a2
 
 pub put_pair-requires-clause-first : goal.put_pair-requires-clause-first
-put_pair-requires-clause-first c = grind (arith, common_steps, known_bounds, c.requires.places)
+put_pair-requires-clause-first c = grind (arith, known_bounds)
 
 pub put_pair-requires-clause-second : goal.put_pair-requires-clause-second
-put_pair-requires-clause-second c = grind (arith, common_steps, known_bounds, c.requires.places)
+put_pair-requires-clause-second c = grind (arith, known_bounds)
 
 pub returns-in_err-pending-in-Horizontal-2-clause-err :
     goal.returns-in_err-pending-in-Horizontal-2-clause-err

@@ -1,16 +1,14 @@
 use Rattle.std.proofs.Common.{refl, ◌<◌, ◌≤◌, length, arith}
-use Rattle.std.proofs.lemmas.Grind.{common_steps}
 use Rattle.std.proofs.lemmas.Result.{on_ok_weaker}
 use Rattle.fax_rows.specs.code.PlacedRow.{placed_pels}
 use Rattle.fax_rows.proofs.ChangeLemmas.{first_of}
 use Rattle.fax_rows.proofs.WrittenPlaceLemmas.{same_widths, written_width}
 use Rattle.fax_rows.proofs.PlacedLemmas.{place_begins, place_goes_on, place_stops, place_ends, step_smaller}
 use Rattle.fax_rows.proofs.PutLemmas.{on_err}
-use Rattle.fax_rows.proofs.WrittenStepLemmas.{starts}
 use Rattle.fax_rows.proofs.put.put_steps.Goals as goal
 
 pub loop-at-init : goal.loop-at-init
-loop-at-init c = grind (arith, common_steps, place_begins, starts, c.none-pending.ensures)
+loop-at-init c = grind (arith, place_begins)
 
 pub returns-in_err-at-clause-err : goal.returns-in_err-at-clause-err
 returns-in_err-at-clause-err c =
@@ -30,7 +28,7 @@ loop-at-smaller c =
     omega (arith, written_width c.args.rows, smaller)
 
 pub loop-at-preserved : goal.loop-at-preserved
-loop-at-preserved c = grind (arith, common_steps, first_of, written_width, place_goes_on, same_widths, c.in_ok-at.ensures.next, c.loop-at.invariant.placed, c.in_ok-at.ensures.ok, c.in_ok-at.ensures.places)
+loop-at-preserved c = grind (arith, written_width, place_goes_on, same_widths)
 
 pub returns-clause-ok : goal.returns-clause-ok
 returns-clause-ok c =

@@ -1,5 +1,4 @@
 use Rattle.std.proofs.Common.{◌≢◌, ◌-◌, ◌≤◌, get_or, arith}
-use Rattle.std.proofs.lemmas.Grind.{common_steps}
 use Rattle.std.specs.Prelude.{◌⊎◌}
 use Rattle.fax_rows.proofs.PlacedReadLemmas.{below_last, below_width, ends_within, without_last, places_within}
 use Rattle.fax_rows.proofs.turns.end_below.Goals as goal
@@ -19,7 +18,7 @@ returns-then-places-end-clause-pels c =
 
 -- the last place, if any, is not the width
 differs : (c : Joined-else-end-gt1) → (c.args.end ≤ 1) ⊎ (get_or c.args.places.now (c.args.end - 1) 0 ≢ c.args.width)
-differs c = grind (arith, common_steps, else-end-gt1-via-then-end-gt1+else-places-end, else-end-gt1-via-else-end-gt1, c.else-end-gt1.branch)
+differs c = grind arith
 
 pub returns-else-end-gt1-clause-below : goal.returns-else-end-gt1-clause-below
 returns-else-end-gt1-clause-below c =

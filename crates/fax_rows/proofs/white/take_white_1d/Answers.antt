@@ -1,12 +1,11 @@
 use Rattle.std.proofs.Common.{length, sym, subst, arith}
-use Rattle.std.proofs.lemmas.Grind.{common_steps}
 use Rattle.fax_rows.specs.Rows.{IsOneDimensionalRow}
 use Rattle.fax_rows.proofs.PlacedRowLemmas.{width_is}
 use Rattle.fax_rows.proofs.WhiteRowLemmas.{chosen_1d}
 use Rattle.fax_rows.proofs.white.take_white_1d.Goals as goal
 
 pub returns-clause-chosen : goal.returns-clause-chosen
-returns-clause-chosen c is = grind (arith, common_steps, chosen_1d, width_is, c.take_run.ensures.taken, c.if-not-is_white.ensures.white.0, c.white.invariant)
+returns-clause-chosen c is = grind (arith, chosen_1d, width_is)
 
 pub returns-clause-row : goal.returns-clause-row
 returns-clause-row c is =

@@ -1,12 +1,11 @@
 use Rattle.std.proofs.Common.{refl, sym, subst, arith}
-use Rattle.std.proofs.lemmas.Grind.{common_steps}
 use Rattle.fax_rows.specs.Rows.{IsTwoDimensionalRow}
 use Rattle.fax_rows.proofs.PlacedRowLemmas.{width_is}
 use Rattle.fax_rows.proofs.WhiteRowLemmas.{chosen_2d}
 use Rattle.fax_rows.proofs.white.take_white_2d.Goals as goal
 
 pub returns-clause-chosen : goal.returns-clause-chosen
-returns-clause-chosen c is = grind (arith, common_steps, width_is, chosen_2d, c.past_ones.ensures.ones, c.reference.invariant, c.if-not-is_white.ensures.white.0, c.reference.invariant.some)
+returns-clause-chosen c is = grind (arith, width_is, chosen_2d)
 
 pub returns-clause-row : goal.returns-clause-row
 returns-clause-row c is =

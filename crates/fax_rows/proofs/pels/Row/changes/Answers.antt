@@ -1,7 +1,6 @@
 use Rattle.fax_rows.proofs.PlacedRowLemmas.{changes_are}
-use Rattle.std.proofs.lemmas.Grind.{common_steps}
 use Rattle.std.proofs.Common.{arith}
 use Rattle.fax_rows.proofs.pels.Row.changes.Goals as goal
 
 pub returns : goal.returns
-returns c = grind (arith, common_steps, changes_are, c.deref.ensures.value, c.self.invariant)
+returns c = grind (arith, changes_are)

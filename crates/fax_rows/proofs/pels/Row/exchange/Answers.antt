@@ -1,8 +1,7 @@
 use Rattle.std.proofs.Common.{arith}
 use Rattle.std.proofs.lemmas.Grind.{common_steps}
 use Rattle.fax_rows.proofs.PlacedExchangeLemmas.{exchanged}
-use Rattle.fax_rows.proofs.PlacedReadLemmas.{refilled}
 use Rattle.fax_rows.proofs.pels.Row.exchange.Goals as goal
 
 pub returns : goal.returns
-returns c = grind (arith, common_steps, refilled, exchanged, c.as_mut_slice-places.ensures.value, c.turn_first-self-inside.ensures.turned)
+returns c = grind (arith, common_steps, exchanged)

@@ -2,15 +2,14 @@ use Rattle.std.proofs.Common.{ap, sym, ◌∙◌, arith}
 use Rattle.std.proofs.lemmas.Grind.{common_steps}
 use Rattle.std.specs.Prelude.{replicate}
 use Rattle.fax_bits.specs.declared.Colour.TheVariants.{White}
-use Rattle.fax_rows.proofs.PlacedReadLemmas.{refilled}
 use Rattle.fax_rows.proofs.PlacedRowLemmas.{all_white, width_is}
 use Rattle.fax_rows.proofs.pels.Row.set_from.Goals as goal
 
 pub copy_places-requires-clause-row : goal.copy_places-requires-clause-row
-copy_places-requires-clause-row c = grind (arith, common_steps, width_is, c.row.invariant, c.requires, c.self.invariant, c.deref.ensures.value)
+copy_places-requires-clause-row c = grind (arith, width_is)
 
 pub returns : goal.returns
-returns c = grind (arith, common_steps, width_is, refilled, c.self.invariant, c.requires, c.row.invariant, c.deref.ensures.value, c.copy_places.ensures.pels)
+returns c = grind (arith, common_steps, width_is)
 
 pub returns-then-row-eq1 : goal.returns-then-row-eq1
 returns-then-row-eq1 c =

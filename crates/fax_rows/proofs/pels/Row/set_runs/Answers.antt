@@ -1,5 +1,4 @@
 use Rattle.std.proofs.Common.{◌≡◌, ℕ, List, length, take, ap, sym, ◌∙◌, subst, arith}
-use Rattle.std.proofs.lemmas.Grind.{common_steps}
 use Rattle.std.proofs.lemmas.Bool.{false≢true}
 use Rattle.fax_bits.specs.declared.Colour.{Colour}
 use Rattle.fax_rows.specs.Rows.{runs_of}
@@ -31,4 +30,4 @@ returns-clause-set c = λ told.
     ∙ longest_are_back c.args.runs.now c.self.inside.width c.self.invariant.some (c.if-not-are_longest.ensures.0 told)
 
 pub returns-clause-same_width : goal.returns-clause-same_width
-returns-clause-same_width c = grind (arith, common_steps, length-pels_by, width_is, c.self.invariant)
+returns-clause-same_width c = grind (arith, length-pels_by)

@@ -13,7 +13,7 @@ use Rattle.fax_rows.proofs.StopLemmas.{stop_as}
 use Rattle.fax_rows.proofs.two_dimensional.due.read_on.Goals as goal
 
 pub returns-in_err-at-clause-stop : goal.returns-in_err-at-clause-stop
-returns-in_err-at-clause-stop g c = grind (arith, common_steps, rest_there, fault_here, length-placed_pels, err_from_is_err_and, stop_as, c.requires.pause, c.reached.ensures, c.skip_to.ensures, c.again-ahead.ensures, c.from_residual.ensures.1, c.in_err-at.ensures.stop)
+returns-in_err-at-clause-stop g c = grind (arith, common_steps, length-placed_pels)
 
 pub loop-ahead-init : goal.loop-ahead-init
 loop-ahead-init g c =

@@ -11,16 +11,16 @@ near : (found : Verticals) → AreFew found → (i : ℕ) → i < 4 → get_or f
 near found few i h = few.near i 0 (omega (arith, few.lanes, h))
 
 pub less_lanes-requires-clause-lanes : goal.less_lanes-requires-clause-lanes
-less_lanes-requires-clause-lanes c = grind (arith, common_steps, left_four, near, c.requires.some, c.requires.room, c.requires.small, c.requires.few, c.requires.few.few, c.requires.few.lanes)
+less_lanes-requires-clause-lanes c = grind (arith, left_four)
 
 pub less_lanes-requires-clause-others : goal.less_lanes-requires-clause-others
-less_lanes-requires-clause-others c = grind (arith, common_steps, raised_four, near, c.requires.some, c.requires.room, c.requires.small, c.requires.few, c.requires.few.few, c.requires.few.lanes)
+less_lanes-requires-clause-others c = grind (arith, raised_four)
 
 pub less_lanes-requires-2-clause-lanes : goal.less_lanes-requires-2-clause-lanes
-less_lanes-requires-2-clause-lanes c = grind (arith, common_steps, raised_four, near, c.requires.some, c.requires.room, c.requires.small, c.requires.few, c.requires.few.few, c.requires.few.lanes)
+less_lanes-requires-2-clause-lanes c = grind (arith, raised_four)
 
 pub less_lanes-requires-2-clause-others : goal.less_lanes-requires-2-clause-others
-less_lanes-requires-2-clause-others c = grind (arith, common_steps, right_four, near, c.requires.some, c.requires.room, c.requires.small, c.requires.few, c.requires.few.few, c.requires.few.lanes)
+less_lanes-requires-2-clause-others c = grind (arith, right_four)
 
 pub less_lanes-requires-3-clause-lanes : goal.less_lanes-requires-3-clause-lanes
 less_lanes-requires-3-clause-lanes c =
@@ -28,7 +28,7 @@ less_lanes-requires-3-clause-lanes c =
     c.requires.small (near c.args.found c.requires.few) c.requires.few.few c.requires.few.lanes (omega (arith, c.raised_a0.ensures.small))
 
 pub less_lanes-requires-3-clause-others : goal.less_lanes-requires-3-clause-others
-less_lanes-requires-3-clause-others c = grind (arith, common_steps, raised_four, near, c.requires.some, c.requires.room, c.requires.small, c.requires.few, c.requires.few.few, c.requires.few.lanes)
+less_lanes-requires-3-clause-others c = grind (arith, raised_four)
 
 pub returns-clause-raised : goal.returns-clause-raised
 returns-clause-raised c =
@@ -63,4 +63,4 @@ returns-clause-ascending c =
     (λ i h. subst (λ n. bit_at n i ≡ 1) c.less_lanes-3.ensures (c.if-not-fine.ensures.third refl i h))
 
 pub returns-clause-first : goal.returns-clause-first
-returns-clause-first c = grind (arith, common_steps, lane_first, near, c.raised_a0.ensures.right, c.requires.some, c.requires.room, c.requires.small, c.requires.few, c.requires.few.few, c.requires.few.lanes, c.less_lanes.ensures, c.if-not-fine.ensures.first, c.less_lanes-2.ensures, c.if-not-fine.ensures.second, c.less_lanes-3.ensures, c.if-not-fine.ensures.third, c.requires.few.some)
+returns-clause-first c = grind (arith, common_steps, lane_first, near, c.raised_a0.ensures.right, c.requires.some, c.requires.room, c.requires.small, c.requires.few, c.requires.few.few, c.requires.few.lanes, c.less_lanes.ensures)

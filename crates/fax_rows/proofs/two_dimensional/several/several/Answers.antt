@@ -1,7 +1,5 @@
 use Rattle.std.proofs.Common.{◌≡◌, ◌+◌, ◌∙◌, sym, ap, get_or, length, arith}
-use Rattle.std.proofs.lemmas.Grind.{common_steps}
 use Rattle.std.proofs.lemmas.List.{get_or-take, length-take-le}
-use Rattle.std.proofs.lemmas.Bool.{cases_lt}
 use Rattle.fax_bits.specs.views.Verticals.{raises_of}
 use Rattle.fax_rows.specs.Rows.{is_right_of}
 use Rattle.fax_rows.proofs.PlacedB1Lemmas.{b1_at_most}
@@ -15,7 +13,7 @@ in_lanes-requires-clause-room g c =
     omega (arith, end_within reference.placed, reference.placed.room, c.if-at-reference.false)
 
 pub in_lanes-requires-clause-small : goal.in_lanes-requires-clause-small
-in_lanes-requires-clause-small g c = grind (arith, common_steps, cases_lt, b1_at_most, c.if-at-reference.false)
+in_lanes-requires-clause-small g c = grind (arith, b1_at_most)
 
 pub returns-clause-read : goal.returns-clause-read
 returns-clause-read g c =

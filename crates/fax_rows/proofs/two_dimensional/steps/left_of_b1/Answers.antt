@@ -1,5 +1,4 @@
 use Rattle.std.proofs.Common.{arith}
-use Rattle.std.proofs.lemmas.Grind.{common_steps}
 use Rattle.std.proofs.lemmas.Int.{ints}
 use Rattle.fax_rows.specs.Rows.{other}
 use Rattle.fax_rows.proofs.PlacedB1Lemmas.{left_start}
@@ -10,7 +9,7 @@ pub bounds-reference-at : goal.bounds-reference-at
 bounds-reference-at c = omega (arith, b1_in_room c.requires.inside)
 
 pub turned_at-requires-clause-within : goal.turned_at-requires-clause-within
-turned_at-requires-clause-within c = grind (arith, common_steps, under_within, ints, c.requires.inside, c.in_ok-place.ensures.place, c.requires.left.le)
+turned_at-requires-clause-within c = grind (arith, under_within)
 
 pub turned_at-requires-clause-b1 : goal.turned_at-requires-clause-b1
 turned_at-requires-clause-b1 c = λ h.

@@ -15,7 +15,7 @@ returns-then-place-reference-clause-out c = λ in_row.
     omega (arith, ints, ends, c.from.ensures, c.unsigned_abs.ensures.value, c.requires.right.le)
 
 pub turned_at-requires-clause-right : goal.turned_at-requires-clause-right
-turned_at-requires-clause-right c = grind (arith, common_steps, under_right, ints, c.requires.inside)
+turned_at-requires-clause-right c = grind (arith, common_steps, under_right, c.requires.inside)
 
 pub turned_at-requires-clause-b1 : goal.turned_at-requires-clause-b1
 turned_at-requires-clause-b1 c = λ h.
