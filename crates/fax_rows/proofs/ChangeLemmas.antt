@@ -40,10 +40,6 @@ pub record IsNextChange (row : List Colour) (from : Option ℕ) (place : ℕ) : 
   pub right : place < length row → is_right_of from place ≡ true
   pub there : place < length row → is_changing row place ≡ true
 
-pub both_false : (a b : Bool) → (a && b) ≡ false → a ≡ true → b ≡ false
-both_false true b h is = h
-both_false false b h is = cc
-
 pub next_change_is : (row : List Colour) (from : Option ℕ) → IsNextChange row from (next_change row from)
 unfolding next_change
 next_change_is row from = grind (arith, first_place_is)

@@ -1,7 +1,7 @@
 -- Steps over places of change that T.4 would have chosen.
 use Rattle.std.proofs.lemmas.Grind.{common_steps}
 use Rattle.std.proofs.Common.{◌≡◌, ℕ, ◌<◌, ◌≤◌, List, length, take, Bool, ℤ, pos, ◌≤ℤ◌, subst, arith}
-use Rattle.std.specs.Prelude.{Option, Some, None, IfSome, ok_or, Result, Ok, Err, IfOk}
+use Rattle.std.specs.Prelude.{None, Result, Ok, Err, IfOk}
 use Rattle.std.proofs.lemmas.Int.{ints}
 use Rattle.fax_bits.specs.declared.Colour.TheVariants.{White}
 use Rattle.fax_bits.specs.declared.modes.ModeCode.TheVariants.{Pass, Horizontal, Vertical}
@@ -27,11 +27,6 @@ use Rattle.fax_rows.proofs.TurnLemmas.{length-pels_by}
 pub map_ok : {A E : Type 0} {P Q : A → Type 0} (found : Result A E) → IfOk found P → ((x : A) → P x → Q x) → IfOk found Q
 map_ok (Ok x) p f = f x p
 map_ok (Err e) p f = tt
-
-pub map_found : {A E : Type 0} {P Q : A → Type 0} (found : Option A) (e : E) → IfSome found P → ((x : A) → P x → Q x)
-    → IfOk (ok_or found e) Q
-map_found None e p f = tt
-map_found (Some x) e p f = f x p
 
 pub map_three : {A E : Type 0} {P Q R S : A → Type 0} (found : Result A E) → IfOk found P → IfOk found Q → IfOk found R
     → ((x : A) → P x → Q x → R x → S x) → IfOk found S

@@ -1,7 +1,7 @@
 -- The table of the ones in a byte.
 use Rattle.std.proofs.lemmas.Grind.{common_steps}
 use Rattle.std.proofs.Common.{◌≡◌, ℕ, zero, suc, ◌+◌, ◌*◌, ◌^◌, ◌<◌, ◌≤◌, List, [], ◌∷◌, ◌++◌, map, length, take, drop, replicate}
-use Rattle.std.proofs.Common.{if◌then◌else◌, get_or, Bool, true, false, nat_eq, refl, ap, sym, ◌∙◌, subst, arith, w8, w32}
+use Rattle.std.proofs.Common.{get_or, Bool, true, false, nat_eq, refl, ap, sym, ◌∙◌, subst, arith, w8, w32}
 use Rattle.std.specs.Prelude.{◌&&◌, nat_le}
 use Rattle.std.proofs.lemmas.Bool.{and_parts, eqb-true, leb-true}
 use Rattle.std.proofs.lemmas.List.{drop-drop, length-map, length-take-le, take-append-le, take-map}
@@ -93,12 +93,6 @@ widened = act1 (cast unsigned unsigned w32) (s_int w8) (s_int w32)
 map_widened : (xs : List ℕ) → map widened xs ≡ xs
 map_widened [] = refl
 map_widened (x ∷ xs) = ap (λ zs. x ∷ zs) (map_widened xs)
-
--- the places of ones, from another place on
-added_if : (one : Bool) (from k : ℕ) → from + k < 2 ^ 32
-    → map (λ y. added y from) (if one then (0 + k) ∷ [] else []) ≡ (if one then (from + k) ∷ [] else [])
-added_if true from k small = grind (arith, common_steps)
-added_if false from k small = refl
 
 ones_added : (byte from k : ℕ) → k ≤ 8 → from + 8 < 2 ^ 32
     → map (λ y. added y from) (ones_among 0 7 byte k) ≡ ones_among from 7 byte k

@@ -87,12 +87,6 @@ module _ (row : PlacedRow) where
       same_as (pel (placed_pels row) i) colour
       (pel_after row.placed.ascending row.width i found.0 inside found.1 ∙ ap (alternate Black) same ∙ at.colour_is)
 
-  second_end : get_or row.places.now (row.end + 1) 0 ≡ row.width
-  second_end = row.placed.after 1 (omega arith)
-
-  third_end : get_or row.places.now (row.end + 2) 0 ≡ row.width
-  third_end = row.placed.after 2 (omega arith)
-
   -- from the last place on all places are the width
   pub over_end : (b : ℕ) → row.end ≤ b → b ≤ row.end + 2 → get_or row.places.now b 0 ≡ row.width
   over_end b over within = grind arith
@@ -169,9 +163,6 @@ module _ (row : PlacedRow) where
   before_end : (place b : ℕ) → place < row.width → get_or row.places.now b 0 ≤ place → b ≤ row.end + 1 → b < row.end
   before_end place zero inside left within = row.placed.ascending.started
   before_end place (suc b) inside left within = inside_end (suc b) (omega arith) within (omega arith)
-
-  pub search_within : (place b : ℕ) → place < row.width → get_or row.places.now b 0 ≤ place → b ≤ row.end + 1 → b + 2 ≤ row.end + 1
-  search_within place b inside left within = let less = before_end place b inside left within in omega arith
 
   pub search_goes_on : (place b : ℕ) → place < row.width → get_or row.places.now b 0 ≤ place → (colour : Colour)
       → IsBeforeB1 row place colour b → IsBeforeB1 row place colour (b + 2)

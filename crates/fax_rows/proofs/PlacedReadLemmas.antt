@@ -10,7 +10,7 @@ use Rattle.std.proofs.lemmas.List.{take_at, take_more_set, ext_get_or}
 use Rattle.fax_bits.specs.declared.Colour.{Colour}
 use Rattle.fax_bits.specs.declared.Colour.TheVariants.{White, Black}
 use Rattle.fax_bits.specs.Codes.{IsRun}
-use Rattle.fax_rows.specs.Rows.{other, IsOneDimensionalRow}
+use Rattle.fax_rows.specs.Rows.{other}
 use Rattle.fax_rows.specs.code.Put.{ArePut, HasRoom}
 use Rattle.fax_rows.specs.code.Turns.{turned, pels_by, IsAscending, IsTurnedFrom, TurnsAt}
 use Rattle.fax_rows.proofs.TurnLemmas.{length-pels_by, pel-pels_by, turned-push_left, turned-push_right, at_least, below_later}
@@ -93,11 +93,6 @@ pub run_turned : {width : ℕ} {b : List Bool} {total n : ℕ} {colour : Colour}
     → ((i : ℕ) → total ≤ i → turned Black old i ≡ colour) → IsTurnedFrom old new (total + n)
     → IsRowSoFar width b (total + n) (other colour) (pels_by width new) rest
 run_turned so_far unfinished within run after turn = grind (arith, row_goes_on, pel-pels_by)
-
--- a row that is shown otherwise
-pub one_dimensional_as : {width wide : ℕ} {b : List Bool} {row shown : List Colour} {rest : List Bool}
-    → IsOneDimensionalRow width b row rest → width ≡ wide → shown ≡ row → IsOneDimensionalRow wide b shown rest
-one_dimensional_as is same shows = grind (arith, common_steps)
 
 -- elements that are all written over
 pub refilled : (len : ℕ) (new old : List ℕ) → length new ≡ len → take len (new ++ drop (length new) old) ≡ new

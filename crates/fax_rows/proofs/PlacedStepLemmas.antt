@@ -255,12 +255,6 @@ pub steps_done : (reference : List Colour) (b : List Bool) (at : Reached) (row :
     → IsTwoDimensionalRow reference b row rest
 steps_done reference b at row rest width so_far some done len same = grind (arith, common_steps)
 
--- a row that is shown otherwise
-pub two_dimensional_as : {reference shown_reference : List Colour} {b : List Bool} {row shown : List Colour} {rest : List Bool}
-    → IsTwoDimensionalRow reference b row rest → reference ≡ shown_reference → shown ≡ row
-    → IsTwoDimensionalRow shown_reference b shown rest
-two_dimensional_as is same shows = grind (arith, common_steps)
-
 -- a step that is no part of the row
 pub fault_here : (reference : List Colour) (b : List Bool) (at : Reached) (row : List Colour) (mid : List Bool)
     → GoesOn reference beginning b (position_of at row) mid → reached_pel at < length reference

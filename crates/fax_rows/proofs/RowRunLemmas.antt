@@ -1,13 +1,13 @@
 -- The longest runs of a row, pel by pel.
 use Rattle.std.proofs.lemmas.Grind.{common_steps}
 use Rattle.std.proofs.Common.{◌≡◌, ◌≢◌, ℕ, zero, suc, ◌+◌, ◌-◌, ◌<◌, ◌≤◌, List, [], ◌∷◌, ◌++◌, length, take, drop, get_or, Bool, true}
-use Rattle.std.proofs.Common.{false, not, refl, ap, sym, ◌∙◌, subst, arith, inl, inr, drop-cons, get_or-drop, length-drop}
+use Rattle.std.proofs.Common.{false, refl, ap, sym, ◌∙◌, subst, arith, inl, inr, drop-cons, get_or-drop, length-drop}
 use Rattle.std.proofs.Math.Numerals.{suc-eq-add-one}
 use Rattle.std.proofs.lemmas.List.{take_more, length-take-le}
 use Rattle.fax_bits.specs.declared.Colour.{Colour}
 use Rattle.fax_bits.specs.declared.Colour.TheVariants.{White, Black}
 use Rattle.std.specs.List.{filter, range_with_len}
-use Rattle.fax_rows.specs.Rows.{other, same_colour, pel, pel_before, is_changing, runs_after, runs_of}
+use Rattle.fax_rows.specs.Rows.{other, pel_before, is_changing, runs_after, runs_of}
 use Rattle.fax_rows.specs.code.LongestRuns.{gaps, AreAheadOf}
 use Rattle.fax_rows.specs.code.Turns.{ArePlaces}
 use Rattle.std.proofs.lemmas.Bool.{cases_lt}
@@ -45,16 +45,6 @@ goes_on colour first n i pels within at same = grind (arith, common_steps, drop-
 pub turns : (colour first : Colour) (n i : ℕ) (pels : List Colour) → i < length pels → get_or pels i White ≡ first → first ≢ colour
     → runs_after colour n (drop i pels) ≡ n ∷ runs_after first 1 (drop (i + 1) pels)
 turns colour first n i pels within at other = grind (arith, common_steps, drop-cons, runs_after-other, suc-eq-add-one)
-
-changes_so : (a b : Colour) → not (same_colour a b) ≡ true → a ≢ b
-changes_so White White h e = cc
-changes_so Black Black h e = cc
-changes_so White Black h e = cc
-changes_so Black White h e = cc
-
--- the colour before the pel after place i
-before_next : (row : List Colour) (i : ℕ) → pel_before row (i + 1) ≡ pel row i
-before_next row i = let same : i + 1 ≡ suc i = omega arith in ap (λ k. pel_before row k) same
 
 -- how far it is from a place to each of the next ones, and at last to the width
 gaps_to : ℕ → List ℕ → ℕ → List ℕ

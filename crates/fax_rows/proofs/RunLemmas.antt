@@ -1,6 +1,5 @@
 -- Runs, code by code.
-use Rattle.std.proofs.Common.{◌≡◌, ℕ, ◌+◌, ◌-◌, List, [], ◌∷◌, ◌++◌, map, drop, Bool, refl, ap, sym, ◌∙◌, subst, arith, append_assoc}
-use Rattle.fax_bits.specs.views.Source.{Source, KeepsEnd}
+use Rattle.std.proofs.Common.{◌≡◌, ℕ, ◌+◌, List, [], ◌∷◌, ◌++◌, map, Bool, refl, ap, sym, ◌∙◌, subst, arith, append_assoc}
 use Rattle.std.specs.Prelude.{sum}
 use Rattle.std.proofs.lemmas.Grind.{common_steps}
 use Rattle.std.proofs.lemmas.List.{map-append}
@@ -76,11 +75,6 @@ spells_after table b (m ∷ ms) rest spelled =
     let more = spells_after table spelled.0 ms rest spelled.2 in
     let code = bits_of spelled.1.entry in
     (code ++ more.0, spelled.1.spelled ∙ ap (λ c. code ++ c) more.1 ∙ sym (append_assoc code more.0 rest))
-
--- the bits from a place on, where others end at the same place
-pub from_there : (old new : Source) (front : List Bool) → old.left ≡ front ++ new.left → KeepsEnd old new
-    → record { left = drop (new.place - old.place) old.left; place = new.place } ≡ new
-from_there old new front parts same_end = grind (arith, common_steps)
 
 pub run_after : {colour : Colour} {b : List Bool} {n : ℕ} {rest : List Bool} → IsRun colour b n rest
     → (front : List Bool) × (b ≡ front ++ rest)

@@ -1,6 +1,6 @@
 -- The a1s of vertical modes in lanes.
 use Rattle.std.proofs.Common.{rules, ◌≡◌, ℕ, zero, suc, ◌+◌, ◌-◌, ◌^◌, ◌<◌, ◌≤◌, List, [], ◌∷◌, ◌++◌, length, map, take, drop, get_or, Bool}
-use Rattle.std.proofs.Common.{true, false, cond, refl, ap, sym, ◌∙◌, subst, arith, w8, w32, ltb, bit_and}
+use Rattle.std.proofs.Common.{cond, refl, ap, sym, ◌∙◌, subst, arith, w8, w32, ltb, bit_and}
 use Rattle.std.proofs.lemmas.Grind.{common_steps}
 use Rattle.std.specs.Int.{bit_at}
 use Rattle.std.proofs.lemmas.List.{get_or-map, length-map}
@@ -42,10 +42,6 @@ length-raised f others ys b room long = grind (arith, common_steps, length-zip2)
 -- lanes that are less
 abbrev bit_of : Bool → ℕ
 bit_of t = cond t 1 0
-
-is_set : (t : Bool) → bit_of t ≡ 1 → t ≡ true
-is_set true h = refl
-is_set false h = cc
 
 pub lane_less : (xs ys : List ℕ) (i : ℕ) → i < length xs → i < length ys → bit_at (mask_l (zip2 ltb xs ys)) i ≡ 1
     → get_or xs i 0 < get_or ys i 0

@@ -46,11 +46,6 @@ pub step_bits-more : (limit : ℕ) (reference row : List Colour) (a0 : Option �
 unfolding step_bits
 step_bits-more limit reference row a0 unfinished = grind (arith, common_steps)
 
--- a0 at the width
-at_width : (a0 : Option ℕ) (width : ℕ) → 0 < width → first_of a0 ≡ width → a0 ≡ Some width
-at_width None width some same = absurd (omega arith)
-at_width (Some a) width some same = ap (λ n. Some n) same
-
 not_at_width : (a0 : Option ℕ) (width : ℕ) → first_of a0 < width → a0 ≢ Some width
 not_at_width a0 width before same = omega (arith, ap first_of same)
 

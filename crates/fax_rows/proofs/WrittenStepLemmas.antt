@@ -15,7 +15,7 @@ use Rattle.fax_rows.specs.declared.put.ChangesAhead.{ChangesAhead}
 use Rattle.fax_rows.specs.declared.rows.PlacedRow.{PlacedRow}
 use Rattle.fax_rows.specs.declared.rows.RowPair.{RowPair}
 use Rattle.fax_rows.specs.Rows.{other, is_right_of}
-use Rattle.fax_rows.specs.code.ChangesAhead.{AreAhead, IsWrittenTo, mode_from, bits_from, place_from, run_pair}
+use Rattle.fax_rows.specs.code.ChangesAhead.{AreAhead, mode_from, bits_from, place_from, run_pair}
 use Rattle.fax_rows.specs.code.PlacedRow.{placed_pels, IsBeforeB1, IsB1At}
 use Rattle.fax_rows.specs.code.Turns.{alternate, IsFrom, ArePlacesUpTo}
 use Rattle.fax_rows.proofs.ChangeLemmas.{first_of}
@@ -120,7 +120,3 @@ module _ {rows : RowPair} {ahead : ChangesAhead} (is : AreAhead rows ahead) wher
 
   pub under_place : ahead.a1 ≡ ahead.b1 → ahead.a1 ≡ place_from (placed_pels rows.reference) (placed_pels rows.row) ahead.a0
   under_place same = grind (arith, under_mode)
-
--- before the first step a1 and b1 are the first changes
-pub starts : (rows : RowPair) → IsWrittenTo rows (record { a0 = None; row = 1; reference = 1 })
-starts rows = grind (arith, common_steps)
