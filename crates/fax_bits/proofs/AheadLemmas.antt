@@ -8,9 +8,8 @@ use Rattle.std.proofs.lemmas.List.{drop-drop, take-append-drop, take-take, take-
 use Rattle.fax_bits.specs.declared.FillOrder.{FillOrder}
 use Rattle.fax_bits.specs.declared.window.Window.{Window}
 use Rattle.fax_bits.specs.declared.modes.ModeCode.TheVariants.{Vertical}
-use Rattle.fax_bits.specs.Bits.{bits, code_bits}
+use Rattle.fax_bits.specs.Bits.{bits, code_bits, bits_number}
 use Rattle.fax_bits.specs.views.Source.{HasZerosAhead, Source, source_of, KeepsEnd}
-use Rattle.fax_bits.specs.Bits.{bits_number}
 use Rattle.fax_bits.specs.Tables.{modes}
 use Rattle.fax_bits.specs.code.BitsAhead.{bits_ahead, IsAhead, place_before}
 use Rattle.fax_bits.specs.code.LookUp.{IsBegun, IsCode, IsLookedUp}
@@ -47,16 +46,7 @@ begun_short number begun =
 pub after_ahead : (order : FillOrder) (bytes : List ℕ) (old after : Window) (n : ℕ) → IsAhead order bytes old
     → bits_ahead order bytes after ≡ drop n (bits_ahead order bytes old) → after.count + n ≡ old.count → after.at ≡ old.at
     → IsAhead order bytes after
-after_ahead order bytes old after n is ahead count at =
-    let place_is : place_before old + n ≡ place_before after = omega (arith, is.before, at, count) in
-    record {
-      within = omega (arith, is.within, at);
-      before = omega (arith, is.before, at, count);
-      counted = is.counted;
-      bits_are =
-          ahead ∙ ap (drop n) is.bits_are ∙ drop-drop n (place_before old) (bits order bytes)
-          ∙ ap (λ p. drop p (bits order bytes)) place_is;
-    }
+after_ahead order bytes old after n is ahead count at = grind (arith, common_steps, drop-drop)
 
 -- a window at the place of another, of which more may be loaded
 module _ (order : FillOrder) (bytes : List ℕ) (old window : Window) (source : Source) (is : IsAhead order bytes old)

@@ -6,10 +6,8 @@ use Rattle.std.proofs.lemmas.Nat.{pow_pos, mod_below, shr_below, shr_split}
 use Rattle.std.proofs.lemmas.Nat.Bits.{bit_at-lt, same_from_bits_below}
 use Rattle.std.specs.Int.{bit_at}
 use Rattle.std.proofs.lemmas.Bool.Decides.{nat_tests}
-use Rattle.fax_bits.specs.Bits.{code_bits}
-use Rattle.fax_bits.specs.Bits.{BeginsWith}
-use Rattle.fax_bits.proofs.CodeBitsLemmas.{code_bits-add}
-use Rattle.fax_bits.proofs.CodeBitsLemmas.{length-code_bits, get_or-code_bits}
+use Rattle.fax_bits.specs.Bits.{code_bits, BeginsWith}
+use Rattle.fax_bits.proofs.CodeBitsLemmas.{code_bits-add, length-code_bits, get_or-code_bits}
 
 same_digit : (n m : ℕ) → n < 2 → m < 2 → nat_eq n 1 ≡ nat_eq m 1 → n ≡ m
 same_digit n m h k e = grind (arith, nat_tests)

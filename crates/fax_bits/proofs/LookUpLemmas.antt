@@ -1,7 +1,7 @@
 -- What one look-up finds, and what was read then.
-use Rattle.std.proofs.Common.{◌≡◌, ℕ, ◌+◌, ◌*◌, ◌/◌, ◌%◌, ◌^◌, ◌≤◌, List, [], ◌++◌, length, Bool, refl, ap, sym, ◌∙◌, subst, arith}
-use Rattle.std.proofs.lemmas.Grind.{common_steps}
+use Rattle.std.proofs.Common.{◌≡◌, ℕ, ◌+◌, ◌*◌, ◌/◌, ◌%◌, ◌^◌, ◌≤◌, List, [], ◌++◌, length, Bool, refl, ap, sym, ◌∙◌, arith, rules}
 use Rattle.std.proofs.Common.{append_assoc, append-nil, length-append}
+use Rattle.std.proofs.lemmas.Grind.{common_steps}
 use Rattle.fax_bits.specs.declared.codes.CodeEntry.{CodeEntry}
 use Rattle.fax_bits.specs.declared.pairs.Pair.{Pair}
 use Rattle.fax_bits.specs.Bits.{code_bits}
@@ -46,13 +46,7 @@ code_taken table old meaning new read = record {
 -- what begins the first thirteen of thirty-two bits begins them all
 pub begins_more : {F : Type 0} (means : List Bool → F → Type 0) (number len : ℕ) (found : F)
     → IsBegun means (code_bits 13 (number / 2 ^ 19)) len found → IsBegun means (code_bits 32 number) len found
-begins_more means number len found begun = record {
-  front = begun.front;
-  ahead = begins_all 13 19 number begun.front begun.ahead;
-  long = begun.long;
-  some = begun.some;
-  meaning = begun.meaning;
-}
+begins_more means number len found begun = search (rules, begins_all)
 
 -- a code for a run that begins the bits is taken of its own
 run_code_begins : (colour : Colour) (b : List Bool) (len : ℕ) (code : RunCode) → HasCodeAhead (run_table colour) b len code
@@ -132,25 +126,11 @@ run_written colour front left pels rest is taken = taken ∙ ap (λ b. b ++ rest
 -- and is read
 pub run_taken : (colour : Colour) (front left : List Bool) (pels : ℕ) (rest : List Bool) → IsOneRun colour front pels
     → left ≡ front ++ rest → IsRun colour left pels rest
-run_taken colour front left pels rest is taken =
-    subst (λ b. IsRun colour b pels rest) (sym (run_written colour front left pels rest is taken))
-    (run_bits_are_read colour pels rest is.short)
+run_taken colour front left pels rest is taken = grind (arith, common_steps, run_written, run_bits_are_read)
 
 -- two runs that begin the bits are found
 pub pair_begins : (b : List Bool) (len : ℕ) (pair : Pair) → IsPairAhead b len pair → IsBegun AreTwoRuns b len pair
-pair_begins b len pair found = record {
-  front = code_bits len found.code;
-  ahead = found.ahead;
-  long = length-code_bits len found.code;
-  some = found.some;
-  meaning = record {
-    white = found.white;
-    black = found.black;
-    short_white = found.short_white;
-    short_black = found.short_black;
-    spelled = found.spelled;
-  };
-}
+pair_begins b len pair found = grind (arith, common_steps, length-code_bits)
 
 -- and are read
 pub pair_taken : (front left : List Bool) (pair : Pair) (rest : List Bool) → AreTwoRuns front pair → left ≡ front ++ rest

@@ -4,8 +4,7 @@ use Rattle.std.proofs.Math.Nat.{div-div-eq-div-mul, mul-mod_left}
 use Rattle.std.proofs.Math.Seq.{drop-append_seam}
 use Rattle.std.proofs.lemmas.Nat.{mod_below, pow_pos, pow-add, shr_split, mod-pow-add, shl-shr}
 use Rattle.fax_bits.specs.Bits.{code_bits, BeginsWith}
-use Rattle.fax_bits.proofs.CodeBitsLemmas.{code_bits-add}
-use Rattle.fax_bits.proofs.CodeBitsLemmas.{length-code_bits}
+use Rattle.fax_bits.proofs.CodeBitsLemmas.{code_bits-add, length-code_bits}
 
 -- the highest bits of a number, and the others
 parts : (high low number : ℕ) → code_bits (high + low) number ≡ code_bits high (number / 2 ^ low) ++ code_bits low (number % 2 ^ low)

@@ -54,12 +54,7 @@ has_code (negsuc (suc (suc (suc n)))) written = absurd (omega (arith, few (negsu
 -- a mode that is written is read again
 takes_mode : (place : ℕ) (entry : CodeEntry ModeCode) (more : List Bool) → slice_get modes place ≡ Some entry
     → bits_of entry ≡ mode_bits entry.meaning → Takes modes (mode_bits entry.meaning ++ more) entry.meaning more
-takes_mode place entry more found same = record {
-  entry = entry;
-  listed = listed modes place entry found;
-  means = refl;
-  spelled = ap (λ b. b ++ more) (sym same);
-}
+takes_mode place entry more found same = grind (arith, common_steps, listed)
 
 pub mode_bits_are_read : ModeBitsAreRead
 unfolding modes mode_bits code_bits
@@ -124,9 +119,7 @@ vertical_begins : (number place : ℕ) (found : Option (CodeEntry ModeCode)) →
     → slice_get modes place ≡ found → 0 < len_at found
     → HasCodeAhead modes (code_bits 13 number) (len_at found) (Vertical (shift_at found))
 vertical_begins number place None place_is is some = absurd (omega arith)
-vertical_begins number place (Some entry) place_is is some =
-    let parts = is_vertical entry.meaning entry.len some in
-    rw (sym parts.0, sym parts.1) (found_at_place modes number place entry place_is is)
+vertical_begins number place (Some entry) place_is is some = grind (arith, common_steps, is_vertical, found_at_place)
 
 -- a vertical mode that the arrays have begins thirteen bits
 pub vertical_is_ahead : (number : ℕ) → number < 2 ^ 13 → 0 < get_or VERTICAL_MODES.lens (number / 2 ^ 6) 0

@@ -1,16 +1,15 @@
 -- The number that bits spell, and the bits of that number.
-use Rattle.std.proofs.Common.{◌≡◌, ℕ, suc, ◌+◌, ◌-◌, ◌*◌, ◌^◌, ◌<◌, List, [], ◌∷◌, length, Bool, true, false, if◌then◌else◌, nat_eq, refl}
+use Rattle.std.proofs.lemmas.Grind.{common_steps}
+use Rattle.std.proofs.Common.{◌≡◌, ℕ, ◌+◌, ◌*◌, ◌^◌, ◌<◌, List, [], ◌∷◌, length, Bool, true, false, if◌then◌else◌, nat_eq, refl}
 use Rattle.std.proofs.Common.{ap, sym, ◌∙◌, subst, arith}
 use Rattle.std.specs.Prelude.{fold}
 use Rattle.std.specs.Int.{bit_at}
 use Rattle.std.proofs.Math.Nat.{pow-succ'}
 use Rattle.std.proofs.lemmas.Nat.Bits.{bit_at_cat_high}
 use Rattle.fax_bits.specs.declared.FillOrder.TheVariants.{MsbFirst}
-use Rattle.fax_bits.specs.Bits.{code_bits, byte_bits}
-use Rattle.fax_bits.specs.Bits.{bits_number}
-use Rattle.fax_bits.proofs.CodeBitsLemmas.{code_bits-low}
+use Rattle.fax_bits.specs.Bits.{code_bits, byte_bits, bits_number}
+use Rattle.fax_bits.proofs.CodeBitsLemmas.{code_bits-low, length-code_bits}
 use Rattle.fax_bits.proofs.FindLemmas.{same_number}
-use Rattle.fax_bits.proofs.CodeBitsLemmas.{length-code_bits}
 use Rattle.fax_bits.proofs.PeekLemmas.{bits_number-lt}
 
 abbrev digit_of : Bool → ℕ
@@ -36,13 +35,7 @@ first_digit false = refl
 pub code_bits-number : (b : List Bool) → code_bits (length b) (bits_number b) ≡ b
 unfolding code_bits
 code_bits-number [] = refl
-code_bits-number (x ∷ b) =
-    let place : length b - length b ≡ 0 = omega arith in
-    ap (code_bits (suc (length b))) (number-cons x b)
-    ∙ ap (λ n. nat_eq n 1 ∷ code_bits (length b) (digit_of x * 2 ^ length b + bits_number b))
-    (bit_at_cat_high (digit_of x) (length b) (bits_number b) (length b) (bits_number-lt b) (omega arith) ∙ ap (bit_at (digit_of x)) place)
-    ∙ ap (λ first. first ∷ code_bits (length b) (digit_of x * 2 ^ length b + bits_number b)) (first_digit x)
-    ∙ ap (λ more. x ∷ more) (code_bits-low (length b) (length b) (digit_of x) (bits_number b) (omega arith) ∙ code_bits-number b)
+code_bits-number (x ∷ b) = grind (arith, common_steps, number-cons, bit_at_cat_high, bits_number-lt, first_digit, code_bits-low, code_bits-number b)
 
 -- the number that the bits of a number spell
 pub number-code_bits : (len number : ℕ) → number < 2 ^ len → bits_number (code_bits len number) ≡ number

@@ -8,8 +8,7 @@ use Rattle.std.proofs.lemmas.List.{replicate-append-replicate}
 use Rattle.std.proofs.Math.Seq.{take-add, take-append-add, take-append_seam, drop-append_seam}
 use Rattle.fax_bits.specs.declared.FillOrder.{FillOrder}
 use Rattle.fax_bits.specs.declared.FillOrder.TheVariants.{MsbFirst, LsbFirst}
-use Rattle.fax_bits.specs.Bits.{bits, byte_bits}
-use Rattle.fax_bits.specs.Bits.{byte_of, packed}
+use Rattle.fax_bits.specs.Bits.{bits, byte_bits, byte_of, packed}
 use Rattle.fax_bits.specs.laws.Codes.{PackedBitsArePadded, PaddedBytesArePacked}
 use Rattle.fax_bits.proofs.NumberLemmas.{byte_bits-number, number-byte_bits}
 use Rattle.fax_bits.proofs.SourceLemmas.{length-bits, length-byte_bits}

@@ -10,8 +10,7 @@ use Rattle.std.proofs.Math.Nat.{div-div-eq-div-mul, pow-succ'}
 use Rattle.std.specs.List.{range_with_len}
 use Rattle.fax_bits.specs.declared.Colour.{Colour}
 use Rattle.fax_bits.specs.declared.Colour.TheVariants.{White, Black}
-use Rattle.fax_bits.specs.declared.indexes.TheConstants.{PAIRS}
-use Rattle.fax_bits.specs.declared.indexes.TheConstants.{WHITE_PAIR_CODES, WHITE_PAIR_LENS, BLACK_PAIR_CODES, BLACK_PAIR_LENS}
+use Rattle.fax_bits.specs.declared.indexes.TheConstants.{PAIRS, WHITE_PAIR_CODES, WHITE_PAIR_LENS, BLACK_PAIR_CODES, BLACK_PAIR_LENS}
 use Rattle.fax_bits.specs.declared.runs.TheConstants.{WHITE_CODES, WHITE_LENS, BLACK_CODES, BLACK_LENS}
 use Rattle.fax_bits.specs.Bits.{code_bits}
 use Rattle.fax_bits.specs.Tables.{run_table}
@@ -190,12 +189,7 @@ pub record IsPairCode (code len : ℕ) (bits : List Bool) : Type 0 where
 two_codes : (one other : Colour) (first second code len code' len' : ℕ) → IsShortCode one first code len
     → IsShortCode other second code' len'
     → IsPairCode (code * 2 ^ len' + code') (len + len') (run_bits one first ++ run_bits other second)
-two_codes one other first second code len code' len' is is' = record {
-  bits_are =
-      code_bits-add len len' code code' is'.1 ∙ ap (λ b. b ++ code_bits len' code') is.2 ∙ ap (λ b. run_bits one first ++ b) is'.2;
-  fits = omega (arith, mul-add-lt code (2 ^ len') code' (2 ^ len) is.1 is'.1, pow-add 2 len len');
-  short = omega (arith, is.0, is'.0);
-}
+two_codes one other first second code len code' len' is is' = grind (arith, common_steps, code_bits-add, mul-add-lt, pow-add)
 
 high_of : (first second : ℕ) → second < 16 → (first * 16 + second) / 16 ≡ first
 high_of first second short = omega arith

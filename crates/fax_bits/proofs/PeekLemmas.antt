@@ -1,6 +1,5 @@
 -- The number that bits spell, and zeros past their end.
-use Rattle.std.proofs.Common.{ℕ, ◌+◌, ◌*◌, ◌^◌, ◌<◌, ◌≤◌, List, [], ◌∷◌, ◌++◌, length, replicate, Bool, true}
-use Rattle.std.proofs.Common.{false, if◌then◌else◌, arith}
+use Rattle.std.proofs.Common.{ℕ, ◌+◌, ◌*◌, ◌^◌, ◌<◌, ◌≤◌, List, [], ◌∷◌, ◌++◌, length, replicate, Bool, true, false, if◌then◌else◌, arith}
 use Rattle.std.specs.Prelude.{fold}
 use Rattle.std.proofs.Math.Nat.{pow-succ'}
 use Rattle.fax_bits.specs.Bits.{bits_number}

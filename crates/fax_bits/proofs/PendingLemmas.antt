@@ -1,7 +1,6 @@
 -- Bits that wait for a sink, and go to it word by word.
 use Rattle.std.proofs.lemmas.Grind.{common_steps}
-use Rattle.std.proofs.Common.{◌≡◌, ℕ, ◌+◌, ◌*◌, ◌%◌, ◌^◌, ◌<◌, List, ◌++◌, length, Bool}
-use Rattle.std.proofs.Common.{ap, sym, ◌∙◌, arith}
+use Rattle.std.proofs.Common.{◌≡◌, ℕ, ◌+◌, ◌*◌, ◌%◌, ◌^◌, ◌<◌, List, ◌++◌, length, Bool, ap, sym, ◌∙◌, arith}
 use Rattle.std.specs.Prelude.{bit_or}
 use Rattle.fax_bits.specs.declared.Colour.{Colour}
 use Rattle.fax_bits.specs.Bits.{code_bits}
@@ -22,9 +21,7 @@ module _ (count number next_count next_number : ℕ) (first : AreWaiting count n
 
   pub both_bits : (b c : List Bool) → code_bits count number ≡ b → code_bits next_count next_number ≡ c
       → code_bits (count + next_count) (bit_or (number * 2 ^ next_count % 2 ^ 64) next_number) ≡ b ++ c
-  both_bits b c b_is c_is =
-      joined_bits count number next_count next_number first.fits next.fits (omega (arith, first.few, next.few))
-      ∙ ap (λ d. d ++ code_bits next_count next_number) b_is ∙ ap (λ d. b ++ d) c_is
+  both_bits b c b_is c_is = grind (arith, common_steps, joined_bits)
 
 -- where all bits are left
 pub all_left : (sink : Sink) (all left : List Bool) → left ≡ all → AppendsAllBut sink all left sink

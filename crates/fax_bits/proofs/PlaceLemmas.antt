@@ -7,14 +7,12 @@ use Rattle.std.proofs.lemmas.Bool.{and_parts, cases_Bool, leb-true, or_cases}
 use Rattle.std.proofs.lemmas.Nat.{pow-add, pow_pos, shl_below, shl-shr}
 use Rattle.std.proofs.Math.Nat.{div-div-eq-div-mul, lt-div-mul-add}
 use Rattle.fax_bits.specs.declared.codes.CodeEntry.{CodeEntry}
-use Rattle.fax_bits.specs.Bits.{code_bits}
+use Rattle.fax_bits.specs.Bits.{code_bits, BeginsWith}
 use Rattle.fax_bits.specs.Codes.{bits_of, HasNoCode}
 use Rattle.fax_bits.specs.views.Codes.{HasCodeAhead, HasShortCodes, IsPrefixFree}
-use Rattle.fax_bits.specs.Bits.{BeginsWith}
 use Rattle.fax_bits.specs.code.Places.{begins, place_after, place_of}
-use Rattle.fax_bits.proofs.CodeBitsLemmas.{code_bits-add}
+use Rattle.fax_bits.proofs.CodeBitsLemmas.{code_bits-add, length-code_bits}
 use Rattle.fax_bits.proofs.FindLemmas.{code_ahead, ahead_is_short, ahead_is_first}
-use Rattle.fax_bits.proofs.CodeBitsLemmas.{length-code_bits}
 use Rattle.fax_bits.proofs.PrefixLemmas.{takes_one}
 use Rattle.fax_bits.proofs.TableLemmas.{listed}
 
@@ -105,21 +103,7 @@ long_is_low entry low number above below is = grind (arith, common_steps, lt-div
 same_begins : {M : Type 0} (entry : CodeEntry M) (short low number : ℕ) → short ≤ 13 → low ≤ number
     → (nat_le entry.len 13 && (nat_le entry.len short || nat_le ((entry.code + 1) * 2 ^ (13 - entry.len)) low)) ≡ true
     → begins entry short (number / 2 ^ (13 - short)) ≡ begins entry 13 number
-same_begins entry short low number few above test =
-    let parts = and_parts (nat_le entry.len 13) (nat_le entry.len short || nat_le ((entry.code + 1) * 2 ^ (13 - entry.len)) low) test in
-    let in_thirteen = leb-true entry.len 13 parts.0 in
-    same_test _ _
-    (λ h.
-    let is = begins_true entry short (number / 2 ^ (13 - short)) h in
-    begins_from entry 13 number in_thirteen (sym (first_of_first number 13 short entry.len is.0 few) ∙ is.1))
-    (λ h.
-    let is = begins_true entry 13 number h in
-    elim (or_cases (nat_le entry.len short) (nat_le ((entry.code + 1) * 2 ^ (13 - entry.len)) low) parts.1) [
-      | inl within ↦
-          let in_short = leb-true entry.len short within in
-          begins_from entry short (number / 2 ^ (13 - short)) in_short (first_of_first number 13 short entry.len in_short few ∙ is.1)
-      | inr below ↦ absurd (long_is_low entry low number above (leb-true _ low below) is.1)
-    ])
+same_begins entry short low number few above test = grind (arith, common_steps, and_parts, leb-true, same_test, begins_true, begins_from, first_of_first, or_cases, long_is_low)
 
 -- the first `short` bits of 13 tell as much, where they are no beginning of a long code
 pub short_place : {M : Type 0} (table : List (CodeEntry M)) (short low number : ℕ) → short ≤ 13 → long_codes_test short low table ≡ true
@@ -178,9 +162,7 @@ module _ {M : Type 0} (table : List (CodeEntry M)) (short : HasShortCodes table)
       ∙ ahead_is_first n window entry.len entry.code within fits (short entry here).2 ahead)
 
   place_past : length table ≤ place → HasNoCode table (code_bits n window)
-  place_past past entry here ahead =
-      past_begins_none table 13 (window * 2 ^ (13 - n)) (omega (arith, past, place_is)) here.0 entry here.1 here.2
-      (ahead_begins entry here ahead)
+  place_past past entry here ahead = grind (arith, common_steps, past_begins_none, ahead_begins)
 
   -- the entry at the place
   at_place : (entry : CodeEntry M) → slice_get table place ≡ Some entry
@@ -230,9 +212,7 @@ pub found_by_place : {M : Type 0} (table : List (CodeEntry M)) → HasShortCodes
     → MatchOption found (HasNoCode table (code_bits n window)) (λ found. HasCodeAhead table (code_bits n window) found.0 found.1)
 found_by_place table short free n window place few fits place_is entry at None long =
     place_long table short free n window place few fits (place_is ∙ ap (place_of table 13) (aligned_is n window few fits)) entry at long
-found_by_place table short free n window place few fits place_is entry at (Some found) is =
-    rw (is.1, is.2)
-    (place_found table short free n window place few fits (place_is ∙ ap (place_of table 13) (aligned_is n window few fits)) entry at is.0)
+found_by_place table short free n window place few fits place_is entry at (Some found) is = grind (arith, common_steps, place_found, aligned_is)
 
 -- where the place is past the table, it answers none
 pub none_by_place : {M : Type 0} (table : List (CodeEntry M)) → HasShortCodes table → IsPrefixFree table → (n window place : ℕ) → n ≤ 13

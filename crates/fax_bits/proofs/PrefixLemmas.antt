@@ -1,6 +1,6 @@
 -- A table that keeps its rules is read in one way.
+use Rattle.std.proofs.Common.{rules, ◌≡◌, List, [], ◌∷◌, ◌++◌, length, length-append, Bool, refl, ap, sym, ◌∙◌, arith, inl, inr}
 use Rattle.std.proofs.lemmas.Grind.{common_steps}
-use Rattle.std.proofs.Common.{◌≡◌, List, [], ◌∷◌, ◌++◌, length, length-append, Bool, refl, ap, sym, ◌∙◌, arith, inl, inr}
 use Rattle.std.specs.Prelude.{◌⊎◌, Contains}
 use Rattle.std.proofs.lemmas.List.{append_cancel_left}
 use Rattle.std.proofs.lemmas.Option.{slice_get_read}
@@ -58,12 +58,4 @@ takes_bits table short b meaning rest takes =
 
 -- a table is read in one way
 pub reads_one_way : {M : Type 0} (table : List (CodeEntry M)) → HasShortCodes table → IsPrefixFree table → ReadsOneWay table
-reads_one_way table short free = record {
-  takes_bits = takes_bits table short;
-  code = record {
-    one_answer = takes_one table free;
-    answer_or_fault = takes_or_fails table;
-    answer_has_no_fault = taken_has_no_fault table;
-    one_fault = has_one_fault table;
-  };
-}
+reads_one_way table short free = search (rules, takes_bits, takes_one, takes_or_fails, taken_has_no_fault, has_one_fault)

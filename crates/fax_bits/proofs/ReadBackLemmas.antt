@@ -11,12 +11,11 @@ use Rattle.fax_bits.specs.declared.Colour.{Colour}
 use Rattle.fax_bits.specs.declared.runs.RunCode.{RunCode}
 use Rattle.fax_bits.specs.declared.runs.RunCode.TheVariants.{Terminating, MakeUp}
 use Rattle.fax_bits.specs.Codes.{Takes, Spells, IsRun}
-use Rattle.fax_bits.specs.laws.Codes.{RunBitsAreRead, RunBitsAreOneRun}
+use Rattle.fax_bits.specs.laws.Codes.{HasOneAnswer, RunBitsAreRead, RunBitsAreOneRun}
 use Rattle.fax_bits.specs.Written.{run_code_bits, run_codes, run_bits}
-use Rattle.fax_bits.specs.code.Codes.{one_make_up}
+use Rattle.fax_bits.specs.code.Codes.{one_make_up, run_meaning}
 use Rattle.fax_bits.specs.code.TableLaws.{run_table_is_prefix_free}
 use Rattle.fax_bits.specs.Tables.{run_table}
-use Rattle.fax_bits.specs.code.Codes.{run_meaning}
 use Rattle.fax_bits.proofs.PrefixLemmas.{takes_one}
 use Rattle.fax_bits.proofs.RunCodeLemmas.{takes_run_code, run_meaning-terminating, run_meaning-make_up}
 
@@ -61,11 +60,7 @@ one_make_up-suc k = let some : nat_eq (suc k) 0 ≡ false = grind (arith, nat_te
 spells_rest : (colour : Colour) (steps : ℕ) (more : List Bool) → steps ≤ 40
     → Spells (run_table colour) (flat_map (run_code_bits colour) (one_make_up steps) ++ more) (one_make_up steps) more
 spells_rest colour zero more few = refl
-spells_rest colour (suc k) more few =
-    let f = run_code_bits colour in
-    rw (one_make_up-suc k)
-    (subst (λ b. Spells (run_table colour) (b ++ more) (MakeUp (64 * suc k) ∷ []) more) (sym (append-nil (f (MakeUp (64 * suc k)))))
-    (spells_make_up colour (suc k) more (omega arith) few))
+spells_rest colour (suc k) more few = grind (arith, common_steps, one_make_up-suc, append-nil, spells_make_up)
 
 -- codes that are spelled by their own bits, whatever follows them
 abbrev SpelledByOwn : Colour → List RunCode → Type 0
@@ -81,13 +76,7 @@ spelled-terminating colour n short more =
     (spells_terminating colour n more short)
 
 spelled-run : (colour : Colour) (n : ℕ) → SpelledByOwn colour (run_codes n)
-spelled-run colour n =
-    let steps : n % 2560 / 64 ≤ 40 = omega arith in
-    let low : n % 64 < 64 = omega arith in
-    spelled-both colour (replicate (n / 2560) (MakeUp 2560) ++ one_make_up (n % 2560 / 64)) (Terminating (n % 64) ∷ [])
-    (spelled-both colour (replicate (n / 2560) (MakeUp 2560)) (one_make_up (n % 2560 / 64))
-    (spells_often colour (n / 2560)) (λ more. spells_rest colour (n % 2560 / 64) more steps))
-    (spelled-terminating colour (n % 64) low)
+spelled-run colour n = grind (arith, spelled-both, spells_often, spells_rest, spelled-terminating)
 
 -- the pels of one_make_up
 abbrev rest_pels : ℕ → List ℕ
@@ -141,11 +130,9 @@ same_run colour b (n ∷ pels) (m ∷ others) last end rest remaining first seco
     (subst (λ x. Spells (run_table colour) x (map MakeUp others ++ Terminating end ∷ []) remaining) (sym same.1) second.2) in
     (cc (here, after.0), after.1, after.2)
 
-one_length : {colour : Colour} {b : List Bool} {n m : ℕ} {rest remaining : List Bool} → IsRun colour b n rest → IsRun colour b m remaining
-    → (n ≡ m) × (rest ≡ remaining)
-one_length {colour = colour} {b = b} {rest = rest} {remaining = remaining} first second =
-    let same = same_run colour b first.make_up second.make_up first.last second.last rest remaining first.spelled second.spelled in
-    (omega (arith, first.length, second.length, ap sum same.0, same.1), same.2)
+pub runs_are_one : (colour : Colour) → HasOneAnswer (IsRun colour)
+runs_are_one colour b n m rest remaining first second = grind (arith, common_steps, same_run)
 
 pub run_bits_are_one_run : RunBitsAreOneRun
-run_bits_are_one_run colour n m more rest few is = one_length (run_bits_are_read colour n more few) is
+run_bits_are_one_run colour n m more rest few is =
+    runs_are_one colour (run_bits colour n ++ more) n m more rest (run_bits_are_read colour n more few) is

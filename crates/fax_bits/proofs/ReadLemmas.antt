@@ -1,11 +1,11 @@
 -- A code that is read by the number of the next bits.
+use Rattle.std.proofs.lemmas.Grind.{common_steps}
 use Rattle.std.proofs.Common.{◌≡◌, ℕ, ◌+◌, ◌-◌, ◌^◌, ◌<◌, ◌≤◌, List, ◌∷◌, ◌++◌, length, take, drop, replicate, Bool, false, ap, sym, ◌∙◌}
-use Rattle.std.proofs.Common.{subst, arith, append_assoc, length-append, length-take}
+use Rattle.std.proofs.Common.{arith, append_assoc, length-append, length-take}
 use Rattle.std.proofs.Math.Seq.{take-append-add}
 use Rattle.std.proofs.lemmas.List.{take-append-drop, take-append-le}
 use Rattle.fax_bits.specs.declared.codes.CodeEntry.{CodeEntry}
-use Rattle.fax_bits.specs.Bits.{bits_number}
-use Rattle.fax_bits.specs.Bits.{code_bits}
+use Rattle.fax_bits.specs.Bits.{bits_number, code_bits}
 use Rattle.fax_bits.specs.Codes.{bits_of, HasNoCode, IsCutShort, Takes}
 use Rattle.fax_bits.specs.views.Codes.{HasCodeAhead, HasShortCodes}
 use Rattle.fax_bits.proofs.CodeBitsLemmas.{length-code_bits, ahead_fits}
@@ -22,14 +22,10 @@ module _ (left : List Bool) (n : ℕ) (all : n ≤ length left) where
   peeked_is = take-append-le n left (replicate n false) all
 
   pub peeked_bits : (number : ℕ) → number ≡ bits_number (take n (padded left n)) → code_bits n number ≡ take n left
-  peeked_bits number is =
-      ap (code_bits n) (is ∙ ap bits_number peeked_is) ∙ ap (λ k. code_bits k (bits_number (take n left))) (sym length-next)
-      ∙ code_bits-number (take n left)
+  peeked_bits number is = grind (arith, common_steps, peeked_is, length-next, code_bits-number)
 
   pub peeked-below : (number : ℕ) → number ≡ bits_number (take n (padded left n)) → number < 2 ^ n
-  peeked-below number is =
-      subst (λ m. m < 2 ^ n) (sym (is ∙ ap bits_number peeked_is)) (subst (λ k. bits_number (take n left) < 2 ^ k) length-next
-      (bits_number-lt (take n left)))
+  peeked-below number is = grind (arith, common_steps, peeked_is, length-next, bits_number-lt)
 
 -- a code that begins the next bits is taken
 pub takes_found : {M : Type 0} {table : List (CodeEntry M)} {left b : List Bool} (n : ℕ) {len : ℕ} {meaning : M} → b ≡ take n left

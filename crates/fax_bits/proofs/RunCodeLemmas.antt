@@ -1,16 +1,15 @@
 -- The codes of runs by their places in the run tables.
 use Rattle.std.proofs.lemmas.Grind.{common_steps}
-use Rattle.std.proofs.Common.{◌≡◌, ℕ, zero, suc, ◌+◌, ◌*◌, ◌-◌, ◌<◌, ◌≤◌, List, [], ◌∷◌, ◌++◌, length, Bool, false, refl, ap, sym}
+use Rattle.std.proofs.Common.{◌≡◌, ℕ, zero, suc, ◌+◌, ◌*◌, ◌<◌, ◌≤◌, List, [], ◌∷◌, ◌++◌, length, Bool, false, refl, ap, sym}
 use Rattle.std.proofs.Common.{◌∙◌, arith, zero-add}
 use Rattle.std.specs.Prelude.{Some, slice_get}
 use Rattle.fax_bits.specs.declared.codes.CodeEntry.{CodeEntry}
 use Rattle.fax_bits.specs.declared.Colour.{Colour}
 use Rattle.fax_bits.specs.declared.runs.RunCode.TheVariants.{Terminating, MakeUp}
 use Rattle.fax_bits.specs.Codes.{bits_of, Takes}
-use Rattle.fax_bits.specs.code.Codes.{bits_at}
+use Rattle.fax_bits.specs.code.Codes.{bits_at, run_meaning}
 use Rattle.fax_bits.specs.Written.{same_run_code, code_for, run_code_bits}
 use Rattle.fax_bits.specs.Tables.{run_table}
-use Rattle.fax_bits.specs.code.Codes.{run_meaning}
 use Rattle.fax_bits.proofs.TableLemmas.{listed}
 use Rattle.fax_bits.proofs.ArrayLemmas.{run_entries, codes_of, lens_of, length-codes_of, run_table_is, run_entry_at}
 
@@ -22,9 +21,6 @@ bits_at-found (first ∷ table) (suc place) entry found = bits_at-found table pl
 
 pub run_meaning-terminating : (n : ℕ) → n < 64 → run_meaning n ≡ Terminating n
 run_meaning-terminating n short = grind (arith, common_steps)
-
-pub make_up-at : (place : ℕ) → 64 ≤ place → place < 104 → run_meaning place ≡ MakeUp (64 * (place - 63))
-make_up-at place above below = grind (arith, common_steps)
 
 pub run_meaning-make_up : (steps : ℕ) → 0 < steps → steps ≤ 40 → run_meaning (63 + steps) ≡ MakeUp (64 * steps)
 run_meaning-make_up steps some few = grind (arith, common_steps)
@@ -39,13 +35,7 @@ code_for-run_entries : (first : ℕ) (codes lens : List ℕ) (i : ℕ) → i < l
 code_for-run_entries first [] lens i h k within = absurd (omega arith)
 code_for-run_entries first (c ∷ codes) [] i h k within = absurd (omega arith)
 code_for-run_entries first (c ∷ codes) (l ∷ lens) zero h k within = grind (arith, common_steps)
-code_for-run_entries first (c ∷ codes) (l ∷ lens) (suc i) h k within =
-    let e : suc first + i ≡ first + suc i = omega arith in
-    let other : same_run_code (run_meaning (first + suc i)) (run_meaning first) ≡ false =
-    differ first (first + suc i) (omega arith) within in
-    rw other
-    (ap (λ n. code_for (same_run_code (run_meaning n)) (run_entries (suc first) codes lens)) (sym e)
-    ∙ code_for-run_entries (suc first) codes lens i (omega arith) (omega arith) (omega arith))
+code_for-run_entries first (c ∷ codes) (l ∷ lens) (suc i) h k within = grind (arith, common_steps, differ, run_entries, code_for-run_entries (suc first) codes lens i (omega arith) (omega arith) (omega arith))
 
 pub bits_at-run_table : (colour : Colour) (place : ℕ) → place < 105 → bits_at (run_table colour) place
     ≡ run_code_bits colour (run_meaning place)

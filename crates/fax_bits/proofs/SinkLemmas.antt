@@ -1,8 +1,7 @@
 -- Bits that are put after others: into the pending bits, and from there into bytes.
 use Rattle.std.proofs.lemmas.Grind.{common_steps}
-use Rattle.std.proofs.Common.{◌≡◌, ℕ, ◌+◌, ◌-◌, ◌*◌, ◌/◌, ◌%◌, ◌^◌, ◌<◌, ◌≤◌, List, [], ◌∷◌, ◌++◌, length, map, take, drop}
-use Rattle.std.proofs.Common.{replicate, Bool, true, false, refl, ap, sym, ◌∙◌, subst, arith, append_assoc, append-nil, add-zero}
-use Rattle.std.proofs.Common.{length-append}
+use Rattle.std.proofs.Common.{◌≡◌, ℕ, ◌+◌, ◌-◌, ◌*◌, ◌/◌, ◌%◌, ◌^◌, ◌<◌, ◌≤◌, List, [], ◌∷◌, ◌++◌, length, map, take, drop, replicate, Bool}
+use Rattle.std.proofs.Common.{true, false, refl, ap, sym, ◌∙◌, arith, append_assoc, append-nil, add-zero, length-append}
 use Rattle.std.specs.Prelude.{bit_and, bit_or, Result, Ok, Err, OnOk, is_ok}
 use Rattle.std.proofs.lemmas.List.{take_at}
 use Rattle.std.proofs.lemmas.List.Concat.{flat_map-append}
@@ -15,8 +14,7 @@ use Rattle.fax_bits.specs.declared.FillOrder.TheVariants.{MsbFirst, LsbFirst}
 use Rattle.fax_bits.specs.Bits.{bits, byte_bits, code_bits}
 use Rattle.fax_bits.specs.views.Sink.{Sink, IsPadded}
 use Rattle.fax_bits.specs.code.Sink.{sink_of}
-use Rattle.fax_bits.proofs.CodeBitsLemmas.{code_bits-add, code_bits-zeros, byte_bits-reversed}
-use Rattle.fax_bits.proofs.CodeBitsLemmas.{length-code_bits}
+use Rattle.fax_bits.proofs.CodeBitsLemmas.{code_bits-add, code_bits-zeros, byte_bits-reversed, length-code_bits}
 use Rattle.fax_bits.proofs.SourceLemmas.{length-bits}
 
 -- a call that succeeded
@@ -46,9 +44,7 @@ module _ (count pending len number : ℕ) (pending_fits : pending < 2 ^ count) (
 -- a number of pending bits, of which the first k are stored
 module _ (k count pending : ℕ) (some : 0 < k) (whole : k ≤ count) (short : count ≤ 64) (fits : pending < 2 ^ count) where
   pub first_part-lt : pending / 2 ^ (count - k) < 2 ^ k
-  first_part-lt =
-      let e : k + (count - k) ≡ count = omega arith in
-      shr_below pending k (count - k) (subst (λ n. pending < 2 ^ n) (sym e) fits)
+  first_part-lt = grind (arith, common_steps, shr_below)
 
   pub masked : bit_and pending (1 * 2 ^ (count - k) % 2 ^ 64 - 1) ≡ pending % 2 ^ (count - k)
   masked = ap (λ n. bit_and pending (n - 1)) (one_shl (count - k) 64 (omega arith)) ∙ and_mask pending (count - k)
@@ -75,9 +71,7 @@ byte_bits-msb byte = refl
 pub bits-reversed : (bytes : List ℕ) → bits LsbFirst (map (reverse_bits w8) bytes) ≡ bits MsbFirst bytes
 unfolding bits
 bits-reversed [] = refl
-bits-reversed (byte ∷ bytes) =
-    ap (λ b. b ++ bits LsbFirst (map (reverse_bits w8) bytes)) (byte_bits-reversed byte ∙ sym (byte_bits-msb byte))
-    ∙ ap (λ b. byte_bits MsbFirst byte ++ b) (bits-reversed bytes)
+bits-reversed (byte ∷ bytes) = grind (arith, common_steps, byte_bits-reversed, byte_bits-msb, bits-reversed bytes)
 
 -- bytes that are all written over
 pub written_over : (len : ℕ) (new old : List ℕ) → length new ≡ len → take len (new ++ drop (length new) old) ≡ new
@@ -96,9 +90,7 @@ bits-append order bytes xs = flat_map-append (byte_bits order) bytes xs
 
 -- the bytes of a word, the highest first
 pub be_coded : (n : ℕ) → n < 2 ^ 32 → bits MsbFirst (n / 16777216 % 256 ∷ n / 65536 % 256 ∷ n / 256 % 256 ∷ n % 256 ∷ []) ≡ code_bits 32 n
-be_coded n fits =
-    sym (be_bits (n / 16777216 % 256) (n / 65536 % 256) (n / 256 % 256) (n % 256) (omega arith) (omega arith) (omega arith))
-    ∙ ap (code_bits 32) (from_be_bytes-to_be_bytes_4 n fits)
+be_coded n fits = grind (arith, common_steps, be_bits, from_be_bytes-to_be_bytes_4)
 
 -- how many bits a sink has
 pub length-sink : (order : FillOrder) (bytes : List ℕ) (count pending : ℕ) (sink : Sink) → sink_of order bytes count pending ≡ sink

@@ -5,16 +5,14 @@ use Rattle.std.proofs.Common.{get_or, Bool, true, false, ◌↔◌, IsTrue, add-
 use Rattle.std.proofs.Common.{drop-cons}
 use Rattle.std.specs.Prelude.{bit_and}
 use Rattle.std.proofs.lemmas.Nat.{one_shl, and_mask, shr_below, shr_split, mod_below, pow_pos}
-use Rattle.fax_bits.proofs.CodeBitsLemmas.{code_bits-add}
+use Rattle.fax_bits.proofs.CodeBitsLemmas.{code_bits-add, length-code_bits}
 use Rattle.std.proofs.lemmas.List.{append_cancel_left, take-append-le, take-append-drop, length-take-le}
 use Rattle.std.proofs.Math.Seq.{take-append_seam, take-length, take-suc}
 use Rattle.std.proofs.lemmas.List.Concat.{flat_map-append}
 use Rattle.fax_bits.specs.declared.FillOrder.TheVariants.{MsbFirst}
-use Rattle.fax_bits.specs.Bits.{bits, byte_bits, code_bits, BeginsWith}
-use Rattle.fax_bits.specs.Bits.{bits_number}
+use Rattle.fax_bits.specs.Bits.{bits, byte_bits, code_bits, BeginsWith, bits_number}
 use Rattle.fax_bits.proofs.SinkLemmas.{bits-push, byte_bits-msb}
 use Rattle.fax_bits.specs.views.Source.{IsTaken}
-use Rattle.fax_bits.proofs.CodeBitsLemmas.{length-code_bits}
 use Rattle.fax_bits.proofs.NumberLemmas.{code_bits-number, number-code_bits}
 use Rattle.fax_bits.proofs.PeekLemmas.{padded}
 

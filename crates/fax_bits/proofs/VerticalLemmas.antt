@@ -1,11 +1,11 @@
 -- The arrays of the vertical modes hold codes of vertical modes, one after another.
+use Rattle.std.proofs.lemmas.Bool.{eqb-true, and_parts}
 use Rattle.std.proofs.lemmas.Grind.{common_steps}
 use Rattle.std.proofs.Common.{◌≡◌, ℕ, zero, suc, ◌+◌, ◌-◌, ◌*◌, ◌/◌, ◌^◌, ◌<◌, ◌≤◌, List, [], ◌∷◌, ◌++◌, map, length, take, get_or, Bool, true}
 use Rattle.std.proofs.Common.{false, if◌then◌else◌, refl, ap, sym, ◌∙◌, subst, arith, append_assoc, zero-add, lit<}
 use Rattle.std.specs.Prelude.{◌&&◌, nat_lt, nat_le, nat_eq, flat_map, All, pos, negsuc, ◌≤ℤ◌}
 use Rattle.std.specs.Int.{to_le_bytes, w32}
 use Rattle.std.proofs.lemmas.Int.{ints}
-use Rattle.std.proofs.lemmas.Bool.{and_parts}
 use Rattle.std.proofs.lemmas.Bool.Decides.{nat_tests}
 use Rattle.std.proofs.lemmas.List.Elements.{All-nil, All-cons, All-head, All-tail}
 use Rattle.std.proofs.lemmas.Nat.{mul-add-lt, pow-add}
@@ -17,10 +17,9 @@ use Rattle.fax_bits.specs.Tables.{modes}
 use Rattle.fax_bits.specs.Written.{mode_bits}
 use Rattle.fax_bits.specs.code.LookUp.{IsBegun, AreVerticals}
 use Rattle.fax_bits.specs.declared.verticals.Verticals.{Verticals}
-use Rattle.fax_bits.specs.views.Verticals.{shift, vertical, raises_of, AreVerticalsRead}
-use Rattle.fax_bits.proofs.CodeBitsLemmas.{code_bits-add}
+use Rattle.fax_bits.specs.views.Verticals.{shift, vertical, AreVerticalsRead}
+use Rattle.fax_bits.proofs.CodeBitsLemmas.{code_bits-add, length-code_bits}
 use Rattle.fax_bits.proofs.FindLemmas.{code_ahead}
-use Rattle.fax_bits.proofs.CodeBitsLemmas.{length-code_bits}
 use Rattle.fax_bits.proofs.ModeLemmas.{mode_bits_are_read}
 
 -- the codes of the vertical modes, and their lengths
@@ -81,9 +80,6 @@ lt-from_test n m h = grind (arith, nat_tests)
 
 le-from_test : (n m : ℕ) → nat_le n m ≡ true → n ≤ m
 le-from_test n m h = grind (arith, nat_tests)
-
-eq-from_test : (n m : ℕ) → nat_eq n m ≡ true → n ≡ m
-eq-from_test n m h = grind (arith, nat_tests)
 
 near_from_test : (raises : List ℕ) → are_near raises ≡ true → All (λ raised. raised < 7) raises
 near_from_test [] h = All-nil (λ raised. raised < 7)
@@ -147,25 +143,7 @@ pub record IsSeveral (number len count : ℕ) (four : List ℕ) : Type 0 where
   pub spelled : number / 2 ^ (12 - len) ≡ code_of (take count four)
 
 from_test : (number len count : ℕ) (four : List ℕ) → is_several number len count four ≡ true → IsSeveral number len count four
-from_test number len count four is =
-    let raises = take count four in
-    let one = and_parts (nat_lt 0 count) _ is in
-    let two = and_parts (nat_le count 4) _ one.1 in
-    let three = and_parts (nat_eq (length four) 4) _ two.1 in
-    let all = and_parts (are_near four) _ three.1 in
-    let four' = and_parts (nat_le len 12) _ all.1 in
-    let five = and_parts (are_near raises) _ four'.1 in
-    let six = and_parts (nat_eq len (len_of raises)) _ five.1 in
-    record {
-      some = lt-from_test 0 count one.0;
-      few = le-from_test count 4 two.0;
-      lanes = eq-from_test (length four) 4 three.0;
-      all_near = all.0;
-      within = le-from_test len 12 four'.0;
-      near = five.0;
-      len_is = eq-from_test len (len_of raises) six.0;
-      spelled = eq-from_test _ (code_of raises) six.1;
-    }
+from_test number len count four is = grind (arith, common_steps, and_parts, lt-from_test, le-from_test, eqb-true)
 
 found : (number : ℕ) → number < 4096 → 0 < get_or VERTICALS.lens number 0
     → IsSeveral number (get_or VERTICALS.lens number 0) (get_or VERTICALS.counts number 0) (to_le_bytes w32 (get_or VERTICALS.raises number 0))
@@ -234,8 +212,4 @@ near_taken (suc n) (raised ∷ raises) near =
 
 pub verticals_taken : (front left : List Bool) (found : Verticals) (rest : List Bool) → AreVerticals front found → left ≡ front ++ rest
     → AreVerticalsRead left found rest
-verticals_taken front left found rest are taken = record {
-  few = are.few;
-  spelled = subst (λ c. Spells modes c (map vertical (raises_of found)) rest) (sym (taken ∙ ap (λ c. c ++ rest) are.spelled))
-      (all_read (raises_of found) rest (near_taken found.count found.raises are.few.near));
-}
+verticals_taken front left found rest are taken = grind (arith, common_steps, found, all_read, near_taken)

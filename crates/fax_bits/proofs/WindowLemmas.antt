@@ -1,23 +1,19 @@
 -- Words of 64 bits: `count` bits, the highest first, with zeros after them.
+use Rattle.fax_bits.proofs.CodeBitsLemmas.{code_bits-zeros, code_bits-add, length-code_bits}
 use Rattle.std.proofs.lemmas.Grind.{common_steps}
 use Rattle.std.proofs.Common.{◌≡◌, ℕ, zero, suc, ◌+◌, ◌-◌, ◌*◌, ◌/◌, ◌%◌, ◌^◌, ◌<◌, ◌≤◌, List, [], ◌∷◌, ◌++◌, length, take, drop, replicate}
-use Rattle.std.proofs.Common.{get_or, Bool, true, false, nat_eq, refl, append_assoc, ap, sym, ◌∙◌, subst, arith}
-use Rattle.std.proofs.Common.{add-zero}
+use Rattle.std.proofs.Common.{get_or, Bool, true, false, nat_eq, refl, append_assoc, ap, sym, ◌∙◌, subst, arith, add-zero}
 use Rattle.std.specs.Prelude.{bit_or}
 use Rattle.std.specs.Int.{bit_at}
 use Rattle.std.proofs.Math.Nat.{add-mul, pow-succ', div-div-eq-div-mul, mul_assoc, mul-mod_left}
 use Rattle.std.proofs.Math.Seq.{drop-append_seam, take-append_seam}
 use Rattle.std.proofs.lemmas.List.{take-append-le, take-append-drop, take-replicate, replicate-append-replicate}
-use Rattle.std.proofs.lemmas.Nat.Bits.{bit_at-zero}
 use lib.Count.{count_leading_zeros}
 use Rattle.std.proofs.lemmas.Nat.{leading_length, shr_high, mod-pow-add, mod_below, or_shifted, pow-add, pow_pos, shl_below, shl-shr}
 use Rattle.std.proofs.lemmas.Nat.{shl_whole, shr_below, shr_split}
-use Rattle.fax_bits.specs.Bits.{code_bits}
+use Rattle.fax_bits.specs.Bits.{code_bits, bits_number}
 use Rattle.fax_bits.specs.views.Source.{HasZerosAhead}
-use Rattle.fax_bits.specs.Bits.{bits_number}
 use Rattle.fax_bits.specs.code.Window.{first_bits}
-use Rattle.fax_bits.proofs.CodeBitsLemmas.{code_bits-add}
-use Rattle.fax_bits.proofs.CodeBitsLemmas.{length-code_bits}
 use Rattle.fax_bits.proofs.NumberLemmas.{number-code_bits}
 
 -- a word whose bits are those of a number below 2 ^ count
@@ -115,24 +111,16 @@ module _ (count word n : ℕ) (more : List Bool) (few : count ≤ 64) (within : 
       ∙ ap (code_bits n) high
 
   pub next-lt : word / 2 ^ (64 - n) < 2 ^ n
-  next-lt =
-      let e : n + (64 - n) ≡ 64 = omega arith in
-      shr_below word n (64 - n) (subst (λ k. word < 2 ^ k) (sym e) fits)
+  next-lt = grind (arith, common_steps, shr_below)
 
   pub next_number : word / 2 ^ (64 - n) ≡ bits_number (take n (first_bits count word ++ more))
-  next_number =
-      let b = code_bits n (word / 2 ^ (64 - n)) in
-      sym (ap bits_number next_bits ∙ number-code_bits n (word / 2 ^ (64 - n)) next-lt)
+  next_number = grind (arith, common_steps, next_bits, number-code_bits, next-lt)
 
 -- a 1 after n zeros
 one_bit : (n : ℕ) → code_bits (suc n) 1 ≡ replicate n false ++ true ∷ []
 unfolding code_bits
 one_bit zero = refl
-one_bit (suc n) =
-    let small : 1 < 2 ^ suc n = omega (arith, pow-succ' 2 n, pow_pos n) in
-    let is : 1 ≡ 0 * 2 ^ suc n + 1 = omega arith in
-    let none : bit_at 1 (suc n) ≡ 0 = ap (λ d. d % 2) (ap (λ w. w / 2 ^ suc n) is ∙ shr_high 0 (suc n) 1 small) in
-    ap (λ d. nat_eq d 1 ∷ code_bits (suc n) 1) none ∙ ap (λ b. false ∷ b) (one_bit n)
+one_bit (suc n) = grind (arith, common_steps, pow-succ', pow_pos, shr_high, one_bit n)
 
 -- the highest bit of a word, which stands after its leading zeros
 top_bit : (word n m : ℕ) → n + suc m ≡ 64 → word < 2 ^ suc m → 2 ^ suc m ≤ 2 * word + 1 → word / 2 ^ (64 - suc n) ≡ 1
@@ -175,12 +163,6 @@ first_is_one (suc count) word few fits zeros =
     let bit : bit_at (word / 2 ^ (64 - suc count)) count ≡ word / 2 ^ 63 = omega (arith, top, small) in
     ap (λ n. nat_eq n 1) (sym bit)
 
--- zeros
-code_bits-zero : (n : ℕ) → code_bits n 0 ≡ replicate n false
-unfolding code_bits
-code_bits-zero zero = refl
-code_bits-zero (suc n) = ap (λ d. nat_eq d 1 ∷ code_bits n 0) (bit_at-zero n) ∙ ap (λ b. false ∷ b) (code_bits-zero n)
-
 -- the zeros after the first bits of a word
 whole_word : (count word : ℕ) → count ≤ 64 → word % 2 ^ (64 - count) ≡ 0
     → first_bits 64 word ≡ first_bits count word ++ replicate (64 - count) false
@@ -190,7 +172,7 @@ whole_word count word few zeros =
     let same : word / 2 ^ (64 - 64) ≡ number * 2 ^ (64 - count) + 0 = omega (arith, word_is count word zeros) in
     ap (code_bits 64) same ∙ ap (λ n. code_bits n (number * 2 ^ (64 - count) + 0)) (sym all)
     ∙ code_bits-add count (64 - count) number 0 (pow_pos (64 - count))
-    ∙ ap (λ b. code_bits count number ++ b) (code_bits-zero (64 - count))
+    ∙ ap (λ b. code_bits count number ++ b) (code_bits-zeros (64 - count))
 
 -- bits with zeros after them: as many as are taken are enough
 take_padded : (b : List Bool) (n m : ℕ) → n ≤ m → take n (b ++ replicate m false) ≡ take n (b ++ replicate n false)

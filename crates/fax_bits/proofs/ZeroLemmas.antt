@@ -1,6 +1,5 @@
 -- Zeros that bits begin with.
-use Rattle.std.proofs.Common.{◌≡◌, ℕ, zero, suc, ◌<◌, List, [], ◌∷◌, length, get_or, Bool, true, false, refl, ap}
-use Rattle.std.proofs.Common.{arith}
+use Rattle.std.proofs.Common.{◌≡◌, ℕ, zero, suc, ◌<◌, List, [], ◌∷◌, length, get_or, Bool, true, false, refl, ap, arith}
 use Rattle.fax_bits.specs.Bits.{IsAllZeros}
 use Rattle.fax_bits.specs.views.Source.{HasZerosAhead}
 

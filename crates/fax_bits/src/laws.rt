@@ -2,7 +2,6 @@
 //! contract.
 ghost use Rattle.fax_bits.specs.declared.Colour.{Colour};
 ghost use Rattle.fax_bits.specs.laws.Codes as Law;
-ghost use Rattle.fax_bits.specs.Tables.{run_table};
 
 use crate::codes::CodeTable;
 
@@ -32,9 +31,9 @@ pub fn codes_are_read_in_one_way<T: CodeTable>()
 
 /// Bits are read by the run table of a colour in one way: at most one code is taken, which has at
 /// least one bit; a code is taken or there is a fault, never both, and never two faults (T.4,
-/// tables 2, 3a and 3b).
+/// tables 2, 3a and 3b). Bits begin with at most one run of the colour, and one rest follows it.
 pub fn run_codes_are_read_in_one_way()
-    ensures { (colour : Colour) → Law.ReadsOneWay (run_table colour) }
+    ensures { (colour : Colour) → Law.ReadsRunsOneWay colour }
 {}
 
 /// A run below 65,536 pels, as `put_run` writes it, is read as that run, whatever bits follow it

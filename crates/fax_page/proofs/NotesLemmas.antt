@@ -121,18 +121,6 @@ module _ (reads : (form : StripForm) (i : ℕ) (reference : List Colour) → Rea
       marks true none other_choice = refl
       marks false none other_choice = absurd (other_choice (none refl))
 
--- codes that are compared
-pub codes_compared : (chosen : Type 0) (other choice : Bool) → other ≡ false → IsTrue choice ↔ chosen
-    → IsChoiceNoted chosen other (not choice)
-codes_compared chosen other true none is =
-    record { kept = λ h. absurd (cc (sym none ∙ h)); found = λ h. absurd (cc h); none = λ h. is.0 refl }
-codes_compared chosen other false none is =
-    record { kept = λ h. refl; found = λ h. inr (λ c. let no = is.1 c in cc no); none = λ h. absurd (cc h) }
-
--- codes that are only read, since those of some row before them are others than T.4 chooses
-pub codes_unasked : (chosen : Type 0) (other : Bool) → other ≡ true → IsChoiceNoted chosen other other
-codes_unasked chosen other is = record { kept = λ h. h; found = λ h. inl is; none = λ h. absurd (cc (sym is ∙ h)) }
-
 -- codes that are seen to be chosen
 pub codes_seen : (chosen : Type 0) (other : Bool) → chosen → IsChoiceNoted chosen other other
 codes_seen chosen other is = record { kept = λ h. h; found = λ h. inl h; none = λ h. is }
@@ -162,17 +150,6 @@ on_ok (Err e) to is = tt
 pub if_err : {A E : Type 0} {P Q : E → Type 0} (answer : Result A E) → ((e : E) → P e → Q e) → IfErr answer P → IfErr answer Q
 if_err (Ok x) to is = tt
 if_err (Err e) to is = to e is
-
--- before the first row
-pub none_read : (form : StripForm) (b : List Bool) → AreRowsRead form b 0 (white_row form.width) b false
-none_read form b = record {
-  before = [];
-  count = refl;
-  lines = λ more end after lines. lines;
-  found = λ is more. absurd (cc is);
-  onward = λ more has. has;
-  back = λ more has. inr has;
-}
 
 -- the rows so far, and an end after them
 stopped : (form : StripForm) (b left : List Bool) (i : ℕ) (reference : List Colour) (other : Bool) (end : Option StripFault)

@@ -1,14 +1,13 @@
 -- Changing elements: where the next one stands, and the pels before it.
+use Rattle.fax_rows.proofs.ColourLemmas.{same_is}
 use Rattle.std.proofs.lemmas.Grind.{common_steps}
-use Rattle.std.proofs.Common.{◌≡◌, ℕ, zero, suc, ◌+◌, ◌-◌, ◌<◌, ◌≤◌, List, [], ◌∷◌, ◌++◌, length, take, replicate, Bool, true, false, not}
+use Rattle.std.proofs.Common.{◌≡◌, ℕ, zero, suc, ◌+◌, ◌-◌, ◌<◌, ◌≤◌, List, [], ◌∷◌, ◌++◌, length, take, replicate, Bool, true, false}
 use Rattle.std.proofs.Common.{refl, ap, sym, ◌∙◌, arith, inl, inr}
 use Rattle.std.specs.Prelude.{◌&&◌, Option, Some, None, unwrap_or}
-use Rattle.std.proofs.lemmas.Bool.{and_parts, ltb-true, lt-ltb}
+use Rattle.std.proofs.lemmas.Bool.{ltb-true, lt-ltb}
 use Rattle.std.proofs.Math.Nat.{eq-or-lt_of_le}
 use Rattle.fax_bits.specs.declared.Colour.{Colour}
-use Rattle.fax_bits.specs.declared.Colour.TheVariants.{White, Black}
-use Rattle.fax_rows.specs.Rows.{other, same_colour, pel, pel_before, is_changing, is_right_of}
-use Rattle.fax_rows.specs.Rows.{first_place, next_change, b1}
+use Rattle.fax_rows.specs.Rows.{other, pel, pel_before, is_changing, is_right_of, first_place, next_change, b1}
 use Rattle.fax_rows.specs.code.Choice.{colour_of}
 
 -- the first of n places from i on that passes the test
@@ -41,47 +40,21 @@ pub record IsNextChange (row : List Colour) (from : Option ℕ) (place : ℕ) : 
   pub right : place < length row → is_right_of from place ≡ true
   pub there : place < length row → is_changing row place ≡ true
 
-pub both_false : (a b : Bool) → (a && b) ≡ false → a ≡ true → b ≡ false
-both_false true b h is = h
-both_false false b h is = cc
-
 pub next_change_is : (row : List Colour) (from : Option ℕ) → IsNextChange row from (next_change row from)
 unfolding next_change
-next_change_is row from =
-    let first = first_place_is (ChangeTest row from) 0 (length row) in
-    record {
-      within = omega (arith, first.within);
-      before = λ k h l. both_false (is_right_of from k) (is_changing row k) (first.before k (omega arith) h) l;
-      right = λ h. (and_parts (is_right_of from _) (is_changing row _) (first.there (omega arith))).0;
-      there = λ h. (and_parts (is_right_of from _) (is_changing row _) (first.there (omega arith))).1;
-    }
-
--- the colour before a pel that is not a changing element is its own
-not_changing : (a b : Colour) → not (same_colour a b) ≡ false → a ≡ b
-not_changing White White h = refl
-not_changing Black Black h = refl
-not_changing White Black h = cc
-not_changing Black White h = cc
-
-changing : (a b : Colour) → not (same_colour a b) ≡ true → a ≡ other b
-changing White White h = cc
-changing Black Black h = cc
-changing White Black h = refl
-changing Black White h = refl
+next_change_is row from = grind (arith, first_place_is)
 
 -- up to the next changing element the pel before each has the colour
 pub colour_before : {row : List Colour} (from : Option ℕ) {place : ℕ} → IsNextChange row from place
     → (k : ℕ) → k ≤ place → is_right_of from k ≡ true → pel_before row k ≡ colour_of row from
 colour_before None next zero within right = refl
-colour_before {row = row} None next (suc k) within right =
-    not_changing (pel row k) (pel_before row k) (next.before k (omega arith) refl)
-    ∙ colour_before None next k (omega arith) refl
+colour_before {row = row} None next (suc k) within right = grind (arith, colour_before None next k (omega arith) refl)
 colour_before (Some a) next zero within right = absurd (omega (arith, ltb-true a 0 right))
 colour_before {row = row} (Some a) next (suc k) within right =
     elim (eq-or-lt_of_le at_most) [
       | inl same ↦ ap (λ i. pel row i) (sym same)
       | inr less ↦
-          not_changing (pel row k) (pel_before row k) (next.before k (omega arith) (lt-ltb a k less))
+          same_is (pel row k) (pel_before row k) (next.before k (omega arith) (lt-ltb a k less))
           ∙ colour_before (Some a) next k (omega arith) (lt-ltb a k less)
     ]
   where
@@ -104,9 +77,7 @@ colour_up_to {from = from} next k after before = colour_before from next (suc k)
 -- and the changing element has the other
 pub colour_at : {row : List Colour} {from : Option ℕ} {place : ℕ} → IsNextChange row from place
     → place < length row → pel row place ≡ other (colour_of row from)
-colour_at {row = row} {from = from} {place = place} next inside =
-    changing (pel row place) (pel_before row place) (next.there inside)
-    ∙ ap other (colour_before from next place (omega arith) (next.right inside))
+colour_at next inside = grind (arith, common_steps, colour_before)
 
 -- the next changing element is not left of the place
 pub next_is_ahead : {row : List Colour} (from : Option ℕ) {place : ℕ} → IsNextChange row from place
@@ -127,39 +98,21 @@ replicate_pels (first ∷ row) (suc n) colour within each =
 -- the pels before `to` are those before `from` and a run
 pub pels_up_to : (row : List Colour) (from to : ℕ) (colour : Colour) → from ≤ to → to ≤ length row
     → ((k : ℕ) → from ≤ k → k < to → pel row k ≡ colour) → take from row ++ replicate (to - from) colour ≡ take to row
-pels_up_to row zero to colour order within each =
-    let all : to - zero ≡ to = omega arith in
-    rw all (replicate_pels row to colour within (λ k h. each k (omega arith) h))
+pels_up_to row zero to colour order within each = grind (arith, common_steps, replicate_pels)
 pels_up_to [] (suc from) to colour order within each = absurd (omega arith)
 pels_up_to (first ∷ row) (suc from) zero colour order within each = absurd (omega arith)
-pels_up_to (first ∷ row) (suc from) (suc to) colour order within each =
-    let same : suc to - suc from ≡ to - from = omega arith in
-    rw same (ap (λ pels. first ∷ pels) (pels_up_to row from to colour (omega arith) (omega arith)
-    (λ k h l. each (suc k) (omega arith) (omega arith))))
+pels_up_to (first ∷ row) (suc from) (suc to) colour order within each = grind (arith, pels_up_to row from to colour (omega arith) (omega arith) (λ k h l. each (suc k) (omega arith) (omega arith)))
 
 -- the next changing element of another colour lies in the row or is its width, right of the place
 pub next_of_within : (row : List Colour) (from : Option ℕ) (colour : Colour) → b1 row from colour ≤ length row
 unfolding b1
-next_of_within row from colour =
-    omega (
-      arith,
-      (first_place_is (λ i. is_right_of from i && (is_changing row i && not (same_colour (pel row i) colour))) 0
-          (length row)).within,
-    )
+next_of_within row from colour = grind (arith, first_place_is)
 
 pub next_of_right : (row : List Colour) (from : Option ℕ) (colour : Colour) → b1 row from colour < length row
     → is_right_of from (b1 row from colour) ≡ true
 unfolding b1
-next_of_right row from colour inside =
-    let first = first_place_is (λ i. is_right_of from i && (is_changing row i && not (same_colour (pel row i) colour))) 0 (length row) in
-    (and_parts (is_right_of from _) _ (first.there (omega arith))).0
+next_of_right row from colour inside = grind (arith, first_place_is)
 
 pub still_left : (right change : Bool) → (right ≡ true → change ≡ false) → (right && change) ≡ false
 still_left true change h = h refl
 still_left false change h = refl
-
-pub same_as : (a b : Colour) → a ≡ b → not (same_colour a b) ≡ false
-same_as White White h = refl
-same_as Black Black h = refl
-same_as White Black h = cc
-same_as Black White h = cc

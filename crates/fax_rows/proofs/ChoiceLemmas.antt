@@ -1,20 +1,19 @@
 -- The step that T.4 chooses is a step to the place that it leads to.
+use Rattle.fax_rows.proofs.ColourLemmas.{other-other}
+use Rattle.std.proofs.Common.{rules, ◌≡◌, ℕ, suc, ◌+◌, ◌-◌, ◌<◌, ◌≤◌, List, ◌++◌, length, take, replicate, Bool, true, false, refl, ap, sym}
+use Rattle.std.proofs.Common.{◌∙◌, arith, append_assoc}
 use Rattle.std.proofs.lemmas.Grind.{common_steps}
-use Rattle.std.proofs.Common.{◌≡◌, ℕ, suc, ◌+◌, ◌-◌, ◌<◌, ◌≤◌, List, ◌++◌, length, take, replicate, Bool, true, false, refl, ap, sym, ◌∙◌}
-use Rattle.std.proofs.Common.{arith, append_assoc}
 use Rattle.std.specs.Prelude.{ℤ, pos, negsuc, ◌-ℤ◌, ◌+ℤ◌, ◌<ℤ◌, ◌≤ℤ◌, nat_abs, nat_lt, nat_le, if◌then◌else◌, Option, Some, None}
 use Rattle.std.proofs.lemmas.Bool.{ltb-true, lt-ltb}
 use Rattle.std.proofs.lemmas.Bool.Decides.{nat_tests}
 use Rattle.std.proofs.lemmas.Int.{ints}
 use Rattle.fax_bits.specs.declared.Colour.{Colour}
-use Rattle.fax_bits.specs.declared.Colour.TheVariants.{White, Black}
 use Rattle.fax_bits.specs.declared.modes.ModeCode.{ModeCode}
 use Rattle.fax_bits.specs.declared.modes.ModeCode.TheVariants.{Pass, Horizontal, Vertical}
 use Rattle.fax_bits.specs.laws.Codes.{RunBitsAreRead}
 use Rattle.fax_bits.specs.views.Codes.{IsWritten}
 use Rattle.fax_bits.specs.Written.{run_bits}
-use Rattle.fax_rows.specs.Rows.{other, pel, next_change, is_right_of, b1, b2, Position, IsStepBy}
-use Rattle.fax_rows.specs.Rows.{a0_number}
+use Rattle.fax_rows.specs.Rows.{other, pel, next_change, is_right_of, b1, b2, Position, IsStepBy, a0_number}
 use Rattle.fax_rows.specs.laws.Rows.{HasWidth}
 use Rattle.fax_rows.specs.code.Choice.{places, colour_of, chosen_mode, run_pair_bits, next_a0}
 use Rattle.fax_rows.proofs.ChangeLemmas.{IsNextChange, next_change_is, colour_up_to, colour_at, next_is_ahead, pels_up_to, first_of}
@@ -62,10 +61,6 @@ number_passes : (from : Option ℕ) (colour : Colour) (pels : List Colour) (plac
 number_passes None colour pels place h = omega (arith, ints)
 number_passes (Some a) colour pels place h = omega (arith, ints)
 
-other_twice : (colour : Colour) → other (other colour) ≡ colour
-other_twice White = refl
-other_twice Black = refl
-
 -- a difference of at most 3 places
 near_is_written : (d : ℤ) → nat_abs d ≤ 3 → (negsuc 2 ≤ℤ d) × (d ≤ℤ pos 3)
 near_is_written (pos n) near = (omega (arith, ints), omega (arith, ints))
@@ -92,9 +87,7 @@ module _ (reference row : List Colour) (same_width : length reference ≡ length
   b1_within = omega (arith, next_of_within reference a0 (colour_of row a0))
 
   pub b1_right : passed a0 ≤ b1 reference a0 (colour_of row a0)
-  b1_right =
-      passes a0 (b1 reference a0 (colour_of row a0)) (length row) unfinished b1_within
-      (λ h. next_of_right reference a0 (colour_of row a0) (omega arith))
+  b1_right = search (rules, passes, b1_within, next_of_right)
 
   b2_is : IsNextChange reference (Some (b1 reference a0 (colour_of row a0))) (b2 reference a0 (colour_of row a0))
   b2_is = next_change_is reference (Some (b1 reference a0 (colour_of row a0)))
@@ -166,7 +159,7 @@ module _ (reference row : List Colour) (same_width : length reference ≡ length
   third_run h =
       sym (colour_at a2_is h
       ∙ ap other (colour_at a1_is (omega (arith, a2_ahead)))
-      ∙ other_twice (colour_of row a0))
+      ∙ other-other (colour_of row a0))
 
   horizontal_chosen : RunBitsAreRead → HasWidth row → (rest : List Bool) → IsChosen reference row a0 rest Horizontal
   horizontal_chosen runs_read limits rest =

@@ -1,37 +1,30 @@
 -- A step that is read as T.4 would have chosen it.
-use Rattle.std.proofs.lemmas.Grind.{common_steps}
-use Rattle.std.proofs.Common.{◌≡◌, ℕ, zero, suc, ◌+◌, ◌-◌, ◌<◌, ◌≤◌, ℤ, negsuc, ◌-ℤ◌, List, ◌++◌, length, take, replicate, get_or}
+use Rattle.fax_rows.proofs.ColourLemmas.{other-other, other_than, same_as}
+use Rattle.std.proofs.Common.{rules, ◌≡◌, ℕ, zero, suc, ◌+◌, ◌-◌, ◌<◌, ◌≤◌, ℤ, negsuc, ◌-ℤ◌, List, ◌++◌, length, take, replicate, get_or}
 use Rattle.std.proofs.Common.{Bool, true, false, pos, refl, ap, sym, ◌∙◌, subst, arith, inl, inr, take-take, take_at, append_assoc}
 use Rattle.std.proofs.Common.{append-nil}
-use Rattle.std.specs.Prelude.{◌⊎◌, not, Option, Some, None, unwrap_or, ◌<ℤ◌, nat_abs, nat_lt, nat_le}
-use Rattle.std.proofs.lemmas.Bool.{and_from, cases_lt, ltb-true, lt-ltb, true≢false}
+use Rattle.std.proofs.lemmas.Grind.{common_steps}
+use Rattle.std.specs.Prelude.{◌⊎◌, Option, Some, None, unwrap_or, ◌<ℤ◌, nat_abs, nat_lt, nat_le}
+use Rattle.std.proofs.lemmas.Bool.{and_from, cases_lt, ltb-true, lt-ltb}
 use Rattle.std.proofs.lemmas.Bool.Decides.{nat_tests}
 use Rattle.std.proofs.lemmas.Int.{ints}
-use Rattle.std.proofs.lemmas.List.{get_or-take, get_or-replicate}
+use Rattle.std.proofs.lemmas.List.{get_or-replicate}
 use Rattle.std.proofs.Math.Seq.{get_or-append_right}
 use Rattle.std.proofs.Math.Nat.{eq-or-lt_of_le}
 use Rattle.fax_bits.specs.declared.Colour.{Colour}
-use Rattle.fax_bits.specs.declared.Colour.TheVariants.{White, Black}
+use Rattle.fax_bits.specs.declared.Colour.TheVariants.{White}
 use Rattle.fax_bits.specs.declared.modes.ModeCode.{ModeCode}
 use Rattle.fax_bits.specs.declared.modes.ModeCode.TheVariants.{Pass, Horizontal, Vertical}
 use Rattle.fax_bits.specs.Written.{mode_bits, run_bits}
-use Rattle.fax_rows.specs.Rows.{other, same_colour, pel, pel_before, is_changing, is_right_of}
-use Rattle.fax_rows.specs.Rows.{next_change, Position, first_pel, a0_number, coloured_up_to}
-use Rattle.fax_rows.specs.Rows.{IsVerticalStep}
+use Rattle.fax_rows.specs.Rows.{other, pel, pel_before, is_changing, is_right_of, next_change, Position, first_pel, a0_number}
+use Rattle.fax_rows.specs.Rows.{coloured_up_to, IsVerticalStep}
 use Rattle.fax_rows.specs.code.Seen.{b1_from, b2_from}
 use Rattle.fax_rows.specs.code.Choice.{Places, places, colour_of, chosen_mode, run_pair_bits, next_a0}
 use Rattle.fax_rows.specs.code.Chosen.{GoesOnFrom, IsStepOf, IsChosenPair}
-use Rattle.fax_rows.proofs.ChangeLemmas.{first_of, next_change_is, still_left, same_as}
+use Rattle.fax_rows.proofs.ChangeLemmas.{first_of, next_change_is, still_left}
 use Rattle.fax_rows.proofs.PlaceLemmas.{next_change_at}
 use Rattle.fax_rows.proofs.PlacedStepLemmas.{right_after_first}
 use Rattle.fax_rows.proofs.TakenModeLemmas.{is_near}
-use Rattle.fax_rows.proofs.TurnLemmas.{other-other}
-
-turned_apart : (a b : Colour) → a ≡ other b → not (same_colour a b) ≡ true
-turned_apart White Black h = refl
-turned_apart Black White h = refl
-turned_apart White White h = cc
-turned_apart Black Black h = cc
 
 -- ---- pels of one colour from a place on
 
@@ -55,26 +48,11 @@ module _ (row : List Colour) (from : Option ℕ) (colour : Colour) (to : ℕ) (s
       (λ k h. still_left (is_right_of from k) (is_changing row k)
       (λ l. same_as (pel row k) (pel_before row k) (each k (right_after_first from k l) h ∙ sym (before_is k (omega arith) l))))
       (λ h. and_from (is_right_of from to) (is_changing row to) right
-      (turned_apart (pel row to) (pel_before row to) (turn h ∙ ap other (sym (before_is to (omega arith) right)))))
+      (other_than (pel row to) (pel_before row to) (turn h ∙ ap other (sym (before_is to (omega arith) right)))))
 
   -- where the colour goes on, the next changing element is further right
   next_after : to < length row → pel row to ≡ colour → to < next_change row from
-  next_after inside goes_on =
-      elim (cases_lt to (next_change row from)) [
-        | inl less ↦ less
-        | inr over ↦
-            let next = next_change_is row from in
-            let within : next_change row from < length row = omega arith in
-            let right = next.right within in
-            let here = colour_at (next_change row from) (right_after_first from (next_change row from) right) (eq-or-lt_of_le over) in
-            let same = same_as (pel row (next_change row from)) (pel_before row (next_change row from))
-            (here ∙ sym (before_is (next_change row from) over right)) in
-            absurd (true≢false (sym (next.there within) ∙ same))
-      ]
-    where
-      colour_at : (k : ℕ) → first_of from ≤ k → (k ≡ to) ⊎ (k < to) → pel row k ≡ colour
-      colour_at k after (inl same) = ap (pel row) same ∙ goes_on
-      colour_at k after (inr less) = each k after less
+  next_after inside goes_on = grind (arith, cases_lt, next_change_is)
 
 -- at the width there is no changing element any more
 none_after : (row : List Colour) (a : ℕ) → length row ≤ a → next_change row (Some a) ≡ length row
@@ -88,9 +66,7 @@ module _ (row old tail : List Colour) (first to : ℕ) (len : length old ≡ fir
   read_before = sym (take_at old tail first len) ∙ ap (take first) read ∙ take-take first to row order
 
   pel_after : (k : ℕ) → first ≤ k → k < to → pel row k ≡ get_or tail (k - first) White
-  pel_after k low high =
-      sym (get_or-take to row k White high) ∙ ap (λ xs. get_or xs k White) (sym read)
-      ∙ get_or-append_right old tail k White (omega (arith, len)) ∙ ap (λ n. get_or tail (k - n) White) len
+  pel_after k low high = grind (arith, common_steps, get_or-append_right)
 
 right_of_number : (a0 : Option ℕ) (colour : Colour) (pels : List Colour) (a1 : ℕ)
     → a0_number (record { a0 = a0; colour = colour; pels = pels }) <ℤ pos a1 → is_right_of a0 a1 ≡ true
@@ -114,10 +90,7 @@ module _ (reference row : List Colour) (same : length row ≡ length reference) 
   -- the pels that are read go on up to a place right of a0
   goes_on_from : (to : ℕ) (tail : List Colour) → first_pel old ≤ to → to ≤ length row → old.pels ++ tail ≡ take to row
       → ((a : ℕ) → old.a0 ≡ Some a → a < length row → pel row a ≡ old.colour) → GoesOnFrom row old
-  goes_on_from to tail order within read coloured = record {
-    read = read_before row old.pels tail (first_pel old) to len order within read;
-    coloured = coloured;
-  }
+  goes_on_from to tail order within read coloured = search (rules, read_before)
 
   old_colour : GoesOnFrom row old → first_pel old < length row → colour_of row old.a0 ≡ old.colour
   old_colour goes inside = grind (arith, common_steps)

@@ -32,9 +32,7 @@ alternating-push : (colour : Colour) (runs : List ℕ) (n : ℕ)
     → alternating_bits colour (runs ++ n ∷ []) ≡ alternating_bits colour runs ++ run_bits (colour_after_runs colour runs) n
 unfolding alternating_bits
 alternating-push colour [] n = append-nil (run_bits colour n)
-alternating-push colour (m ∷ runs) n =
-    ap (λ b. run_bits colour m ++ b) (alternating-push (other colour) runs n)
-    ∙ sym (append_assoc (run_bits colour m) (alternating_bits (other colour) runs) (run_bits (colour_after_runs (other colour) runs) n))
+alternating-push colour (m ∷ runs) n = grind (arith, common_steps, alternating-push (other colour) runs n)
 
 -- only the first run has none before it
 first_alone : (runs : List ℕ) → sum runs ≡ 0 → colour_after_runs White runs ≡ White

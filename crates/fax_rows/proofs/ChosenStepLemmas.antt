@@ -1,8 +1,9 @@
 -- Steps over places of change that T.4 would have chosen.
-use Rattle.std.proofs.Common.{◌≡◌, ℕ, ◌<◌, ◌≤◌, List, length, take, Bool, ℤ, pos, ◌≤ℤ◌, ap, sym, ◌∙◌, subst, arith, length-take-le}
-use Rattle.std.specs.Prelude.{Option, Some, None, IfSome, ok_or, Result, Ok, Err, IfOk}
+use Rattle.std.proofs.lemmas.Grind.{common_steps}
+use Rattle.std.proofs.Common.{◌≡◌, ℕ, ◌<◌, ◌≤◌, List, length, take, Bool, ℤ, pos, ◌≤ℤ◌, subst, arith}
+use Rattle.std.specs.Prelude.{None, Result, Ok, Err, IfOk}
 use Rattle.std.proofs.lemmas.Int.{ints}
-use Rattle.fax_bits.specs.declared.Colour.TheVariants.{White, Black}
+use Rattle.fax_bits.specs.declared.Colour.TheVariants.{White}
 use Rattle.fax_bits.specs.declared.modes.ModeCode.TheVariants.{Pass, Horizontal, Vertical}
 use Rattle.fax_bits.specs.Codes.{Takes}
 use Rattle.fax_bits.specs.Tables.{modes}
@@ -14,10 +15,10 @@ use Rattle.fax_rows.specs.code.Chosen.{IsChosenStep, IsChosenPair}
 use Rattle.fax_rows.specs.code.PlacedRow.{placed_pels}
 use Rattle.fax_rows.specs.code.PlacedReached.{placed_position, IsReadInside}
 use Rattle.fax_rows.specs.code.Reached.{reached_pel}
-use Rattle.fax_rows.specs.code.Turns.{turned, pels_by}
+use Rattle.fax_rows.specs.code.Turns.{pels_by}
 use Rattle.fax_rows.proofs.ChosenLemmas.{vertical_is, pass_is, horizontal_is}
 use Rattle.fax_rows.proofs.PlacedB1Lemmas.{length-placed_pels, b1_is, b2_is, b2_ahead}
-use Rattle.fax_rows.proofs.PlacedRowLemmas.{take-first, turned-first}
+use Rattle.fax_rows.proofs.PlacedRowLemmas.{turned-first}
 use Rattle.fax_rows.proofs.PlacedStepLemmas.{b2_order}
 use Rattle.fax_rows.proofs.TakenModeLemmas.{mode_taken}
 use Rattle.fax_rows.proofs.TurnLemmas.{length-pels_by}
@@ -27,16 +28,6 @@ pub map_ok : {A E : Type 0} {P Q : A → Type 0} (found : Result A E) → IfOk f
 map_ok (Ok x) p f = f x p
 map_ok (Err e) p f = tt
 
-pub map_found : {A E : Type 0} {P Q : A → Type 0} (found : Option A) (e : E) → IfSome found P → ((x : A) → P x → Q x)
-    → IfOk (ok_or found e) Q
-map_found None e p f = tt
-map_found (Some x) e p f = f x p
-
-pub map_both : {A E : Type 0} {P Q R : A → Type 0} (found : Result A E) → IfOk found P → IfOk found Q → ((x : A) → P x → Q x → R x)
-    → IfOk found R
-map_both (Ok x) p q f = f x p q
-map_both (Err e) p q f = tt
-
 pub map_three : {A E : Type 0} {P Q R S : A → Type 0} (found : Result A E) → IfOk found P → IfOk found Q → IfOk found R
     → ((x : A) → P x → Q x → R x → S x) → IfOk found S
 map_three (Ok x) p q r f = f x p q r
@@ -45,16 +36,10 @@ map_three (Err e) p q r f = tt
 module _ {reference : PlacedRow} {places : List ℕ} {at : PlacedReached} (here : IsReadInside reference places at) where
   -- a0's colour just before the first pel
   start : at.reached.a0 ≡ None → White ≡ at.reached.colour
-  start is =
-      let first : take at.end places ≡ take 1 places = ap (λ n. take n places) (here.so_far.started is) in
-      let one = take-first places (omega (arith, here.so_far.room)) here.so_far.ascending.first in
-      sym (turned-first (reached_pel at.reached)) ∙ ap (λ ps. turned Black ps (reached_pel at.reached)) (sym (first ∙ one))
-      ∙ here.so_far.after (reached_pel at.reached) (omega arith)
+  start is = grind (arith, turned-first)
 
   read : length (take (reached_pel at.reached) (pels_by reference.width (take at.end places))) ≡ reached_pel at.reached
-  read =
-      length-take-le (reached_pel at.reached) (pels_by reference.width (take at.end places))
-      (omega (arith, length-pels_by reference.width (take at.end places)))
+  read = grind (arith, common_steps, length-pels_by)
 
   inside : reached_pel at.reached < length (placed_pels reference)
   inside = omega (arith, here.unfinished, length-placed_pels reference)

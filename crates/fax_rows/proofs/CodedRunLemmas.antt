@@ -37,9 +37,4 @@ pub stop_from : (width : ℕ) (colour : Colour) (from place : ℕ) (b : List Boo
     → AreCodedRuns colour b runs left → place ≡ from + sum runs → place < width
     → IsRunFault (colour_after_runs colour runs) width place left fault → StopsAtRun width colour from b runs fault
 stop_from width colour from place b [] left fault coded placed unfinished at_run = grind (arith, common_steps)
-stop_from width colour from place b (n ∷ runs) left fault coded placed unfinished at_run = (
-  omega (arith, placed, sum-cons n runs),
-  coded.0,
-  coded.1,
-  stop_from width (other colour) (from + n) place coded.0 runs left fault coded.2 (omega (arith, placed, sum-cons n runs)) unfinished at_run,
-)
+stop_from width colour from place b (n ∷ runs) left fault coded placed unfinished at_run = grind (arith, stop_from width (other colour) (from + n) place coded.0 runs left fault coded.2 (omega (arith, placed, sum-cons n runs)) unfinished at_run)

@@ -1,7 +1,7 @@
 -- The first bit that is not of a colour, found by bytes.
 use Rattle.std.proofs.lemmas.Grind.{common_steps}
 use Rattle.std.proofs.Common.{◌≡◌, ◌≢◌, ℕ, suc, ◌+◌, ◌-◌, ◌*◌, ◌/◌, ◌%◌, ◌^◌, ◌<◌, ◌≤◌, List, [], ◌∷◌, map, length, get_or, Bool}
-use Rattle.std.proofs.Common.{true, false, if◌then◌else◌, nat_eq, nat_lt, refl, ap, sym, ◌∙◌, subst, arith, inl, inr}
+use Rattle.std.proofs.Common.{true, false, if◌then◌else◌, nat_eq, nat_lt, refl, ap, sym, ◌∙◌, arith, inl, inr}
 use Rattle.std.specs.Prelude.{◌||◌, not, slice_index_or}
 use Rattle.std.proofs.lemmas.Bool.{agree_below, agree_below_at, cases_lt, eqb-true, eqb-false, ltb-true, not-false, not-true, or_cases}
 use Rattle.std.proofs.lemmas.Simd.{length-chunk, get_or-chunk, trailing_mask_l, run_in_chunk_le, run_in_chunk_fails, run_in_chunk_stops}
@@ -182,16 +182,12 @@ module _ (law : AreBitsByPlace) where
   pub other_in_byte : (bytes : List ℕ) (colour : Colour) (q from found k : ℕ) → q < length bytes → from < 8
       → found ≡ first_other_in_byte (get_or bytes q 0) from colour → found < 8 → 8 * q + found ≡ k → is_other bytes colour k ≡ true
   unfolding first_other_in_byte
-  other_in_byte bytes colour q from found k inside within is near at =
-      let first = first_place_is (is_other_bit (get_or bytes q 0) colour) from (8 - from) in
-      bit_of bytes colour q found k inside near at ∙ ap (is_other_bit (get_or bytes q 0) colour) is ∙ first.there (omega arith)
+  other_in_byte bytes colour q from found k inside within is near at = grind (arith, first_place_is)
 
   -- bytes of pels of the colour
   pub plain_bytes : (bytes : List ℕ) (colour : Colour) (from to : ℕ) → to ≤ length bytes
       → ((k : ℕ) → from ≤ k → k < to → get_or bytes k 0 ≡ plain_byte colour) → IsPlain bytes colour (8 * from) (8 * to)
-  plain_bytes bytes colour from to within same k l h =
-      bit_of bytes colour (k / 8) (k % 8) k (omega arith) (omega arith) (omega arith)
-      ∙ ap (λ byte. is_other_bit byte colour (k % 8)) (same (k / 8) (omega arith) (omega arith)) ∙ plain_bit colour (k % 8) (omega arith)
+  plain_bytes bytes colour from to within same k l h = grind (arith, plain_bit)
 
   -- from a bit of a byte that has no other bit after it, up to the first byte that has one
   pub plain_before : (bytes : List ℕ) (colour : Colour) (from here plain after : ℕ) → from / 8 < length bytes
@@ -207,18 +203,4 @@ module _ (law : AreBitsByPlace) where
 pub first_other_stands : (bytes : List ℕ) (from r : ℕ) (colour : Colour) → r ≡ first_other bytes from colour
     → IsFirstPlace (is_other bytes colour) from (8 * length bytes - from) r
 unfolding first_other
-first_other_stands bytes from r colour is =
-    subst (λ place. IsFirstPlace (is_other bytes colour) from (8 * length bytes - from) place) (sym is)
-    (first_place_is (is_other bytes colour) from (8 * length bytes - from))
-
-pub plain_pel : (pel colour : Colour) → not (same_colour pel colour) ≡ false → pel ≡ colour
-plain_pel White White h = refl
-plain_pel Black Black h = refl
-plain_pel White Black h = cc
-plain_pel Black White h = cc
-
-pub other_pel : (pel colour : Colour) → not (same_colour pel colour) ≡ true → other colour ≡ pel
-other_pel White White h = cc
-other_pel Black Black h = cc
-other_pel White Black h = refl
-other_pel Black White h = refl
+first_other_stands bytes from r colour is = grind (arith, first_place_is)

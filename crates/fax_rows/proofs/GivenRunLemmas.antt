@@ -1,12 +1,10 @@
 -- Rows that are made of their longest runs.
 use Rattle.std.proofs.lemmas.Grind.{common_steps}
-use Rattle.std.proofs.Common.{◌≡◌, ℕ, zero, suc, ◌+◌, ◌-◌, ◌<◌, ◌≤◌, List, [], ◌∷◌, ◌++◌, length, take, get_or, replicate, refl, ap, sym}
-use Rattle.std.proofs.Common.{◌∙◌, arith, inl, inr}
-use Rattle.std.specs.Prelude.{sum, ◌⊎◌}
+use Rattle.std.proofs.Common.{◌≡◌, ℕ, zero, suc, ◌+◌, ◌<◌, ◌≤◌, List, [], ◌∷◌, ◌++◌, length, take, get_or, replicate, refl, ap, sym}
+use Rattle.std.proofs.Common.{◌∙◌, arith}
+use Rattle.std.specs.Prelude.{sum}
 use Rattle.std.proofs.lemmas.Bool.{cases_lt}
-use Rattle.std.proofs.Math.ListN.{get_or-append}
-use Rattle.std.proofs.Math.Seq.{get_or-append_right}
-use Rattle.std.proofs.lemmas.List.{get_or-replicate, take_more, ext_get_or}
+use Rattle.std.proofs.lemmas.List.{take_more, ext_get_or}
 use Rattle.std.proofs.lemmas.List.Sums.{sum_by-take-le}
 use Rattle.fax_bits.specs.declared.Colour.{Colour}
 use Rattle.fax_bits.specs.declared.Colour.TheVariants.{White, Black}
@@ -14,7 +12,7 @@ use Rattle.fax_rows.specs.Rows.{other, pels_of, runs_after, runs_of}
 use Rattle.fax_rows.proofs.CodedRunLemmas.{colour_after_runs}
 use Rattle.fax_rows.specs.code.LongestRuns.{AreLongest}
 use Rattle.fax_rows.specs.code.Turns.{turned, pels_by, IsTurnedFrom}
-use Rattle.fax_rows.proofs.PlacedRowLemmas.{turned-first, take-first}
+use Rattle.fax_rows.proofs.PlacedRowLemmas.{turned-first}
 use Rattle.fax_rows.proofs.RowLaws.{length-pels_of}
 use Rattle.fax_rows.proofs.RowLemmas.{pels_of-push, colour_after_runs-push}
 use Rattle.fax_rows.proofs.RunLemmas.{sum-push}
@@ -29,35 +27,12 @@ pub record ArePutRuns (runs : List ℕ) (total : ℕ) (places : List ℕ) : Type
 
 -- before the first run
 pub put_none : (places : List ℕ) → 0 < length places → get_or places 0 0 ≡ 0 → ArePutRuns [] 0 (take 1 places)
-put_none places some first = record {
-  sum_is = refl;
-  pels = λ k h. absurd (omega arith);
-  after = λ k h. ap (λ ps. turned Black ps k) (take-first places some first) ∙ turned-first k;
-}
+put_none places some first = grind (arith, turned-first)
 
 -- one run more
 pub put_run : (runs : List ℕ) (total n : ℕ) (old new : List ℕ) → ArePutRuns runs total old → IsTurnedFrom old new (total + n)
     → ArePutRuns (runs ++ n ∷ []) (total + n) new
-put_run runs total n old new put turn = record {
-  sum_is = omega (arith, sum-push runs n, put.sum_is);
-  pels = λ k h. turn.left k h ∙ pel_at k h (cases_lt k total) ∙ ap (λ xs. get_or xs k White) (sym (pels_of-push White runs n));
-  after = λ k h. turn.right k h ∙ ap other (put.after k (omega arith)) ∙ sym (colour_after_runs-push White runs n);
-}
-  where
-    len : length (pels_of White runs) ≡ total
-    len = length-pels_of White runs ∙ sym put.sum_is
-
-    pel_at : (k : ℕ) → k < total + n → (k < total) ⊎ (total ≤ k)
-        → turned Black old k ≡ get_or (pels_of White runs ++ replicate n (colour_after_runs White runs)) k White
-    pel_at k h (inl less) =
-        let short : k < length (pels_of White runs) = omega (arith, len) in
-        put.pels k less ∙ sym (get_or-append (pels_of White runs) (replicate n (colour_after_runs White runs)) White k short)
-    pel_at k h (inr more) =
-        let long : length (pels_of White runs) ≤ k = omega (arith, len) in
-        let short : k - length (pels_of White runs) < n = omega (arith, len) in
-        put.after k more
-        ∙ sym (get_or-replicate n (k - length (pels_of White runs)) (colour_after_runs White runs) White short)
-        ∙ sym (get_or-append_right (pels_of White runs) (replicate n (colour_after_runs White runs)) k White long)
+put_run runs total n old new put turn = grind (arith, common_steps, sum-push, cases_lt, pels_of-push, colour_after_runs-push, length-pels_of)
 
 -- the next of the runs
 pub put_next_run : (runs : List ℕ) (i total n : ℕ) (old new : List ℕ) → i < length runs → n ≡ get_or runs i 0
@@ -91,14 +66,8 @@ runs_follow : (colour : Colour) (n : ℕ) (runs : List ℕ) → ((i : ℕ) → i
 unfolding runs_after
 runs_follow colour n [] some = refl
 runs_follow colour n (zero ∷ runs) some = absurd (omega (arith, some 0 (omega arith)))
-runs_follow White n (suc m ∷ runs) some =
-    ap (λ more. n ∷ more)
-    (longer Black 1 m (pels_of White runs) ∙ runs_follow Black (1 + m) runs (λ i h. some (suc i) (omega arith))
-    ∙ ap (λ k. k ∷ runs) (omega arith))
-runs_follow Black n (suc m ∷ runs) some =
-    ap (λ more. n ∷ more)
-    (longer White 1 m (pels_of Black runs) ∙ runs_follow White (1 + m) runs (λ i h. some (suc i) (omega arith))
-    ∙ ap (λ k. k ∷ runs) (omega arith))
+runs_follow White n (suc m ∷ runs) some = grind (arith, longer, runs_follow Black (1 + m) runs (λ i h. some (suc i) (omega arith)))
+runs_follow Black n (suc m ∷ runs) some = grind (arith, longer, runs_follow White (1 + m) runs (λ i h. some (suc i) (omega arith)))
 
 -- the row of such runs has them as its longest ones
 pub longest_are_back : (runs : List ℕ) (width : ℕ) → 0 < width → AreLongest runs width → runs_of (pels_of White runs) ≡ runs

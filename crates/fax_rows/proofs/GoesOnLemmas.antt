@@ -1,7 +1,6 @@
 -- Steps after steps, and the bits that they leave.
-use Rattle.std.proofs.Common.{◌≡◌, ℕ, ◌+◌, ◌-◌, List, [], ◌∷◌, ◌++◌, length, drop, Bool}
-use Rattle.std.proofs.Common.{refl, ap, sym, ◌∙◌, subst, append_assoc, arith}
-use Rattle.std.proofs.Math.Seq.{drop-append_seam}
+use Rattle.std.proofs.lemmas.Grind.{common_steps}
+use Rattle.std.proofs.Common.{◌≡◌, ℕ, ◌+◌, ◌-◌, List, [], ◌∷◌, ◌++◌, length, drop, Bool, refl, ap, sym, ◌∙◌, subst, append_assoc, arith}
 use Rattle.std.specs.Prelude.{Option, Some, None}
 use Rattle.fax_bits.specs.declared.codes.CodeEntry.{CodeEntry}
 use Rattle.fax_bits.specs.declared.Colour.{Colour}
@@ -27,45 +26,33 @@ more_steps : (reference : List Colour) (first : Position) (b : List Bool) (befor
     (mid : List Bool) (after : List Position) (new : Position) (rest : List Bool)
     → AreSteps reference first b before old mid → AreSteps reference old mid after new rest
     → AreSteps reference first b (before ++ after) new rest
-more_steps reference first b [] old mid after new rest steps more =
-    subst (λ c. AreSteps reference first c after new rest) (sym steps.1)
-    (subst (λ at. AreSteps reference at mid after new rest) steps.0 more)
+more_steps reference first b [] old mid after new rest steps more = grind arith
 more_steps reference first b (next ∷ before) old mid after new rest steps more =
     (steps.0, steps.1, steps.2, more_steps reference next steps.1 before old mid after new rest steps.3 more)
 
 pub goes_further : {reference : List Colour} {first : Position} {b : List Bool} {old : Position} {mid : List Bool} {new : Position}
     {rest : List Bool} → GoesOn reference first b old mid → GoesOn reference old mid new rest → GoesOn reference first b new rest
-goes_further {reference} {first} {b} {old} {mid} {new} {rest} some more = record {
-  positions = some.positions ++ more.positions;
-  steps = more_steps reference first b some.positions old mid more.positions new rest some.steps more.steps;
-}
+goes_further some more = grind (arith, more_steps)
 
 more_chosen : (reference : List Colour) (first : Position) (b : List Bool) (before : List Position) (old : Position)
     (mid : List Bool) (after : List Position) (new : Position) (rest : List Bool)
     → AreChosenSteps reference first b before old mid → AreChosenSteps reference old mid after new rest
     → AreChosenSteps reference first b (before ++ after) new rest
-more_chosen reference first b [] old mid after new rest steps more =
-    subst (λ c. AreChosenSteps reference first c after new rest) (sym steps.1)
-    (subst (λ at. AreChosenSteps reference at mid after new rest) steps.0 more)
+more_chosen reference first b [] old mid after new rest steps more = grind arith
 more_chosen reference first b (next ∷ before) old mid after new rest steps more =
     (steps.0, steps.1, steps.2, more_chosen reference next steps.1 before old mid after new rest steps.3 more)
 
 pub chosen_further : {reference : List Colour} {first : Position} {b : List Bool} {old : Position} {mid : List Bool} {new : Position}
     {rest : List Bool} → GoesOnAsChosen reference first b old mid → GoesOnAsChosen reference old mid new rest
     → GoesOnAsChosen reference first b new rest
-chosen_further {reference} {first} {b} {old} {mid} {new} {rest} some more = record {
-  positions = some.positions ++ more.positions;
-  steps = more_chosen reference first b some.positions old mid more.positions new rest some.steps more.steps;
-}
+chosen_further some more = grind (arith, more_chosen)
 
 chosen_on : (reference : List Colour) (b : List Bool) (old : Position) (mid : List Bool) (positions : List Position) (new : Position)
     (rest : List Bool) → IsChosenSoFar reference b old mid → AreChosenSteps reference old mid positions new rest
     → IsChosenSoFar reference b new rest
 chosen_on reference b old mid [] new rest so_far more =
     subst (λ at. IsChosenSoFar reference b at rest) (sym more.0) (subst (λ c. IsChosenSoFar reference b old c) more.1 so_far)
-chosen_on reference b old mid (next ∷ positions) new rest so_far more =
-    chosen_on reference b next more.1 positions new rest
-    (row_goes_on reference b old mid next more.1 so_far more.2 more.0) more.3
+chosen_on reference b old mid (next ∷ positions) new rest so_far more = grind (arith, chosen_on reference b next more.1 positions new rest (row_goes_on reference b old mid next more.1 so_far more.2 more.0) more.3)
 
 -- steps that T.4 would have chosen, from the row's beginning
 pub chosen_so_far : (reference : List Colour) (b : List Bool) (at : Position) (rest : List Bool)
@@ -115,6 +102,4 @@ due_leaves colour b (Runs first) rest is = leaves_more (code_leaves is.1) (runs 
 -- the bits from a place on, before which so many stand
 pub rest_there : (source : Source) (place : ℕ) (front rest : List Bool) → source.left ≡ front ++ rest
     → place ≡ source.place + length front → drop (place - source.place) source.left ≡ rest
-rest_there source place front rest parts is =
-    let n : place - source.place ≡ length front = omega (arith, is) in
-    ap (λ k. drop k source.left) n ∙ ap (drop (length front)) parts ∙ drop-append_seam front rest
+rest_there source place front rest parts is = grind (arith, common_steps)

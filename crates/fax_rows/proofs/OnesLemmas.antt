@@ -1,9 +1,15 @@
--- The ones of a word, byte by byte.
+-- The ones of a word, byte by byte and one by one.
 use Rattle.std.proofs.lemmas.Grind.{common_steps}
 use Rattle.std.proofs.Common.{◌≡◌, ℕ, zero, suc, ◌+◌, ◌-◌, ◌*◌, ◌/◌, ◌%◌, ◌^◌, ◌<◌, ◌≤◌, List, [], ◌∷◌, ◌++◌, if◌then◌else◌, get_or, nat_eq}
-use Rattle.std.proofs.Common.{ap, sym, ◌∙◌, arith}
+use Rattle.std.proofs.Common.{◌≢◌, true, false, ap, sym, ◌∙◌, arith}
 use Rattle.std.specs.Int.{bit_at, to_be_bytes, w64}
-use Rattle.std.proofs.lemmas.List.{append_assoc}
+use Rattle.std.specs.Int.RustNames.{bit_xor}
+use Rattle.std.proofs.Math.Nat.{pow-succ'}
+use Rattle.std.proofs.lemmas.List.{append_assoc, append-nil}
+use Rattle.std.proofs.lemmas.Nat.{leading_top, one_shl, pow_pos, xor_block, xor_lt}
+use Rattle.std.proofs.lemmas.Nat.Bits.{bit_at-zero, bit_at_xor, bit_at-pow_same, bit_at-pow_other, bit_at_above, bit_at_cat_high}
+use lib.Count.{count_leading_zeros}
+use Rattle.fax_rows.specs.code.PackedWord.{word_bit}
 use Rattle.fax_rows.specs.code.Ones.{ones_among}
 use Rattle.fax_rows.proofs.PackedWordLemmas.{be_byte, byte_bit}
 
@@ -35,3 +41,100 @@ byte_goes_on old places new from word q byte few byte_is put so_far =
     ∙ append_assoc old (ones_among from 63 word (8 * q)) (ones_among (from + 8 * q) 7 byte 8)
     ∙ ap (λ b. old ++ (ones_among from 63 word (8 * q) ++ ones_among (from + 8 * q) 7 b 8)) (byte_is ∙ be_byte word q few)
     ∙ ap (λ ps. old ++ ps) (ones_of_part from word q 8 few (omega arith) ∙ ap (ones_among from 63 word) next)
+
+-- bits among which there is no one
+no_ones : (from word r n : ℕ) → ((i : ℕ) → r ≤ i → i < r + n → word_bit word i ≡ false)
+    → ones_among from 63 word (r + n) ≡ ones_among from 63 word r
+no_ones from word r zero none = let same : r + 0 ≡ r = omega arith in ap (ones_among from 63 word) same
+no_ones from word r (suc n) none =
+    let next : r + suc n ≡ suc (r + n) = omega arith in
+    ap (ones_among from 63 word) next
+    ∙ ap (λ one. ones_among from 63 word (r + n) ++ (if one then (from + (r + n)) ∷ [] else [])) (none (r + n) (omega arith) (omega arith))
+    ∙ append-nil (ones_among from 63 word (r + n))
+    ∙ no_ones from word r n (λ i h l. none i h (omega arith))
+
+-- the highest one of a word
+pub record IsHighest (left at : ℕ) : Type 0 where
+  pub within : at < 64
+  pub before : (i : ℕ) → i < at → word_bit left i ≡ false
+  pub there : word_bit left at ≡ true
+  pub least : 2 ^ (63 - at) ≤ left
+  pub most : left < 2 ^ (63 - at) + 2 ^ (63 - at)
+
+pub highest : (left at : ℕ) → 0 < left → left < 2 ^ 64 → at ≡ count_leading_zeros 64 left → IsHighest left at
+highest left at some fits is =
+    let top = leading_top 64 left some fits in
+    let j = top.0 in
+    let place : 63 - at ≡ j = omega (arith, is, top.1) in
+    let double = pow-succ' 2 j in
+    let low : left - 2 ^ j < 2 ^ j = omega (arith, top.2, top.3, double) in
+    let parts : left ≡ 1 * 2 ^ j + (left - 2 ^ j) = omega (arith, top.2) in
+    let one : bit_at left j ≡ 1 =
+    ap (λ n. bit_at n j) parts ∙ bit_at_cat_high 1 j (left - 2 ^ j) j low (omega arith)
+    ∙ ap (bit_at 1) (let none : j - j ≡ 0 = omega arith in none) in
+    record {
+      within = omega (arith, is, top.1);
+      before = λ i h. ap (λ b. nat_eq b 1) (bit_at_above left (suc j) (63 - i) top.3 (omega (arith, place)));
+      there = ap (λ b. nat_eq b 1) (ap (bit_at left) place ∙ one);
+      least = rw place top.2;
+      most = rw place (omega (arith, top.3, double));
+    }
+
+-- that bit turned
+abbrev pub without : ℕ → ℕ → ℕ
+without left at = bit_xor left (1 * 2 ^ (63 - at) % 2 ^ 64)
+
+shifted_one : (at : ℕ) → 1 * 2 ^ (63 - at) % 2 ^ 64 ≡ 2 ^ (63 - at)
+shifted_one at = one_shl (63 - at) 64 (omega arith)
+
+other_bits : (left at i : ℕ) → at < 64 → i < 64 → i ≢ at → word_bit (without left at) i ≡ word_bit left i
+other_bits left at i within inside differs = grind (arith, common_steps, bit_at_xor, bit_at-pow_other)
+
+that_bit : (left at : ℕ) → word_bit left at ≡ true → word_bit (without left at) at ≡ false
+that_bit left at there = grind (arith, common_steps, bit_at_xor, bit_at-pow_same)
+
+pub less_without : (left at : ℕ) → IsHighest left at → without left at < left
+less_without left at top =
+    let half = 2 ^ (63 - at) in
+    let low : left - half < half = omega (arith, top.least, top.most) in
+    let parts : left ≡ 1 * half + (left - half) = omega (arith, top.least) in
+    let zeros : half ≡ 1 * half + 0 = omega arith in
+    let is : without left at ≡ bit_xor 1 1 * half + bit_xor (left - half) 0 =
+    ap (bit_xor left) (shifted_one at) ∙ ap (λ n. bit_xor n half) parts ∙ ap (bit_xor (1 * half + (left - half))) zeros
+    ∙ xor_block (63 - at) 1 1 (left - half) 0 low (pow_pos (63 - at)) in
+    let few : bit_xor (left - half) 0 < half = xor_lt (63 - at) (left - half) 0 low (pow_pos (63 - at)) in
+    omega (arith, is, few, top.least)
+
+-- the ones from bit r of a word on are left
+pub record AreLeft (word left r : ℕ) : Type 0 where
+  pub within : r ≤ 64
+  pub gone : (i : ℕ) → i < r → word_bit left i ≡ false
+  pub rest : (i : ℕ) → r ≤ i → i < 64 → word_bit left i ≡ word_bit word i
+
+module _ (word left r : ℕ) (so_far : AreLeft word left r) where
+  -- where none is left up to a bit, there is none
+  none_up_to : (from at : ℕ) → r ≤ at → at ≤ 64 → ((i : ℕ) → i < at → word_bit left i ≡ false)
+      → ones_among from 63 word at ≡ ones_among from 63 word r
+  none_up_to from at order within none =
+      let sum : r + (at - r) ≡ at = omega arith in
+      ap (ones_among from 63 word) (sym sum)
+      ∙ no_ones from word r (at - r) (λ i h l. sym (so_far.rest i h (omega arith)) ∙ none i (omega arith))
+
+  pub none_left : (from : ℕ) → left ≡ 0 → ones_among from 63 word 64 ≡ ones_among from 63 word r
+  none_left from is =
+      none_up_to from 64 so_far.within (omega arith) (λ i h. ap (λ n. word_bit n i) is ∙ ap (λ b. nat_eq b 1) (bit_at-zero (63 - i)))
+
+  pub ahead : (at : ℕ) → IsHighest left at → r ≤ at
+  ahead at top = grind arith
+
+  pub less_left : (at : ℕ) → IsHighest left at → AreLeft word (without left at) (at + 1)
+  less_left at top = grind (arith, other_bits, that_bit)
+
+  pub one_more : (from at : ℕ) → IsHighest left at
+      → ones_among from 63 word r ++ (from + at) ∷ [] ≡ ones_among from 63 word (at + 1)
+  one_more from at top =
+      let one : word_bit word at ≡ true = sym (so_far.rest at (ahead at top) top.within) ∙ top.there in
+      let next : suc at ≡ at + 1 = omega arith in
+      ap (λ xs. xs ++ (from + at) ∷ []) (sym (none_up_to from at (ahead at top) (omega (arith, top.within)) top.before))
+      ∙ ap (λ b. ones_among from 63 word at ++ (if b then (from + at) ∷ [] else [])) (sym one)
+      ∙ ap (ones_among from 63 word) next

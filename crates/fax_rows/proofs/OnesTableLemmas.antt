@@ -1,11 +1,10 @@
 -- The table of the ones in a byte.
 use Rattle.std.proofs.lemmas.Grind.{common_steps}
-use Rattle.std.proofs.Common.{◌≡◌, ℕ, zero, suc, ◌+◌, ◌-◌, ◌*◌, ◌^◌, ◌<◌, ◌≤◌, List, [], ◌∷◌, ◌++◌, map, length, take, drop, replicate}
-use Rattle.std.proofs.Common.{if◌then◌else◌, get_or, Bool, true, false, nat_eq, refl, ap, sym, ◌∙◌, subst, arith, w8, w32}
+use Rattle.std.proofs.Common.{◌≡◌, ℕ, zero, suc, ◌+◌, ◌*◌, ◌^◌, ◌<◌, ◌≤◌, List, [], ◌∷◌, ◌++◌, map, length, take, drop, replicate}
+use Rattle.std.proofs.Common.{get_or, Bool, true, false, nat_eq, refl, ap, sym, ◌∙◌, subst, arith, w8, w32}
 use Rattle.std.specs.Prelude.{◌&&◌, nat_le}
-use Rattle.std.specs.Int.{bit_at}
 use Rattle.std.proofs.lemmas.Bool.{and_parts, eqb-true, leb-true}
-use Rattle.std.proofs.lemmas.List.{drop-drop, length-map, length-take-le, map-append, take-append-le, take-map}
+use Rattle.std.proofs.lemmas.List.{drop-drop, length-map, length-take-le, take-append-le, take-map}
 use Rattle.std.proofs.Math.Seq.{take-append-add}
 use Rattle.std.proofs.lemmas.Simd.{put_chunk_is, zip2_splat}
 use borrow.Rule.Simd.Lanes.{act1, act2}
@@ -95,20 +94,10 @@ map_widened : (xs : List ℕ) → map widened xs ≡ xs
 map_widened [] = refl
 map_widened (x ∷ xs) = ap (λ zs. x ∷ zs) (map_widened xs)
 
--- the places of ones, from another place on
-added_if : (one : Bool) (from k : ℕ) → from + k < 2 ^ 32
-    → map (λ y. added y from) (if one then (0 + k) ∷ [] else []) ≡ (if one then (from + k) ∷ [] else [])
-added_if true from k small = grind (arith, common_steps)
-added_if false from k small = refl
-
 ones_added : (byte from k : ℕ) → k ≤ 8 → from + 8 < 2 ^ 32
     → map (λ y. added y from) (ones_among 0 7 byte k) ≡ ones_among from 7 byte k
 ones_added byte from zero few small = refl
-ones_added byte from (suc k) few small =
-    let one = nat_eq (bit_at byte (7 - k)) 1 in
-    map-append (λ y. added y from) (ones_among 0 7 byte k) (if one then (0 + k) ∷ [] else [])
-    ∙ ap (λ xs. xs ++ map (λ y. added y from) (if one then (0 + k) ∷ [] else [])) (ones_added byte from k (omega arith) small)
-    ∙ ap (λ xs. ones_among from 7 byte k ++ xs) (added_if one from k (omega arith))
+ones_added byte from (suc k) few small = grind (arith, common_steps, ones_added byte from k (omega arith) small)
 
 -- eight places are put, of which the first are those of the ones
 pub byte_put : (places eight : List ℕ) (end count from byte : ℕ) → end + 8 ≤ length places → from + 8 < 2 ^ 32

@@ -1,24 +1,22 @@
 -- A row packed by words of 64 pels.
 use Rattle.std.proofs.lemmas.Grind.{common_steps}
-use Rattle.std.proofs.Common.{◌≡◌, ℕ, zero, suc, ◌+◌, ◌-◌, ◌*◌, ◌/◌, ◌%◌, ◌^◌, ◌<◌, ◌≤◌, List, map, length, Bool, add-one}
+use Rattle.std.proofs.Common.{◌≡◌, ℕ, zero, suc, ◌+◌, ◌-◌, ◌*◌, ◌/◌, ◌%◌, ◌^◌, ◌<◌, ◌≤◌, List, map, Bool, add-one}
 use Rattle.std.proofs.Common.{get_or, true, false, not, nat_eq, refl, ap, sym, ◌∙◌, arith, inl, inr}
 use Rattle.std.specs.Int.{bit_at, to_be_bytes, w64}
 use Rattle.std.specs.Int.RustNames.{bit_xor}
 use Rattle.std.proofs.lemmas.Bool.{cases_lt}
 use Rattle.std.proofs.lemmas.Bool.Decides.{nat_tests}
-use Rattle.std.proofs.lemmas.Nat.{xor_lt, shr_le, shr-shr, shr_split}
+use Rattle.std.proofs.lemmas.Nat.{shr-shr, shr_split}
 use Rattle.std.proofs.lemmas.Nat.Bits.{bit_at-lt, bit_at-zero, bit_at_xor, bit_at_ones, bit_at_ones_above, bit_at_cat_low, ones_shr}
-use Rattle.fax_bits.specs.laws.Codes.{AreBitsByPlace, AreBitsOfOneByte}
 use Rattle.fax_bits.specs.declared.Colour.{Colour}
 use Rattle.fax_bits.specs.declared.Colour.TheVariants.{White, Black}
 use Rattle.fax_rows.specs.Rows.{other}
 use Rattle.fax_rows.specs.Coded.{is_black}
 use Rattle.fax_rows.specs.declared.rows.PlacedRow.{PlacedRow}
-use Rattle.fax_rows.specs.code.PackedByte.{packed_byte}
-use Rattle.fax_rows.specs.code.PackedWord.{word_bit, IsPackedWord, IsWordTo}
+use Rattle.fax_rows.specs.code.PackedWord.{word_bit, IsPackedByte, IsPackedWord, IsWordTo}
 use Rattle.fax_rows.specs.code.PlacedRow.{placed_pels}
 use Rattle.fax_rows.specs.code.Turns.{alternate, HasPassed}
-use Rattle.fax_rows.proofs.PackingLemmas.{is_packed_byte, bit_after, none_after}
+use Rattle.fax_rows.proofs.PackingLemmas.{bit_after, none_after}
 use Rattle.fax_rows.proofs.PlacedRowLemmas.{at_end}
 use Rattle.fax_rows.proofs.TurnLemmas.{alternate-suc, not_later}
 
@@ -42,9 +40,6 @@ turned_left word s i within before = grind (arith, common_steps, nat_eq, ones-bi
 turned_right : (word s i : ℕ) → s < 64 → s ≤ i → i < 64 → word_bit (turned_word word s) i ≡ not (word_bit word i)
 turned_right word s i within after inside = grind (arith, common_steps, nat_eq, ones-bits, bit_at_ones, turned_bit, bit_at-lt)
 
-turned_fits : (word s : ℕ) → word < 2 ^ 64 → s ≤ 64 → turned_word word s < 2 ^ 64
-turned_fits word s fits within = xor_lt 64 word ((2 ^ 64 - 1) / 2 ^ s) fits (omega (arith, shr_le (2 ^ 64 - 1) s))
-
 not_after : (k : ℕ) → not (is_black (alternate Black k)) ≡ is_black (alternate Black (k + 1))
 not_after k = rw (add-one, alternate-suc Black k) (not_black (alternate Black k))
   where
@@ -62,14 +57,14 @@ module _ (row : PlacedRow) where
   abbrev pels : List Bool
   pels = map is_black (placed_pels row)
 
-  pub word_begun : (from word k : ℕ) → HasPassed row.places.now row.end from k → word < 2 ^ 64
+  pub word_begun : (from word k : ℕ) → HasPassed row.places.now row.end from k
       → ((i : ℕ) → word_bit word i ≡ is_black (alternate Black k)) → IsWordTo row from word k
-  word_begun from word k passed fits is = grind (arith, common_steps)
+  word_begun from word k passed is = grind arith
 
   -- the pels up to the next place
   pub pel_of_word : {from word k : ℕ} → IsWordTo row from word k → (i : ℕ) → i < 64 → from + i < row.width
       → (k < row.end → from + i < get_or row.places.now k 0) → word_bit word i ≡ get_or pels (from + i) false
-  pel_of_word {from = from} {k = k} so_far i inside wide right = grind (arith, common_steps, cases_lt, bit_after)
+  pel_of_word so_far i inside wide right = grind (arith, common_steps, cases_lt, bit_after)
 
   -- after the last place stands the width
   pub before_end : {from word k : ℕ} → IsWordTo row from word k → get_or row.places.now k 0 < row.width → k < row.end
@@ -86,7 +81,6 @@ module _ (row : PlacedRow) where
       → get_or row.places.now k 0 < from + 64 → (from ≤ get_or row.places.now k 0 → s ≡ get_or row.places.now k 0 - from)
       → IsWordTo row from (turned_word word s) (k + 1)
   word_turned from word k s so_far wide near shift = record {
-    fits = turned_fits word s so_far.fits (omega (arith, at));
     some = omega arith;
     within = omega (arith, inside);
     ahead = λ h. omega (arith, ahead, row.placed.ascending.steps k so_far.some h);
@@ -116,36 +110,28 @@ module _ (row : PlacedRow) where
   -- all pels of a word within the row
   pub word_done : {from word k : ℕ} → IsWordTo row from word k → HasPassed row.places.now row.end (from + 64) k → from + 64 ≤ row.width
       → IsPackedWord (placed_pels row) from word
-  word_done so_far passed wide = record {
-    fits = so_far.fits;
-    pels = λ i h. pel_of_word so_far i h (omega arith) (λ l. omega (arith, passed.right l));
-  }
+  word_done so_far passed wide i h = pel_of_word so_far i h (omega arith) (λ l. omega (arith, passed.right l))
 
   -- and of one in which the row ends, where white pels stand after it
   pub white_done : {from word k : ℕ} → IsWordTo row from word k → HasPassed row.places.now row.end row.width k → alternate Black k ≡ White
       → IsPackedWord (placed_pels row) from word
-  white_done {from = from} so_far passed white = record {
-    fits = so_far.fits;
-    pels = λ i h. elim (cases_lt (from + i) row.width) [
-      | inl less ↦ pel_of_word so_far i h less (λ l. omega (arith, passed.right l))
-      | inr more ↦
-          so_far.after i h (omega (arith, passed.left)) ∙ ap is_black white ∙ sym (none_after row.placed (from + i) more)
-    ];
-  }
+  white_done {from = from} so_far passed white i h =
+      elim (cases_lt (from + i) row.width) [
+        | inl less ↦ pel_of_word so_far i h less (λ l. omega (arith, passed.right l))
+        | inr more ↦
+            so_far.after i h (omega (arith, passed.left)) ∙ ap is_black white ∙ sym (none_after row.placed (from + i) more)
+      ]
 
   -- or black ones, which are turned
   pub black_done : {from word k : ℕ} (s : ℕ) → IsWordTo row from word k → HasPassed row.places.now row.end row.width k
       → alternate Black k ≡ Black → from + s ≡ row.width → s < 64 → IsPackedWord (placed_pels row) from (turned_word word s)
-  black_done {from = from} {word = word} s so_far passed black ends short = record {
-    fits = turned_fits word s so_far.fits (omega arith);
-    pels = λ i h. elim (cases_lt (from + i) row.width) [
-      | inl less ↦
-          turned_left word s i short (omega arith) ∙ pel_of_word so_far i h less (λ l. omega (arith, passed.right l))
-      | inr more ↦
-          turned_right word s i short (omega arith) h ∙ ap not (so_far.after i h (omega (arith, passed.left)) ∙ ap is_black black)
-          ∙ sym (none_after row.placed (from + i) more)
-    ];
-  }
+  black_done {from = from} {word = word} s so_far passed black ends short i h =
+      elim (cases_lt (from + i) row.width) [
+        | inl less ↦ turned_left word s i short (omega arith) ∙ pel_of_word so_far i h less (λ l. omega (arith, passed.right l))
+        | inr more ↦
+            turned_right word s i short (omega arith) h ∙ ap not (so_far.after i h (omega (arith, passed.left)) ∙ ap is_black black)
+            ∙ sym (none_after row.placed (from + i) more)
+      ]
 
 -- a byte of a word
 pub byte_bit : (word j r : ℕ) → j < 8 → r < 8 → bit_at (word / 2 ^ (8 * (7 - j)) % 256) (7 - r) ≡ bit_at word (63 - (8 * j + r))
@@ -168,12 +154,9 @@ be_byte n (suc (suc (suc (suc (suc (suc (suc zero))))))) h = omega arith
 be_byte n (suc (suc (suc (suc (suc (suc (suc (suc i)))))))) h = absurd (omega arith)
 
 -- they are those of its pels
-pub byte_of_word : AreBitsByPlace → AreBitsOfOneByte → (row : List Colour) (from word j : ℕ) → IsPackedWord row from word
-    → from + 8 * j < length row → j < 8 → get_or (to_be_bytes w64 word) j 0 ≡ packed_byte row (from + 8 * j)
-byte_of_word places one_byte row from word j packed wide few =
-    be_byte word j few
-    ∙ is_packed_byte places one_byte row (from + 8 * j) (word / 2 ^ (8 * (7 - j)) % 256) wide (omega arith)
-    (λ i h.
-    let place : from + (8 * j + i) ≡ from + 8 * j + i = omega arith in
-    ap (λ b. nat_eq b 1) (byte_bit word j i few h) ∙ packed.pels (8 * j + i) (omega arith)
-    ∙ ap (λ n. get_or (map is_black row) n false) place)
+pub byte_of_word : (row : List Colour) (from word j place : ℕ) → IsPackedWord row from word → j < 8 → from + 8 * j ≡ place
+    → IsPackedByte row place (get_or (to_be_bytes w64 word) j 0)
+byte_of_word row from word j place packed few is i h =
+    let at : from + (8 * j + i) ≡ place + i = omega arith in
+    ap (λ byte. nat_eq (bit_at byte (7 - i)) 1) (be_byte word j few) ∙ ap (λ b. nat_eq b 1) (byte_bit word j i few h)
+    ∙ packed (8 * j + i) (omega arith) ∙ ap (λ n. get_or (map is_black row) n false) at

@@ -1,6 +1,6 @@
 -- A row in one-dimensional coding that is read run by run, and a white run and the black one after it that are read at once.
 use Rattle.std.proofs.lemmas.Grind.{common_steps}
-use Rattle.std.proofs.Common.{◌≡◌, ℕ, ◌+◌, ◌-◌, ◌<◌, ◌≤◌, List, [], ◌∷◌, ◌++◌, take, Bool, ap, sym, ◌∙◌, subst, arith, inl}
+use Rattle.std.proofs.Common.{◌≡◌, ℕ, ◌+◌, ◌-◌, ◌<◌, ◌≤◌, List, ◌++◌, take, Bool, ap, sym, ◌∙◌, subst, arith, inl}
 use Rattle.std.specs.Prelude.{◌⊎◌}
 use Rattle.fax_bits.specs.declared.Colour.{Colour}
 use Rattle.fax_bits.specs.declared.Colour.TheVariants.{White, Black}
@@ -13,9 +13,9 @@ use Rattle.fax_rows.specs.Rows.{other}
 use Rattle.fax_rows.specs.code.Put.{ArePut, HasRoom}
 use Rattle.fax_rows.specs.code.Turns.{turned, pels_by, IsTurnedFrom, TurnsAt}
 use Rattle.fax_rows.proofs.ChosenRunLemmas.{AreWrittenRuns, runs_begin, runs_go_on}
-use Rattle.fax_rows.proofs.PlacedReadLemmas.{none_put, put_on, run_turned}
-use Rattle.fax_rows.proofs.PlacedRowLemmas.{turned-first, take-first}
-use Rattle.fax_rows.proofs.RowLemmas.{IsRowSoFar, row_begins}
+use Rattle.fax_rows.proofs.PlacedReadLemmas.{put_on, run_turned}
+use Rattle.fax_rows.proofs.PlacedRowLemmas.{turned-first}
+use Rattle.fax_rows.proofs.RowLemmas.{IsRowSoFar}
 
 -- the places of the runs that are read, after which the row has a colour; where they are seen to be chosen, the bits are written so
 pub record HasRead (width : ℕ) (b : List Bool) (chosen : Type 0) (total : ℕ) (colour : Colour) (places : List ℕ) (end : ℕ)
@@ -27,14 +27,7 @@ pub record HasRead (width : ℕ) (b : List Bool) (chosen : Type 0) (total : ℕ)
 
 pub none_read : {width : ℕ} {places : List ℕ} (b : List Bool) (chosen : Type 0) → HasRoom width places
     → HasRead width b chosen 0 White places 1 b
-none_read {width} {places} b chosen room =
-    let first : take 1 places ≡ 0 ∷ [] = take-first places (omega (arith, room.len)) room.first in
-    record {
-      so_far = row_begins width _ _;
-      after = λ i h. ap (λ ps. turned Black ps i) first ∙ turned-first i;
-      put = none_put 0 room (omega arith);
-      written = λ h. runs_begin b;
-    }
+none_read b chosen room = grind (arith, turned-first, runs_begin)
 
 pub read_on : {width : ℕ} {b : List Bool} {chosen also : Type 0} {total place : ℕ} {colour : Colour} {old new : List ℕ}
     {end next : ℕ} {mid rest : List Bool}
@@ -84,4 +77,4 @@ pair_read_on {width} {b} {chosen} {total} {colour} {old} {mid} {new} {end} {next
 pub white_read : {width : ℕ} {b : List Bool} {chosen : Type 0} {ahead again : Source} {total : ℕ} {colour : Colour} {places : List ℕ}
     {end : ℕ} → HasRead width b chosen total colour places end ahead.left → colour ≡ White → again ≡ ahead
     → HasRead width b chosen total White places end again.left
-white_read {width} {b} {chosen} {ahead} {again} {total} {colour} {places} {end} read white same = grind (arith, common_steps)
+white_read read white same = grind (arith, common_steps)

@@ -5,8 +5,7 @@ use Rattle.std.specs.Prelude.{◌⊎◌, ◌&&◌, not}
 use Rattle.std.proofs.lemmas.Bool.{true≢false}
 use Rattle.std.proofs.Math.Nat.{eq-or-lt_of_le}
 use Rattle.fax_bits.specs.declared.Colour.{Colour}
-use Rattle.fax_rows.specs.Rows.{first_place, next_change, b1, is_right_of, is_changing}
-use Rattle.fax_rows.specs.Rows.{same_colour, pel}
+use Rattle.fax_rows.specs.Rows.{first_place, next_change, b1, is_right_of, is_changing, same_colour, pel}
 
 -- one place of a search
 first_place_by : (b : Bool) (i more r : ℕ) → (b ≡ true → i ≡ r) → (b ≡ false → more ≡ r) → cond b i more ≡ r

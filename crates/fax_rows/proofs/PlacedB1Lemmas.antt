@@ -1,22 +1,21 @@
 -- b1 and b2 by an index into the reference row's places of change.
+use Rattle.fax_rows.proofs.ColourLemmas.{other_than, same_as}
 use Rattle.std.proofs.lemmas.Grind.{common_steps}
-use Rattle.std.proofs.Common.{◌≡◌, ◌≢◌, ℕ, zero, suc, ◌+◌, ◌-◌, ◌<◌, ◌≤◌, List, length, take, get_or, true, false, not, refl, ap, sym, ◌∙◌}
+use Rattle.std.proofs.Common.{◌≡◌, ℕ, zero, suc, ◌+◌, ◌-◌, ◌<◌, ◌≤◌, List, length, take, get_or, true, false, not, refl, ap, sym, ◌∙◌}
 use Rattle.std.proofs.Common.{subst, arith, inl, inr}
 use Rattle.std.specs.Prelude.{◌⊎◌, ◌&&◌, Option, Some, None, unwrap_or}
 use Rattle.std.proofs.lemmas.Bool.{and_from, cases_lt, ltb-true, lt-ltb, le-ltb, true≢false}
 use Rattle.std.proofs.Math.Nat.{eq-or-lt_of_le}
 use Rattle.fax_bits.specs.declared.Colour.{Colour}
-use Rattle.fax_bits.specs.declared.Colour.TheVariants.{White, Black}
-use Rattle.fax_rows.specs.Rows.{other, same_colour, pel, is_changing, is_right_of, next_change, b1}
-use Rattle.fax_rows.specs.Rows.{b2}
+use Rattle.fax_bits.specs.declared.Colour.TheVariants.{Black}
+use Rattle.fax_rows.specs.Rows.{other, same_colour, pel, is_changing, is_right_of, next_change, b1, b2}
 use Rattle.fax_rows.specs.declared.rows.PlacedRow.{PlacedRow}
 use Rattle.fax_rows.specs.code.PlacedRow.{placed_pels, IsBeforeB1, IsB1At}
 use Rattle.fax_rows.specs.code.Turns.{alternate, ArePlacesUpTo, IsFrom}
 use Rattle.fax_rows.proofs.ChangeLemmas.{still_left, next_change_is}
 use Rattle.fax_rows.proofs.PlaceLemmas.{next_of_at}
-use Rattle.fax_rows.proofs.TurnLemmas.{other-other, length-pels_by, alternate-suc, below_later, not_later, pel_after, changing_at}
-use Rattle.fax_rows.proofs.TurnLemmas.{unchanging}
-use Rattle.fax_rows.proofs.PlacedRowLemmas.{at_end, next_here, end_within}
+use Rattle.fax_rows.proofs.TurnLemmas.{length-pels_by, alternate-suc, below_later, not_later, pel_after, changing_at, unchanging}
+use Rattle.fax_rows.proofs.PlacedRowLemmas.{next_here, end_within}
 
 -- a place further right is right of a place too
 further_right : (from : Option ℕ) (i j : ℕ) → i ≤ j → is_right_of from i ≡ true → is_right_of from j ≡ true
@@ -30,13 +29,6 @@ length-placed_pels row = length-pels_by row.width (take row.end row.places.now)
 -- and so has the row of these pels
 pub placed_width : (row : PlacedRow) (pels : List Colour) → placed_pels row ≡ pels → row.width ≡ length pels
 placed_width row pels is = sym (length-placed_pels row) ∙ ap length is
-
--- a colour that is not this one is the other
-pub differs_is : (colour pel : Colour) → pel ≢ colour → pel ≡ other colour
-differs_is White Black h = refl
-differs_is Black White h = refl
-differs_is White White h = absurd (h refl)
-differs_is Black Black h = absurd (h refl)
 
 module _ (row : PlacedRow) where
   rank_from : (i n k : ℕ) → 0 < k → k + n ≡ row.end → get_or row.places.now (k - 1) 0 ≤ i
@@ -84,18 +76,6 @@ module _ (row : PlacedRow) where
           further_right a0 i (get_or row.places.now (b - 2) 0)
           (let order = not_later row.placed.ascending (j - 1) (b - 2) left (omega (arith, at.within)) in omega arith) right
 
-  same_as : (pel colour : Colour) → pel ≡ colour → not (same_colour pel colour) ≡ false
-  same_as White White h = refl
-  same_as Black Black h = refl
-  same_as White Black h = cc
-  same_as Black White h = cc
-
-  other_than : (pel colour : Colour) → pel ≡ other colour → not (same_colour pel colour) ≡ true
-  other_than White White h = cc
-  other_than Black Black h = cc
-  other_than White Black h = refl
-  other_than Black White h = refl
-
   -- no change of the other colour stands between a0 and that place
   none_left : (a0 : Option ℕ) (colour : Colour) (b i : ℕ) → IsB1At row a0 colour b → i < get_or row.places.now b 0 → i < row.width
       → is_right_of a0 i ≡ true → is_changing (placed_pels row) i ≡ true
@@ -107,23 +87,9 @@ module _ (row : PlacedRow) where
       same_as (pel (placed_pels row) i) colour
       (pel_after row.placed.ascending row.width i found.0 inside found.1 ∙ ap (alternate Black) same ∙ at.colour_is)
 
-  second_end : get_or row.places.now (row.end + 1) 0 ≡ row.width
-  second_end = row.placed.after 1 (omega arith)
-
-  third_end : get_or row.places.now (row.end + 2) 0 ≡ row.width
-  third_end = row.placed.after 2 (omega arith)
-
   -- from the last place on all places are the width
   pub over_end : (b : ℕ) → row.end ≤ b → b ≤ row.end + 2 → get_or row.places.now b 0 ≡ row.width
-  over_end b over within =
-      elim (eq-or-lt_of_le over) [
-        | inl same ↦ ap (λ m. get_or row.places.now m 0) (sym same) ∙ at_end row.placed
-        | inr more ↦
-            elim (cases_lt b (row.end + 2)) [
-              | inl one ↦ let same : b ≡ row.end + 1 = omega arith in ap (λ m. get_or row.places.now m 0) same ∙ second_end
-              | inr two ↦ let same : b ≡ row.end + 2 = omega arith in ap (λ m. get_or row.places.now m 0) same ∙ third_end
-            ]
-      ]
+  over_end b over within = grind arith
 
   pub b1_within : (b : ℕ) → 0 < b → b ≤ row.end + 1 → ((b < row.end) × (get_or row.places.now b 0 < row.width)) ⊎
       ((row.end ≤ b) × (get_or row.places.now b 0 ≡ row.width))
@@ -191,31 +157,16 @@ module _ (row : PlacedRow) where
 
   pub b2_is : {a0 : Option ℕ} {colour : Colour} {b : ℕ} → IsB1At row a0 colour b
       → get_or row.places.now (b + 1) 0 ≡ b2 (placed_pels row) a0 colour
-  b2_is {b = b} at =
-      after_b1 b at.some at.within
-      ∙ ap (λ a. next_change (placed_pels row) (Some a)) (b1_is at)
+  b2_is at = grind (arith, after_b1, b1_is)
 
   -- the search goes on by two places
   before_end : (place b : ℕ) → place < row.width → get_or row.places.now b 0 ≤ place → b ≤ row.end + 1 → b < row.end
   before_end place zero inside left within = row.placed.ascending.started
   before_end place (suc b) inside left within = inside_end (suc b) (omega arith) within (omega arith)
 
-  pub search_within : (place b : ℕ) → place < row.width → get_or row.places.now b 0 ≤ place → b ≤ row.end + 1 → b + 2 ≤ row.end + 1
-  search_within place b inside left within = let less = before_end place b inside left within in omega arith
-
   pub search_goes_on : (place b : ℕ) → place < row.width → get_or row.places.now b 0 ≤ place → (colour : Colour)
       → IsBeforeB1 row place colour b → IsBeforeB1 row place colour (b + 2)
-  search_goes_on place b inside left colour before = record {
-    within = search_within place b inside left before.within;
-    colour_is = ap (alternate Black) two ∙ before.colour_is;
-    passed = λ h. subst (λ m. get_or row.places.now m 0 ≤ place) back left;
-  }
-    where
-      two : b + 2 ≡ suc (suc b)
-      two = omega arith
-
-      back : b ≡ b + 2 - 2
-      back = omega arith
+  search_goes_on place b inside left colour before = grind arith
 
   -- and ends at b1
   pub search_ends : (place b : ℕ) → place < get_or row.places.now b 0 → (colour : Colour)
@@ -226,11 +177,7 @@ module _ (row : PlacedRow) where
   pub b1_ahead : (a0 : Option ℕ) {colour : Colour} {b : ℕ} → IsB1At row a0 colour b → unwrap_or a0 0 < row.width
       → unwrap_or a0 0 ≤ get_or row.places.now b 0
   b1_ahead None at inside = omega arith
-  b1_ahead (Some a) {b = b} at inside =
-      elim (b1_within b at.some at.within) [
-        | inl less ↦ omega (arith, ltb-true a (get_or row.places.now b 0) (at.ahead less.0))
-        | inr over ↦ omega (arith, over.1)
-      ]
+  b1_ahead (Some a) {b = b} at inside = grind (arith, b1_within)
 
   -- and b2 not left of b1
   pub b2_ahead : (b : ℕ) → 0 < b → b ≤ row.end + 1 → get_or row.places.now b 0 ≤ get_or row.places.now (b + 1) 0
@@ -242,25 +189,12 @@ module _ (row : PlacedRow) where
   -- after a pass the next place but one is that of b1
   pub b1_passed : {a0 : Option ℕ} {colour : Colour} {b : ℕ} → IsB1At row a0 colour b → get_or row.places.now (b + 1) 0 < row.width
       → IsB1At row (Some (get_or row.places.now (b + 1) 0)) colour (b + 2)
-  b1_passed {b = b} at inside = grind (arith, common_steps, le-ltb, b2_ahead, lt-ltb, below_later, cases_lt, over_end)
+  b1_passed at inside = grind (arith, common_steps, le-ltb, b2_ahead, lt-ltb, below_later, cases_lt, over_end)
 
   -- where the search for b1 begins as the colour turns at a place that is not left of b1
   pub right_start : (a0 : Option ℕ) (colour : Colour) (b a1 : ℕ) → IsB1At row a0 colour b → get_or row.places.now b 0 ≤ a1 → a1 < row.width
       → IsBeforeB1 row a1 (other colour) (b + 1)
-  right_start a0 colour b a1 at left inside = record {
-    within = let less = inside_end b at.some at.within (omega arith) in omega arith;
-    colour_is = ap (alternate Black) one ∙ alternate-suc Black b ∙ ap other at.colour_is;
-    passed = λ h.
-        let less = inside_end b at.some at.within (omega arith) in
-        subst (λ m. get_or row.places.now m 0 ≤ a1) back
-        (let order = not_later row.placed.ascending (b - 1) b (omega arith) less in omega arith);
-  }
-    where
-      one : b + 1 ≡ suc b
-      one = omega arith
-
-      back : b - 1 ≡ b + 1 - 2
-      back = omega (arith, at.some)
+  right_start a0 colour b a1 at left inside = grind (arith, alternate-suc)
 
   -- from just under b1 the next place is that of b1
   pub b1_next : {a0 : Option ℕ} {colour : Colour} {b : ℕ} → IsB1At row a0 colour b → get_or row.places.now b 0 < row.width
@@ -279,20 +213,7 @@ module _ (row : PlacedRow) where
   -- and where it does at a place that is left of b1 and right of a0
   pub left_start : (a0 : Option ℕ) (colour : Colour) (b a1 : ℕ) → IsB1At row a0 colour b → is_right_of a0 a1 ≡ true
       → IsBeforeB1 row a1 (other colour) (b - 1)
-  left_start a0 colour b a1 at right = record {
-    within = omega (arith, at.within);
-    colour_is = sym (other-other (alternate Black (b - 1)))
-        ∙ ap other (sym (alternate-suc Black (b - 1)) ∙ ap (alternate Black) one ∙ at.colour_is);
-    passed = λ h.
-        let order = not_later row.placed.ascending (b - 1 - 2) (b - 2) (omega arith) (omega (arith, at.within)) in
-        omega (arith, not_right (get_or row.places.now (b - 2) 0) (at.passed (omega arith)));
-  }
-    where
-      one : suc (b - 1) ≡ b
-      one = omega (arith, at.some)
-
-      not_right : (p : ℕ) → is_right_of a0 p ≡ false → p ≤ a1
-      not_right p not = grind (arith, common_steps)
+  left_start a0 colour b a1 at right = grind (arith, alternate-suc)
 
   -- and where it does as a0 goes on with its colour
   pub same_start : (a0 : Option ℕ) (colour : Colour) (b a : ℕ) → IsB1At row a0 colour b → unwrap_or a0 0 ≤ a
@@ -302,25 +223,7 @@ module _ (row : PlacedRow) where
   -- b1 stands at the next change, or at the one after it, by the colour of a0
   pub b1_here : (a0 : Option ℕ) (k b : ℕ) (colour : Colour) → IsFrom row.places.now row.end a0 k → (b ≡ k) ⊎ (b ≡ k + 1)
       → alternate Black b ≡ colour → IsB1At row a0 colour b
-  b1_here None k b colour at which is = record {
-    some = by which;
-    within = before which;
-    colour_is = is;
-    passed = λ h. absurd (few which h);
-    ahead = λ h. refl;
-  }
-    where
-      by : (b ≡ k) ⊎ (b ≡ k + 1) → 0 < b
-      by (inl same) = omega (arith, at)
-      by (inr next) = omega arith
-
-      before : (b ≡ k) ⊎ (b ≡ k + 1) → b ≤ row.end + 1
-      before (inl same) = omega (arith, at)
-      before (inr next) = omega (arith, at, row.placed.ascending.started)
-
-      few : (b ≡ k) ⊎ (b ≡ k + 1) → 2 < b → ⊥
-      few (inl same) h = omega (arith, at)
-      few (inr next) h = omega (arith, at)
+  b1_here None k b colour at which is = grind arith
   b1_here (Some a) k b colour at (inl same) is = grind (arith, common_steps)
   b1_here (Some a) k b colour at (inr next) is = grind (arith, common_steps)
 
@@ -331,6 +234,4 @@ module _ (row : PlacedRow) where
 
   pub b2_right : {a0 : Option ℕ} {colour : Colour} {b : ℕ} → IsB1At row a0 colour b → get_or row.places.now (b + 1) 0 < row.width
       → is_right_of a0 (get_or row.places.now (b + 1) 0) ≡ true
-  b2_right {a0 = a0} {b = b} at inside =
-      let order = b2_ahead b at.some at.within in
-      further_right a0 (get_or row.places.now b 0) (get_or row.places.now (b + 1) 0) order (b1_right at (omega arith))
+  b2_right at inside = grind arith

@@ -1,29 +1,24 @@
 -- A row whose colours are exchanged: it begins with one change at 0 more, or with one less.
+use Rattle.fax_rows.proofs.ColourLemmas.{other-other}
 use Rattle.std.proofs.lemmas.Grind.{common_steps}
-use Rattle.std.proofs.Common.{◌≡◌, ℕ, zero, suc, ◌+◌, ◌-◌, ◌<◌, ◌≤◌, List, [], ◌∷◌, length, take, drop, get_or, map, Bool, true, false}
+use Rattle.std.proofs.Common.{◌≡◌, ℕ, zero, suc, ◌+◌, ◌-◌, ◌<◌, ◌≤◌, List, [], ◌∷◌, length, take, drop, get_or, map, true}
 use Rattle.std.proofs.Common.{refl, sym, ap, ◌∙◌, subst, arith, inl, inr}
 use Rattle.std.proofs.Math.Nat.{eq-or-lt_of_le}
-use Rattle.std.specs.Prelude.{nat_le, if◌then◌else◌}
+use Rattle.std.specs.Prelude.{nat_le}
 use Rattle.std.proofs.lemmas.Bool.{le-leb}
 use Rattle.std.proofs.lemmas.List.{ext_get_or, get_or-map, get_or-take, length-map, length-take-le}
 use Rattle.fax_bits.specs.declared.Colour.{Colour}
 use Rattle.fax_bits.specs.declared.Colour.TheVariants.{White, Black}
 use Rattle.fax_rows.specs.Rows.{other}
 use Rattle.fax_rows.specs.code.Turns.{turned, pels_by, ArePlaces, IsTurnedFrom}
-use Rattle.fax_rows.proofs.TurnLemmas.{other-other, length-pels_by, pel-pels_by}
+use Rattle.fax_rows.proofs.TurnLemmas.{length-pels_by, pel-pels_by}
 use Rattle.fax_rows.proofs.PlacedRowLemmas.{end_within}
 
 -- places turn the opposite colour to the opposite one
 pub turned-other : (c : Colour) (places : List ℕ) (i : ℕ) → turned (other c) places i ≡ other (turned c places i)
 unfolding turned
 turned-other c [] i = refl
-turned-other c (p ∷ places) i = by (nat_le p i) (turned-other (other c) places i) (turned-other c places i)
-  where
-    by : (b : Bool) → turned (other (other c)) places i ≡ other (turned (other c) places i)
-        → turned (other c) places i ≡ other (turned c places i)
-        → turned (if b then other (other c) else other c) places i ≡ other (turned (if b then other c else c) places i)
-    by true first second = first
-    by false first second = second
+turned-other c (p ∷ places) i = grind (arith, turned-other (other c) places i)
 
 -- a change at 0 turns all pels
 twice_at_first : (places : List ℕ) (i : ℕ) → turned Black (0 ∷ 0 ∷ places) i ≡ other (turned Black (0 ∷ places) i)
@@ -111,12 +106,7 @@ module _ (old new : List ℕ) (end width : ℕ) (all : ArePlaces old end width) 
   above : (i : ℕ) → 0 < i → i < end → i ≤ get_or old i 0
   above zero some h = absurd (omega arith)
   above (suc zero) some h = white
-  above (suc (suc i)) some h =
-      let before = above (suc i) (omega arith) (omega arith) in
-      let same : suc i + 1 ≡ suc (suc i) = omega arith in
-      let up : get_or old (suc i) 0 < get_or old (suc (suc i)) 0 =
-      subst (λ m. get_or old (suc i) 0 < get_or old m 0) same (all.ascending.steps (suc i) (omega arith) (omega arith)) in
-      omega arith
+  above (suc (suc i)) some h = grind (arith, common_steps, above (suc i) (omega arith) (omega arith))
 
   few_changes : end ≤ width
   few_changes =
@@ -128,15 +118,7 @@ module _ (old new : List ℕ) (end width : ℕ) (all : ArePlaces old end width) 
   steps_up : (i : ℕ) → 0 < i → i + 1 < end + 1 → get_or new i 0 < get_or new (i + 1) 0
   steps_up zero some h = absurd (omega arith)
   steps_up (suc zero) some h = grind (arith, common_steps)
-  steps_up (suc (suc i)) some h =
-      let same : suc (suc i) + 1 ≡ suc (suc (suc i)) = omega arith in
-      let next : suc i + 1 ≡ suc (suc i) = omega arith in
-      let here : get_or new (suc (suc i)) 0 ≡ get_or old (suc i) 0 = each (suc i) (omega (arith, all.ascending.within)) in
-      let there : get_or new (suc (suc i) + 1) 0 ≡ get_or old (suc (suc i)) 0 =
-      ap (λ m. get_or new m 0) same ∙ each (suc (suc i)) (omega (arith, few_changes, all.room)) in
-      let up : get_or old (suc i) 0 < get_or old (suc (suc i)) 0 =
-      subst (λ m. get_or old (suc i) 0 < get_or old m 0) next (all.ascending.steps (suc i) (omega arith) (omega arith)) in
-      omega arith
+  steps_up (suc (suc i)) some h = grind (arith, few_changes)
 
   all_below : (i : ℕ) → 0 < i → i < end + 1 → get_or new i 0 < width
   all_below zero some h = absurd (omega arith)
@@ -144,21 +126,7 @@ module _ (old new : List ℕ) (end width : ℕ) (all : ArePlaces old end width) 
   all_below (suc (suc i)) some h = grind (arith, common_steps)
 
   pub with_first : ArePlaces new (end + 1) width
-  with_first = record {
-    some = all.some;
-    short = all.short;
-    room = len ∙ all.room;
-    ascending = record {
-      started = omega arith;
-      within = omega (arith, few_changes, all.room, len);
-      first = first;
-      steps = steps_up;
-    };
-    below = all_below;
-    after = λ i h.
-        let at : end + 1 + i ≡ suc (end + i) = omega arith in
-        ap (λ m. get_or new m 0) at ∙ each (end + i) (omega (arith, few_changes, all.room)) ∙ all.after i h;
-  }
+  with_first = grind (arith, few_changes, steps_up, all_below)
 
   pub turned_black : IsTurnedFrom (take end old) (take (end + 1) new) 0
   turned_black =

@@ -8,7 +8,7 @@ use Rattle.fax_rows.specs.code.ChangesAhead.{bits_from, place_from}
 use Rattle.fax_rows.specs.Coded.{step_bits, two_dimensional_bits}
 use Rattle.fax_rows.proofs.ChangeLemmas.{first_of}
 use Rattle.fax_rows.proofs.ChoiceLemmas.{passed, passed_within, place_ahead}
-use Rattle.fax_rows.proofs.PutLemmas.{put_begins, put_goes_on, put_stops, put_pending}
+use Rattle.fax_rows.proofs.PutLemmas.{put_begins, put_goes_on, put_pending}
 use Rattle.fax_rows.proofs.WrittenLemmas.{step_bits-end, step_bits-more}
 
 -- the steps before a0 are put, but for the pending bits, and those that are left are enough to end the row
@@ -55,27 +55,14 @@ module _ (reference row : List Colour) (same_width : length reference ≡ length
   pub place_goes_on : (place : ℕ) (pending' : List Bool) → place ≡ place_from reference row a0
       → AppendsAllBut mid (pending ++ bits_from reference row a0) pending' new
       → IsPutToPlace reference row old (Some place) pending' new
-  place_goes_on place pending' is more =
-      let ahead = place_ahead reference row same_width a0 inside in
-      rw is record {
-        limit = left.limit;
-        enough = omega (arith, left.enough, ahead.right);
-        within = ahead.within;
-        so_far =
-            put_goes_on old mid new _ pending _ (bits_from reference row a0) _ pending' left.so_far
-            (step_bits-more left.limit reference row a0 inside) more;
-      }
+  place_goes_on place pending' is more = grind (arith, place_ahead, left, put_goes_on, step_bits-more)
 
   pub place_stops : AppendsPrefix mid (pending ++ bits_from reference row a0) new
       → AppendsPrefix old (two_dimensional_bits reference row) new
-  place_stops more =
-      put_stops old mid new _ pending _ (bits_from reference row a0) _ left.so_far
-      (step_bits-more left.limit reference row a0 inside) more
+  place_stops more = grind (arith, common_steps, left, step_bits-more)
 
 -- each step passes a place
 pub step_smaller : (reference row : List Colour) → length reference ≡ length row → (a0 : Option ℕ) → first_of a0 < length row
     → (place : ℕ) → place ≡ place_from reference row a0 → (next : Option ℕ) → next ≡ Some place
     → length row + 1 - passed next < length row + 1 - passed a0
-step_smaller reference row same_width a0 inside place is next next_is =
-    let ahead = place_ahead reference row same_width a0 inside in
-    rw next_is (omega (arith, ahead.right, ahead.within))
+step_smaller reference row same_width a0 inside place is next next_is = grind (arith, place_ahead)

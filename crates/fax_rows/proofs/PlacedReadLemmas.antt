@@ -1,4 +1,5 @@
 -- Places of change that are put one after the other while a row is read.
+use Rattle.fax_rows.proofs.ColourLemmas.{other-other}
 use Rattle.std.proofs.lemmas.Grind.{common_steps}
 use Rattle.std.proofs.Common.{◌≡◌, ℕ, ◌+◌, ◌-◌, ◌<◌, ◌≤◌, ◌≢◌, List, [], ◌∷◌, ◌++◌, length, take, drop, get_or, Bool}
 use Rattle.std.proofs.Common.{sym, ◌∙◌, subst, arith, inl, inr}
@@ -9,10 +10,10 @@ use Rattle.std.proofs.lemmas.List.{take_at, take_more_set, ext_get_or}
 use Rattle.fax_bits.specs.declared.Colour.{Colour}
 use Rattle.fax_bits.specs.declared.Colour.TheVariants.{White, Black}
 use Rattle.fax_bits.specs.Codes.{IsRun}
-use Rattle.fax_rows.specs.Rows.{other, IsOneDimensionalRow}
+use Rattle.fax_rows.specs.Rows.{other}
 use Rattle.fax_rows.specs.code.Put.{ArePut, HasRoom}
 use Rattle.fax_rows.specs.code.Turns.{turned, pels_by, IsAscending, IsTurnedFrom, TurnsAt}
-use Rattle.fax_rows.proofs.TurnLemmas.{other-other, length-pels_by, pel-pels_by, turned-push_left, turned-push_right, at_least, below_later}
+use Rattle.fax_rows.proofs.TurnLemmas.{length-pels_by, pel-pels_by, turned-push_left, turned-push_right, at_least, below_later}
 use Rattle.fax_rows.proofs.RowLemmas.{IsRowSoFar, row_goes_on}
 
 -- a place that is put
@@ -84,27 +85,14 @@ below_width places end width up last (inr other) i some h =
 -- there are no more changes than pels
 pub ends_within : (places : List ℕ) (end width : ℕ) → IsAscending places end
     → ((i : ℕ) → 0 < i → i < end → get_or places i 0 < width) → end ≤ width + 1
-ends_within places end width up below =
-    elim (eq-or-lt_of_le up.started) [
-      | inl one ↦ omega arith
-      | inr more ↦ omega (arith, at_least up (end - 1) (omega arith), below (end - 1) (omega arith) (omega arith))
-    ]
+ends_within places end width up below = grind (arith, at_least)
 
 -- one run more
 pub run_turned : {width : ℕ} {b : List Bool} {total n : ℕ} {colour : Colour} {old new : List ℕ} {mid rest : List Bool}
     → IsRowSoFar width b total colour (pels_by width old) mid → total < width → total + n ≤ width → IsRun colour mid n rest
     → ((i : ℕ) → total ≤ i → turned Black old i ≡ colour) → IsTurnedFrom old new (total + n)
     → IsRowSoFar width b (total + n) (other colour) (pels_by width new) rest
-run_turned {width =
-    width} {b = b} {total = total} {n = n} {colour = colour} {old = old} {new = new} {mid = mid} {rest = rest} so_far unfinished within run after turn =
-    row_goes_on width b total n colour (pels_by width old) (pels_by width new) mid rest so_far unfinished run
-    (λ k h. pel-pels_by width new k (omega arith) ∙ turn.left k (omega arith) ∙ sym (pel-pels_by width old k (omega arith)))
-    (λ k h l. pel-pels_by width new k (omega arith) ∙ turn.left k (omega arith) ∙ after k h)
-
--- a row that is shown otherwise
-pub one_dimensional_as : {width wide : ℕ} {b : List Bool} {row shown : List Colour} {rest : List Bool}
-    → IsOneDimensionalRow width b row rest → width ≡ wide → shown ≡ row → IsOneDimensionalRow wide b shown rest
-one_dimensional_as {width = width} {b = b} {shown = shown} {rest = rest} is same shows = grind (arith, common_steps)
+run_turned so_far unfinished within run after turn = grind (arith, row_goes_on, pel-pels_by)
 
 -- elements that are all written over
 pub refilled : (len : ℕ) (new old : List ℕ) → length new ≡ len → take len (new ++ drop (length new) old) ≡ new

@@ -4,19 +4,18 @@ use Rattle.std.proofs.Common.{◌≡◌, ℕ, zero, suc, ◌+◌, ◌-◌, ◌<�
 use Rattle.std.proofs.Common.{false, refl, ap, sym, ◌∙◌, subst, arith, inl, inr, drop-cons}
 use Rattle.std.specs.Prelude.{◌⊎◌, Option, Some, None}
 use Rattle.std.specs.List.{filter, range_with_len}
-use Rattle.std.proofs.lemmas.Bool.{and_from, cases_lt, ltb-true, lt-ltb, le-leb}
+use Rattle.std.proofs.lemmas.Bool.{and_from, cases_lt, lt-ltb, le-leb}
 use Rattle.std.proofs.Math.Nat.{eq-or-lt_of_le}
 use Rattle.std.proofs.Math.ListN.{set}
 use Rattle.std.proofs.Math.Seq.{take-nil}
-use Rattle.std.proofs.lemmas.List.{get_or-take, length-take-le, ext_get_or, get_or-replicate, length-replicate, drop_all}
+use Rattle.std.proofs.lemmas.List.{get_or-take, length-take-le, ext_get_or, get_or-replicate, length-replicate}
 use Rattle.fax_bits.specs.declared.Colour.{Colour}
 use Rattle.fax_bits.specs.declared.Colour.TheVariants.{White, Black}
 use Rattle.fax_rows.specs.Rows.{pel, is_changing, is_right_of, next_change}
 use Rattle.fax_rows.specs.code.Turns.{turned, pels_by, alternate, ArePlaces, ArePlacesUpTo, IsFrom}
 use Rattle.fax_rows.proofs.ChangeLemmas.{still_left}
 use Rattle.fax_rows.proofs.PlaceLemmas.{next_change_at}
-use Rattle.fax_rows.proofs.TurnLemmas.{length-pels_by, pel-pels_by, at_least, below_later, pel_after}
-use Rattle.fax_rows.proofs.TurnLemmas.{changing_at, unchanging}
+use Rattle.fax_rows.proofs.TurnLemmas.{length-pels_by, pel-pels_by, at_least, below_later, pel_after, changing_at, unchanging}
 
 -- after the first place alone all is white
 pub turned-first : (i : ℕ) → turned Black (0 ∷ []) i ≡ White
@@ -90,15 +89,7 @@ module _ {places : List ℕ} {end width : ℕ} (all : ArePlaces places end width
         right = λ h. before;
       })
       (inl at) inside
-  none_between (Some a) k at i before inside right =
-      unchanging all.ascending width i k
-      (record {
-        some = at.some;
-        within = at.within;
-        left = omega (arith, at.left, ltb-true a i right);
-        right = λ h. before;
-      })
-      (inr (omega (arith, at.left, ltb-true a i right))) inside
+  none_between (Some a) k at i before inside right = grind (arith, unchanging)
 
   right_of : (from : Option ℕ) (k : ℕ) → IsFrom places end from k → k < end → is_right_of from (get_or places k 0) ≡ true
   right_of None k at h = refl
@@ -142,18 +133,7 @@ module _ {places : List ℕ} {end width : ℕ} (all : ArePlaces places end width
 
   -- no change stands at a
   goes_on : (a n k : ℕ) → AreChangesFrom (a + 1) n k → a < width → (k < end → a < get_or places k 0) → AreChangesFrom a (suc n) k
-  goes_on a n k more inside before some within next last =
-      let at : ArePlacesUpTo places end a k = record { some = some; within = within; left = left last; right = before } in
-      rw (unchanging all.ascending width a k at last inside)
-      (more some within (λ h. omega (arith, before h)) (later last))
-    where
-      left : (k ≡ 1) ⊎ (get_or places (k - 1) 0 < a) → get_or places (k - 1) 0 ≤ a
-      left (inl one) = subst (λ m. get_or places (m - 1) 0 ≤ a) (sym one) (omega (arith, all.ascending.first))
-      left (inr further) = omega arith
-
-      later : (k ≡ 1) ⊎ (get_or places (k - 1) 0 < a) → (k ≡ 1) ⊎ (get_or places (k - 1) 0 < a + 1)
-      later (inl one) = inl one
-      later (inr further) = inr (omega arith)
+  goes_on a n k more inside before some within next last = grind (arith, unchanging)
 
   -- a change stands there
   stops : (a n k : ℕ) → AreChangesFrom (a + 1) n (suc k) → a < width → k < end → get_or places k 0 ≡ a → AreChangesFrom a (suc n) k
@@ -174,11 +154,7 @@ module _ {places : List ℕ} {end width : ℕ} (all : ArePlaces places end width
       left_of_a = subst (λ m. get_or places m 0 < a + 1) same (omega arith)
 
   filter_from : (a n k : ℕ) → a + n ≡ width → AreChangesFrom a n k
-  filter_from a zero k sum some within next last =
-      sym (drop_all k (take end places) (omega (arith, length-take-le end places all.ascending.within, over)))
-    where
-      over : end ≤ k
-      over = grind (arith, common_steps)
+  filter_from a zero k sum some within next last = grind (arith, common_steps)
   filter_from a (suc n) k sum some within next last =
       elim (cases_lt k end) [
         | inr more ↦ goes_on a n k (filter_from (a + 1) n k (omega arith)) (omega arith) (λ h. absurd (omega arith)) some within next last

@@ -1,7 +1,7 @@
 -- Steps of two-dimensional coding over places of change.
+use Rattle.std.proofs.Common.{rules, ◌≡◌, ℕ, ◌+◌, ◌-◌, ℤ, negsuc, ◌+ℤ◌, ◌≤ℤ◌, ◌<◌, ◌≤◌, List, [], ◌++◌, length, take, get_or, replicate}
+use Rattle.std.proofs.Common.{Bool, true, refl, ap, sym, ◌∙◌, arith, pos}
 use Rattle.std.proofs.lemmas.Grind.{common_steps}
-use Rattle.std.proofs.Common.{◌≡◌, ℕ, ◌+◌, ◌-◌, ℤ, negsuc, ◌+ℤ◌, ◌≤ℤ◌, ◌<◌, ◌≤◌, List, [], ◌++◌, length, take, get_or, replicate, Bool}
-use Rattle.std.proofs.Common.{true, refl, ap, sym, ◌∙◌, arith, pos}
 use Rattle.std.specs.Prelude.{Option, Some, None, unwrap_or, ◌<ℤ◌, nat_abs}
 use Rattle.std.proofs.lemmas.Bool.{ltb-true}
 use Rattle.std.proofs.lemmas.Int.{ints}
@@ -26,7 +26,7 @@ use Rattle.fax_rows.proofs.PaintLemmas.{painted_front}
 use Rattle.fax_rows.proofs.TurnLemmas.{length-pels_by, pel-pels_by}
 use Rattle.fax_rows.proofs.PlacedRowLemmas.{end_within, take-first, turned-first}
 use Rattle.fax_rows.proofs.PlacedReadLemmas.{more_room, none_put}
-use Rattle.fax_rows.proofs.PlacedB1Lemmas.{b1_is, b1_within, b1_at_most, b1_ahead, b2_ahead, b2_at_most, b2_is, b1_passed}
+use Rattle.fax_rows.proofs.PlacedB1Lemmas.{b1_is, b1_within, b1_at_most, b1_ahead, b2_ahead, b2_at_most, b2_is}
 use Rattle.fax_rows.proofs.PlacedB1Lemmas.{length-placed_pels}
 
 -- the pels up to `to` where those from `from` on have one colour
@@ -45,9 +45,7 @@ front_to width from to old new colour order within same after =
 pub coloured : (width : ℕ) (old new : List ℕ) (at : Reached) (to : ℕ) → reached_pel at ≤ to → to ≤ width
     → ((i : ℕ) → i < to → turned Black new i ≡ turned Black old i) → ((i : ℕ) → reached_pel at ≤ i → turned Black old i ≡ at.colour)
     → position_of (record { a0 = Some to; colour = at.colour }) (pels_by width new) ≡ coloured_up_to (position_of at (pels_by width old)) to
-coloured width old new at to order within same after =
-    let position : List Colour → Position = λ pels. record { a0 = Some to; colour = at.colour; pels = pels } in
-    ap position (front_to width (reached_pel at) to old new at.colour order within same after)
+coloured width old new at to order within same after = grind (arith, front_to)
 
 -- a0 is no less than just before the first pel
 pub from_start : (at : Reached) → negsuc 0 ≤ℤ a0_number (position_of at [])
@@ -55,18 +53,10 @@ from_start at = grind (arith, common_steps)
 
 -- a0's number, just before the first pel and in the row
 pub number_at_start : (at : Reached) → at.a0 ≡ None → negsuc 0 ≡ a0_number (position_of at [])
-number_at_start at is = by at.a0 is
-  where
-    by : (a0 : Option ℕ) → a0 ≡ None → negsuc 0 ≡ a0_number (record { a0 = a0; colour = at.colour; pels = [] })
-    by None h = refl
-    by (Some a) h = cc
+number_at_start at is = search rules
 
 pub number_inside : (at : Reached) (place : ℕ) → at.a0 ≡ Some place → pos place ≡ a0_number (position_of at [])
-number_inside at place is = by at.a0 is
-  where
-    by : (a0 : Option ℕ) → a0 ≡ Some place → pos place ≡ a0_number (record { a0 = a0; colour = at.colour; pels = [] })
-    by None h = cc
-    by (Some a) h = let same : place ≡ a = cc in ap pos same
+number_inside at place is = search rules
 
 -- a place right of a0's number is right of a0
 pub number_right : (at : Reached) (a1 : ℕ) → a0_number (position_of at []) <ℤ pos a1 → is_right_of at.a0 a1 ≡ true
@@ -78,11 +68,7 @@ right_after_first (Some a) a1 h = omega (arith, ltb-true a a1 h)
 
 module _ {reference : PlacedRow} {places : List ℕ} {at : PlacedReached} (here : IsReadInside reference places at) where
   pub b2_order : reached_pel at.reached ≤ get_or reference.places.now (at.b1 + 1) 0
-  b2_order =
-      let b1 = here.so_far.b1 here.unfinished in
-      let first = b1_ahead reference at.reached.a0 b1 here.unfinished in
-      let second = b2_ahead reference at.b1 b1.some b1.within in
-      omega arith
+  b2_order = grind (arith, b2_ahead)
 
   b2_within : get_or reference.places.now (at.b1 + 1) 0 ≤ reference.width
   b2_within = let b1 = here.so_far.b1 here.unfinished in b2_at_most reference at.b1 b1.some b1.within
@@ -102,15 +88,7 @@ module _ {reference : PlacedRow} {places : List ℕ} {at : PlacedReached} (here 
         end = at.end;
         b1 = at.b1 + 2;
       })
-  pass_so_far = record {
-    room = here.so_far.room;
-    within = b2_within;
-    started = λ h. cc;
-    ascending = here.so_far.ascending;
-    last = let order = b2_order in omega (arith, here.so_far.last);
-    after = λ i h. here.so_far.after i (let order = b2_order in omega arith);
-    b1 = λ h. b1_passed reference (here.so_far.b1 here.unfinished) h;
-  }
+  pass_so_far = grind arith
 
   pub b1_in_room : at.b1 + 1 < length reference.places.now
   b1_in_room =
@@ -123,7 +101,7 @@ module _ {reference : PlacedRow} {places : List ℕ} {at : PlacedReached} (here 
       → TurnsAt places new at.end next_end a1
       → (a1 < reference.width → IsB1At reference (Some a1) (other at.reached.colour) next_b1) → colour ≡ other at.reached.colour
       → IsReadTo reference new (record { reached = record { a0 = Some a1; colour = colour }; end = next_end; b1 = next_b1 })
-  turned_so_far {new} {next_end} {a1} {next_b1} order within turns b1 is = grind (arith, common_steps)
+  turned_so_far order within turns b1 is = grind (arith, common_steps)
 
   -- and up to it the pels have a0's colour
   pub turned_position : (new : List ℕ) (next_end a1 : ℕ) → reached_pel at.reached ≤ a1 → a1 ≤ reference.width
@@ -181,15 +159,11 @@ module _ {reference : PlacedRow} {places : List ℕ} {at : PlacedReached} (here 
   -- where a1 is in the row, it is right of a0 and not after the width
   pub row_begins : (d : ℤ) → IsInRow (placed_pels reference) (placed_position reference.width places at) d
       → a0_number (position_of at.reached []) <ℤ (pos (get_or reference.places.now at.b1 0) +ℤ d)
-  row_begins d in_row =
-      let same = b1_is reference (here.so_far.b1 here.unfinished) in
-      omega (arith, ints, same, in_row.right_of_a0)
+  row_begins d in_row = grind (arith, b1_is)
 
   pub row_ends : (d : ℤ) → IsInRow (placed_pels reference) (placed_position reference.width places at) d
       → (pos (get_or reference.places.now at.b1 0) +ℤ d) ≤ℤ pos reference.width
-  row_ends d in_row =
-      let same = b1_is reference (here.so_far.b1 here.unfinished) in
-      omega (arith, ints, same, length-placed_pels reference, in_row.within)
+  row_ends d in_row = grind (arith, b1_is, length-placed_pels)
 
   -- b1 is right of a0, and in the row
   pub under_right : a0_number (position_of at.reached []) <ℤ pos (get_or reference.places.now at.b1 0)
@@ -252,16 +226,7 @@ module _ {reference : PlacedRow} {places : List ℕ} {at : PlacedReached} (here 
         end = next_end;
         b1 = next_b1;
       })) rest
-  horizontal_placed {b} {mid} {rest} first second next_b1 run another within turns again =
-      record {
-        first = first;
-        second = second;
-        middle = mid;
-        first_run = run;
-        second_run = another;
-        within = omega (arith, length-placed_pels reference);
-        new_is = pair_placed first second next_b1 within turns again;
-      }
+  horizontal_placed first second next_b1 run another within turns again = search (rules, length-placed_pels, pair_placed)
 
   pub horizontal_so_far : (first second : ℕ) {between new : List ℕ} {middle_end next_end next_b1 : ℕ}
       → reached_pel at.reached + first + second ≤ reference.width
@@ -281,7 +246,7 @@ module _ {reference : PlacedRow} {places : List ℕ} {at : PlacedReached} (here 
 -- before the first pel
 pub nothing_read : {reference : PlacedRow} {places : List ℕ} → HasRoom reference.width places
     → IsReadTo reference places (record { reached = record { a0 = None; colour = White }; end = 1; b1 = 1 })
-nothing_read {reference} {places} room = grind (arith, common_steps, none_put, take-first, turned-first)
+nothing_read room = grind (arith, common_steps, none_put, take-first, turned-first)
 
 -- the row is read to its end
 pub steps_done : (reference : List Colour) (b : List Bool) (at : Reached) (row : List Colour) (rest : List Bool) (width : ℕ)
@@ -289,12 +254,6 @@ pub steps_done : (reference : List Colour) (b : List Bool) (at : Reached) (row :
     → length reference ≡ width
     → IsTwoDimensionalRow reference b row rest
 steps_done reference b at row rest width so_far some done len same = grind (arith, common_steps)
-
--- a row that is shown otherwise
-pub two_dimensional_as : {reference shown_reference : List Colour} {b : List Bool} {row shown : List Colour} {rest : List Bool}
-    → IsTwoDimensionalRow reference b row rest → reference ≡ shown_reference → shown ≡ row
-    → IsTwoDimensionalRow shown_reference b shown rest
-two_dimensional_as {reference = reference} {b = b} {shown = shown} {rest = rest} is same shows = grind (arith, common_steps)
 
 -- a step that is no part of the row
 pub fault_here : (reference : List Colour) (b : List Bool) (at : Reached) (row : List Colour) (mid : List Bool)

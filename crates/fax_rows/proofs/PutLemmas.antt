@@ -1,7 +1,6 @@
 -- Bits that are put part by part.
-use Rattle.std.proofs.Common.{arith}
+use Rattle.std.proofs.Common.{arith, ◌≡◌, ℕ, List, [], ◌∷◌, ◌++◌, Bool, ap, sym, ◌∙◌, append_assoc}
 use Rattle.std.proofs.lemmas.Grind.{common_steps}
-use Rattle.std.proofs.Common.{◌≡◌, ℕ, List, [], ◌∷◌, ◌++◌, Bool, ap, sym, ◌∙◌, append_assoc}
 use Rattle.std.specs.Prelude.{Result, Ok, Err, OnErr}
 use Rattle.fax_bits.specs.declared.Colour.{Colour}
 use Rattle.fax_bits.specs.declared.Colour.TheVariants.{White, Black}
@@ -41,7 +40,7 @@ put_pending old mid new all pending left so_far none more = grind (arith, common
 
 -- and where a growth was refused for them
 pub pending_stops : {old mid new : Sink} {all left : List Bool} → AppendsAllBut old all left mid → new ≡ mid → AppendsPrefix old all new
-pending_stops {left = left} so_far same = grind (arith, common_steps)
+pending_stops so_far same = grind (arith, common_steps)
 
 -- a fact holds also where it is asked for after an error alone
 pub on_err : {T E P : Type 0} (r : Result T E) → P → OnErr r P

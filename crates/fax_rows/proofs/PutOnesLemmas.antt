@@ -1,26 +1,26 @@
 -- The places of the changes of a word, put together.
 use Rattle.std.proofs.lemmas.Grind.{common_steps}
 use Rattle.std.proofs.Common.{◌≡◌, ℕ, zero, suc, ◌+◌, ◌-◌, ◌^◌, ◌<◌, ◌≤◌, List, [], ◌∷◌, ◌++◌, length, take, get_or}
-use Rattle.std.proofs.Common.{if◌then◌else◌, Bool, true, false, nat_eq, refl, ap, sym, ◌∙◌, subst, arith, inl, inr}
+use Rattle.std.proofs.Common.{if◌then◌else◌, Bool, true, false, nat_eq, refl, ap, sym, ◌∙◌, subst, arith}
 use Rattle.std.specs.Int.{bit_at}
-use Rattle.std.proofs.lemmas.Bool.{cases_lt}
 use Rattle.std.proofs.lemmas.List.{append-nil, append_assoc, get_or-take, get_or_push, length-append, length-take-le}
 use Rattle.fax_bits.specs.declared.Colour.TheVariants.{Black}
-use Rattle.fax_rows.specs.Rows.{other}
 use Rattle.fax_rows.specs.Coded.{colour_of_bit}
 use Rattle.fax_rows.specs.code.Ones.{ones_among}
 use Rattle.fax_rows.specs.code.PackedWord.{word_bit}
-use Rattle.fax_rows.specs.code.Turns.{turned, IsAscending}
+use Rattle.fax_rows.specs.code.Turns.{IsAscending}
+use Rattle.fax_rows.specs.code.Unpacked.{IsUnpackedTo}
+use Rattle.fax_rows.proofs.PackedLemmas.{unpacked_run, unpacked_turned}
 use Rattle.fax_rows.proofs.TurnLemmas.{turned-push_left, turned-push_right}
-use Rattle.fax_rows.proofs.UnpackedWordLemmas.{bit_before, change_bit, changes_of, other_colour, turns_bit}
+use Rattle.fax_rows.proofs.UnpackedWordLemmas.{bit_before, change_bit, changes_of, equal_bits, other_colour, turns_bit}
 
--- the places of the first r pels of a word are put after the old ones
+-- the places of the changes among the first r pels of a word are put after the old ones
 pub record HasPut (old places : List ℕ) (from before word r : ℕ) : Type 0 where
-  pub kept : (k : ℕ) → k < from → turned Black places k ≡ turned Black old k
-  pub done : (i : ℕ) → i < r → turned Black places (from + i) ≡ colour_of_bit (word_bit word i)
-  pub after : (k : ℕ) → from + r ≤ k → turned Black places k ≡ colour_of_bit (bit_before before word r)
   pub ascending : IsAscending places (length places)
   pub last : 1 < length places → get_or places (length places - 1) 0 < from + r
+  pub unpacked : (b : List Bool) → IsUnpackedTo b old from (colour_of_bit (word_bit before 63))
+      → ((i : ℕ) → i < 64 → word_bit word i ≡ get_or b (from + i) false)
+      → IsUnpackedTo b places (from + r) (colour_of_bit (bit_before before word r))
 
 -- a place after the last one goes on ascending
 ascending_on : (places : List ℕ) (place : ℕ) → IsAscending places (length places)
@@ -29,30 +29,32 @@ ascending_on : (places : List ℕ) (place : ℕ) → IsAscending places (length 
 ascending_on places place up right = grind (arith, common_steps)
 
 -- a pel more: its place is put where it has another colour than the one before it
-pel_put : (one : Bool) (old places : List ℕ) (from before word r : ℕ)
+pel_put : (one : Bool) (old places : List ℕ) (from before word r : ℕ) → r < 64
     → one ≡ turns_bit (word_bit word r) (bit_before before word r) → HasPut old places from before word r
     → HasPut old (places ++ (if one then (from + r) ∷ [] else [])) from before word (suc r)
-pel_put false old places from before word r is put = grind (arith, common_steps)
-pel_put true old places from before word r is put = record {
-  kept = λ k h. turned-push_left Black places (from + r) k (omega arith) ∙ put.kept k h;
-  done = λ i h. elim (cases_lt i r) [
-    | inl less ↦ turned-push_left Black places (from + r) (from + i) (omega arith) ∙ put.done i less
-    | inr more ↦
-        let last : i ≡ r = omega arith in
-        there (from + i) (omega arith) ∙ ap (λ n. colour_of_bit (word_bit word n)) (sym last)
-  ];
-  after = λ k h. there k (omega arith);
+pel_put false old places from before word r inside is put =
+    let next : from + r + 1 ≡ from + suc r = omega arith in
+    let same = equal_bits (word_bit word r) (bit_before before word r) (sym is) in
+    rw (append-nil places) (record {
+      ascending = put.ascending;
+      last = λ h. omega (arith, put.last h);
+      unpacked = λ b so_far bit. rw same
+          (unpacked_run b places (from + r) (from + suc r) _ (put.unpacked b so_far bit) (omega arith)
+          (λ k l h. let here : k ≡ from + r = omega arith in ap colour_of_bit (ap (λ n. get_or b n false) here ∙ sym (bit r inside) ∙ same)));
+    })
+pel_put true old places from before word r inside is put = record {
   ascending = ascending_on places (from + r) put.ascending put.last;
   last = λ h.
       let end : length (places ++ (from + r) ∷ []) - 1 ≡ length places = omega (arith, length-append places ((from + r) ∷ [])) in
       let place = ap (λ n. get_or (places ++ (from + r) ∷ []) n 0) end ∙ get_or_push places (from + r) 0 (length places) refl in
       omega (arith, place);
+  unpacked = λ b so_far bit.
+      let next : from + r + 1 ≡ from + suc r = omega arith in
+      subst (λ n. IsUnpackedTo b (places ++ (from + r) ∷ []) n (colour_of_bit (word_bit word r))) next
+      (unpacked_turned b places (places ++ (from + r) ∷ []) (from + r) (colour_of_bit (bit_before before word r)) (colour_of_bit (word_bit word r))
+      (put.unpacked b so_far bit) (sym (other_colour (word_bit word r) (bit_before before word r) (sym is)))
+      (ap colour_of_bit (bit r inside)) (record { left = turned-push_left Black places (from + r); right = turned-push_right Black places (from + r) }));
 }
-  where
-    there : (k : ℕ) → from + r ≤ k → turned Black (places ++ (from + r) ∷ []) k ≡ colour_of_bit (word_bit word r)
-    there k far =
-        turned-push_right Black places (from + r) k far ∙ ap other (put.after k far)
-        ∙ other_colour (word_bit word r) (bit_before before word r) (sym is)
 
 -- the places of the changes among the first r pels are those of these pels
 pels_put : (old : List ℕ) (from before word r : ℕ) → word < 2 ^ 64 → r ≤ 64 → HasPut old old from before word 0
@@ -63,14 +65,13 @@ pels_put old from before word (suc r) fits within put =
     let one = nat_eq (bit_at changes (63 - r)) 1 in
     subst (λ ps. HasPut old ps from before word (suc r))
     (append_assoc old (ones_among from 63 changes r) (if one then (from + r) ∷ [] else []))
-    (pel_put one old (old ++ ones_among from 63 changes r) from before word r (change_bit before word r fits (omega arith))
+    (pel_put one old (old ++ ones_among from 63 changes r) from before word r (omega arith) (change_bit before word r fits (omega arith))
     (pels_put old from before word r fits (omega arith) put))
 
 -- the places of a row before a word
 none_put : (places : List ℕ) (end from before word : ℕ) → IsAscending places end → (1 < end → get_or places (end - 1) 0 < from)
-    → ((k : ℕ) → from ≤ k → turned Black (take end places) k ≡ colour_of_bit (word_bit before 63))
     → HasPut (take end places) (take end places) from before word 0
-none_put places end from before word up left colour = grind (arith, common_steps)
+none_put places end from before word up left = grind (arith, common_steps)
 
 -- the changes of a word are put
 pub record IsWordPut (old new : List ℕ) (end next from before word : ℕ) : Type 0 where
@@ -80,12 +81,11 @@ pub record IsWordPut (old new : List ℕ) (end next from before word : ℕ) : Ty
 
 pub word_put : (old new : List ℕ) (end next from before word : ℕ) → word < 2 ^ 64 → next ≤ length new → IsAscending old end
     → (1 < end → get_or old (end - 1) 0 < from)
-    → ((k : ℕ) → from ≤ k → turned Black (take end old) k ≡ colour_of_bit (word_bit before 63))
     → take next new ≡ take end old ++ ones_among from 63 (changes_of before word) 64
     → IsWordPut old new end next from before word
-word_put old new end next from before word fits within up left colour is =
+word_put old new end next from before word fits within up left is =
     let put = subst (λ ps. HasPut (take end old) ps from before word 64) (sym is)
-    (pels_put (take end old) from before word 64 fits (omega arith) (none_put old end from before word up left colour)) in
+    (pels_put (take end old) from before word 64 fits (omega arith) (none_put old end from before word up left)) in
     let len = length-take-le next new within in
     let here = put.ascending in
     record {

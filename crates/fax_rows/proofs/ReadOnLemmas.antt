@@ -1,5 +1,5 @@
 -- A row that is read on by one mode.
-use Rattle.std.proofs.Common.{◌≡◌, ℕ, ◌<◌, ◌≤◌, List, Bool, true, ℤ, refl, arith}
+use Rattle.std.proofs.Common.{rules, ◌≡◌, ℕ, ◌<◌, ◌≤◌, List, Bool, true, ℤ, refl}
 use Rattle.std.specs.Prelude.{IsTrue}
 use Rattle.fax_bits.specs.declared.modes.ModeCode.TheVariants.{Pass, Horizontal, Vertical}
 use Rattle.fax_bits.specs.Codes.{Takes}
@@ -27,23 +27,14 @@ module _ {choice : Bool} {reference : PlacedRow} {places new : List ℕ} {at nex
       (placed_position reference.width new next) → IsReadTo reference new next
       → (IsTrue choice → reached_pel next.reached ≤ b2_from (placed_pels reference) (placed_position reference.width places at))
       → IsReadOn choice reference places new at next b rest
-  vertical_read {b} {d} {distance} {rest} taken same step so_far left = record {
-    steps = vertical_goes_on here b _ rest d distance taken step same;
-    chosen = λ asked. chosen_goes_on here b _ rest (vertical_chosen_as here taken step (left asked) same);
-    so_far = so_far;
-  }
+  vertical_read taken same step so_far left = search (rules, vertical_goes_on, chosen_goes_on, vertical_chosen_as)
 
   pub pass_read : {b rest : List Bool} → Takes modes b Pass rest
       → placed_position reference.width new next ≡ coloured_up_to (placed_position reference.width places at)
       (b2_from (placed_pels reference) (placed_position reference.width places at))
       → IsReadTo reference new next → (IsTrue choice → reached_pel next.reached < reference.width)
       → IsReadOn choice reference places new at next b rest
-  pass_read {b} {rest} taken step so_far inside = record {
-    steps = step_goes_on here b _ rest (record { mode = Pass; after = rest; taken = taken; step = (step, refl) });
-    chosen = λ asked. chosen_goes_on here b _ rest
-        (pass_chosen here taken step (omega (arith, length-placed_pels reference, inside asked)));
-    so_far = so_far;
-  }
+  pass_read taken step so_far inside = search (rules, step_goes_on, chosen_goes_on, pass_chosen, length-placed_pels)
 
   pub pair_read : {b middle rest : List Bool} → Takes modes b Horizontal middle
       → IsPairReadOn choice reference places new at next middle rest → IsReadOn choice reference places new at next b rest

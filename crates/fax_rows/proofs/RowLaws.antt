@@ -1,32 +1,22 @@
 -- A row in one-dimensional coding is read in one way, where the run tables are.
 use Rattle.std.proofs.lemmas.Grind.{common_steps}
-use Rattle.std.proofs.Common.{◌≡◌, ℕ, zero, suc, ◌+◌, ◌<◌, ◌≤◌, List, [], ◌∷◌, length, replicate, Bool, refl, ap, sym, ◌∙◌}
-use Rattle.std.proofs.Common.{subst, arith, length-append, inl, inr}
+use Rattle.std.proofs.Common.{◌≡◌, ℕ, zero, suc, ◌+◌, ◌<◌, ◌≤◌, List, [], ◌∷◌, length, Bool, refl, ap, sym, ◌∙◌}
+use Rattle.std.proofs.Common.{subst, arith, inl, inr}
 use Rattle.std.specs.Prelude.{sum, ◌⊎◌}
-use Rattle.std.proofs.lemmas.List.{length-replicate}
 use Rattle.std.proofs.Math.Nat.{eq-or-lt_of_le}
 use Rattle.fax_bits.specs.declared.Colour.{Colour}
 use Rattle.fax_bits.specs.declared.Colour.TheVariants.{White}
-use Rattle.fax_bits.specs.laws.Codes.{ReadsOneWay}
+use Rattle.fax_bits.specs.laws.Codes.{ReadsRunsOneWay}
 use Rattle.fax_bits.specs.Codes.{IsRun}
-use Rattle.fax_bits.specs.Tables.{run_table}
 use Rattle.fax_rows.specs.declared.RowFault.{RowFault}
 use Rattle.fax_rows.specs.Rows.{other, pels_of, AreRuns}
 use Rattle.fax_rows.specs.Faults.{IsRunFault, StopsAtRun}
 use Rattle.fax_rows.specs.laws.Rows.{ReadsRowsOneWay}
-use Rattle.fax_rows.proofs.RunLaws.{sum-cons, same_run, run_has_no_fault, same_run_fault, run_or_fault}
+use Rattle.fax_rows.proofs.RunLaws.{same_run, run_has_no_fault, same_run_fault, run_or_fault}
 
 pub length-pels_of : (colour : Colour) (runs : List ℕ) → length (pels_of colour runs) ≡ sum runs
 length-pels_of colour [] = refl
-length-pels_of colour (n ∷ runs) =
-    omega (
-      arith,
-      length-append (replicate n colour) (pels_of (other colour) runs),
-      length-replicate n colour,
-      length-pels_of (other colour)
-          runs,
-      sum-cons n runs,
-    )
+length-pels_of colour (n ∷ runs) = grind (arith, common_steps, length-pels_of (other colour) runs)
 
 -- runs that end at the width begin within it
 pub runs_within : (width : ℕ) (colour : Colour) (from : ℕ) (b : List Bool) (runs : List ℕ) (rest : List Bool)
@@ -46,7 +36,7 @@ AreRunsOrFault colour width from b =
     ((runs : List ℕ) × (rest : List Bool) × AreRuns width colour from b runs rest)
     ⊎ ((fault : RowFault) × (runs : List ℕ) × StopsAtRun width colour from b runs fault)
 
-module _ (reads : (colour : Colour) → ReadsOneWay (run_table colour)) where
+module _ (reads : (colour : Colour) → ReadsRunsOneWay colour) where
   same_runs : (colour : Colour) (width from place : ℕ) (b c : List Bool) (runs more : List ℕ) (rest remaining : List Bool) → b ≡ c
       → from ≡ place → AreRuns width colour from b runs rest → AreRuns width colour place c more remaining
       → (runs ≡ more) × (rest ≡ remaining)

@@ -1,7 +1,7 @@
 -- A row in one-dimensional coding, run by run.
 use Rattle.std.proofs.lemmas.Grind.{common_steps}
 use Rattle.std.proofs.Common.{◌≡◌, ℕ, ◌+◌, ◌-◌, ◌<◌, ◌≤◌, List, [], ◌∷◌, ◌++◌, length, take, get_or, replicate, Bool, refl, ap}
-use Rattle.std.proofs.Common.{sym, ◌∙◌, subst, arith, append_assoc, inl, inr}
+use Rattle.std.proofs.Common.{sym, ◌∙◌, subst, arith, inl, inr}
 use Rattle.std.specs.Prelude.{sum, ◌⊎◌}
 use Rattle.std.proofs.lemmas.Bool.{cases_lt}
 use Rattle.std.proofs.Math.ListN.{get_or-append}
@@ -28,9 +28,7 @@ colour_after_runs-push c (m ∷ runs) n = colour_after_runs-push (other c) runs 
 pub pels_of-push : (c : Colour) (runs : List ℕ) (n : ℕ)
     → pels_of c (runs ++ n ∷ []) ≡ pels_of c runs ++ replicate n (colour_after_runs c runs)
 pels_of-push c [] n = append-nil (replicate n c)
-pels_of-push c (m ∷ runs) n =
-    ap (λ ys. replicate m c ++ ys) (pels_of-push (other c) runs n)
-    ∙ sym (append_assoc (replicate m c) (pels_of (other c) runs) (replicate n (colour_after_runs (other c) runs)))
+pels_of-push c (m ∷ runs) n = grind (arith, common_steps, pels_of-push (other c) runs n)
 
 -- runs of a row so far
 pub record IsRowSoFar (width : ℕ) (b : List Bool) (total : ℕ) (colour : Colour) (row : List Colour) (rest : List Bool) : Type 0 where

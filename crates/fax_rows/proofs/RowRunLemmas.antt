@@ -1,14 +1,13 @@
 -- The longest runs of a row, pel by pel.
 use Rattle.std.proofs.lemmas.Grind.{common_steps}
 use Rattle.std.proofs.Common.{◌≡◌, ◌≢◌, ℕ, zero, suc, ◌+◌, ◌-◌, ◌<◌, ◌≤◌, List, [], ◌∷◌, ◌++◌, length, take, drop, get_or, Bool, true}
-use Rattle.std.proofs.Common.{false, not, refl, ap, sym, ◌∙◌, subst, arith, inl, inr, drop-cons, get_or-drop, length-drop}
+use Rattle.std.proofs.Common.{false, refl, ap, sym, ◌∙◌, subst, arith, inl, inr, drop-cons, get_or-drop, length-drop}
 use Rattle.std.proofs.Math.Numerals.{suc-eq-add-one}
-use Rattle.std.proofs.lemmas.List.{take_more, drop_all, length-take-le}
+use Rattle.std.proofs.lemmas.List.{take_more, length-take-le}
 use Rattle.fax_bits.specs.declared.Colour.{Colour}
 use Rattle.fax_bits.specs.declared.Colour.TheVariants.{White, Black}
 use Rattle.std.specs.List.{filter, range_with_len}
-use Rattle.fax_rows.specs.Rows.{other, same_colour, pel, pel_before, is_changing, runs_after}
-use Rattle.fax_rows.specs.Rows.{runs_of}
+use Rattle.fax_rows.specs.Rows.{other, pel_before, is_changing, runs_after, runs_of}
 use Rattle.fax_rows.specs.code.LongestRuns.{gaps, AreAheadOf}
 use Rattle.fax_rows.specs.code.Turns.{ArePlaces}
 use Rattle.std.proofs.lemmas.Bool.{cases_lt}
@@ -47,23 +46,6 @@ pub turns : (colour first : Colour) (n i : ℕ) (pels : List Colour) → i < len
     → runs_after colour n (drop i pels) ≡ n ∷ runs_after first 1 (drop (i + 1) pels)
 turns colour first n i pels within at other = grind (arith, common_steps, drop-cons, runs_after-other, suc-eq-add-one)
 
--- the colour of a run goes on at a pel that is no changing element, and turns at one that is
-changes_not : (a b : Colour) → not (same_colour a b) ≡ false → a ≡ b
-changes_not White White h = refl
-changes_not Black Black h = refl
-changes_not White Black h = cc
-changes_not Black White h = cc
-
-changes_so : (a b : Colour) → not (same_colour a b) ≡ true → a ≢ b
-changes_so White White h e = cc
-changes_so Black Black h e = cc
-changes_so White Black h e = cc
-changes_so Black White h e = cc
-
--- the colour before the pel after place i
-before_next : (row : List Colour) (i : ℕ) → pel_before row (i + 1) ≡ pel row i
-before_next row i = let same : i + 1 ≡ suc i = omega arith in ap (λ k. pel_before row k) same
-
 -- how far it is from a place to each of the next ones, and at last to the width
 gaps_to : ℕ → List ℕ → ℕ → List ℕ
 gaps_to from [] width = (width - from) ∷ []
@@ -83,28 +65,13 @@ GapsFrom row n i from =
 gaps_more : (row : List Colour) (n i from : ℕ) (b : Bool) → is_changing row i ≡ b → i < length row → from ≤ i
     → ((next : ℕ) → next ≤ i + 1 → GapsFrom row n (i + 1) next) → GapsFrom row (suc n) i from
 unfolding gaps_to
-gaps_more row n i from true is inside order more =
-    let one : i + 1 - i ≡ 1 = omega arith in
-    rw is
-    (ap (λ runs. (i - from) ∷ runs)
-    (more i (omega arith) ∙ ap (λ c. runs_after c (i + 1 - i) (drop (i + 1) row)) (before_next row i)
-    ∙ ap (λ k. runs_after (pel row i) k (drop (i + 1) row)) one)
-    ∙ sym (turns (pel_before row i) (pel row i) (i - from) i row inside refl (changes_so (pel row i) (pel_before row i) is)))
-gaps_more row n i from false is inside order more =
-    let count : i + 1 - from ≡ i - from + 1 = omega arith in
-    let same : pel row i ≡ pel_before row i = changes_not (pel row i) (pel_before row i) is in
-    rw is
-    (more from (omega arith) ∙ ap (λ c. runs_after c (i + 1 - from) (drop (i + 1) row)) (before_next row i ∙ same)
-    ∙ ap (λ k. runs_after (pel_before row i) k (drop (i + 1) row)) count
-    ∙ sym (goes_on (pel_before row i) (pel row i) (i - from) i row inside refl same))
+gaps_more row n i from true is inside order more = grind (arith, turns)
+gaps_more row n i from false is inside order more = grind (arith, goes_on)
 
 -- they are the runs that are left
 gaps_from : (row : List Colour) (n i from : ℕ) → from ≤ i → i + n ≡ length row → GapsFrom row n i from
 unfolding gaps_to
-gaps_from row zero i from order all =
-    let end : i ≡ length row = omega arith in
-    ap (λ k. (k - from) ∷ []) (sym end)
-    ∙ sym (ap (runs_after (pel_before row i) (i - from)) (drop_all i row (omega arith)) ∙ runs_after-nil (pel_before row i) (i - from))
+gaps_from row zero i from order all = grind (arith, common_steps, runs_after-nil)
 gaps_from row (suc n) i from order all =
     gaps_more row n i from (is_changing row i) refl (omega arith) order
     (λ next near. gaps_from row n (i + 1) next near (omega arith))
@@ -112,9 +79,7 @@ gaps_from row (suc n) i from order all =
 -- the gaps between the changing elements of a row, and up to its width, are its runs
 pub gaps_are_runs : (row : List Colour) (changes : List ℕ) (width : ℕ)
     → changes ≡ filter (is_changing row) (range_with_len 0 (length row)) → width ≡ length row → gaps 0 (changes ++ width ∷ []) ≡ runs_of row
-gaps_are_runs row changes width is wide =
-    gaps_to-gaps 0 changes width ∙ ap (λ n. gaps_to 0 changes n) wide
-    ∙ ap (λ places. gaps_to 0 places (length row)) is ∙ gaps_from row (length row) 0 0 (omega arith) (omega arith)
+gaps_are_runs row changes width is wide = grind (arith, gaps_to-gaps, gaps_from)
 
 -- as many as there are ends
 pub length-gaps : (from : ℕ) (ends : List ℕ) → length (gaps from ends) ≡ length ends
@@ -130,10 +95,7 @@ ascend_on next changes up i h = grind (arith, common_steps)
 below_all : (next : ℕ) (changes : List ℕ) → ((i : ℕ) → i < length changes → get_or (next ∷ changes) i 0 ≤ get_or changes i 0)
     → (i : ℕ) → i < length changes → next ≤ get_or changes i 0
 below_all next changes up zero h = up 0 h
-below_all next changes up (suc i) h =
-    let before = below_all next changes up i (omega arith) in
-    let step : get_or changes i 0 ≤ get_or changes (suc i) 0 = up (suc i) h in
-    omega arith
+below_all next changes up (suc i) h = grind (arith, below_all next changes up i (omega arith))
 
 -- the places after the next one are ahead of it
 pub ahead_of_next : (from next : ℕ) (ends : List ℕ) → AreAheadOf from (next ∷ ends) → AreAheadOf next ends

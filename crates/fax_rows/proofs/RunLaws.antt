@@ -9,7 +9,7 @@ use Rattle.fax_bits.specs.declared.runs.RunCode.{RunCode}
 use Rattle.fax_bits.specs.declared.runs.RunCode.TheVariants.{Terminating, MakeUp, Extension as RunExtension}
 use Rattle.fax_bits.specs.Tables.{run_table}
 use Rattle.fax_bits.specs.Codes.{Takes, Spells, IsFaultOf, IsRun}
-use Rattle.fax_bits.specs.laws.Codes.{ReadsOneWay}
+use Rattle.fax_bits.specs.laws.Codes.{ReadsRunsOneWay}
 use Rattle.fax_rows.specs.declared.RowFault.{RowFault}
 use Rattle.fax_rows.specs.declared.RowFault.TheVariants.{Extension, RunTooLong}
 use Rattle.fax_rows.specs.Faults.{row_fault, IsRunCodeFault, IsRunFault}
@@ -30,41 +30,24 @@ IsRunOrFault colour width from b =
     ((n : ℕ) × (rest : List Bool) × IsRun colour b n rest × (from + n ≤ width) × (length rest < length b))
     ⊎ ((fault : RowFault) × IsRunFault colour width from b fault)
 
-module _ (reads : (colour : Colour) → ReadsOneWay (run_table colour)) where
+module _ (reads : (colour : Colour) → ReadsRunsOneWay colour) where
   took_same : (colour : Colour) (b c : List Bool) (code another : RunCode) (rest remaining : List Bool) → b ≡ c
       → Takes (run_table colour) b code rest → Takes (run_table colour) c another remaining → (code ≡ another) × (rest ≡ remaining)
   took_same colour b c code another rest remaining at first second =
-      (reads colour).code.one_answer b code another rest remaining first
+      (reads colour).codes.code.one_answer b code another rest remaining first
       (subst (λ x. Takes (run_table colour) x another remaining) (sym at) second)
-
-  same_codes : (colour : Colour) (b c rest remaining : List Bool) (ms ns : List ℕ) (t u : ℕ) → b ≡ c
-      → Spells (run_table colour) b (map MakeUp ms ++ Terminating t ∷ []) rest
-      → Spells (run_table colour) c (map MakeUp ns ++ Terminating u ∷ []) remaining
-      → (ms ≡ ns) × (t ≡ u) × (rest ≡ remaining)
-  same_codes colour b c rest remaining [] [] t u at first second =
-      let same = took_same colour b c (Terminating t) (Terminating u) first.0 second.0 at first.1 second.1 in
-      (refl, cc (same.0), cc (same.1, first.2, second.2))
-  same_codes colour b c rest remaining [] (n ∷ ns) t u at first second =
-      let same = took_same colour b c (Terminating t) (MakeUp n) first.0 second.0 at first.1 second.1 in
-      absurd (cc (same.0))
-  same_codes colour b c rest remaining (m ∷ ms) [] t u at first second =
-      let same = took_same colour b c (MakeUp m) (Terminating u) first.0 second.0 at first.1 second.1 in
-      absurd (cc (same.0))
-  same_codes colour b c rest remaining (m ∷ ms) (n ∷ ns) t u at first second =
-      let same = took_same colour b c (MakeUp m) (MakeUp n) first.0 second.0 at first.1 second.1 in
-      let more = same_codes colour first.0 second.0 rest remaining ms ns t u same.1 first.2 second.2 in
-      (cc (same.0, more.0), more.1, more.2)
 
   -- at most one run begins the bits
   pub same_run : {colour : Colour} {b c : List Bool} {n m : ℕ} {rest remaining : List Bool} → b ≡ c
       → IsRun colour b n rest → IsRun colour c m remaining → (n ≡ m) × (rest ≡ remaining)
-  same_run {colour = colour} {b = b} {c = c} {rest = rest} {remaining = remaining} at first second = grind (arith, common_steps, same_codes)
+  same_run {colour} {n = n} {m = m} {rest = rest} {remaining = remaining} at first second =
+      (reads colour).run _ n m rest remaining first (subst (λ x. IsRun colour x m remaining) (sym at) second)
 
   -- where a code is taken the fault is that code's
   fault_of_taken : (colour : Colour) (width so_far : ℕ) (b c : List Bool) (code : RunCode) (rest : List Bool) (fault : RowFault) → b ≡ c
       → Takes (run_table colour) b code rest → IsAtRunCode colour width so_far c fault → IsRunCodeFault width so_far code fault
   fault_of_taken colour width so_far b c code rest fault at taken (inl none) =
-      absurd ((reads colour).code.answer_has_no_fault b code rest none.0 taken
+      absurd ((reads colour).codes.code.answer_has_no_fault b code rest none.0 taken
       (subst (λ x. IsFaultOf (run_table colour) x none.0) (sym at) none.1))
   fault_of_taken colour width so_far b c code rest fault at taken (inr some) =
       let same = took_same colour b c code some.0 rest some.1 at taken some.2 in
@@ -99,7 +82,7 @@ module _ (reads : (colour : Colour) → ReadsOneWay (run_table colour)) where
       → IsAtRunCode colour width so_far b fault → IsAtRunCode colour width so_far c another → fault ≡ another
   same_fault_at_code colour width so_far b c fault another at (inl none) (inl neither) = grind (arith, common_steps)
   same_fault_at_code colour width so_far b c fault another at (inl none) (inr some) =
-      absurd ((reads colour).code.answer_has_no_fault c some.0 some.1 none.0 some.2
+      absurd ((reads colour).codes.code.answer_has_no_fault c some.0 some.1 none.0 some.2
       (subst (λ x. IsFaultOf (run_table colour) x none.0) at none.1))
   same_fault_at_code colour width so_far b c fault another at (inr some) second =
       same_code_fault width so_far some.0 fault another some.3
@@ -154,7 +137,7 @@ module _ (reads : (colour : Colour) → ReadsOneWay (run_table colour)) where
           rest,
           record { make_up = []; last = n; spelled = (rest, taken, refl); length = omega arith },
           fits,
-          (reads colour).takes_bits b (Terminating n) rest taken,
+          (reads colour).codes.takes_bits b (Terminating n) rest taken,
         )
       ]
   run_by_code colour width from b (MakeUp m) rest within taken more =
@@ -171,7 +154,7 @@ module _ (reads : (colour : Colour) → ReadsOneWay (run_table colour)) where
               length = omega (arith, run.2.length, sum-cons m run.2.make_up);
             },
             omega (arith, run.3),
-            omega (arith, run.4, (reads colour).takes_bits b (MakeUp m) rest taken),
+            omega (arith, run.4, (reads colour).codes.takes_bits b (MakeUp m) rest taken),
           )
           | inr fault ↦
               let same : from + m + sum fault.1.make_up ≡ from + sum (m ∷ fault.1.make_up) = omega (arith, sum-cons m fault.1.make_up) in
@@ -194,10 +177,10 @@ module _ (reads : (colour : Colour) → ReadsOneWay (run_table colour)) where
       → IsRunOrFault colour width from b
   find_run zero colour width from b short within = absurd (omega arith)
   find_run (suc fuel) colour width from b short within =
-      elim ((reads colour).code.answer_or_fault b) [
+      elim ((reads colour).codes.code.answer_or_fault b) [
         | inl taken ↦ run_by_code colour width from b taken.0 taken.1 within taken.2
             (λ m fits. find_run fuel colour width (from + m) taken.1
-            (omega (arith, (reads colour).takes_bits b taken.0 taken.1 taken.2)) fits)
+            (omega (arith, (reads colour).codes.takes_bits b taken.0 taken.1 taken.2)) fits)
         | inr none ↦ fault_at_once colour width from b (row_fault none.0) within (inl (none.0, none.1, refl))
       ]
 

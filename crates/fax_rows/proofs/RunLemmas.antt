@@ -1,7 +1,5 @@
 -- Runs, code by code.
-use Rattle.std.proofs.Common.{◌≡◌, ℕ, ◌+◌, ◌-◌, List, [], ◌∷◌, ◌++◌, map, drop, Bool, refl, ap, sym, ◌∙◌, subst, arith}
-use Rattle.std.proofs.Common.{append_assoc}
-use Rattle.fax_bits.specs.views.Source.{Source, KeepsEnd}
+use Rattle.std.proofs.Common.{◌≡◌, ℕ, ◌+◌, List, [], ◌∷◌, ◌++◌, map, Bool, refl, ap, sym, ◌∙◌, subst, arith, append_assoc}
 use Rattle.std.specs.Prelude.{sum}
 use Rattle.std.proofs.lemmas.Grind.{common_steps}
 use Rattle.std.proofs.lemmas.List.{map-append}
@@ -37,12 +35,7 @@ one_more colour b n m mid rest part taken = record {
 
 pub run_done : (colour : Colour) (b : List Bool) (n m : ℕ) (mid rest : List Bool)
     → IsPartialRun colour b n mid → Takes (run_table colour) mid (Terminating m) rest → IsRun colour b (n + m) rest
-run_done colour b n m mid rest part taken = record {
-  make_up = part.make_up;
-  last = m;
-  spelled = Spells-push (run_table colour) b (map MakeUp part.make_up) (Terminating m) mid rest part.spelled taken;
-  length = omega (arith, part.sum_is);
-}
+run_done colour b n m mid rest part taken = grind (arith, Spells-push)
 
 -- make-up codes of the longest run so far: with a run after them that is written, they are one that is written
 abbrev pub AreLongestMakeUp : Colour → List Bool → ℕ → List Bool → Type 0
@@ -82,11 +75,6 @@ spells_after table b (m ∷ ms) rest spelled =
     let more = spells_after table spelled.0 ms rest spelled.2 in
     let code = bits_of spelled.1.entry in
     (code ++ more.0, spelled.1.spelled ∙ ap (λ c. code ++ c) more.1 ∙ sym (append_assoc code more.0 rest))
-
--- the bits from a place on, where others end at the same place
-pub from_there : (old new : Source) (front : List Bool) → old.left ≡ front ++ new.left → KeepsEnd old new
-    → record { left = drop (new.place - old.place) old.left; place = new.place } ≡ new
-from_there old new front parts same_end = grind (arith, common_steps)
 
 pub run_after : {colour : Colour} {b : List Bool} {n : ℕ} {rest : List Bool} → IsRun colour b n rest
     → (front : List Bool) × (b ≡ front ++ rest)

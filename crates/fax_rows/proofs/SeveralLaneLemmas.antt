@@ -1,10 +1,10 @@
 -- The a1s of vertical modes in lanes.
-use Rattle.std.proofs.Common.{◌≡◌, ℕ, zero, suc, ◌+◌, ◌-◌, ◌^◌, ◌<◌, ◌≤◌, List, [], ◌∷◌, ◌++◌, length, map, take, drop, get_or, Bool, true, false, cond}
-use Rattle.std.proofs.Common.{refl, ap, sym, ◌∙◌, subst, arith, w8, w32, ltb, bit_and}
+use Rattle.std.proofs.Common.{rules, ◌≡◌, ℕ, zero, suc, ◌+◌, ◌-◌, ◌^◌, ◌<◌, ◌≤◌, List, [], ◌∷◌, ◌++◌, length, map, take, drop, get_or, Bool}
+use Rattle.std.proofs.Common.{cond, refl, ap, sym, ◌∙◌, subst, arith, w8, w32, ltb, bit_and}
+use Rattle.std.proofs.lemmas.Grind.{common_steps}
 use Rattle.std.specs.Int.{bit_at}
-use Rattle.std.proofs.lemmas.Bool.{ltb-true}
 use Rattle.std.proofs.lemmas.List.{get_or-map, length-map}
-use Rattle.std.proofs.lemmas.Nat.Bits.{bit_at_and, bit_at-lt, bit_at_ones}
+use Rattle.std.proofs.lemmas.Nat.Bits.{bit_at_and, bit_at_ones}
 use Rattle.std.proofs.lemmas.Simd.{get_or-zip2, get_or-chunk, length-chunk, length-zip2, bit_mask_l}
 use Rattle.fax_rows.specs.code.Several.{AreFour}
 use borrow.Rule.Simd.Lanes.{act1, act2}
@@ -37,36 +37,20 @@ raised_at f others ys b i room long h =
 
 pub length-raised : (f : ℕ → ℕ → ℕ) (others ys : List ℕ) (b : ℕ) → b + 4 ≤ length others → length ys ≡ 4
     → length (zip2 f (take 4 (drop b others)) ys) ≡ 4
-length-raised f others ys b room long =
-    let four = length-chunk b 4 others room in
-    length-zip2 f (chunk b 4 others) ys (four ∙ sym long) ∙ four
+length-raised f others ys b room long = grind (arith, common_steps, length-zip2)
 
 -- lanes that are less
 abbrev bit_of : Bool → ℕ
 bit_of t = cond t 1 0
 
-is_set : (t : Bool) → bit_of t ≡ 1 → t ≡ true
-is_set true h = refl
-is_set false h = cc
-
 pub lane_less : (xs ys : List ℕ) (i : ℕ) → i < length xs → i < length ys → bit_at (mask_l (zip2 ltb xs ys)) i ≡ 1
     → get_or xs i 0 < get_or ys i 0
-lane_less xs ys i inside within set =
-    ltb-true (get_or xs i 0) (get_or ys i 0)
-    (is_set (ltb (get_or xs i 0) (get_or ys i 0))
-    (ap bit_of (sym (get_or-zip2 ltb xs ys i 0 0 false inside within)) ∙ sym (bit_mask_l (zip2 ltb xs ys) i) ∙ set))
+lane_less xs ys i inside within set = grind (arith, common_steps, bit_mask_l)
 
 -- bits that are set in each of three numbers
 all_set : (a b c wanted i : ℕ) → bit_and (bit_and (bit_and a b) c) wanted ≡ wanted → bit_at wanted i ≡ 1
     → (bit_at a i ≡ 1) × (bit_at b i ≡ 1) × (bit_at c i ≡ 1)
-all_set a b c wanted i is set =
-    let all = ap (λ n. bit_at n i) (sym is) ∙ bit_at_and (bit_and (bit_and a b) c) wanted i in
-    let two = bit_at_and (bit_and a b) c i in
-    let one = bit_at_and a b i in
-    let la = bit_at-lt a i in
-    let lb = bit_at-lt b i in
-    let lc = bit_at-lt c i in
-    (omega (arith, all, two, one, la, lb, lc, set), omega (arith, all, two, one, la, lb, lc, set), omega (arith, all, two, one, la, lb, lc, set))
+all_set a b c wanted i is set = grind (arith, bit_at_and)
 
 pub three_set : (a b c count i : ℕ) → bit_and (bit_and (bit_and a b) c) (2 ^ count - 1) ≡ 2 ^ count - 1 → i < count
     → (bit_at a i ≡ 1) × (bit_at b i ≡ 1) × (bit_at c i ≡ 1)
@@ -125,14 +109,10 @@ module _ (others raises : List ℕ) (b count from : ℕ) (some : 0 < b) (room : 
   length-right_lanes = length-raised added others (3 ∷ 3 ∷ 3 ∷ 3 ∷ []) (b + 1) (omega (arith, room)) refl
 
   limit_at : (i : ℕ) → i < 4 → get_or others (b + i) 0 < 2 ^ 16
-  limit_at i h =
-      let e : b - 1 + (i + 1) ≡ b + i = omega (arith, some) in
-      subst (λ m. get_or others m 0 < 2 ^ 16) e (small (i + 1) (omega (arith, h)))
+  limit_at i h = grind arith
 
   limit_after : (i : ℕ) → i < 4 → get_or others (b + 1 + i) 0 < 2 ^ 16
-  limit_after i h =
-      let e : b - 1 + (i + 2) ≡ b + 1 + i = omega (arith, some) in
-      subst (λ m. get_or others m 0 < 2 ^ 16) e (small (i + 2) (omega (arith, h)))
+  limit_after i h = grind arith
 
   raised_of : (i : ℕ) → i < 4 → get_or (raised_lanes others raises b) i 0 ≡ get_or others (b + i) 0 + get_or raises i 0
   raised_of i h =
@@ -145,32 +125,17 @@ module _ (others raises : List ℕ) (b count from : ℕ) (some : 0 < b) (room : 
 
   splat_is : (c n i : ℕ) → c + 4 ≤ length others → n < 8 → i < 4 → get_or others (c + i) 0 < 2 ^ 16
       → get_or (splat_lanes others c n) i 0 ≡ get_or others (c + i) 0 + n
-  splat_is c n i within less h limit =
-      raised_at added others (n ∷ n ∷ n ∷ n ∷ []) c i within refl h
-      ∙ ap (added (get_or others (c + i) 0)) (splat_at n i h)
-      ∙ added_is (get_or others (c + i) 0) n (omega (arith, limit, less))
+  splat_is c n i within less h limit = search (rules, raised_at, splat_at, added_is)
 
   -- none of the lanes has its highest bit
   pub raised_four : AreFour (raised_lanes others raises b)
-  raised_four = record {
-    length = length-raised_lanes;
-    small = λ i h. omega (arith, raised_of i h, limit_at i h, near i h);
-  }
+  raised_four = grind (arith, length-raised_lanes, raised_of, limit_at)
 
   pub left_four : AreFour (splat_lanes others (b - 1) 2)
-  left_four = record {
-    length = length-left_lanes;
-    small = λ i h.
-        let limit = small i (omega (arith, h)) in
-        omega (arith, splat_is (b - 1) 2 i (omega (arith, room)) (omega arith) h limit, limit);
-  }
+  left_four = grind (arith, splat_is)
 
   pub right_four : AreFour (splat_lanes others (b + 1) 3)
-  right_four = record {
-    length = length-right_lanes;
-    small = λ i h.
-        omega (arith, splat_is (b + 1) 3 i (omega (arith, room)) (omega arith) h (limit_after i h), limit_after i h);
-  }
+  right_four = search (rules, length-right_lanes, splat_is, limit_after)
 
   pub before_four : from < 2 ^ 31 → AreFour (before (raised_lanes others raises b) from)
   before_four near_from = record {

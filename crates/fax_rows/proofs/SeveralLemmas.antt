@@ -136,11 +136,7 @@ module _ (reference : PlacedRow) (places : List ℕ) where
   pub all_on : (raises : List ℕ) (at : PlacedReached) (b rest : List Bool) → Spells modes b (map vertical raises) rest
       → IsReadInside reference places at → at.b1 + length raises ≤ reference.end
       → AreFine reference.places.now places at.reached.a0 at.end at.b1 raises → AreOn at (length raises) b rest
-  all_on [] at b rest spells here inside fine = record {
-    goes_on = record { positions = []; steps = (refl, spells) };
-    chosen = record { positions = []; steps = (refl, spells) };
-    so_far = here.so_far;
-  }
+  all_on [] at b rest spells here inside fine = grind arith
   all_on (raised ∷ raises) at b rest spells here inside fine =
       let less : at.b1 < reference.end = omega arith in
       let vertical_step = step at here less raised raises fine in
@@ -174,23 +170,13 @@ abbrev pub reached_at : ℕ → Colour → ℕ → ℕ → PlacedReached
 reached_at place colour end b1 = record { reached = record { a0 = Some place; colour = colour }; end = end; b1 = b1 }
 
 same_reached : (p q : ℕ) (c d : Colour) (m n i j : ℕ) → p ≡ q → c ≡ d → m ≡ n → i ≡ j → reached_at p c m i ≡ reached_at q d n j
-same_reached p q c d m n i j place colour end b1 =
-    ap (λ x. reached_at x c m i) place ∙ ap (λ x. reached_at q x m i) colour ∙ ap (λ x. reached_at q d x i) end
-    ∙ ap (λ x. reached_at q d n x) b1
+same_reached p q c d m n i j place colour end b1 = grind arith
 
 after_is : (k : ℕ) (places : List ℕ) (at : PlacedReached)
     → reached_at (get_or places (at.end + k) 0) (alternate at.reached.colour (suc k)) (at.end + suc k) (at.b1 + suc k)
     ≡ after (suc k) places at
-after_is zero places at =
-    let e : at.end + 0 ≡ at.end = omega arith in
-    same_reached (get_or places (at.end + 0) 0) (get_or places at.end 0) (other at.reached.colour) (other at.reached.colour)
-    (at.end + 1) (at.end + 1) (at.b1 + 1) (at.b1 + 1) (ap (λ n. get_or places n 0) e) refl refl refl
-after_is (suc k) places at =
-    let e : at.end + suc k ≡ at.end + 1 + k = omega arith in
-    same_reached (get_or places (at.end + suc k) 0) (get_or places (at.end + 1 + k) 0)
-    (alternate at.reached.colour (suc (suc k))) (alternate (other at.reached.colour) (suc k)) (at.end + suc (suc k)) (at.end + 1 + suc k)
-    (at.b1 + suc (suc k)) (at.b1 + 1 + suc k) (ap (λ n. get_or places n 0) e) refl (omega arith) (omega arith)
-    ∙ after_is k places (next places at)
+after_is zero places at = grind arith
+after_is (suc k) places at = grind (arith, after_is k places (next places at))
 
 after_as : (count : ℕ) (places : List ℕ) (at : PlacedReached) → 0 < count → alternate Black at.b1 ≡ at.reached.colour
     → reached_at (get_or places (at.end + count - 1) 0) (alternate Black (at.b1 + count)) (at.end + count) (at.b1 + count)

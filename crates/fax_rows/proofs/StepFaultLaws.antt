@@ -8,13 +8,12 @@ use Rattle.fax_bits.specs.declared.Colour.{Colour}
 use Rattle.fax_bits.specs.declared.modes.ModeCode.{ModeCode}
 use Rattle.fax_bits.specs.declared.modes.ModeCode.TheVariants.{Pass, Horizontal, Vertical, Extension}
 use Rattle.fax_bits.specs.Codes.{Takes, IsFaultOf, IsRun}
-use Rattle.fax_bits.specs.laws.Codes.{ReadsOneWay}
-use Rattle.fax_bits.specs.Tables.{run_table, modes}
+use Rattle.fax_bits.specs.laws.Codes.{ReadsOneWay, ReadsRunsOneWay}
+use Rattle.fax_bits.specs.Tables.{modes}
 use Rattle.fax_rows.specs.declared.RowFault.{RowFault}
 use Rattle.fax_rows.specs.declared.RowFault.TheVariants.{OutOfRow, Extension as ExtensionFault}
-use Rattle.fax_rows.specs.Rows.{other, Position, beginning, first_pel, a0_number, coloured_up_to}
-use Rattle.fax_rows.specs.Rows.{IsStepBy, IsStep, AreSteps}
-use Rattle.fax_rows.specs.code.Seen.{b1_from, b2_from}
+use Rattle.fax_rows.specs.Rows.{other, Position, beginning, first_pel, a0_number, coloured_up_to, IsStepBy, IsStep, AreSteps}
+use Rattle.fax_rows.specs.code.Seen.{b1_from}
 use Rattle.fax_rows.specs.Faults.{row_fault, IsRunFault, IsModeFault, IsStepFault}
 use Rattle.fax_rows.specs.code.RowFaults.{IsHorizontalFault}
 use Rattle.fax_rows.specs.laws.Rows.{ReadsRowsOverOneWay}
@@ -74,7 +73,7 @@ end_or_not : (a0 : Option ℕ) (width : ℕ) → (a0 ≡ Some width) ⊎ (a0 ≢
 end_or_not None width = inr (λ same. cc)
 end_or_not (Some a) width = grind (arith, common_steps)
 
-module _ (runs_read : (colour : Colour) → ReadsOneWay (run_table colour)) (modes_read : ReadsOneWay modes) where
+module _ (runs_read : (colour : Colour) → ReadsRunsOneWay colour) (modes_read : ReadsOneWay modes) where
   -- where a mode is taken the fault is that mode's
   fault_of_mode : (reference : List Colour) (old : Position) (b c : List Bool) (mode : ModeCode) (after : List Bool) (fault : RowFault)
       → b ≡ c
@@ -204,14 +203,7 @@ module _ (runs_read : (colour : Colour) → ReadsOneWay (run_table colour)) (mod
 
   mode_or_fault : (mode : ModeCode) (reference : List Colour) (old : Position) (b : List Bool) → first_pel old ≤ length reference
       → IsModeOrFault mode reference old b
-  mode_or_fault Pass reference old b within =
-      inl (
-        coloured_up_to old (b2_from reference old),
-        b,
-        (refl, refl),
-        (next_change_is reference (Some (b1_from reference old))).within,
-        omega arith,
-      )
+  mode_or_fault Pass reference old b within = grind (arith, next_change_is)
   mode_or_fault (Vertical d) reference old b within = vertical_or_fault reference old d b
   mode_or_fault Horizontal reference old b within = horizontal_or_fault reference old b within
   mode_or_fault Extension reference old b within = inr (ExtensionFault, refl)

@@ -1,19 +1,17 @@
 -- A row in two-dimensional coding is read in one way, where the tables are.
-use Rattle.std.proofs.Common.{arith}
+use Rattle.std.proofs.Common.{arith, ◌≡◌, List, [], ◌∷◌, length, Bool, sym, subst}
 use Rattle.std.proofs.lemmas.Grind.{common_steps}
-use Rattle.std.proofs.Common.{◌≡◌, List, [], ◌∷◌, length, Bool, sym, subst}
 use Rattle.std.specs.Prelude.{Some}
 use Rattle.fax_bits.specs.declared.Colour.{Colour}
 use Rattle.fax_bits.specs.declared.modes.ModeCode.{ModeCode}
 use Rattle.fax_bits.specs.declared.modes.ModeCode.TheVariants.{Pass, Horizontal, Vertical, Extension}
 use Rattle.fax_bits.specs.Codes.{Takes}
-use Rattle.fax_bits.specs.laws.Codes.{ReadsOneWay}
-use Rattle.fax_bits.specs.Tables.{run_table, modes}
-use Rattle.fax_rows.specs.Rows.{Position, IsStepBy, IsStep, AreSteps}
-use Rattle.fax_rows.specs.Rows.{IsTwoDimensionalRow}
+use Rattle.fax_bits.specs.laws.Codes.{ReadsOneWay, ReadsRunsOneWay}
+use Rattle.fax_bits.specs.Tables.{modes}
+use Rattle.fax_rows.specs.Rows.{Position, IsStepBy, IsStep, AreSteps, IsTwoDimensionalRow}
 use Rattle.fax_rows.proofs.RunLaws.{same_run}
 
-module _ (runs_read : (colour : Colour) → ReadsOneWay (run_table colour)) (modes_read : ReadsOneWay modes) where
+module _ (runs_read : (colour : Colour) → ReadsRunsOneWay colour) (modes_read : ReadsOneWay modes) where
   -- what a mode does is one step
   same_by : (mode : ModeCode) (reference : List Colour) (old : Position) (b c : List Bool) (new another : Position)
       (rest remaining : List Bool)

@@ -14,7 +14,7 @@ use Rattle.fax_rows.proofs.PairReadLemmas.{HasRead}
 pub row_stops : {width : ℕ} {b : List Bool} {chosen : Type 0} {total : ℕ} {colour : Colour} {places : List ℕ} {end : ℕ} {left : List Bool}
     {fault : RowFault} → HasRead width b chosen total colour places end left → total < width → IsRunFault colour width total left fault
     → IsOneDimensionalFault width b fault
-row_stops {width} {b} {chosen} {total} {colour} {places} {end} {left} {fault} read unfinished stops = grind (arith, common_steps, stop_from)
+row_stops read unfinished stops = grind (arith, common_steps, stop_from)
 
 -- why a row is not read on, by what else holds of a fault and of what is due
 pub stop_as : {D : Type 0} (choice : Bool) {faults others : RowFault → Type 0} {dues more : D → Type 0} (stop : Stop D)

@@ -1,6 +1,7 @@
 -- Rows by their places of change: the pel at a place, and where it changes.
+use Rattle.fax_rows.proofs.ColourLemmas.{same_as, other_than}
 use Rattle.std.proofs.lemmas.Grind.{common_steps}
-use Rattle.std.proofs.Common.{◌≡◌, ℕ, zero, suc, ◌+◌, ◌-◌, ◌%◌, ◌<◌, ◌≤◌, List, [], ◌∷◌, ◌++◌, length, take, get_or, true, false, not, refl}
+use Rattle.std.proofs.Common.{◌≡◌, ℕ, zero, suc, ◌+◌, ◌-◌, ◌%◌, ◌<◌, ◌≤◌, List, [], ◌∷◌, ◌++◌, length, take, get_or, true, false, refl}
 use Rattle.std.proofs.Common.{ap, sym, ◌∙◌, subst, arith, inl, inr}
 use Rattle.std.specs.Prelude.{◌⊎◌, nat_le, if◌then◌else◌}
 use Rattle.std.proofs.lemmas.Bool.{le-leb, lt-leb}
@@ -9,12 +10,8 @@ use Rattle.std.proofs.lemmas.List.{get_or-take, length-take-le}
 use Rattle.std.proofs.lemmas.List.FromFn.{get_or-map-range_with_len, length-map-range_with_len}
 use Rattle.fax_bits.specs.declared.Colour.{Colour}
 use Rattle.fax_bits.specs.declared.Colour.TheVariants.{White, Black}
-use Rattle.fax_rows.specs.Rows.{other, same_colour, pel, is_changing}
+use Rattle.fax_rows.specs.Rows.{other, pel, is_changing}
 use Rattle.fax_rows.specs.code.Turns.{turned, pels_by, alternate, IsAscending, ArePlacesUpTo}
-
-pub other-other : (c : Colour) → other (other c) ≡ c
-other-other White = refl
-other-other Black = refl
 
 -- a row has its width
 pub length-pels_by : (width : ℕ) (places : List ℕ) → length (pels_by width places) ≡ width
@@ -71,13 +68,7 @@ module _ {places : List ℕ} {end : ℕ} (up : IsAscending places end) where
   -- places ascend also over several steps
   pub ascends : (i n : ℕ) → 0 < i → i + suc n < end → get_or places i 0 < get_or places (i + suc n) 0
   ascends i zero some h = subst (λ m. get_or places i 0 < get_or places m 0) (omega arith) (up.steps i some (omega arith))
-  ascends i (suc n) some h =
-      let here = ascends i n some (omega arith) in
-      let next = subst (λ m. get_or places (i + suc n) 0 < get_or places m 0) same (up.steps (i + suc n) (omega arith) (omega arith)) in
-      omega arith
-    where
-      same : i + suc n + 1 ≡ i + suc (suc n)
-      same = omega arith
+  ascends i (suc n) some h = grind (arith, ascends i n some (omega arith))
 
   pub below_later : (i j : ℕ) → 0 < i → i < j → j < end → get_or places i 0 < get_or places j 0
   below_later i j some less h =
@@ -90,18 +81,11 @@ module _ {places : List ℕ} {end : ℕ} (up : IsAscending places end) where
   pub at_least : (i : ℕ) → i < end → i ≤ get_or places i 0 + 1
   at_least zero h = omega arith
   at_least (suc zero) h = omega arith
-  at_least (suc (suc i)) h =
-      let before = at_least (suc i) (omega arith) in
-      let next = below_later (suc i) (suc (suc i)) (omega arith) (omega arith) h in
-      omega arith
+  at_least (suc (suc i)) h = grind (arith, at_least (suc i) (omega arith))
 
   pub not_later : (i j : ℕ) → i ≤ j → j < end → get_or places i 0 ≤ get_or places j 0
   not_later zero j order h = omega (arith, up.first)
-  not_later (suc i) j order h =
-      elim (eq-or-lt_of_le order) [
-        | inl same ↦ subst (λ m. get_or places (suc i) 0 ≤ get_or places m 0) same (omega arith)
-        | inr less ↦ let l = below_later (suc i) j (omega arith) less h in omega arith
-      ]
+  not_later (suc i) j order h = grind (arith, below_later)
 
   -- the colour after k places
   pub colour_after_places : (i k : ℕ) → ArePlacesUpTo places end i k → turned Black (take end places) i ≡ alternate Black k
@@ -157,7 +141,7 @@ module _ {places : List ℕ} {end : ℕ} (up : IsAscending places end) where
         left = last (eq-or-lt_of_le some);
         right = λ l. omega (arith, is);
       }) in
-      rw (here, before, alternate-suc Black j) (turns (alternate Black j))
+      rw (here, before, alternate-suc Black j) (other_than (other (alternate Black j)) (alternate Black j) refl)
     where
       same : suc j - 1 ≡ j
       same = omega arith
@@ -165,10 +149,6 @@ module _ {places : List ℕ} {end : ℕ} (up : IsAscending places end) where
       last : (1 ≡ j) ⊎ (1 < j) → get_or places (j - 1) 0 ≤ i
       last (inl one) = subst (λ m. get_or places (m - 1) 0 ≤ i) one (omega (arith, up.first))
       last (inr more) = let l = below_later (j - 1) j (omega arith) (omega arith) h in omega (arith, is)
-
-      turns : (c : Colour) → not (same_colour (other c) c) ≡ true
-      turns White = refl
-      turns Black = refl
 
   -- and nowhere else
   pub unchanging : (width i k : ℕ) → ArePlacesUpTo places end i k → (k ≡ 1) ⊎ (get_or places (k - 1) 0 < i) → i < width
@@ -186,12 +166,8 @@ module _ {places : List ℕ} {end : ℕ} (up : IsAscending places end) where
         left = left from;
         right = λ l. omega (arith, at.right l);
       }) in
-      rw (here, before) (same (alternate Black k))
+      rw (here, before) (same_as (alternate Black k) (alternate Black k) refl)
     where
       left : (k ≡ 1) ⊎ (get_or places (k - 1) 0 < suc i) → get_or places (k - 1) 0 ≤ i
       left (inl one) = subst (λ m. get_or places (m - 1) 0 ≤ i) (sym one) (omega (arith, up.first))
       left (inr less) = omega arith
-
-      same : (c : Colour) → not (same_colour c c) ≡ false
-      same White = refl
-      same Black = refl

@@ -21,7 +21,7 @@ use Rattle.fax_rows.specs.code.Chosen.{IsChosenStep, GoesOn, GoesOnAsChosen}
 use Rattle.fax_rows.specs.code.PlacedRow.{placed_pels}
 use Rattle.fax_rows.specs.code.PlacedReached.{placed_position, IsReadTo, IsReadInside, IsReadOn}
 use Rattle.fax_rows.specs.code.Reached.{position_of}
-use Rattle.fax_rows.specs.code.Turns.{turned, alternate, pels_by, IsAscending, IsTurnedFrom, TurnsAt}
+use Rattle.fax_rows.specs.code.Turns.{alternate, pels_by, IsAscending, IsTurnedFrom, TurnsAt}
 use Rattle.fax_rows.proofs.ChosenStepLemmas.{under_chosen}
 use Rattle.fax_rows.proofs.PlacedB1Lemmas.{length-placed_pels, b1_next}
 use Rattle.fax_rows.proofs.PlacedStepLemmas.{vertical_placed, turned_so_far, under_right, under_ahead, under_within, from_start, room_left}
@@ -43,7 +43,7 @@ pub vertical_goes_on : {reference : PlacedRow} {places : List ℕ} {at : PlacedR
     → (b : List Bool) (new : Position) (rest : List Bool) (d read : ℤ) → Takes modes b (Vertical d) rest
     → IsVerticalStep (placed_pels reference) (placed_position reference.width places at) read new → read ≡ d
     → GoesOn (placed_pels reference) (placed_position reference.width places at) b new rest
-vertical_goes_on {reference} {places} {at} here b new rest d distance taken step same = grind (arith, common_steps, step_goes_on)
+vertical_goes_on here b new rest d distance taken step same = grind (arith, common_steps, step_goes_on)
 
 pub chosen_goes_on : {reference : PlacedRow} {places : List ℕ} {at : PlacedReached} → IsReadInside reference places at
     → (b : List Bool) (new : Position) (rest : List Bool)
@@ -157,7 +157,7 @@ abbrev pub placed : ℕ → Colour → ℕ → ℕ → PlacedReached
 placed place colour end b1 = record { reached = record { a0 = Some place; colour = colour }; end = end; b1 = b1 }
 
 same_placed : {p q : ℕ} {c d : Colour} {m n i j : ℕ} → p ≡ q → c ≡ d → m ≡ n → i ≡ j → placed p c m i ≡ placed q d n j
-same_placed {q = q} {c = c} {d = d} {m = m} {n = n} {i = i} place colour end b1 = grind (arith, common_steps)
+same_placed place colour end b1 = grind (arith, common_steps)
 
 -- how far it is read after so many steps, one at least
 pub under_all_is : (k : ℕ) (reference : PlacedRow) (at : PlacedReached)
@@ -190,26 +190,7 @@ under_all_as (suc k) reference at some is =
 -- what is read stays so where places are put after it
 pub so_far_kept : (reference : PlacedRow) (places new : List ℕ) (at : PlacedReached) → IsReadTo reference places at
     → length new ≡ length places → take at.end new ≡ take at.end places → IsReadTo reference new at
-so_far_kept reference places new at so_far len kept = record {
-  room = len ∙ so_far.room;
-  within = so_far.within;
-  started = so_far.started;
-  ascending = record {
-    started = up.started;
-    within = omega (arith, up.within, len);
-    first = kept_at 0 up.started ∙ up.first;
-    steps = λ i some h. let less = up.steps i some h in omega (arith, kept_at i (omega arith), kept_at (i + 1) h);
-  };
-  last = let same = kept_at (at.end - 1) (omega (arith, up.started)) in omega (arith, same, so_far.last);
-  after = λ i h. ap (λ ps. turned Black ps i) kept ∙ so_far.after i h;
-  b1 = so_far.b1;
-}
-  where
-    up : IsAscending places at.end
-    up = so_far.ascending
-
-    kept_at : (k : ℕ) → k < at.end → get_or new k 0 ≡ get_or places k 0
-    kept_at k h = sym (get_or-take at.end new k 0 h) ∙ ap (λ xs. get_or xs k 0) kept ∙ get_or-take at.end places k 0 h
+so_far_kept reference places new at so_far len kept = grind (arith, get_or-take)
 
 -- a 1 is the code of a1 under b1
 pub one_is_taken : ModeBitsAreRead → (rest : List Bool) → Takes modes (true ∷ rest) (Vertical (pos 0)) rest
@@ -252,11 +233,4 @@ pub one_read : (reference : PlacedRow) (places new : List ℕ) (at next : Placed
     → Takes modes b (Vertical (pos 0)) rest → IsReadInside reference places at
     → IsVerticalStep (placed_pels reference) (placed_position reference.width places at) (pos 0) (placed_position reference.width new next)
     → IsReadTo reference new next → IsReadOn true reference places new at next b rest
-one_read reference places new at next b rest taken here vertical read =
-    let position = placed_position reference.width new next in
-    record {
-      steps = step_goes_on here b position rest
-          (record { mode = Vertical (pos 0); after = rest; taken = taken; step = (vertical, refl) });
-      chosen = λ asked. chosen_goes_on here b position rest (under_chosen here taken vertical);
-      so_far = read;
-    }
+one_read reference places new at next b rest taken here vertical read = search (rules, step_goes_on, chosen_goes_on, under_chosen)

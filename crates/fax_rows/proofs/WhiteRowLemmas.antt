@@ -1,22 +1,18 @@
 -- White rows: their places of change, and their codes.
-use Rattle.std.proofs.Common.{◌≡◌, ℕ, zero, suc, ◌+◌, ◌-◌, ◌*◌, ◌<◌, ◌↔◌, List, [], ◌∷◌, ◌++◌, length, get_or, map, replicate, Bool, true, false, not}
-use Rattle.std.proofs.Common.{refl, ap, sym, ◌∙◌, arith, IsTrue, append-nil, inl, inr}
-use Rattle.std.proofs.Math.Nat.{eq-or-lt_of_le}
-use Rattle.std.specs.Prelude.{Option, Some, None, pos, ◌&&◌, ◌-ℤ◌, nat_eq}
-use Rattle.std.proofs.lemmas.Int.{ints}
-use Rattle.std.proofs.lemmas.Bool.{and_parts}
-use Rattle.std.proofs.lemmas.Bool.Decides.{nat_tests}
+use Rattle.std.proofs.lemmas.Grind.{common_steps}
+use Rattle.std.specs.Simd.{first_chunks}
+use Rattle.fax_bits.specs.Bits.{packed, code_bits, bits_number}
+use Rattle.std.proofs.Common.{◌≡◌, ℕ, zero, suc, ◌+◌, ◌-◌, ◌*◌, ◌<◌, ◌≤◌, ◌↔◌, List, [], ◌∷◌, ◌++◌, length, get_or, map, replicate, Bool, true, false}
+use Rattle.std.proofs.Common.{refl, ap, sym, ◌∙◌, arith, IsTrue, append-nil}
+use Rattle.std.specs.Prelude.{Option, Some, None, pos, nat_eq}
 use Rattle.std.proofs.lemmas.List.{get_or-replicate, length-replicate, replicate-append-replicate, drop-replicate, take-replicate}
-use Rattle.fax_rows.specs.code.PackedByte.{packed_byte}
-use Rattle.fax_rows.proofs.PackedLemmas.{packed_at}
 use Rattle.fax_bits.specs.declared.Colour.{Colour}
 use Rattle.fax_bits.specs.declared.Colour.TheVariants.{White}
-use Rattle.fax_bits.specs.Bits.{code_bits, bits_number}
 use Rattle.fax_bits.specs.Tables.{modes}
 use Rattle.fax_bits.specs.Written.{mode_bits, run_bits}
 use Rattle.fax_bits.specs.declared.modes.ModeCode.TheVariants.{Vertical}
 use Rattle.fax_rows.specs.Coded.{packed_len, packed_row, is_black, alternating_bits, one_dimensional_bits, two_dimensional_bits}
-use Rattle.fax_rows.specs.Rows.{same_colour, pel, is_changing, is_right_of, next_change, b1, runs_after}
+use Rattle.fax_rows.specs.Rows.{pel, is_changing, next_change, b1, runs_after}
 use Rattle.fax_rows.specs.code.Turns.{ArePlaces, row_of}
 use Rattle.fax_rows.proofs.ChangeLemmas.{first_place_is, next_change_is}
 use Rattle.fax_rows.proofs.PlacedRowLemmas.{all_white, width_is}
@@ -48,18 +44,10 @@ module _ {places : List ℕ} {end width : ℕ} (all : ArePlaces places end width
 
   -- a row is white just where it has one place
   one_place : {row : List Colour} → row_of places end width ≡ row → row ≡ replicate (length row) White → IsTrue (nat_eq end 1)
-  one_place is white_is =
-      let same = width_is all is in
-      elim (eq-or-lt_of_le all.ascending.started) [
-        | inl one ↦ rw (sym one) refl
-        | inr more ↦ absurd (more_places more (is ∙ white_is ∙ ap white (sym same)))
-      ]
+  one_place is white_is = grind (arith, width_is, more_places)
 
   pub is_white_row : {row : List Colour} → row_of places end width ≡ row → IsTrue (nat_eq end 1) ↔ (row ≡ replicate (length row) White)
-  is_white_row is = (
-    λ (one : IsTrue (nat_eq end 1)). all_white all is (grind (arith, nat_tests)),
-    λ (white : _). one_place is white,
-  )
+  is_white_row is = grind (arith, all_white, one_place)
 
 -- a white row is one run
 white_runs : (n k : ℕ) → runs_after White n (white k) ≡ (n + k) ∷ []
@@ -74,34 +62,15 @@ white_1d width = ap (alternating_bits White) (white_runs 0 width ∙ ap (λ m. m
 
 -- no changing element lies right of a place
 no_change : (width : ℕ) (from : Option ℕ) → next_change (white width) from ≡ width
-no_change width from =
-    let next = next_change_is (white width) from in
-    let same : length (white width) ≡ width = length-replicate width White in
-    elim (eq-or-lt_of_le next.within) [
-      | inl end ↦ end ∙ same
-      | inr less ↦ cc (sym (next.there less) ∙ none_changes width (next_change (white width) from) (omega arith))
-    ]
+no_change width from = grind (arith, common_steps, next_change_is)
 
 no_b1 : (width : ℕ) (from : Option ℕ) (colour : Colour) → b1 (white width) from colour ≡ width
 unfolding b1
-no_b1 width from colour =
-    let test : ℕ → Bool =
-    λ i. is_right_of from i && (is_changing (white width) i && not (same_colour (pel (white width) i) colour)) in
-    let first = first_place_is test 0 (length (white width)) in
-    let same : length (white width) ≡ width = length-replicate width White in
-    elim (eq-or-lt_of_le first.within) [
-      | inl end ↦ omega (arith, end, same)
-      | inr less ↦
-          let there = (and_parts (is_right_of from (b1 (white width) from colour)) _ (first.there less)).1 in
-          let changes = (and_parts (is_changing (white width) (b1 (white width) from colour)) _ there).0 in
-          cc (sym changes ∙ none_changes width (b1 (white width) from colour) (omega arith))
-    ]
+no_b1 width from colour = grind (arith, common_steps, first_place_is)
 
 -- so that a1 is under b1, and the step ends the row
 white_mode : (width : ℕ) → chosen_mode (places (white width) (white width) None) ≡ Vertical (pos 0)
-white_mode width =
-    let none : pos width -ℤ pos width ≡ pos 0 = omega (arith, ints) in
-    rw (no_change width None, no_b1 width None White, no_change width (Some width), none) (grind (arith, nat_tests))
+white_mode width = grind (arith, no_change, no_b1)
 
 -- over a white row it is written as a single 1
 pub white_2d : (width : ℕ) → 0 < width → two_dimensional_bits (white width) (white width) ≡ true ∷ []
@@ -120,43 +89,29 @@ white_2d width some =
 -- the codes of a run that were taken are those of a white row
 pub chosen_1d : (row : List Colour) (width : ℕ) (b rest : List Bool) → row ≡ replicate (length row) White → width ≡ length row
     → b ≡ run_bits White width ++ rest → b ≡ one_dimensional_bits row ++ rest
-chosen_1d row width b rest all same taken =
-    taken ∙ ap (λ c. c ++ rest)
-    (ap (run_bits White) same ∙ sym (white_1d (length row)) ∙ ap one_dimensional_bits (sym all))
+chosen_1d row width b rest all same taken = grind (arith, white_1d)
 
 -- and a 1 is that of a white row over another
 pub chosen_2d : (row : List Colour) (b rest : List Bool) → row ≡ replicate (length row) White → 0 < length row
     → b ≡ true ∷ rest → b ≡ two_dimensional_bits row row ++ rest
-chosen_2d row b rest all some taken =
-    taken ∙ ap (λ c. c ++ rest)
-    (sym (white_2d (length row) some) ∙ ap (λ (r : List Colour). two_dimensional_bits r r) (sym all))
+chosen_2d row b rest all some taken = grind (arith, white_2d)
 
 -- its pels are zeros as bits
 white_bits : (width : ℕ) → map is_black (white width) ≡ replicate width false
 white_bits zero = refl
 white_bits (suc width) = ap (λ b. false ∷ b) (white_bits width)
 
-zeros_spell : (n : ℕ) → bits_number (replicate n false) ≡ 0
-zeros_spell zero = refl
-zeros_spell (suc n) = zeros_spell n
-
 -- and so are its bytes
-white_byte : (width from : ℕ) → from < width → packed_byte (white width) from ≡ 0
-unfolding packed_byte
-white_byte width from inside =
-    rw (
-      white_bits width,
-      replicate-append-replicate width 7 false,
-      drop-replicate from (width + 7) false,
-      take-replicate 8 (width + 7 - from) false (omega arith),
-    ) (zeros_spell 8)
+zero_bytes : (n m : ℕ) → 8 * n ≤ m → map bits_number (first_chunks 8 n (replicate m false)) ≡ replicate n 0
+zero_bytes zero m within = refl
+zero_bytes (suc n) m within =
+    rw (take-replicate 8 m false (omega arith), drop-replicate 8 m false) (ap (λ bytes. 0 ∷ bytes) (zero_bytes n (m - 8) (omega arith)))
+
+white_packed : (width : ℕ) → packed_row (white width) ≡ replicate (packed_len width) 0
+unfolding packed_row packed
+white_packed width =
+    rw (white_bits width, length-replicate width false, replicate-append-replicate width 7 false)
+    (zero_bytes (packed_len width) (width + 7) (omega arith))
 
 pub white_bytes : (row : List Colour) → row ≡ replicate (length row) White → packed_row row ≡ replicate (packed_len (length row)) 0
-white_bytes row is =
-    let width = length row in
-    let bytes = replicate (packed_len width) 0 in
-    let long : length bytes ≡ packed_len width = length-replicate (packed_len width) 0 in
-    let same : length (white width) ≡ width = length-replicate width White in
-    ap packed_row is
-    ∙ sym (packed_at (white width) bytes (long ∙ ap packed_len (sym same))
-    (λ k h. get_or-replicate (packed_len width) k 0 0 (omega (arith, long)) ∙ sym (white_byte width (8 * k) (omega (arith, long)))))
+white_bytes row is = ap packed_row is ∙ white_packed (length row)

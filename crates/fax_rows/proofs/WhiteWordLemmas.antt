@@ -1,27 +1,24 @@
 -- White words of packed bytes.
+use Rattle.fax_rows.proofs.PackedWordLemmas.{white_word}
 use Rattle.std.proofs.Common.{◌≡◌, ℕ, ◌+◌, ◌-◌, ◌*◌, ◌<◌, ◌≤◌, List, Bool, false, true, get_or, nat_eq, inl, inr, ap, sym, ◌∙◌, arith}
 use Rattle.std.specs.Prelude.{◌&&◌}
 use Rattle.std.proofs.lemmas.Bool.{and_parts, cases_lt, eqb-true}
-use Rattle.std.proofs.lemmas.Nat.Bits.{bit_at-zero}
 use Rattle.fax_rows.specs.Coded.{colour_of_bit}
 use Rattle.fax_rows.specs.code.PackedWord.{word_bit}
-
-zero_bit : (i : ℕ) → word_bit 0 i ≡ false
-zero_bit i = ap (λ b. nat_eq b 1) (bit_at-zero (63 - i))
 
 -- the bits from a place on are those of a word
 abbrev Holds : List Bool → ℕ → ℕ → Type 0
 Holds b at word = (i : ℕ) → i < 64 → word_bit word i ≡ get_or b (8 * at + i) false
 
-white_word : (b : List Bool) (at word : ℕ) → nat_eq word 0 ≡ true → Holds b at word → (i : ℕ) → i < 64
+white_bits : (b : List Bool) (at word : ℕ) → nat_eq word 0 ≡ true → Holds b at word → (i : ℕ) → i < 64
     → get_or b (8 * at + i) false ≡ false
-white_word b at word is bit i h = sym (bit i h) ∙ ap (λ w. word_bit w i) (eqb-true word 0 is) ∙ zero_bit i
+white_bits b at word is bit i h = sym (bit i h) ∙ ap (λ w. word_bit w i) (eqb-true word 0 is) ∙ white_word i
 
 white_part : (b : List Bool) (at from word : ℕ) → nat_eq word 0 ≡ true → Holds b (at + from) word → (i : ℕ)
     → 8 * from ≤ i → i < 8 * from + 64 → get_or b (8 * at + i) false ≡ false
 white_part b at from word is bit i more less =
     let place : 8 * at + i ≡ 8 * (at + from) + (i - 8 * from) = omega arith in
-    ap (λ n. get_or b n false) place ∙ white_word b (at + from) word is bit (i - 8 * from) (omega arith)
+    ap (λ n. get_or b n false) place ∙ white_bits b (at + from) word is bit (i - 8 * from) (omega arith)
 
 -- four words are white
 pub four_white : (b : List Bool) (at first second third fourth : ℕ)
@@ -33,7 +30,7 @@ four_white b at first second third fourth are one two three four i inside =
     let left = and_parts (nat_eq first 0) (nat_eq second 0) parts.0 in
     let right = and_parts (nat_eq third 0) (nat_eq fourth 0) parts.1 in
     elim (cases_lt i 64) [
-      | inl less ↦ white_word b at first left.0 one i less
+      | inl less ↦ white_bits b at first left.0 one i less
       | inr more ↦ elim (cases_lt i 128) [
         | inl less ↦ white_part b at 8 second left.1 two i (omega arith) (omega arith)
         | inr more ↦ elim (cases_lt i 192) [
@@ -54,5 +51,5 @@ white_on b word from k white before four i more inside =
       | inr far ↦
           let place : i ≡ 8 * (8 * k) + (i - 64 * k) = omega arith in
           ap colour_of_bit (ap (λ n. get_or b n false) place ∙ four (i - 64 * k) (omega arith)
-          ∙ sym (ap (λ w. word_bit w 63) white ∙ zero_bit 63))
+          ∙ sym (ap (λ w. word_bit w 63) white ∙ white_word 63))
     ]

@@ -3,7 +3,6 @@ use Rattle.std.proofs.lemmas.Grind.{common_steps}
 use Rattle.std.proofs.Common.{◌≡◌, ◌≢◌, ℕ, zero, suc, ◌+◌, ◌^◌, ◌<◌, ◌≤◌, List, [], ◌∷◌, ◌++◌, length, take, replicate, Bool}
 use Rattle.std.proofs.Common.{refl, ap, sym, ◌∙◌, subst, arith, inl, inr, append_assoc}
 use Rattle.std.specs.Prelude.{sum, Option, Some, None}
-use Rattle.std.proofs.Math.Seq.{take-length}
 use Rattle.std.proofs.lemmas.Bool.{cases_lt}
 use Rattle.std.proofs.lemmas.List.{replicate-append-replicate}
 use Rattle.fax_bits.specs.declared.Colour.{Colour}
@@ -13,12 +12,10 @@ use Rattle.fax_bits.specs.Codes.{Takes}
 use Rattle.fax_bits.specs.laws.Codes.{RunBitsAreRead, ModeBitsAreRead}
 use Rattle.fax_bits.specs.Written.{mode_bits}
 use Rattle.fax_bits.specs.Tables.{modes}
-use Rattle.fax_rows.specs.Rows.{other, pels_of, runs_after, runs_of, IsOneDimensionalRow}
-use Rattle.fax_rows.specs.Rows.{Position, AreSteps, IsTwoDimensionalRow}
+use Rattle.fax_rows.specs.Rows.{other, pels_of, runs_after, runs_of, IsOneDimensionalRow, Position, AreSteps, IsTwoDimensionalRow}
 use Rattle.fax_rows.specs.laws.Rows.{HasWidth}
-use Rattle.fax_rows.specs.Coded.{step_bits, two_dimensional_bits, alternating_bits}
+use Rattle.fax_rows.specs.Coded.{step_bits, two_dimensional_bits, alternating_bits, one_dimensional_bits}
 use Rattle.fax_rows.specs.code.Choice.{places, colour_of, chosen_mode, run_pair_bits, next_a0}
-use Rattle.fax_rows.specs.Coded.{one_dimensional_bits}
 use Rattle.fax_rows.proofs.ChangeLemmas.{first_of}
 use Rattle.fax_rows.proofs.RowLaws.{length-pels_of}
 use Rattle.fax_rows.proofs.RunLaws.{sum-cons}
@@ -49,11 +46,6 @@ pub step_bits-more : (limit : ℕ) (reference row : List Colour) (a0 : Option �
 unfolding step_bits
 step_bits-more limit reference row a0 unfinished = grind (arith, common_steps)
 
--- a0 at the width
-at_width : (a0 : Option ℕ) (width : ℕ) → 0 < width → first_of a0 ≡ width → a0 ≡ Some width
-at_width None width some same = absurd (omega arith)
-at_width (Some a) width some same = ap (λ n. Some n) same
-
 not_at_width : (a0 : Option ℕ) (width : ℕ) → first_of a0 < width → a0 ≢ Some width
 not_at_width a0 width before same = omega (arith, ap first_of same)
 
@@ -66,13 +58,7 @@ module _ (runs_read : RunBitsAreRead) (modes_taken : ModeBitsAreRead) (reference
     (limits : HasWidth row) where
   back_at_end : (a0 : Option ℕ) (colour : Colour) (limit : ℕ) (more : List Bool) → first_of a0 ≡ length row
       → IsWrittenBack reference row (here row a0 colour) (step_bits limit reference row a0 ++ more) more
-  back_at_end a0 colour limit more done = record {
-    positions = [];
-    last = here row a0 colour;
-    steps = (refl, ap (λ b. b ++ more) (step_bits-end limit reference row a0 done));
-    ends = at_width a0 (length row) limits.some done ∙ ap (λ n. Some n) (sym same_width);
-    pels = sym (ap (λ n. take n row) done ∙ take-length row);
-  }
+  back_at_end a0 colour limit more done = grind (arith, common_steps, step_bits-end)
 
   -- the place and the mode of the step from a0
   abbrev mode_at : Option ℕ → ModeCode
@@ -177,11 +163,7 @@ runs_back : RunBitsAreRead → (colour : Colour) (runs : List ℕ) (more : List 
     → AreCodedRuns colour (alternating_bits colour runs ++ more) runs more
 unfolding alternating_bits
 runs_back runs_read colour [] more short = refl
-runs_back runs_read colour (n ∷ runs) more short = (
-  alternating_bits (other colour) runs ++ more,
-  rw append_assoc (runs_read colour n (alternating_bits (other colour) runs ++ more) (omega (arith, sum-cons n runs))),
-  runs_back runs_read (other colour) runs more (omega (arith, sum-cons n runs)),
-)
+runs_back runs_read colour (n ∷ runs) more short = grind (arith, common_steps, runs_back runs_read (other colour) runs more (omega (arith, sum-cons n runs)))
 
 -- a row in one-dimensional coding is read back
 pub one_dimensional_back : RunBitsAreRead → (row : List Colour) → HasWidth row → (more : List Bool)

@@ -1,6 +1,6 @@
 -- How far a row is written after a step: the indexes of a1 and b1 after each mode.
 use Rattle.std.proofs.lemmas.Grind.{common_steps}
-use Rattle.std.proofs.Common.{◌≡◌, ℕ, suc, ◌+◌, ◌-◌, ◌<◌, ◌≤◌, ◌++◌, length, get_or, true, ap, sym, ◌∙◌, subst, arith}
+use Rattle.std.proofs.Common.{◌≡◌, ℕ, ◌+◌, ◌-◌, ◌<◌, ◌≤◌, ◌++◌, length, get_or, true, ap, sym, ◌∙◌, subst, arith}
 use Rattle.std.specs.Prelude.{Option, Some, None, unwrap_or, pos}
 use Rattle.std.proofs.lemmas.Bool.Decides.{nat_tests}
 use Rattle.std.proofs.lemmas.Int.{ints}
@@ -8,14 +8,14 @@ use Rattle.std.proofs.lemmas.List.{append-nil}
 use Rattle.fax_bits.specs.declared.modes.ModeCode.{ModeCode}
 use Rattle.fax_bits.specs.declared.modes.ModeCode.TheVariants.{Horizontal, Vertical}
 use Rattle.fax_bits.specs.Written.{mode_bits}
-use Rattle.fax_rows.specs.code.Choice.{places, colour_of, chosen_mode, next_a0}
+use Rattle.fax_rows.specs.code.Choice.{colour_of, chosen_mode}
 use Rattle.fax_bits.specs.declared.Colour.{Colour}
 use Rattle.fax_bits.specs.declared.Colour.TheVariants.{Black}
 use Rattle.fax_rows.specs.declared.put.ChangesAhead.{ChangesAhead}
 use Rattle.fax_rows.specs.declared.rows.PlacedRow.{PlacedRow}
 use Rattle.fax_rows.specs.declared.rows.RowPair.{RowPair}
 use Rattle.fax_rows.specs.Rows.{other, is_right_of}
-use Rattle.fax_rows.specs.code.ChangesAhead.{AreAhead, IsWrittenTo, mode_from, bits_from, place_from, run_pair}
+use Rattle.fax_rows.specs.code.ChangesAhead.{AreAhead, mode_from, bits_from, place_from, run_pair}
 use Rattle.fax_rows.specs.code.PlacedRow.{placed_pels, IsBeforeB1, IsB1At}
 use Rattle.fax_rows.specs.code.Turns.{alternate, IsFrom, ArePlacesUpTo}
 use Rattle.fax_rows.proofs.ChangeLemmas.{first_of}
@@ -53,20 +53,14 @@ module _ {rows : RowPair} {ahead : ChangesAhead} (is : AreAhead rows ahead) wher
 
   -- b2 is not left of a0
   b2_from_a0 : unwrap_or ahead.a0 0 ≤ ahead.b2
-  b2_from_a0 =
-      let first = b1_ahead rows.reference ahead.a0 is.reference (omega arith) in
-      let second = b2_ahead rows.reference ahead.reference is.reference.some
-      is.reference.within in
-      omega (arith, first, second, is.b2_at)
+  b2_from_a0 = grind (arith, b1_ahead, b2_ahead)
 
   pub from_b2 : ahead.b2 < ahead.a1 → IsFrom rows.row.places.now rows.row.end (Some ahead.b2) ahead.row
   from_b2 left = grind (arith, common_steps, row_at, b2_from_a0, first_left)
 
   -- the colour after one change, and after two
   turned_colour : other ahead.colour ≡ alternate Black (ahead.row + 1)
-  turned_colour =
-      let next : ahead.row + 1 ≡ suc ahead.row = omega arith in
-      ap other is.after ∙ sym (alternate-suc Black ahead.row) ∙ ap (alternate Black) (sym next)
+  turned_colour = grind (arith, alternate-suc)
 
   same_colour : ahead.colour ≡ alternate Black (ahead.row + 2)
   same_colour = grind (arith, common_steps)
@@ -125,10 +119,4 @@ module _ {rows : RowPair} {ahead : ChangesAhead} (is : AreAhead rows ahead) wher
   under_bits same = grind (arith, common_steps, under_mode, append-nil)
 
   pub under_place : ahead.a1 ≡ ahead.b1 → ahead.a1 ≡ place_from (placed_pels rows.reference) (placed_pels rows.row) ahead.a0
-  under_place same =
-      let at = places (placed_pels rows.reference) (placed_pels rows.row) ahead.a0 in
-      sym (ap (λ m. next_a0 m at) (under_mode same) ∙ sym is.a1)
-
--- before the first step a1 and b1 are the first changes
-pub starts : (rows : RowPair) → IsWrittenTo rows (record { a0 = None; row = 1; reference = 1 })
-starts rows = grind (arith, common_steps)
+  under_place same = grind (arith, under_mode)

@@ -62,5 +62,5 @@ pub fn packing_undoes_unpacking()
     ensures { PackingUndoesUnpacking }
 {
     fax_bits::laws::bits_stand_by_place();
-    fax_bits::laws::eight_bits_are_a_byte();
+    fax_bits::laws::bits_are_packed_in_one_way();
 }

@@ -4,6 +4,9 @@ ghost use Rattle.fax_rows.specs.code.Ones.{ones_among};
 
 use std::simd::prelude::*;
 
+/// From so many ones in a word on, they are put by bytes and no longer one by one.
+const MANY_ONES: u32 = 10;
+
 /// Each of the eight bits doubles the list: first the bytes without it, then those with it, which
 /// have one more.
 macro_rules! counts {
@@ -46,10 +49,10 @@ fn put_ones_of_byte(places: &mut [u32], end: usize, from: u32, byte: u8) -> usiz
     end + usize::from(COUNTS[at])
 }
 
-/// Puts a place for each one in a word, whose highest bit is at place `from`, and answers where
-/// they end.
+/// Puts a place for each one in a word, whose highest bit is at place `from`, by bytes, and answers
+/// where they end.
 #[inline(always)]
-pub(crate) fn put_ones(places: &mut [u32], end: usize, from: u32, word: u64) -> usize
+fn put_ones_by_bytes(places: &mut [u32], end: usize, from: u32, word: u64) -> usize
     requires room { end + 64 ≤ length places.old }
     requires short { from + 64 < 2 ^ 32 }
     ensures put { take result places.new ≡ take end places.old ++ ones_among from 63 word 64 }
@@ -62,4 +65,44 @@ pub(crate) fn put_ones(places: &mut [u32], end: usize, from: u32, word: u64) -> 
         end = put_ones_of_byte(places, end, from + 8 * k, bytes[k as usize]);
     }
     end
+}
+
+/// Puts a place for each one in a word, whose highest bit is at place `from`, one by one, and
+/// answers where they end.
+#[inline(always)]
+fn put_ones_one_by_one(places: &mut [u32], end: usize, from: u32, word: u64) -> usize
+    requires room { end + 64 ≤ length places.old }
+    requires short { from + 64 < 2 ^ 32 }
+    ensures put { take result places.new ≡ take end places.old ++ ones_among from 63 word 64 }
+    ensures within { result ≤ end + 64 }
+    ensures same_len { length places.new ≡ length places.old }
+{
+    let mut end = end;
+    let mut left = word;
+    while left != 0 {
+        let at = left.leading_zeros();
+        places[end] = from + at;
+        end += 1;
+        left ^= 1 << (63 - at);
+    }
+    end
+}
+
+/// Puts a place for each one in a word, whose highest bit is at place `from`, and answers where
+/// they end.
+#[inline(always)]
+pub(crate) fn put_ones(places: &mut [u32], end: usize, from: u32, word: u64) -> usize
+    requires room { end + 64 ≤ length places.old }
+    requires short { from + 64 < 2 ^ 32 }
+    ensures put { take result places.new ≡ take end places.old ++ ones_among from 63 word 64 }
+    ensures within { result ≤ end + 64 }
+    ensures same_len { length places.new ≡ length places.old }
+{
+    if word == 0 {
+        return end;
+    }
+    if word.count_ones() >= MANY_ONES {
+        return put_ones_by_bytes(places, end, from, word);
+    }
+    put_ones_one_by_one(places, end, from, word)
 }

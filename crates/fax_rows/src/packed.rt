@@ -5,8 +5,7 @@ ghost use Rattle.std.specs.Prelude.{◌/◌, ◌%◌, ℕ, slice_index, if◌the
 ghost use Rattle.fax_bits.specs.Bits.{bits};
 ghost use Rattle.fax_bits.specs.declared.FillOrder.TheVariants.{MsbFirst};
 ghost use Rattle.fax_rows.specs.Coded as Spec;
-ghost use Rattle.fax_rows.specs.code.PackedByte.{packed_byte};
-ghost use Rattle.fax_rows.specs.code.PackedWord.{IsPackedWord, IsWordTo};
+ghost use Rattle.fax_rows.specs.code.PackedWord.{IsPackedByte, IsPackedWord, IsWordTo};
 ghost use Rattle.fax_rows.specs.code.PlacedRow.{placed_pels};
 ghost use Rattle.fax_rows.specs.code.Turns.{HasPassed};
 
@@ -15,7 +14,7 @@ use crate::pels::Row;
 use crate::rows::PlacedRow;
 use crate::turns::{close, colour_after};
 use crate::unpacked::places_of_bits;
-use fax_bits::laws::{bits_stand_by_place, eight_bits_are_a_byte};
+use fax_bits::laws::{bits_are_packed_in_one_way, bits_stand_by_place};
 use fax_bits::{Colour, Memory};
 use std::alloc::Global;
 
@@ -71,7 +70,7 @@ fn pack_row(row: PlacedRow, out: &mut [u8])
     ensures { out.new ≡ Spec.packed_row (placed_pels row.entry) }
 {
     bits_stand_by_place();
-    eight_bits_are_a_byte();
+    bits_are_packed_in_one_way();
     let words = row.width / WORD;
     let passed = pack_words(row, words, out);
     if row.width % WORD > 0 {
@@ -87,12 +86,10 @@ fn pack_words(row: PlacedRow, words: u32, out: &mut [u8]) -> usize
     requires within { words ≡ row.width / 64 }
     requires room { 8 * words ≤ length out.old }
     ensures written { (i : ℕ) → i < 8 * words
-        → slice_index out.new i ≡ packed_byte (placed_pels row.entry) (8 * i) }
+        → IsPackedByte (placed_pels row.entry) (8 * i) (slice_index out.new i) }
     ensures so_far { HasPassed row.entry.places.now row.entry.end (64 * words) result }
     ensures same_len { length out.new ≡ length out.old }
 {
-    bits_stand_by_place();
-    eight_bits_are_a_byte();
     let mut passed = 1;
     let mut k = 0;
     while k < words {

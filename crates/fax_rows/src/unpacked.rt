@@ -1,26 +1,22 @@
 //! The places of change of a row of packed bytes: eight pels in a byte, the leftmost in its highest
 //! bit, where 1 is black.
 ghost use Rattle.std.specs.Prelude.{◌≡◌, ◌+◌, ◌-◌, ◌*◌, ◌<◌, ◌≤◌, ◌^◌, ℕ, false, length, take};
-ghost use Rattle.std.specs.Prelude.{slice_index, slice_index_or, IsTrue};
+ghost use Rattle.std.specs.Prelude.{slice_index, slice_index_or, Bool, IsTrue, List};
 ghost use Rattle.fax_bits.specs.Bits.{bits};
-ghost use Rattle.fax_bits.specs.declared.Colour.TheVariants.{Black as TurnsFrom};
 ghost use Rattle.fax_bits.specs.declared.FillOrder.TheVariants.{MsbFirst};
 ghost use Rattle.fax_rows.specs.Coded as Spec;
 ghost use Rattle.fax_rows.specs.code.PackedWord.{word_bit};
 ghost use Rattle.fax_rows.specs.code.Put.{ArePut, HasRoom};
-ghost use Rattle.fax_rows.specs.code.Turns.{row_of, turned, IsAscending};
+ghost use Rattle.fax_rows.specs.code.Turns.{row_of, IsAscending};
 ghost use Rattle.fax_rows.specs.code.Unpacked.{IsUnpackedTo};
 
 use crate::lanes::first_other;
 use crate::ones::put_ones;
 use crate::packed::WORD;
 use crate::runs::other;
-use crate::turns::{put_turn, turn};
+use crate::turns::turn;
 use fax_bits::Colour;
 use fax_bits::laws::bits_stand_by_place;
-
-/// From so many changes in a word on, they are put by bytes and no longer one by one.
-const MANY_CHANGES: u32 = 10;
 
 /// The word of eight bytes from a place on, the highest first.
 #[inline(always)]
@@ -54,34 +50,18 @@ fn put_word(places: &mut [u32], end: usize, from: u32, before: u64, word: u64) -
     requires left { 1 < end → slice_index places.old (end - 1) < from }
     requires room { from + 68 ≤ length places.old }
     requires short { from + 64 < 2 ^ 32 }
-    requires colour { (k : ℕ) → from ≤ k
-        → turned TurnsFrom (take end places.old) k ≡ Spec.colour_of_bit (word_bit before 63) }
     ensures ascending { IsAscending places.new result }
     ensures left { 1 < result → slice_index places.new (result - 1) < from + 64 }
-    ensures kept { (k : ℕ) → k < from
-        → turned TurnsFrom (take result places.new) k ≡ turned TurnsFrom (take end places.old) k }
-    ensures pels { (i : ℕ) → i < 64
-        → turned TurnsFrom (take result places.new) (from + i)
-        ≡ Spec.colour_of_bit (word_bit word i) }
-    ensures after { (k : ℕ) → from + 64 ≤ k
-        → turned TurnsFrom (take result places.new) k ≡ Spec.colour_of_bit (word_bit word 63) }
+    ensures unpacked { (b : List Bool)
+        → IsUnpackedTo b (take end places.old) from (Spec.colour_of_bit (word_bit before 63))
+        → ((i : ℕ) → i < 64 → word_bit word i ≡ slice_index_or b (from + i) false)
+        → IsUnpackedTo b (take result places.new) (from + 64)
+        (Spec.colour_of_bit (word_bit word 63)) }
     ensures same_len { length places.new ≡ length places.old }
 {
     // A bit is 1 where a pel has another colour than the one before it.
-    let mut left = word ^ (word >> 1) ^ (before << 63);
-    if left == 0 {
-        return end;
-    }
-    if left.count_ones() >= MANY_CHANGES {
-        return put_ones(places, end, from, left);
-    }
-    let mut end = end;
-    while left != 0 {
-        let at = left.leading_zeros();
-        end = put_turn(places, end, from + at);
-        left ^= 1 << (63 - at);
-    }
-    end
+    let changes = word ^ (word >> 1) ^ (before << 63);
+    put_ones(places, end, from, changes)
 }
 
 /// Whether the four words from a place on are white.

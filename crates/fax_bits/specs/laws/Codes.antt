@@ -99,6 +99,12 @@ pub record ReadsOneWay {M : Type 0} (table : List (CodeEntry M)) : Type 0 where
   pub takes_bits : TakesBits table
   pub code : IsReadInOneWay (Takes table) (IsFaultOf table)
 
+-- the codes of runs of a colour are read in one way, and bits begin with at most one run of it
+-- (T.4, section 4.1.1, and tables 2, 3a and 3b)
+pub record ReadsRunsOneWay (colour : Colour) : Type 0 where
+  pub codes : ReadsOneWay (run_table colour)
+  pub run : HasOneAnswer (IsRun colour)
+
 -- a run that is written is read again, whatever follows it (T.4, section 4.1.1)
 abbrev pub RunBitsAreRead : Type 0
 RunBitsAreRead = (colour : Colour) (n : ℕ) (more : List Bool) → n < 2 ^ 16

@@ -1,4 +1,6 @@
 use Rattle.fax_bits.proofs.PairLemmas.{short_pair}
+use Rattle.std.proofs.lemmas.Grind.{common_steps}
+use Rattle.std.proofs.Common.{arith}
 use Rattle.fax_bits.proofs.pairs.short_pair_code.Goals as goal
 use Rattle.fax_bits.proofs.pairs.short_pair_code.Goals.{in-White, in-Black}
 
@@ -19,9 +21,4 @@ of-requires-clause-fits c =
     ]
 
 pub returns : goal.returns
-returns c =
-    let pair = short_pair c.args.colour c.args.first c.args.second c.requires.first c.requires.second in
-    elim c.match-colour.branch [
-      | in-White w ↦ rw (c.of.ensures, c.from.ensures, c.from-2.ensures, w.code-is, w.in-White.is) (rw w.in-White.is at pair.bits_are)
-      | in-Black w ↦ rw (c.of.ensures, c.from.ensures, c.from-2.ensures, w.code-is, w.in-Black.is) (rw w.in-Black.is at pair.bits_are)
-    ]
+returns c = grind (arith, common_steps, short_pair, in-White, in-Black, c.requires.first, c.requires.second, c.match-colour.branch, c.of.ensures, c.from.ensures, c.from-2.ensures)

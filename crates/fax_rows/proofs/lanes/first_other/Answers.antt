@@ -5,9 +5,7 @@ use Rattle.fax_rows.proofs.FirstOtherLemmas.{in_byte-ge}
 use Rattle.fax_rows.proofs.lanes.first_other.Goals as goal
 
 pub returns-then-at-bytes : goal.returns-then-at-bytes
-returns-then-at-bytes c =
-    first_other_is c.args.bytes.now c.args.from c.args.from c.args.colour (omega arith) c.requires.within (λ k l h. absurd (omega arith))
-    (λ h. absurd (omega arith))
+returns-then-at-bytes c = grind (arith, first_other_is)
 
 pub returns-then-here-lt8 : goal.returns-then-here-lt8
 returns-then-here-lt8 c =

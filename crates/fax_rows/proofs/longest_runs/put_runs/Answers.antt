@@ -1,14 +1,11 @@
 use Rattle.std.proofs.Common.{◌≡◌, ◌+◌, take, refl, ap, ◌∙◌, subst, arith}
 use Rattle.std.proofs.Math.Seq.{take-length}
 use Rattle.fax_rows.proofs.GivenRunLemmas.{ArePutRuns, put_none, put_next_run, put_all_runs, part_within}
-use Rattle.fax_rows.proofs.PlacedReadLemmas.{more_room, none_put, put_on}
+use Rattle.fax_rows.proofs.PlacedReadLemmas.{more_room, put_on}
 use Rattle.fax_rows.proofs.longest_runs.put_runs.Goals as goal
 
 pub loop-n-init : goal.loop-n-init
-loop-n-init c = record {
-  runs = put_none c.args.places.now (omega (arith, c.requires.room.len)) c.requires.room.first;
-  put = none_put 0 c.requires.room (omega arith);
-}
+loop-n-init c = grind (arith, put_none)
 
 pub turn-end-requires-clause-room : goal.turn-end-requires-clause-room
 turn-end-requires-clause-room c = omega (arith, more_room c.loop-n.invariant.put)

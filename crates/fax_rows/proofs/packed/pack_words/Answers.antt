@@ -1,8 +1,8 @@
-use Rattle.std.proofs.Common.{◌≡◌, ◌+◌, ◌*◌, ◌≤◌, ◌∙◌, length, get_or, ap, subst, arith, rules, inl, inr}
+use Rattle.std.proofs.Common.{◌≡◌, ◌+◌, ◌*◌, ◌≤◌, ◌∙◌, length, get_or, ap, subst, sym, arith, rules, inl, inr}
 use Rattle.std.proofs.lemmas.Bool.{cases_lt}
 use Rattle.std.proofs.lemmas.List.{places}
 use Rattle.fax_rows.specs.code.FirstOther.{plain_byte}
-use Rattle.fax_rows.specs.code.PackedByte.{packed_byte}
+use Rattle.fax_rows.specs.code.PackedWord.{IsPackedByte}
 use Rattle.fax_rows.specs.code.PlacedRow.{placed_pels}
 use Rattle.fax_rows.specs.code.Turns.{HasPassed}
 use Rattle.fax_rows.proofs.PackedWordLemmas.{word_done, byte_of_word}
@@ -21,11 +21,12 @@ loop-k-preserved-then-k-change c =
     record {
       within = omega (arith, most, c.requires.within);
       done = λ i h. elim (cases_lt i at) [
-        | inl less ↦ c.fill.ensures.before i less ∙ c.loop-k.invariant.done i less
+        | inl less ↦
+            subst (IsPackedByte (placed_pels c.args.row) (8 * i)) (sym (c.fill.ensures.before i less)) (c.loop-k.invariant.done i less)
         | inr more ↦
-            c.fill.ensures.filled i more h ∙ c.plain_byte.ensures ∙ ap plain_byte c.colour_after.ensures
-            ∙ whole_byte c.args.row.placed c.bits_stand_by_place.ensures c.eight_bits_are_a_byte.ensures (64 * c.loop-k.k) (8 * i)
-            c.loop-k.passed so_far (omega arith) (omega arith)
+            subst (IsPackedByte (placed_pels c.args.row) (8 * i))
+            (sym (c.fill.ensures.filled i more h ∙ c.plain_byte.ensures ∙ ap plain_byte c.colour_after.ensures))
+            (whole_byte c.args.row.placed (64 * c.loop-k.k) (8 * i) c.loop-k.passed so_far (omega arith) (omega arith))
       ];
       so_far = still_passed c.args.row.placed (64 * c.loop-k.k) _ c.loop-k.passed so_far (omega arith) (omega arith);
       len = c.fill.ensures.same_len ∙ c.loop-k.invariant.len;
@@ -44,14 +45,11 @@ loop-k-preserved c =
     record {
       within = omega arith;
       done = λ i h.
-          part_written (λ j. packed_byte (placed_pels c.args.row) (8 * j)) c.loop-k.out c.copy_from_slice.new.self at _ room
+          part_written (λ j. IsPackedByte (placed_pels c.args.row) (8 * j)) c.loop-k.out c.copy_from_slice.new.self at _ room
           c.loop-k.invariant.done
           (λ j l.
-          let place : 64 * c.loop-k.k + 8 * j ≡ 8 * (at + j) = omega arith in
-          ap (λ part. get_or part j 0) bytes
-          ∙ byte_of_word c.bits_stand_by_place.ensures c.eight_bits_are_a_byte.ensures _ (64 * c.loop-k.k) c.word_up_to-word.result.0 j packed
-          (omega (arith, long, wide, c.requires.within)) (omega (arith, long))
-          ∙ ap (packed_byte (placed_pels c.args.row)) place)
+          subst (IsPackedByte (placed_pels c.args.row) (8 * (at + j))) (sym (ap (λ part. get_or part j 0) bytes))
+          (byte_of_word _ (64 * c.loop-k.k) c.word_up_to-word.result.0 j (8 * (at + j)) packed (omega (arith, long)) (omega arith)))
           i (omega (arith, long));
       so_far = subst (λ n. HasPassed c.args.row.places.now c.args.row.end n c.word_up_to-word.result.1) next word.so_far;
       len = search (rules, places);

@@ -1,5 +1,5 @@
 use Rattle.std.proofs.Common.{◌≡◌, ℕ, ◌*◌, ◌-◌, ◌<◌, ◌≤◌, length, get_or}
-use Rattle.fax_rows.specs.code.PackedByte.{packed_byte}
+use Rattle.fax_rows.specs.code.PackedWord.{IsPackedByte}
 use Rattle.fax_rows.specs.code.PlacedRow.{placed_pels}
 use Rattle.fax_rows.specs.code.Turns.{HasPassed}
 use Rattle.fax_rows.proofs.packed.pack_words.Given as goal
@@ -7,7 +7,7 @@ use Rattle.fax_rows.proofs.packed.pack_words.Given as goal
 abbrev pub invariant-loop-k : goal.invariant-loop-k
 invariant-loop-k l = record {
   within : l.k ≤ l.words;
-  done : (i : ℕ) → i < 8 * l.k → get_or l.out i 0 ≡ packed_byte (placed_pels l.row) (8 * i);
+  done : (i : ℕ) → i < 8 * l.k → IsPackedByte (placed_pels l.row) (8 * i) (get_or l.out i 0);
   so_far : HasPassed l.row.places.now l.row.end (64 * l.k) l.passed;
   len : length l.out ≡ length l.initial.out;
 }

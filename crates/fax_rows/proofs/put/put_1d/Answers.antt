@@ -1,4 +1,6 @@
 use Rattle.std.proofs.lemmas.Result.{on_ok_weaker, on_err_weaker}
+use Rattle.std.proofs.lemmas.Grind.{common_steps}
+use Rattle.std.proofs.Common.{arith}
 use Rattle.fax_rows.specs.Rows.{White, Black}
 use Rattle.fax_rows.proofs.PutLemmas.{put_goes_on, on_err, put_stops, put_pending, pending_stops, row_bits_go_on, row_pair_goes_on, row_bits_end}
 use Rattle.fax_rows.proofs.put.put_1d.Goals as goal
@@ -40,8 +42,4 @@ loop-white-preserved c =
     c.in_ok-pending-2.ensures.ok
 
 pub returns-clause-ok : goal.returns-clause-ok
-returns-clause-ok c =
-    on_ok_weaker c.put_all-2.result
-    (put_pending c.args.sink.now c.loop-white.sink c.put_all-2.new.sink _ _ _ c.loop-white.invariant
-    (row_bits_end White c.loop-white.runs c.in_default.ensures.first))
-    c.put_all-2.ensures.ok
+returns-clause-ok c = grind (arith, common_steps, row_bits_end)

@@ -5,22 +5,16 @@ use Rattle.fax_rows.proofs.PutLemmas.{on_err, pair_put, pair_stops}
 use Rattle.fax_rows.proofs.put.put_far_step.Goals as goal
 
 pub choose-mode-requires-clause-b1 : goal.choose-mode-requires-clause-b1
-choose-mode-requires-clause-b1 c =
-    let known = known_bounds c.requires.places in
-    omega (arith, known.b1, c.args.rows.row.placed.short)
+choose-mode-requires-clause-b1 c = grind (arith, known_bounds)
 
 pub overflow_sub-second : goal.overflow_sub-second
 overflow_sub-second c = (known_bounds c.requires.places).a1_a2
 
 pub put_pair-requires-clause-first : goal.put_pair-requires-clause-first
-put_pair-requires-clause-first c =
-    let known = known_bounds c.requires.places in
-    omega (arith, known.a2, known.a1_a2, c.args.rows.row.placed.short)
+put_pair-requires-clause-first c = grind (arith, known_bounds)
 
 pub put_pair-requires-clause-second : goal.put_pair-requires-clause-second
-put_pair-requires-clause-second c =
-    let known = known_bounds c.requires.places in
-    omega (arith, known.a2, c.args.rows.row.placed.short)
+put_pair-requires-clause-second c = grind (arith, known_bounds)
 
 pub returns-in_err-pending-in-Horizontal-2-clause-err :
     goal.returns-in_err-pending-in-Horizontal-2-clause-err

@@ -5,15 +5,10 @@ use Rattle.fax_rows.proofs.ChangeLemmas.{first_of}
 use Rattle.fax_rows.proofs.WrittenPlaceLemmas.{same_widths, written_width}
 use Rattle.fax_rows.proofs.PlacedLemmas.{place_begins, place_goes_on, place_stops, place_ends, step_smaller}
 use Rattle.fax_rows.proofs.PutLemmas.{on_err}
-use Rattle.fax_rows.proofs.WrittenStepLemmas.{starts}
 use Rattle.fax_rows.proofs.put.put_steps.Goals as goal
 
 pub loop-at-init : goal.loop-at-init
-loop-at-init c =
-    rw c.none-pending.ensures record {
-      placed = place_begins (placed_pels c.args.rows.reference) (placed_pels c.args.rows.row) c.args.sink.now;
-      places = starts c.args.rows;
-    }
+loop-at-init c = grind (arith, place_begins)
 
 pub returns-in_err-at-clause-err : goal.returns-in_err-at-clause-err
 returns-in_err-at-clause-err c =
@@ -33,16 +28,7 @@ loop-at-smaller c =
     omega (arith, written_width c.args.rows, smaller)
 
 pub loop-at-preserved : goal.loop-at-preserved
-loop-at-preserved c =
-    let inside : first_of c.loop-at.at.a0 < length (placed_pels c.args.rows.row) = omega (arith, written_width c.args.rows) in
-    record {
-      placed = rw c.in_ok-at.ensures.next
-          (place_goes_on (placed_pels c.args.rows.reference) (placed_pels c.args.rows.row)
-          (same_widths c.args.rows) c.args.sink.now c.loop-at.sink
-          c.put_step.new.sink
-          c.loop-at.at.a0 c.loop-at.pending c.loop-at.invariant.placed inside _ c.in_ok-at.field-0-1 refl c.in_ok-at.ensures.ok);
-      places = c.in_ok-at.ensures.places;
-    }
+loop-at-preserved c = grind (arith, written_width, place_goes_on, same_widths)
 
 pub returns-clause-ok : goal.returns-clause-ok
 returns-clause-ok c =

@@ -1,4 +1,4 @@
-use Rattle.std.proofs.Common.{◌≢◌, ◌-◌, ◌≤◌, get_or, arith, inl, inr}
+use Rattle.std.proofs.Common.{◌≢◌, ◌-◌, ◌≤◌, get_or, arith}
 use Rattle.std.specs.Prelude.{◌⊎◌}
 use Rattle.fax_rows.proofs.PlacedReadLemmas.{below_last, below_width, ends_within, without_last, places_within}
 use Rattle.fax_rows.proofs.turns.end_below.Goals as goal
@@ -18,11 +18,7 @@ returns-then-places-end-clause-pels c =
 
 -- the last place, if any, is not the width
 differs : (c : Joined-else-end-gt1) → (c.args.end ≤ 1) ⊎ (get_or c.args.places.now (c.args.end - 1) 0 ≢ c.args.width)
-differs c =
-    elim c.else-end-gt1.branch [
-      | else-end-gt1-via-then-end-gt1+else-places-end w ↦ inr (omega arith)
-      | else-end-gt1-via-else-end-gt1 w ↦ inl (omega arith)
-    ]
+differs c = grind arith
 
 pub returns-else-end-gt1-clause-below : goal.returns-else-end-gt1-clause-below
 returns-else-end-gt1-clause-below c =

@@ -1,4 +1,5 @@
-use Rattle.std.proofs.Common.{◌≡◌, ◌≢◌, ℕ, suc, ◌+◌, ◌-◌, ◌<◌, length, get_or, ap, ◌∙◌, arith, get_or-set_other, get_or-set_same}
+use Rattle.std.proofs.Common.{◌≡◌, ℕ, suc, ◌<◌, length, get_or, ◌∙◌, arith, get_or-set_same}
+use Rattle.std.proofs.lemmas.Grind.{common_steps}
 use Rattle.std.proofs.Math.ListN.{set}
 use Rattle.std.proofs.lemmas.List.{length-set}
 use Rattle.fax_rows.proofs.PlacedExchangeLemmas.{without_first, turned_white, with_first, turned_black}
@@ -8,9 +9,7 @@ use Rattle.fax_rows.proofs.turns.turn_first.Goals.{After-slice_known-then-places
 -- each place went one to the left
 left_by_one : (c : After-slice_known-then-places-eq0-1) → (k : ℕ) → suc k < length c.args.places.now
     → get_or c.rotate_left.new.self k 0 ≡ get_or c.args.places.now (suc k) 0
-left_by_one c k h =
-    let same : k + 1 ≡ suc k = omega arith in
-    c.rotate_left.ensures.by_index.0 k 0 (omega arith) ∙ ap (λ m. get_or c.args.places.now m 0) same
+left_by_one c k h = grind arith
 
 pub returns-then-places-eq0-clause-placed : goal.returns-then-places-eq0-clause-placed
 returns-then-places-eq0-clause-placed c =
@@ -25,11 +24,7 @@ returns-then-places-eq0-clause-turned c =
 -- each place went one to the right
 right_by_one : (c : After-slice_known-3-1) → (k : ℕ) → suc k < length c.args.places.now
     → get_or (set c.rotate_right.new.self 0 0) (suc k) 0 ≡ get_or c.args.places.now k 0
-right_by_one c k h =
-    let other : suc k ≢ 0 = omega arith in
-    let same : suc k - 1 ≡ k = omega arith in
-    get_or-set_other c.rotate_right.new.self 0 (suc k) 0 0 other
-    ∙ c.rotate_right.ensures.by_index.1 (suc k) 0 (omega arith) (omega arith) ∙ ap (λ m. get_or c.args.places.now m 0) same
+right_by_one c k h = grind (arith, common_steps)
 
 len : (c : After-slice_known-3-1) → length (set c.rotate_right.new.self 0 0) ≡ length c.args.places.now
 len c = length-set c.rotate_right.new.self 0 0 ∙ c.rotate_right.ensures.len

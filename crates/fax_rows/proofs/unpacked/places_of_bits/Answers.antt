@@ -1,8 +1,9 @@
-use Rattle.std.proofs.Common.{◌+◌, ◌*◌, ◌/◌, take, get_or, false, ◌∙◌, arith}
+use Rattle.std.proofs.Common.{◌+◌, ◌*◌, ◌/◌, take, get_or, false, ◌∙◌, sym, arith}
+use Rattle.fax_rows.proofs.ColourLemmas.{same_is, other_is}
 use Rattle.fax_bits.specs.declared.FillOrder.TheVariants.{MsbFirst}
 use Rattle.fax_bits.specs.Bits.{bits}
 use Rattle.fax_rows.specs.Coded.{colour_of_bit}
-use Rattle.fax_rows.proofs.FirstOtherLemmas.{first_other_stands, plain_pel, other_pel}
+use Rattle.fax_rows.proofs.FirstOtherLemmas.{first_other_stands}
 use Rattle.fax_rows.proofs.PackedLemmas.{unpacked_run, unpacked_turned, unpacked_at}
 use Rattle.fax_rows.proofs.PlacedReadLemmas.{places_within}
 use Rattle.fax_rows.proofs.UnpackedWordLemmas.{last_below}
@@ -21,7 +22,7 @@ loop-at-init c =
       last = omega (arith, last_below _ _ (from + 1) words.ascending (λ h. omega (arith, words.left h)) (omega arith), first.from);
       below = last_below _ _ c.args.width words.ascending (λ h. omega (arith, words.left h)) c.requires.some;
       unpacked = unpacked_run b _ from c.first_other-at.result c.places_of_words-end.result.1 words.unpacked first.from
-          (λ k l h. plain_pel (colour_of_bit (get_or b k false)) c.places_of_words-end.result.1 (first.before k l h));
+          (λ k l h. same_is (colour_of_bit (get_or b k false)) c.places_of_words-end.result.1 (first.before k l h));
       turns = λ h. first.there (omega (arith, c.requires.whole));
     }
 
@@ -42,17 +43,17 @@ loop-at-preserved c =
     let turned = c.other-colour.result in
     let first = first_other_stands bytes (at + 1) c.first_other-at-in-loop-at.result turned c.first_other-at-in-loop-at.ensures in
     let inside = c.loop-at.invariant.turns (omega arith) in
-    let here = other_pel (colour_of_bit (get_or b at false)) c.loop-at.colour inside in
+    let here = other_is (colour_of_bit (get_or b at false)) c.loop-at.colour inside in
     let so_far =
     unpacked_turned b (take c.loop-at.end c.loop-at.places) (take c.turn-end.result c.turn-end.new.places) at c.loop-at.colour turned
-    c.loop-at.invariant.unpacked c.other-colour.ensures (c.other-colour.ensures ∙ here) c.turn-end.ensures.turned in
+    c.loop-at.invariant.unpacked c.other-colour.ensures (c.other-colour.ensures ∙ sym here) c.turn-end.ensures.turned in
     record {
       ascending = c.turn-end.ensures.ascending;
       last = omega (arith, c.turn-end.ensures.last, first.from);
       below = omega (arith, c.turn-end.ensures.last);
       unpacked =
           unpacked_run b (take c.turn-end.result c.turn-end.new.places) (at + 1) c.first_other-at-in-loop-at.result turned so_far first.from
-          (λ k l h. plain_pel (colour_of_bit (get_or b k false)) turned (first.before k l h));
+          (λ k l h. same_is (colour_of_bit (get_or b k false)) turned (first.before k l h));
       turns = λ h. first.there (omega (arith, c.requires.whole));
     }
 

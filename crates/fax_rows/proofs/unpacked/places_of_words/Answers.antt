@@ -1,11 +1,11 @@
-use Rattle.std.proofs.Common.{◌≡◌, ◌+◌, ◌*◌, take, get_or, false, ap, ◌∙◌, arith}
+use Rattle.std.proofs.Common.{◌≡◌, ◌+◌, ◌*◌, take, get_or, false, ap, ◌∙◌, subst, arith}
 use Rattle.fax_bits.specs.declared.FillOrder.TheVariants.{MsbFirst}
 use Rattle.fax_bits.specs.Bits.{bits}
 use Rattle.fax_rows.specs.Coded.{colour_of_bit}
 use Rattle.fax_rows.specs.code.PackedWord.{word_bit}
 use Rattle.fax_rows.proofs.PackedLemmas.{unpacked_none, unpacked_run}
 use Rattle.fax_rows.proofs.PlacedRowLemmas.{take-first}
-use Rattle.fax_rows.proofs.UnpackedWordLemmas.{unpacked_word}
+use Rattle.fax_rows.specs.code.Unpacked.{IsUnpackedTo}
 use Rattle.fax_rows.proofs.unpacked.places_of_words.Goals as goal
 
 pub loop-k-init : goal.loop-k-init
@@ -35,10 +35,10 @@ loop-k-preserved c =
       left = λ h. omega (arith, c.put_word-end.ensures.left h, c.past_white-k.ensures.from);
       unpacked =
           unpacked_run b places (64 * (c.loop-k.k + 1)) (64 * c.past_white-k.result) (colour_of_bit (word_bit word 63))
-          (unpacked_word b _ places (64 * c.loop-k.k) (64 * (c.loop-k.k + 1)) c.loop-k.before word next
-          c.loop-k.invariant.unpacked c.put_word-end.ensures.kept c.put_word-end.ensures.pels c.put_word-end.ensures.after
+          (subst (λ n. IsUnpackedTo b places n (colour_of_bit (word_bit word 63))) next
+          (c.put_word-end.ensures.unpacked b c.loop-k.invariant.unpacked
           (λ i h.
           let place : 8 * (8 * c.loop-k.k) + i ≡ 64 * c.loop-k.k + i = omega arith in
-          c.word_at-word.ensures i h ∙ ap (λ n. get_or b n false) place))
+          c.word_at-word.ensures i h ∙ ap (λ n. get_or b n false) place)))
           (omega (arith, c.past_white-k.ensures.from)) (λ i l h. c.past_white-k.ensures.white i l h);
     }

@@ -1,18 +1,11 @@
-use Rattle.std.proofs.Common.{length, refl, sym, subst, arith}
-use Rattle.fax_bits.specs.declared.Colour.TheVariants.{White}
-use Rattle.fax_bits.specs.Written.{run_bits}
-use Rattle.fax_bits.specs.views.Source.{IsTaken}
+use Rattle.std.proofs.Common.{length, sym, subst, arith}
 use Rattle.fax_rows.specs.Rows.{IsOneDimensionalRow}
 use Rattle.fax_rows.proofs.PlacedRowLemmas.{width_is}
 use Rattle.fax_rows.proofs.WhiteRowLemmas.{chosen_1d}
 use Rattle.fax_rows.proofs.white.take_white_1d.Goals as goal
 
 pub returns-clause-chosen : goal.returns-clause-chosen
-returns-clause-chosen c is =
-    let width = c.white.inside.width in
-    let rest = c.take_run.new.self.left in
-    let taken = subst (λ r. IsTaken (run_bits White width) c.args.source.now.left r rest) is c.take_run.ensures.taken in
-    chosen_1d c.args.white.now width _ rest (c.if-not-is_white.ensures.white.0 refl) (width_is c.white.invariant c.white.view_is) taken
+returns-clause-chosen c is = grind (arith, chosen_1d, width_is)
 
 pub returns-clause-row : goal.returns-clause-row
 returns-clause-row c is =

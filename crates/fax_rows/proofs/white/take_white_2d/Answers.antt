@@ -1,18 +1,11 @@
-use Rattle.std.proofs.Common.{◌≡◌, ◌++◌, replicate, true, refl, sym, subst, arith}
-use Rattle.std.proofs.lemmas.Bool.Decides.{nat_tests}
+use Rattle.std.proofs.Common.{refl, sym, subst, arith}
 use Rattle.fax_rows.specs.Rows.{IsTwoDimensionalRow}
 use Rattle.fax_rows.proofs.PlacedRowLemmas.{width_is}
 use Rattle.fax_rows.proofs.WhiteRowLemmas.{chosen_2d}
 use Rattle.fax_rows.proofs.white.take_white_2d.Goals as goal
 
 pub returns-clause-chosen : goal.returns-clause-chosen
-returns-clause-chosen c is =
-    let row = c.args.reference.now in
-    let rest = c.past_ones.new.self.left in
-    let one : c.past_ones.result ≡ 1 = grind (arith, nat_tests) in
-    let taken = subst (λ n. c.args.source.now.left ≡ replicate n true ++ rest) one c.past_ones.ensures.ones in
-    let same = width_is c.reference.invariant c.reference.view_is in
-    chosen_2d row c.args.source.now.left rest (c.if-not-is_white.ensures.white.0 refl) (omega (arith, same, c.reference.invariant.some)) taken
+returns-clause-chosen c is = grind (arith, width_is, chosen_2d)
 
 pub returns-clause-row : goal.returns-clause-row
 returns-clause-row c is =

@@ -1,16 +1,12 @@
 use Rattle.std.proofs.Common.{◌+◌, ◌^◌, ◌<◌, ◌≤◌, ◌++◌, arith, ap, ◌∙◌}
+use Rattle.std.proofs.lemmas.Grind.{common_steps}
 use Rattle.fax_bits.specs.Bits.{code_bits}
 use Rattle.fax_bits.proofs.SinkLemmas.{joined-lt, put_after}
 use Rattle.fax_bits.proofs.WordPutLemmas.{high_word-lt, word_put}
 use Rattle.fax_bits.proofs.sink.BitSink.put_word.Goals as goal
 
 pub overflow_cast-pending : goal.overflow_cast-pending
-overflow_cast-pending c =
-    let inside = c.self.inside in
-    let fits : c.from.result < 2 ^ 32 = omega (arith, c.from.ensures) in
-    let short : inside.count + 32 ≤ 64 = omega (arith, c.self.invariant.within, c.self.invariant.few) in
-    let joined = joined-lt inside.count inside.pending 32 c.from.result c.self.invariant.fits fits short in
-    omega (arith, high_word-lt inside.count _ short joined)
+overflow_cast-pending c = grind (arith, common_steps, joined-lt, high_word-lt, c.from.ensures, c.self.invariant.within, c.self.invariant.few, c.self.invariant.fits)
 
 pub returns-clause-ok : goal.returns-clause-ok
 returns-clause-ok c =

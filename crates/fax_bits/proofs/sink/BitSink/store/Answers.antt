@@ -1,4 +1,5 @@
-use Rattle.std.proofs.Common.{refl, ◌≡◌, ◌+◌, ◌-◌, ◌*◌, ◌/◌, ◌%◌, ◌^◌, ◌<◌, ◌≤◌, ◌++◌, is_ok, true, arith, ap, sym, ◌∙◌}
+use Rattle.std.proofs.Common.{◌+◌, ◌-◌, ◌*◌, ◌/◌, ◌%◌, ◌^◌, ◌<◌, ◌≤◌, ◌++◌, arith, ap, ◌∙◌}
+use Rattle.std.proofs.lemmas.Grind.{common_steps}
 use Rattle.std.specs.Prelude.{bit_or}
 use Rattle.fax_bits.specs.declared.FillOrder.TheVariants.{MsbFirst}
 use Rattle.fax_bits.specs.Bits.{bits, code_bits}
@@ -7,17 +8,7 @@ use Rattle.fax_bits.proofs.SinkLemmas.{on_ok-holds, joined-lt, first_part-lt, pu
 use Rattle.fax_bits.proofs.sink.BitSink.store.Goals as goal
 
 pub invariant_of-self-then-count-lt32 : goal.invariant_of-self-then-count-lt32
-invariant_of-self-then-count-lt32 c =
-    let inside = c.self.inside in
-    let fits : c.from.result < 2 ^ c.args.len = omega (arith, c.from.ensures, c.requires.fits) in
-    let reserved : is_ok c.reserve.result ≡ true = sym c.map_err.ensures.variant ∙ ap is_ok c.in_ok-map_err.was in
-    record {
-      within = omega arith;
-      few = omega arith;
-      word = λ some. refl;
-      fits = joined-lt inside.count inside.pending c.args.len c.from.result c.self.invariant.fits fits (omega arith);
-      room = λ some. omega (arith, on_ok-holds _ reserved c.reserve.ensures.ok);
-    }
+invariant_of-self-then-count-lt32 c = grind (arith, common_steps, joined-lt, on_ok-holds, c.from.ensures, c.requires.fits, c.map_err.ensures.variant, c.in_ok-map_err.was, c.self.invariant.fits, c.reserve.ensures.ok)
 
 pub returns-then-count-lt32-clause-ok : goal.returns-then-count-lt32-clause-ok
 returns-then-count-lt32-clause-ok c =
@@ -31,12 +22,7 @@ returns-then-count-lt32-clause-ok c =
     ap (λ items. sink_of inside.order items (inside.count + c.args.len) all) c.reserve.ensures.items ∙ put
 
 pub overflow_cast-pending-2 : goal.overflow_cast-pending-2
-overflow_cast-pending-2 c =
-    let inside = c.self.inside in
-    let fits : c.from.result < 2 ^ c.args.len = omega (arith, c.from.ensures, c.requires.fits) in
-    let short : inside.count + c.args.len ≤ 64 = omega (arith, c.self.invariant.within, c.self.invariant.few, c.requires.short) in
-    let joined = joined-lt inside.count inside.pending c.args.len c.from.result c.self.invariant.fits fits short in
-    omega (arith, first_part-lt 32 (inside.count + c.args.len) _ (omega arith) c.if-count-lt32.false short joined)
+overflow_cast-pending-2 c = grind (arith, common_steps, joined-lt, first_part-lt, c.from.ensures, c.requires.fits, c.self.invariant.within, c.self.invariant.few, c.requires.short, c.self.invariant.fits, c.if-count-lt32.false)
 
 pub returns-clause-ok : goal.returns-clause-ok
 returns-clause-ok c =

@@ -1,12 +1,6 @@
 use Rattle.std.proofs.Common.{refl, arith}
-use Rattle.fax_bits.proofs.AheadLemmas.{after_ahead, ones_taken, end_kept}
+use Rattle.fax_bits.proofs.AheadLemmas.{ones_taken}
 use Rattle.fax_bits.proofs.source.BitSource.past_ones.Goals as goal
-
-pub invariant_of-self : goal.invariant_of-self
-invariant_of-self c =
-    let after = c.after-self-inside in
-    after_ahead c.self.inside.order c.self.inside.bytes.now c.self.inside.window after.result c.min-count.result c.self.invariant
-    (after.ensures.ahead c.self.inside.order c.self.inside.bytes.now) after.ensures.count after.ensures.at
 
 pub returns-clause-ones : goal.returns-clause-ones
 returns-clause-ones c =
@@ -17,13 +11,3 @@ returns-clause-ones c =
     ones_taken order bytes w w c.args.self.now c.self.invariant c.self.view_is refl refl c.self.invariant.within
     c.ones.result c.ones.ensures.loaded (c.ones.ensures.ahead order bytes) c.min-count.result (omega (arith, few))
     (omega (arith, few, c.requires)) c.after-self-inside.result c.after-self-inside.ensures.count c.after-self-inside.ensures.at
-
-pub returns-clause-same_end : goal.returns-clause-same_end
-returns-clause-same_end c =
-    let order = c.self.inside.order in
-    let bytes = c.self.inside.bytes.now in
-    let w = c.self.inside.window in
-    let few = c.min-count.ensures in
-    end_kept order bytes w w c.args.self.now c.self.invariant c.self.view_is refl refl c.self.invariant.within
-    c.min-count.result c.after-self-inside.result (omega (arith, few, c.requires)) c.after-self-inside.ensures.count
-    c.after-self-inside.ensures.at

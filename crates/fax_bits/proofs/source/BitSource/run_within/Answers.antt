@@ -1,12 +1,11 @@
 use Rattle.std.proofs.Common.{inl, arith}
+use Rattle.std.proofs.lemmas.Grind.{common_steps}
 use Rattle.fax_bits.proofs.AheadLemmas.{begun_short, looked_up}
 use Rattle.fax_bits.proofs.LookUpLemmas.{run_written, run_taken}
 use Rattle.fax_bits.proofs.source.BitSource.run_within.Goals as goal
 
 pub after-self-inside-requires : goal.after-self-inside-requires
-after-self-inside-requires c =
-    let short = begun_short c.number.result c.in_ok-len.ensures in
-    record { loaded = omega (arith, short, c.in_ok-self-inside.ensures.many); short = omega (arith, short) }
+after-self-inside-requires c = grind (arith, common_steps, begun_short, c.in_ok-len.ensures, c.in_ok-self-inside.ensures.many)
 
 pub returns : goal.returns
 returns c =

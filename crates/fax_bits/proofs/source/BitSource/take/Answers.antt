@@ -1,4 +1,5 @@
-use Rattle.std.proofs.Common.{◌≤◌, ◌++◌, length, take, replicate, false, inl, inr, refl, sym, ◌∙◌, ap, arith}
+use Rattle.std.proofs.Common.{◌++◌, take, replicate, false, inl, inr, refl, ◌∙◌, ap, arith}
+use Rattle.std.proofs.lemmas.Grind.{common_steps}
 use Rattle.fax_bits.specs.Bits.{code_bits, bits_number}
 use Rattle.fax_bits.proofs.AheadLemmas.{enough, loaded_left, loaded-left, all_loaded, left_after_code, end_kept}
 use Rattle.fax_bits.proofs.TakeLemmas.{spelled, as_many, spells_it}
@@ -33,26 +34,7 @@ returns-then-ahead-len-clause-taken c =
     )
 
 pub returns-clause-taken : goal.returns-clause-taken
-returns-clause-taken c =
-    let order = c.self.inside.order in
-    let bytes = c.self.inside.bytes.now in
-    let more = c.filled-ahead.ensures in
-    let window = c.filled-ahead.result in
-    let b = c.args.self.now.left in
-    let left = loaded_left order bytes c.self.inside.window window c.args.self.now c.self.invariant c.self.view_is more.ahead more.place more.within in
-    let long : c.args.len ≤ length b =
-    omega (
-      arith,
-      c.if-ahead-len.false,
-      loaded-left order bytes c.self.inside.window window c.args.self.now c.self.invariant c.self.view_is
-          more.ahead more.place more.within,
-    ) in
-    let number = sym (ap (λ b. bits_number (take c.args.len (b ++ replicate c.args.len false))) left)
-    ∙ sym (c.number.ensures.number order bytes (enough c.args.len bytes window c.requires.short more.many)) ∙ c.if-number-bits.false in
-    spelled b c.args.len c.args.bits long number
-    ∙ ap (λ rest. code_bits c.args.len c.args.bits ++ rest)
-    (sym (left_after_code order bytes c.self.inside.window window c.args.self.now c.self.invariant c.self.view_is more.ahead more.place
-    more.within c.args.len c.after-self-inside.result c.requires.short c.after-self-inside.ensures.count c.after-self-inside.ensures.at))
+returns-clause-taken c = grind (arith, common_steps, loaded_left, loaded-left, enough, spelled, left_after_code, c.filled-ahead.ensures, c.self.invariant, c.if-ahead-len.false, c.number.ensures.number, c.requires.short, c.if-number-bits.false, c.after-self-inside.ensures.count, c.after-self-inside.ensures.at)
 
 pub returns-clause-same_end : goal.returns-clause-same_end
 returns-clause-same_end c =

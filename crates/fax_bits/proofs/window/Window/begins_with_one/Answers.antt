@@ -1,6 +1,5 @@
-use Rattle.std.proofs.Common.{◌≡◌, List, [], ◌∷◌, ◌++◌, Bool, true, false, get_or, ap, sym, ◌∙◌, arith, drop}
-use Rattle.fax_bits.specs.Bits.{bits}
-use Rattle.fax_bits.specs.code.Window.{first_bits}
+use Rattle.std.proofs.Common.{◌≡◌, List, [], ◌∷◌, ◌++◌, Bool, true, false, get_or, ap, arith}
+use Rattle.std.proofs.lemmas.Grind.{common_steps}
 use Rattle.fax_bits.proofs.WindowLemmas.{first_is_one}
 use Rattle.fax_bits.proofs.window.Window.begins_with_one.Goals as goal
 
@@ -9,7 +8,4 @@ first_of [] more is = cc
 first_of (bit ∷ b) more is = (b ++ more, ap (λ first. first ∷ b ++ more) is)
 
 pub returns-clause-ahead : goal.returns-clause-ahead
-returns-clause-ahead c = λ one order bytes.
-    let window = c.args.self in
-    first_of (first_bits window.count window.bits) (bits order (drop window.at bytes))
-    (sym (first_is_one window.count window.bits window.few (omega arith) window.zeros_after) ∙ one)
+returns-clause-ahead c = grind (arith, common_steps, first_of, first_is_one)

@@ -1,12 +1,11 @@
 use Rattle.std.proofs.Common.{drop, arith}
+use Rattle.std.proofs.lemmas.Grind.{common_steps}
 use Rattle.fax_bits.specs.Bits.{bits}
 use Rattle.fax_bits.proofs.OneLemmas.{ones_before, ones_loaded}
 use Rattle.fax_bits.proofs.window.Window.ones.Goals as goal
 
 pub returns-clause-loaded : goal.returns-clause-loaded
-returns-clause-loaded c =
-    let w = c.args.self in
-    ones_loaded w.count w.bits _ w.few (omega arith) w.zeros_after c.leading_ones.ensures
+returns-clause-loaded c = grind (arith, common_steps, ones_loaded, c.leading_ones.ensures)
 
 pub returns-clause-ahead : goal.returns-clause-ahead
 returns-clause-ahead c order bytes =

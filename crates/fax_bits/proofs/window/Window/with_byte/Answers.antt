@@ -1,4 +1,5 @@
 use Rattle.std.proofs.Common.{◌+◌, ◌<◌, ◌^◌, ◌++◌, drop, arith, ap, ◌∙◌, append_assoc}
+use Rattle.std.proofs.lemmas.Grind.{common_steps}
 use Rattle.fax_bits.specs.Bits.{bits, code_bits}
 use Rattle.fax_bits.specs.code.Window.{first_bits}
 use Rattle.fax_bits.proofs.WindowLemmas.{loaded_bits, loaded_zeros}
@@ -6,13 +7,7 @@ use Rattle.fax_bits.proofs.WordLemmas.{bits-next}
 use Rattle.fax_bits.proofs.window.Window.with_byte.Goals as goal
 
 pub invariant_of-result : goal.invariant_of-result
-invariant_of-result c =
-    let w = c.args.self in
-    let fits : c.from.result < 2 ^ 8 = omega (arith, c.from.ensures, c.byte_at-byte.type_inv) in
-    record {
-      few = omega (arith, c.requires.room);
-      zeros_after = loaded_zeros 8 w.count w.bits c.from.result (omega (arith, c.requires.room)) w.zeros_after fits;
-    }
+invariant_of-result c = grind (arith, common_steps, loaded_zeros, c.from.ensures, c.requires.room)
 
 pub returns-clause-ahead : goal.returns-clause-ahead
 returns-clause-ahead c =

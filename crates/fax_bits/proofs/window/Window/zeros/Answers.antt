@@ -1,11 +1,7 @@
-use Rattle.std.proofs.Common.{drop, refl, arith}
-use Rattle.fax_bits.specs.Bits.{bits}
+use Rattle.std.proofs.Common.{arith}
+use Rattle.std.proofs.lemmas.Grind.{common_steps}
 use Rattle.fax_bits.proofs.WindowLemmas.{zeros_before}
 use Rattle.fax_bits.proofs.window.Window.zeros.Goals as goal
 
 pub returns : goal.returns
-returns c = record {
-  ahead = λ order bytes within.
-      let w = c.args.self in
-      zeros_before w.count w.bits _ (bits order (drop w.at bytes)) w.few (omega arith) refl within;
-}
+returns c = grind (arith, common_steps, zeros_before)

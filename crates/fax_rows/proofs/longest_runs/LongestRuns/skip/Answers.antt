@@ -1,5 +1,6 @@
-use Rattle.std.proofs.Common.{◌<◌, length, drop, ap, ◌∙◌, arith}
-use Rattle.fax_rows.proofs.LongestRunLemmas.{length-runs_between, rest_is, skip_bounds, skip_runs}
+use Rattle.std.proofs.Common.{length, ap, arith}
+use Rattle.std.proofs.lemmas.Grind.{common_steps}
+use Rattle.fax_rows.proofs.LongestRunLemmas.{length-runs_between, skip_bounds, skip_runs}
 use Rattle.fax_rows.proofs.longest_runs.LongestRuns.skip.Goals as goal
 
 pub offset_bounds-self-inside-count : goal.offset_bounds-self-inside-count
@@ -13,15 +14,7 @@ pub slice_bounds-self-start : goal.slice_bounds-self-start
 slice_bounds-self-start c = omega (arith, ap length c.self.view_is, length-runs_between c.self.inside.places.now, c.requires)
 
 pub invariant_of-self : goal.invariant_of-self
-invariant_of-self c =
-    let places = c.self.inside.places.now in
-    let within : c.args.count < length places =
-    omega (arith, ap length c.self.view_is, length-runs_between places, c.requires, c.self.invariant.some) in
-    rw (rest_is places c.args.count) (skip_bounds places c.args.count within c.self.invariant)
+invariant_of-self c = grind (arith, common_steps, length-runs_between, skip_bounds)
 
 pub returns : goal.returns
-returns c =
-    let places = c.self.inside.places.now in
-    let within : c.args.count < length places =
-    omega (arith, ap length c.self.view_is, length-runs_between places, c.requires, c.self.invariant.some) in
-    rw (rest_is places c.args.count) (skip_runs places c.args.count within ∙ ap (drop c.args.count) c.self.view_is)
+returns c = grind (arith, common_steps, length-runs_between, skip_runs)

@@ -1,7 +1,6 @@
 use Rattle.fax_rows.proofs.PlacedRowLemmas.{changes_are}
+use Rattle.std.proofs.Common.{arith}
 use Rattle.fax_rows.proofs.pels.Row.changes.Goals as goal
 
 pub returns : goal.returns
-returns c =
-    rw c.deref.ensures.value
-    (changes_are c.self.invariant c.self.view_is)
+returns c = grind (arith, changes_are)

@@ -30,6 +30,4 @@ returns-clause-set c = λ told.
     ∙ longest_are_back c.args.runs.now c.self.inside.width c.self.invariant.some (c.if-not-are_longest.ensures.0 told)
 
 pub returns-clause-same_width : goal.returns-clause-same_width
-returns-clause-same_width c =
-    length-pels_by c.self.inside.width _
-    ∙ width_is c.self.invariant c.self.view_is
+returns-clause-same_width c = grind (arith, length-pels_by)

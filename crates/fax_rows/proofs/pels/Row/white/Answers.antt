@@ -1,12 +1,10 @@
-use Rattle.std.proofs.Common.{◌<◌, length, rules}
+use Rattle.std.proofs.Common.{arith}
 use Rattle.fax_rows.proofs.TurnLemmas.{length-pels_by}
 use Rattle.fax_rows.proofs.PlacedRowLemmas.{white_by}
 use Rattle.fax_rows.proofs.pels.Row.white.Goals as goal
 
 pub returns-clause-pels : goal.returns-clause-pels
-returns-clause-pels c =
-    let some : 0 < length c.in_ok-places.places.items = search rules in
-    white_by c.args.width c.in_ok-places.places.items some
+returns-clause-pels c = grind (arith, white_by)
 
 pub returns-clause-same_width : goal.returns-clause-same_width
 returns-clause-same_width c = length-pels_by c.args.width _

@@ -1,10 +1,11 @@
 use Rattle.std.proofs.Common.{◌≡◌, ◌≢◌, ◌+◌, suc, refl, inr, sym, ap, ◌∙◌, arith}
+use Rattle.fax_rows.proofs.ColourLemmas.{differs_is, other-other}
 use Rattle.fax_bits.specs.contracts.Colour.{the_type}
 use Rattle.fax_bits.specs.declared.Colour.TheVariants.{Black}
 use Rattle.fax_rows.specs.Rows.{other}
 use Rattle.fax_rows.specs.code.Turns.{alternate}
-use Rattle.fax_rows.proofs.TurnLemmas.{other-other, alternate-suc}
-use Rattle.fax_rows.proofs.PlacedB1Lemmas.{differs_is, b1_here}
+use Rattle.fax_rows.proofs.TurnLemmas.{alternate-suc}
+use Rattle.fax_rows.proofs.PlacedB1Lemmas.{b1_here}
 use Rattle.fax_rows.proofs.rows.PlacedRow.b1_from.Goals as goal
 use denote.Enum.Bare.{same_false}
 

@@ -1,4 +1,4 @@
-use Rattle.std.proofs.Common.{inl, inr, arith}
+use Rattle.std.proofs.Common.{arith}
 use Rattle.std.proofs.lemmas.Bool.{ltb-true}
 use Rattle.fax_rows.proofs.PlacedB1Lemmas.{b1_index, b1_is, b2_is}
 use Rattle.fax_rows.proofs.two_dimensional.choices.chooses_runs.Goals as goal
@@ -10,37 +10,13 @@ pub bounds-reference-at-2 : goal.bounds-reference-at-2
 bounds-reference-at-2 g c = omega (arith, b1_index c.args.reference c.args.at.b1 c.requires.b1.within)
 
 pub returns-then-a1-b1-clause-left : goal.returns-then-a1-b1-clause-left
-returns-then-a1-b1-clause-left g c is =
-    omega (
-      arith,
-      c.first_pel.ensures,
-      c.if-a1-b2.true,
-      b2_is c.args.reference c.requires.b1,
-    )
+returns-then-a1-b1-clause-left g c is = grind (arith, b2_is)
 
 pub returns-then-a1-b1-clause-far : goal.returns-then-a1-b1-clause-far
-returns-then-a1-b1-clause-far g c is =
-    let less = ltb-true _ _ is in
-    inl (omega (
-      arith,
-      c.first_pel.ensures,
-      b1_is c.args.reference c.requires.b1,
-    ))
+returns-then-a1-b1-clause-far g c is = grind (arith, b1_is)
 
 pub returns-else-a1-b1-clause-left : goal.returns-else-a1-b1-clause-left
-returns-else-a1-b1-clause-left g c is =
-    omega (
-      arith,
-      c.first_pel.ensures,
-      c.if-a1-b2.true,
-      b2_is c.args.reference c.requires.b1,
-    )
+returns-else-a1-b1-clause-left g c is = grind (arith, b2_is)
 
 pub returns-else-a1-b1-clause-far : goal.returns-else-a1-b1-clause-far
-returns-else-a1-b1-clause-far g c is =
-    let less = ltb-true _ _ is in
-    inr (omega (
-      arith,
-      c.first_pel.ensures,
-      b1_is c.args.reference c.requires.b1,
-    ))
+returns-else-a1-b1-clause-far g c is = grind (arith, ltb-true, b1_is)

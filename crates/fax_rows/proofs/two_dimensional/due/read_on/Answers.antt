@@ -1,4 +1,5 @@
 use Rattle.std.proofs.Common.{refl, length, length-append, take, ap, ◌∙◌, arith}
+use Rattle.std.proofs.lemmas.Grind.{common_steps}
 use Rattle.std.proofs.lemmas.Result.{err_from_is_err_and}
 use Rattle.fax_bits.specs.views.Source.{Source}
 use Rattle.fax_rows.specs.code.Due.{IsDue}
@@ -12,18 +13,7 @@ use Rattle.fax_rows.proofs.StopLemmas.{stop_as}
 use Rattle.fax_rows.proofs.two_dimensional.due.read_on.Goals as goal
 
 pub returns-in_err-at-clause-stop : goal.returns-in_err-at-clause-stop
-returns-in_err-at-clause-stop g c =
-    let pause = c.requires.pause in
-    let same =
-    c.reached.ensures pause.at pause.a0 pause.end pause.b1 (pause.due.inside.so_far.b1 pause.due.inside.unfinished).colour_is in
-    let there = ap (λ (s : Source). s.left) c.skip_to.ensures
-    ∙ rw c.again-ahead.ensures (rest_there c.args.source.now c.args.pause.place pause.front pause.rest pause.bits pause.place) in
-    let due : IsDue c.reached.result.reached.colour pause.middle c.args.pause.due c.skip_to.new.self.left = rw (same, there) pause.due.read in
-    let here = fault_here (placed_pels c.args.reference) c.args.source.now.left pause.at.reached
-    (pels_by c.args.reference.width (take pause.at.end c.args.places.now)) pause.middle pause.steps
-    (omega (arith, length-placed_pels c.args.reference, pause.due.inside.unfinished)) in
-    let p = err_from_is_err_and c.from_residual.result c.from_residual.ensures.1 in
-    rw (p.1, p.2) (stop_as _ c.in_err-at.field-0.0 (rw same at (c.in_err-at.ensures.stop pause.middle due)) here (λ more h. h))
+returns-in_err-at-clause-stop g c = grind (arith, common_steps, length-placed_pels)
 
 pub loop-ahead-init : goal.loop-ahead-init
 loop-ahead-init g c =

@@ -1,13 +1,11 @@
-use Rattle.std.proofs.Common.{length, length-append, take, refl, ap, arith}
+use Rattle.std.proofs.Common.{length, length-append, refl, ap, arith}
 use Rattle.std.proofs.lemmas.Int.{ints}
 use Rattle.fax_rows.specs.Rows.{beginning}
 use Rattle.fax_rows.specs.code.PlacedRow.{placed_pels}
-use Rattle.fax_rows.specs.code.Turns.{pels_by}
 use Rattle.fax_rows.proofs.PlacedB1Lemmas.{length-placed_pels}
-use Rattle.fax_rows.proofs.GoesOnLemmas.{no_step, no_chosen_step, goes_further, chosen_further}
-use Rattle.fax_rows.proofs.GoesOnLemmas.{goes_on_leaves, due_leaves, leaves_more}
+use Rattle.fax_rows.proofs.GoesOnLemmas.{no_step, no_chosen_step, goes_further, chosen_further, goes_on_leaves, due_leaves, leaves_more}
 use Rattle.fax_rows.proofs.ReadRowLemmas.{row_done}
-use Rattle.fax_rows.proofs.PlacedStepLemmas.{nothing_read, fault_here}
+use Rattle.fax_rows.proofs.PlacedStepLemmas.{nothing_read}
 use Rattle.fax_rows.proofs.two_dimensional.modes.read_by_look_ups.Goals as goal
 
 pub loop-ahead-init : goal.loop-ahead-init
@@ -32,12 +30,7 @@ returns-clause-read g c =
     c.loop-ahead.invariant.steps c.loop-ahead.invariant.chosen c.loop-ahead.invariant.so_far (omega arith))
 
 pub returns-in-Err-Fault-clause-stop : goal.returns-in-Err-Fault-clause-stop
-returns-in-Err-Fault-clause-stop g c =
-    let len = length-placed_pels c.args.reference in
-    fault_here (placed_pels c.args.reference) c.args.source.now.left c.loop-ahead.at.reached
-    (pels_by c.args.reference.width (take c.loop-ahead.at.end c.loop-ahead.places)) c.loop-ahead.ahead.left
-    c.loop-ahead.invariant.steps (omega (arith, len)) c.in-Err-Fault.fault
-    (rw c.in-Err-Fault.field-0-is at c.in-Err-Fault.ensures.stop)
+returns-in-Err-Fault-clause-stop g c = grind (arith, length-placed_pels)
 
 pub returns-in-Err-Due-clause-stop : goal.returns-in-Err-Due-clause-stop
 returns-in-Err-Due-clause-stop g c =

@@ -1,15 +1,11 @@
-use Rattle.std.proofs.Common.{pos, to_z, of_z, w8, arith}
+use Rattle.std.proofs.Common.{pos, arith}
 use Rattle.std.proofs.lemmas.Int.{ints}
 use Rattle.fax_rows.specs.code.PlacedReached.{placed_position}
-use Rattle.fax_rows.proofs.ChosenStepLemmas.{map_found, left_of_b2}
+use Rattle.fax_rows.proofs.ChosenStepLemmas.{left_of_b2}
 use Rattle.fax_rows.proofs.two_dimensional.modes.vertical.Goals as goal
 
 pub returns-then-d-lt0-clause-left : goal.returns-then-d-lt0-clause-left
-returns-then-d-lt0-clause-left g c =
-    rw c.ok_or.ensures.value (map_found c.left_of_b1.result _ c.left_of_b1.ensures.step
-    (λ next step is. left_of_b2 c.requires.inside
-    (to_z w8 (of_z w8 c.args.d)) (placed_position c.args.reference.width c.left_of_b1.new.places next) step
-    (omega (arith, ints, c.if-d-lt0.true))))
+returns-then-d-lt0-clause-left g c = grind (arith, left_of_b2)
 
 pub returns-then-d-eq0-clause-left : goal.returns-then-d-eq0-clause-left
 returns-then-d-eq0-clause-left g c is =

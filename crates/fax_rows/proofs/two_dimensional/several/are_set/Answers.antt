@@ -1,6 +1,6 @@
-use Rattle.std.proofs.Common.{◌≡◌, ℕ, ◌-◌, ◌*◌, ◌%◌, ◌^◌, ◌<◌, ◌≤◌, subst, zero, suc, refl, bit_and, nat_eq, true, arith, IsTrue}
+use Rattle.std.proofs.Common.{◌≡◌, ℕ, ◌-◌, ◌*◌, ◌%◌, ◌^◌, ◌<◌, ◌≤◌, subst, zero, suc, refl, bit_and, nat_eq, arith, IsTrue}
+use Rattle.std.proofs.lemmas.Bool.{eqb-true}
 use Rattle.std.specs.Int.{bit_at}
-use Rattle.std.proofs.lemmas.Bool.Decides.{nat_tests}
 use Rattle.fax_rows.proofs.SeveralLaneLemmas.{three_set}
 use Rattle.fax_rows.proofs.two_dimensional.several.are_set.Goals as goal
 
@@ -12,15 +12,12 @@ wanted_is (suc (suc (suc zero))) h = refl
 wanted_is (suc (suc (suc (suc zero)))) h = refl
 wanted_is (suc (suc (suc (suc (suc n))))) h = absurd (omega arith)
 
-test_is : (n m : ℕ) → nat_eq n m ≡ true → n ≡ m
-test_is n m h = grind (arith, nat_tests)
-
 all : (a b d count i : ℕ) → count ≤ 4
     → IsTrue (nat_eq (bit_and (bit_and (bit_and a b) d) (1 * 2 ^ count % 18446744073709551616 - 1)) (1 * 2 ^ count % 18446744073709551616 - 1))
     → i < count → (bit_at a i ≡ 1) × (bit_at b i ≡ 1) × (bit_at d i ≡ 1)
 all a b d count i few set h =
     three_set a b d count i
-    (subst (λ w. bit_and (bit_and (bit_and a b) d) w ≡ w) (wanted_is count few) (test_is _ _ set)) h
+    (subst (λ w. bit_and (bit_and (bit_and a b) d) w ≡ w) (wanted_is count few) (eqb-true _ _ set)) h
 
 pub returns-clause-first : goal.returns-clause-first
 returns-clause-first c = λ set i h. (all c.args.first c.args.second c.args.third c.args.count i c.requires set h).0

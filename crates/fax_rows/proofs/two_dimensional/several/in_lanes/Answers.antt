@@ -1,4 +1,5 @@
 use Rattle.std.proofs.Common.{◌≡◌, ℕ, ◌<◌, get_or, subst, refl, arith}
+use Rattle.std.proofs.lemmas.Grind.{common_steps}
 use Rattle.std.specs.Int.{bit_at}
 use Rattle.fax_bits.specs.views.Verticals.{AreFew}
 use Rattle.fax_bits.specs.declared.verticals.Verticals.{Verticals}
@@ -10,24 +11,16 @@ near : (found : Verticals) → AreFew found → (i : ℕ) → i < 4 → get_or f
 near found few i h = few.near i 0 (omega (arith, few.lanes, h))
 
 pub less_lanes-requires-clause-lanes : goal.less_lanes-requires-clause-lanes
-less_lanes-requires-clause-lanes c =
-    left_four c.args.others.now c.args.found.raises c.args.b c.args.found.count 0 c.requires.some c.requires.room
-    c.requires.small (near c.args.found c.requires.few) c.requires.few.few c.requires.few.lanes
+less_lanes-requires-clause-lanes c = grind (arith, left_four)
 
 pub less_lanes-requires-clause-others : goal.less_lanes-requires-clause-others
-less_lanes-requires-clause-others c =
-    raised_four c.args.others.now c.args.found.raises c.args.b c.args.found.count 0 c.requires.some c.requires.room
-    c.requires.small (near c.args.found c.requires.few) c.requires.few.few c.requires.few.lanes
+less_lanes-requires-clause-others c = grind (arith, raised_four)
 
 pub less_lanes-requires-2-clause-lanes : goal.less_lanes-requires-2-clause-lanes
-less_lanes-requires-2-clause-lanes c =
-    raised_four c.args.others.now c.args.found.raises c.args.b c.args.found.count 0 c.requires.some c.requires.room
-    c.requires.small (near c.args.found c.requires.few) c.requires.few.few c.requires.few.lanes
+less_lanes-requires-2-clause-lanes c = grind (arith, raised_four)
 
 pub less_lanes-requires-2-clause-others : goal.less_lanes-requires-2-clause-others
-less_lanes-requires-2-clause-others c =
-    right_four c.args.others.now c.args.found.raises c.args.b c.args.found.count 0 c.requires.some c.requires.room
-    c.requires.small (near c.args.found c.requires.few) c.requires.few.few c.requires.few.lanes
+less_lanes-requires-2-clause-others c = grind (arith, right_four)
 
 pub less_lanes-requires-3-clause-lanes : goal.less_lanes-requires-3-clause-lanes
 less_lanes-requires-3-clause-lanes c =
@@ -35,9 +28,7 @@ less_lanes-requires-3-clause-lanes c =
     c.requires.small (near c.args.found c.requires.few) c.requires.few.few c.requires.few.lanes (omega (arith, c.raised_a0.ensures.small))
 
 pub less_lanes-requires-3-clause-others : goal.less_lanes-requires-3-clause-others
-less_lanes-requires-3-clause-others c =
-    raised_four c.args.others.now c.args.found.raises c.args.b c.args.found.count 0 c.requires.some c.requires.room
-    c.requires.small (near c.args.found c.requires.few) c.requires.few.few c.requires.few.lanes
+less_lanes-requires-3-clause-others c = grind (arith, raised_four)
 
 pub returns-clause-raised : goal.returns-clause-raised
 returns-clause-raised c =
@@ -72,10 +63,4 @@ returns-clause-ascending c =
     (λ i h. subst (λ n. bit_at n i ≡ 1) c.less_lanes-3.ensures (c.if-not-fine.ensures.third refl i h))
 
 pub returns-clause-first : goal.returns-clause-first
-returns-clause-first c =
-    c.raised_a0.ensures.right _
-    (lane_first c.args.others.now c.args.found.raises c.args.b c.args.found.count c.raised_a0.result c.requires.some c.requires.room
-    c.requires.small (near c.args.found c.requires.few) c.requires.few.few c.requires.few.lanes
-    (λ i h. subst (λ n. bit_at n i ≡ 1) c.less_lanes.ensures (c.if-not-fine.ensures.first refl i h))
-    (λ i h. subst (λ n. bit_at n i ≡ 1) c.less_lanes-2.ensures (c.if-not-fine.ensures.second refl i h))
-    (λ i h. subst (λ n. bit_at n i ≡ 1) c.less_lanes-3.ensures (c.if-not-fine.ensures.third refl i h)) c.requires.few.some)
+returns-clause-first c = grind (arith, common_steps, lane_first, near, c.raised_a0.ensures.right, c.requires.some, c.requires.room, c.requires.small, c.requires.few, c.requires.few.few, c.requires.few.lanes, c.less_lanes.ensures)

@@ -1,6 +1,5 @@
-use Rattle.std.proofs.Common.{◌≡◌, ◌+◌, ◌-◌, ◌∙◌, sym, ap, get_or, length, arith, inl, inr}
+use Rattle.std.proofs.Common.{◌≡◌, ◌+◌, ◌∙◌, sym, ap, get_or, length, arith}
 use Rattle.std.proofs.lemmas.List.{get_or-take, length-take-le}
-use Rattle.std.proofs.lemmas.Bool.{cases_lt}
 use Rattle.fax_bits.specs.views.Verticals.{raises_of}
 use Rattle.fax_rows.specs.Rows.{is_right_of}
 use Rattle.fax_rows.proofs.PlacedB1Lemmas.{b1_at_most}
@@ -14,14 +13,7 @@ in_lanes-requires-clause-room g c =
     omega (arith, end_within reference.placed, reference.placed.room, c.if-at-reference.false)
 
 pub in_lanes-requires-clause-small : goal.in_lanes-requires-clause-small
-in_lanes-requires-clause-small g c = λ i h.
-    let reference = c.args.reference in
-    let k = c.args.at.b1 - 1 + i in
-    elim (cases_lt 0 k) [
-      | inl some ↦ omega (arith, reference.placed.short, b1_at_most reference k some (omega (arith, c.if-at-reference.false)))
-      | inr none ↦ let e : k ≡ 0 = omega (arith, none) in
-          omega (arith, ap (λ m. get_or reference.places.now m 0) e, reference.placed.ascending.first)
-    ]
+in_lanes-requires-clause-small g c = grind (arith, b1_at_most)
 
 pub returns-clause-read : goal.returns-clause-read
 returns-clause-read g c =

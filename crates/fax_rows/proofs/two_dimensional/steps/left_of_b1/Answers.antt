@@ -9,9 +9,7 @@ pub bounds-reference-at : goal.bounds-reference-at
 bounds-reference-at c = omega (arith, b1_in_room c.requires.inside)
 
 pub turned_at-requires-clause-within : goal.turned_at-requires-clause-within
-turned_at-requires-clause-within c =
-    let within = under_within c.requires.inside in
-    omega (arith, ints, within, c.in_ok-place.ensures.place, c.requires.left.le)
+turned_at-requires-clause-within c = grind (arith, under_within)
 
 pub turned_at-requires-clause-b1 : goal.turned_at-requires-clause-b1
 turned_at-requires-clause-b1 c = λ h.

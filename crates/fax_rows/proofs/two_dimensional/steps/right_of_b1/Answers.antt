@@ -1,4 +1,5 @@
 use Rattle.std.proofs.Common.{arith}
+use Rattle.std.proofs.lemmas.Grind.{common_steps}
 use Rattle.std.proofs.lemmas.Int.{ints}
 use Rattle.fax_rows.specs.Rows.{other}
 use Rattle.fax_rows.proofs.PlacedB1Lemmas.{right_start}
@@ -14,9 +15,7 @@ returns-then-place-reference-clause-out c = λ in_row.
     omega (arith, ints, ends, c.from.ensures, c.unsigned_abs.ensures.value, c.requires.right.le)
 
 pub turned_at-requires-clause-right : goal.turned_at-requires-clause-right
-turned_at-requires-clause-right c =
-    let under = under_right c.requires.inside in
-    omega (arith, ints, under)
+turned_at-requires-clause-right c = grind (arith, common_steps, under_right, c.requires.inside)
 
 pub turned_at-requires-clause-b1 : goal.turned_at-requires-clause-b1
 turned_at-requires-clause-b1 c = λ h.

@@ -1,6 +1,6 @@
 use Rattle.std.proofs.Common.{arith}
 use Rattle.std.proofs.lemmas.Int.{ints}
-use Rattle.fax_rows.proofs.PlacedStepLemmas.{room_left, from_start, number_right, right_after_first, vertical_placed, turned_so_far}
+use Rattle.fax_rows.proofs.PlacedStepLemmas.{room_left, from_start, vertical_placed}
 use Rattle.fax_rows.proofs.two_dimensional.steps.turned_at.Goals as goal
 
 pub put_turn-end-requires-clause-room : goal.put_turn-end-requires-clause-room
@@ -11,9 +11,3 @@ returns-clause-step c = λ d a1_is.
     vertical_placed c.requires.inside d _ a1_is
     (from_start c.args.at.reached) c.requires.right (omega (arith, ints, c.requires.within))
     c.put_turn-end.new.places c.put_turn-end.result c.args.b1 c.other.result c.put_turn-end.ensures c.other.ensures
-
-pub returns-clause-so_far : goal.returns-clause-so_far
-returns-clause-so_far c =
-    turned_so_far c.requires.inside
-    (right_after_first c.args.at.reached.a0 c.args.a1 (number_right c.args.at.reached c.args.a1 c.requires.right)) c.requires.within
-    c.put_turn-end.ensures c.requires.b1 c.other.ensures

@@ -1,7 +1,7 @@
 use Rattle.std.proofs.Common.{◌≡◌, ◌*◌, ◌++◌, take, get_or, ap, ◌∙◌, arith}
 use Rattle.fax_rows.specs.code.Ones.{ones_among}
 use Rattle.fax_rows.proofs.OnesLemmas.{byte_goes_on}
-use Rattle.fax_rows.proofs.ones.put_ones.Goals as goal
+use Rattle.fax_rows.proofs.ones.put_ones_by_bytes.Goals as goal
 
 pub loop-k-preserved : goal.loop-k-preserved
 loop-k-preserved c = record {

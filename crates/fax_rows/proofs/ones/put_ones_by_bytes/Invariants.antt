@@ -1,6 +1,6 @@
 use Rattle.std.proofs.Common.{◌≡◌, ◌+◌, ◌*◌, ◌≤◌, ◌++◌, take}
 use Rattle.fax_rows.specs.code.Ones.{ones_among}
-use Rattle.fax_rows.proofs.ones.put_ones.Given as goal
+use Rattle.fax_rows.proofs.ones.put_ones_by_bytes.Given as goal
 
 -- the ones of the bytes before k are put
 abbrev pub invariant-loop-k : goal.invariant-loop-k
