@@ -28,8 +28,7 @@ use Rattle.fax_walk.specs.declared.opening.OpenFault.{OpenFault}
 use Rattle.fax_walk.specs.declared.opening.OpenFault.TheVariants.{Memory, Ended}
 use Rattle.fax_walk.specs.Pages.{LongPlace}
 use Rattle.fax_walk.specs.Items.{Inner, RowItem, RowPlace, IsRow, before, exchanged, first_at}
-use Rattle.fax_walk.specs.Items.{IsInnerOn, inner_at, long_at}
-use Rattle.fax_walk.specs.code.Places.{place_over}
+use Rattle.fax_walk.specs.Items.{IsInnerOn, inner_at, long_at, place_after}
 use Rattle.fax_walk.specs.code.Places.{IsInner, cursor_at}
 use Rattle.fax_walk.specs.code.Places.{row_in_strip, strip_at}
 use Rattle.fax_walk.specs.code.Places.{place_on}
@@ -149,7 +148,7 @@ module _ (page : PageState) (limits : IsPageForm page.form) (strip_is : IsStripO
             (drop strip.place (bits page.form.order page.strip.bytes))
         line = rw (reads.same_form, reads.same_bytes, strip_is.form_is) at reads.line
 
-        pub row_read : IsRow page.directory.file (place_of page) (goes_on item (place_over page.form item))
+        pub row_read : IsRow page.directory.file (place_of page) (goes_on item (place_after item))
         row_read = rw stands.place_is (
           Ok (page_with page.directory page.form),
           its.here (row_of page),
@@ -165,7 +164,7 @@ module _ (page : PageState) (limits : IsPageForm page.form) (strip_is : IsStripO
 
         pub place_next : place_on page.form page.page (page.number * n + strip.row)
             (record { bits = strip.place; reference = strip.reference })
-            ≡ place_over page.form item
+            ≡ place_after item
         place_next =
             let next : page.number * n + strip.row ≡ row_of page + 1 = omega (arith, reads.next_row) in
             rw (next, ← twice) refl
@@ -287,7 +286,7 @@ module _ (old page : PageState) (keeps : KeepsPlace old page) where
             (subst (λ (t : RowPlace). IsRow page.directory.file t (goes_on its_item (place_of new))) keeps.place read);
         next_row = omega (arith, reads.next_row, keeps.row);
         one_more = omega (arith, keeps.read, read_is);
-        after = after ∙ ap (λ (f : PageForm). place_over f item) same.form ∙ ap (place_over old.form) item_is;
+        after = after ∙ ap place_after item_is;
       }
 
   pub stops_kept : (end : End) → StopsAtRow page end → StopsAtRow old end
@@ -371,7 +370,7 @@ module _ (old now new : PageState) (items : List RowItem) (skips : HasSkipped ol
         item_is = item_is;
         here = rw (same_on.directory, same_on.form, reads.same.page) at (its.here (row_of now));
         within = subst (λ (f : PageForm). row_of now < f.rows) skips.same.form reads.due;
-        after = reads.after ∙ ap (λ (f : PageForm). place_over f its_item) skips.same.form;
+        after = reads.after;
         next_row = omega (arith, reads.next_row, skips.rows, count);
         read = omega (arith, reads.one_more, skips.read, count);
         few = few;

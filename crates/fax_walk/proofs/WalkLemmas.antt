@@ -24,7 +24,6 @@ use Rattle.fax_walk.specs.views.Walk.{AreRead, dropped, EndsBefore, EntersPage, 
 use Rattle.fax_walk.specs.laws.Left.{IsLeft}
 use Rattle.fax_walk.specs.views.Walk.{WalkView}
 use Rattle.fax_walk.specs.Items.{IsRow, IsTailFrom, RowItem, RowPlace, begun_cursor, first_at, long_after, long_at, place_after}
-use Rattle.fax_walk.specs.code.Places.{place_over}
 use Rattle.fax_walk.specs.code.Places.{cursor_at}
 use Rattle.fax_walk.specs.laws.Tails.{BeginningsHaveOneTail}
 use Rattle.fax_walk.specs.code.Stages.{GivesNone, GivesRow, IsOpen, IsOpenedAt, PageState, place_of, row_of, skipped}
@@ -106,9 +105,9 @@ module _ (file : List ℕ) (begun : Begun) (given : ℕ) (cursor : Cursor) where
       → (last.item.row + 1 ≡ last.item.form.rows) × (old.page + 1 ≡ last.item.page + 1)
   at_page_end old last all =
       let within = last.within in
-      let next : first_at (old.page + 1) 0 ≡ place_over last.item.form last.item =
+      let next : first_at (old.page + 1) 0 ≡ place_after last.item =
       sym (at_end old.form old.page (row_of old) _ all) ∙ last.to_is in
-      elim (cases_after last.item.form last.item) [
+      elim (cases_after last.item.form last.item refl) [
         | inl (past, is) ↦ (omega (arith, past, within), ap (λ (t : RowPlace). t.page) (next ∙ is))
         | inr (inl (less, first, is)) ↦ let rows = ap (λ (t : RowPlace). t.row) (next ∙ is) in absurd (omega (arith, rows))
         | inr (inr (less, inside, is)) ↦ let rows = ap (λ (t : RowPlace). t.row) (next ∙ is) in absurd (omega (arith, rows))
@@ -200,7 +199,7 @@ module _ (by_place : AreBitsByPlace) (lines_read : LinesAreRead) (chains : Files
           let rows : row_of new ≡ gives.item.row + 1 = gives.next_row ∙ ap (λ (i : RowItem). i.row + 1) (sym gives.item_is) in
           let pages : new.page ≡ gives.item.page = gives.same.page ∙ ap (λ (i : RowItem). i.page) (sym gives.item_is) in
           rw (rows, pages) refl;
-      to_is = gives.after ∙ ap (λ (f : PageForm). place_over f gives.item) (sym form_same);
+      to_is = gives.after;
     }
       where
         form_same : gives.item.form ≡ old.form
@@ -354,7 +353,7 @@ module _ (walk : WalkView) (cursor : Cursor) (page : Option PageState) where
 
   -- the place inside a strip
   long_at_after : (item : RowItem) → long_at (cursor_at (place_after item)) (place_after item).inner ≡ long_after item
-  long_at_after item = elim (cases_after item.form item) [
+  long_at_after item = elim (cases_after item.form item refl) [
     | inl (last, is) ↦ rw is refl
     | inr (inl (within, first, is)) ↦ rw is refl
     | inr (inr (within, inside, is)) ↦ rw is refl
@@ -366,7 +365,7 @@ module _ (walk : WalkView) (cursor : Cursor) (page : Option PageState) where
     | inl first ↦ absurd (omega (arith, some, first.0))
     | inr (on, is, last) ↦
         let same : on ≡ at = cc in
-        let to : place_of at ≡ place_over last.item.form last.item = ap place_of (sym same) ∙ last.to_is in
+        let to : place_of at ≡ place_after last.item = ap place_of (sym same) ∙ last.to_is in
         inr (
           last.before,
           last.item,
