@@ -1,6 +1,5 @@
-use Rattle.std.proofs.Common.{ap, sym}
-use Rattle.fax_page.specs.views.Reader.{StripState}
-use Rattle.fax_walk.proofs.OpenPageLemmas.{due_there, is_opened, refused_strip}
+use Rattle.std.proofs.Common.{sym}
+use Rattle.fax_walk.proofs.OpenPageLemmas.{due_there, refused_strip}
 use Rattle.fax_walk.proofs.page.open.Goals as goal
 
 pub returns-in-Err-clause-refused : goal.returns-in-Err-clause-refused
@@ -11,15 +10,6 @@ returns-in-Err-clause-refused c =
     rw (← c.due.view_is, c.of_file.ensures, c.in-Err.ensures.fault)
     (refused_strip (record { page = d.page; chain = d.chain; directory = d.directory; form = d.form }) c.args.first c.due.invariant.its
     c.due.invariant.limits there outside)
-
-pub returns-clause-opened : goal.returns-clause-opened
-returns-clause-opened c =
-    let there = rw (sym c.due.view_is) at c.requires.there in
-    let d = c.due.inside in
-    rw (← c.due.view_is, c.strips-strips.ensures.directory)
-    (is_opened (record { page = d.page; chain = d.chain; directory = d.directory; form = d.form }) c.args.first c.due.invariant.its
-    c.due.invariant.limits there c.in_ok-strip.strip _ c.args.before (ap (λ (s : StripState). s.row) c.in_ok-strip.ensures)
-    (ap (λ (s : StripState). s.fault) c.in_ok-strip.ensures) (ap (λ (s : StripState). s.read) c.in_ok-strip.ensures))
 
 pub returns-in-Err-clause-there : goal.returns-in-Err-clause-there
 returns-in-Err-clause-there c =

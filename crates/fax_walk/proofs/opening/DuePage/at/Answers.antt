@@ -1,6 +1,6 @@
-use Rattle.std.proofs.Common.{inl, sym, arith}
+use Rattle.std.proofs.Common.{inl, sym}
 use Rattle.std.proofs.lemmas.Result.{err_from_is_err_and}
-use Rattle.fax_walk.proofs.EndingLemmas.{named_none, named_past, named_outside, named_page, named_refused}
+use Rattle.fax_walk.proofs.EndingLemmas.{named_outside, named_page, named_refused}
 use Rattle.fax_walk.proofs.opening.DuePage.at.Goals as goal
 
 pub returns-in_err-chain-clause-err : goal.returns-in_err-chain-clause-err
@@ -13,16 +13,6 @@ returns-in_err-page-clause-err c =
     let p = err_from_is_err_and c.from_residual-in_err-page.result c.from_residual-in_err-page.ensures.1 in
     rw (p.1, p.2)
     (named_refused c.args.file.now c.args.cursor c.in_ok-chain.chain _ c.in_ok-chain.ensures.ok c.in_err-page.ensures)
-
-pub returns-then-cursor-eq0-clause-ok : goal.returns-then-cursor-eq0-clause-ok
-returns-then-cursor-eq0-clause-ok c =
-    named_none c.args.file.now c.args.cursor c.in_ok-chain.chain c.in_ok-chain.ensures.ok (rw c.in_default.is at c.in_ok-page.ensures)
-    c.if-cursor-eq0.true
-
-pub returns-else-cursor-eq0-clause-err : goal.returns-else-cursor-eq0-clause-err
-returns-else-cursor-eq0-clause-err c =
-    named_past c.args.file.now c.args.cursor c.in_ok-chain.chain c.in_ok-chain.ensures.ok (rw c.in_default.is at c.in_ok-page.ensures)
-    (omega (arith, c.if-cursor-eq0.false))
 
 pub returns-then-cursor-page-clause-err : goal.returns-then-cursor-page-clause-err
 returns-then-cursor-page-clause-err c =

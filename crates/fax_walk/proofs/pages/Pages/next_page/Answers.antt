@@ -29,14 +29,6 @@ returns-in-Ok c =
     let short : c.page.inside.page + 1 < 2 ^ 32 = omega (arith, after, c.given.type_inv) in
     rw (← c.self.view_is) (page_given laws.one laws.first _ _ due c.page.invariant short)
 
-pub invariant_of-self-in-Err : goal.invariant_of-self-in-Err
-invariant_of-self-in-Err c =
-    record { come = (rw (sym c.self.view_is) at c.in-Err.ensures.err).0; cursor_is = c.self.invariant.cursor_is }
-
-pub invariant_of-self-in_err-answer-in-Err : goal.invariant_of-self-in_err-answer-in-Err
-invariant_of-self-in_err-answer-in-Err c =
-    record { come = (rw (sym c.self.view_is) at c.in-Err.ensures.err).0; cursor_is = c.self.invariant.cursor_is }
-
 pub returns-in_ok-answer-in-Err : goal.returns-in_ok-answer-in-Err
 returns-in_ok-answer-in-Err c =
     let ends = rw (sym c.self.view_is) at c.in-Err.ensures.err in
