@@ -7,7 +7,7 @@ use Rattle.std.proofs.lemmas.Option.{slice_get_past, slice_get_within}
 use Rattle.fax_files.specs.declared.FileFault.{FileFault}
 use Rattle.fax_files.specs.declared.Cause.TheVariants.{File}
 use Rattle.fax_files.specs.declared.PageForm.{PageForm}
-use Rattle.fax_files.specs.Directory.{header, IsChain}
+use Rattle.fax_files.specs.Directory.{IsChain}
 use Rattle.fax_files.specs.laws.Files.{HasOneChain, FilesHaveOneChain}
 use Rattle.fax_files.specs.views.Page.{IsPageForm}
 use Rattle.fax_files.specs.views.Chain.{ChainState, IsDueAnswer, after_answer}
@@ -34,10 +34,6 @@ outside_row pages at some = by_test (at.page == pages)
     by_test : (b : Bool) → (if b && (at.row == 0) then Proper else Outside) ≡ Outside
     by_test true = rw e refl
     by_test false = refl
-
-pub header_refused : (file : List ℕ) (at : Cursor) (fault : FileFault) → header file ≡ Err fault
-    → IsPageAt file at (Err (Fault 0 0 (File fault)))
-header_refused file at fault refused = rw (refused, IsPageAt) refl
 
 -- a directory stands there
 pub goes_on : (file : List ℕ) (number : ℕ) (chain new : ChainState) (answer : Result (Option TiffDirectory) FileFault)
@@ -159,15 +155,6 @@ named_outside file at chain due before answer its above = inr (
   above,
   refl,
 )
-
--- the same where there is none
-pub named_none : (file : List ℕ) (at : Cursor) (chain : ChainState) → IsChainBefore file at.page chain → IsPageAnswer chain (Ok None)
-    → at.row ≡ 0 → IsPageAt file at (Err Proper)
-named_none file at chain before answer first = rw (← first, before.file_is, before.given) at answer.0
-
-pub named_past : (file : List ℕ) (at : Cursor) (chain : ChainState) → IsChainBefore file at.page chain → IsPageAnswer chain (Ok None)
-    → 0 < at.row → EndsAt file at Outside
-named_past file at chain before answer some = inl (rw (before.file_is, before.given) at (answer.1 at.row some))
 
 pub named_refused : (file : List ℕ) (at : Cursor) (chain : ChainState) (end : End) → IsChainBefore file at.page chain
     → IsPageAnswer chain (Err end) → EndsAt file at end

@@ -55,24 +55,6 @@ strip_begins form number limits within =
     let product = mul-le-mul_right form.rows_per_strip more in
     omega (arith, product, all_rows, add-mul number 1 form.rows_per_strip)
 
--- a smaller product with the same number has a smaller factor
-smaller_factor : (a b n : ℕ) → a * n < b * n → a < b
-smaller_factor a b n less = elim (cases_lt a b) [
-  | inl below ↦ below
-  | inr above ↦ absurd (omega (arith, less, mul-le-mul_right n above))
-]
-
--- where a row is due after the end of a strip, there is another strip
-pub more_strips : (form : PageForm) (number : ℕ) (strip : StripState) → IsPageForm form → strip.form ≡ strip_form form number
-    → strip.row ≡ strip.form.rows → number * form.rows_per_strip + strip.row < form.rows → number + 1 < form.strips
-more_strips form number strip limits form_is all_read due =
-    let count : strip.form.rows ≡ min form.rows_per_strip (form.rows - number * form.rows_per_strip) =
-    ap (λ (f : StripForm). f.rows) form_is in
-    let all_rows = div_ceil_times form.rows form.rows_per_strip limits.some_rows_per_strip in
-    let enough : form.rows ≤ form.strips * form.rows_per_strip = rw limits.strips all_rows.0 in
-    smaller_factor (number + 1) form.strips form.rows_per_strip
-    (omega (arith, count, all_read, due, enough, add-mul number 1 form.rows_per_strip))
-
 -- the place of a row of a page: a strip's first, or one inside its strip
 pub at_first : (form : PageForm) (p r : ℕ) (inner : Inner) → r < form.rows → row_in_strip form r ≡ 0 → place_on form p r inner ≡ first_at
     p r
