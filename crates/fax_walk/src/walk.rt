@@ -210,12 +210,12 @@ impl<'a> Walk<'a> {
 
     /// The place inside a strip after the last row that was handed out, as `long_cursor` has it
     /// once a row was handed out, and `None` before that. It takes no memory.
-    pub fn inside(&self) -> Option<PlaceInside<'_>>
+    pub fn lend_place(&self) -> Option<PlaceInside<'_>>
         ensures place { 0 < self.now.given → IsLongOf self.now (place_inside result) }
         ensures none { self.now.given ≡ 0 → result ≡ None }
     {
         match &self.page {
-            Some(page) if self.given > 0 => page.inside(),
+            Some(page) if self.given > 0 => page.lend_place(),
             _ => None,
         }
     }
