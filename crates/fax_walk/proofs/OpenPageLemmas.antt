@@ -407,8 +407,9 @@ page_first due p is =
     rw (is, none) refl
 
 -- a page that is due is there
-pub due_there : (due : PageDue) → IsFilePage due.page due.chain due.directory due.form → HasPage due.directory.file due.page
-due_there due its = (Ok (page_with due.directory due.form), its.here 0, tt)
+pub due_there : (p : ℕ) (chain : ChainState) (directory : TiffDirectory) (form : PageForm) → IsFilePage p chain directory form
+    → HasPage directory.file p
+due_there p chain directory form its = (Ok (page_with directory form), its.here 0, tt)
 
 pub opened_after : (file : List ℕ) (due : PageDue) (p read : ℕ) (result : Result PageState OpenFault) → due.page ≡ p
     → due.directory.file ≡ file

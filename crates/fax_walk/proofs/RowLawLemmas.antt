@@ -1,7 +1,10 @@
 -- What a walk begins with has one tail and one end.
 use Rattle.std.proofs.Common.{◌≡◌, ℕ, zero, suc, ◌+◌, ◌*◌, ◌<◌, ◌≤◌, ◌⊎◌, inl, inr, Bool, true, false, List, [], ◌∷◌, map, length, drop}
 use Rattle.std.proofs.Common.{subst, Option, Some, None, Result, Ok, Err, refl, sym, ap, ◌∙◌, arith, length-drop}
-use Rattle.std.proofs.lemmas.Bool.{cases_lt}
+use Rattle.std.proofs.lemmas.Bool.{cases_eq, cases_lt}
+use Rattle.std.proofs.lemmas.Slice.Eq.{bytes_eq-Decides}
+use Rattle.std.specs.Bool.{Decides}
+use Rattle.std.specs.Str.{bytes_eq}
 use Rattle.std.proofs.lemmas.Bool.Decides.{nat_tests}
 use Rattle.std.specs.Prelude.{if◌then◌else◌, nat_lt, ◌==◌}
 use Rattle.fax_bits.specs.declared.Colour.{Colour}
@@ -250,33 +253,19 @@ module _ (by_place : AreBitsByPlace) (lines_read : LinesAreRead) (file : List �
       on_page q later at e (page head.endian file q) refl (rows_from later (first_at (at.page + 1) 0)
       (next_dropped at.page offsets q later e))
 
-same_number : (a b : ℕ) → (a ≡ b) ⊎ (a ≡ b → ⊥)
-same_number a b = elim (cases_lt a b) [
-  | inl less ↦ inr (λ e. omega (arith, e, less))
-  | inr more ↦ elim (cases_lt b a) [
-    | inl less ↦ inr (λ e. omega (arith, e, less))
-    | inr both ↦ inl (omega (arith, more, both))
-  ]
-]
-
 same_list : (xs ys : List ℕ) → (xs ≡ ys) ⊎ (xs ≡ ys → ⊥)
-same_list [] [] = inl refl
-same_list [] (y ∷ ys) = inr (λ e. cc e)
-same_list (x ∷ xs) [] = inr (λ e. cc e)
-same_list (x ∷ xs) (y ∷ ys) = elim (same_number x y) [
-  | inl first ↦ elim (same_list xs ys) [
-    | inl rest ↦ inl (ap (λ (n : ℕ). n ∷ xs) first ∙ ap (λ (l : List ℕ). y ∷ l) rest)
-    | inr not ↦ inr (λ e. not (let rest : xs ≡ ys = cc e in rest))
-  ]
-  | inr not ↦ inr (λ e. not (let first : x ≡ y = cc e in first))
-]
+same_list xs ys = by_test (bytes_eq xs ys) (bytes_eq-Decides xs ys)
+  where
+    by_test : (test : Bool) → Decides test (xs ≡ ys) → (xs ≡ ys) ⊎ (xs ≡ ys → ⊥)
+    by_test true decides = inl (decides.0 refl)
+    by_test false decides = inr (λ same. let no = decides.1 same in cc)
 
 fits : (width : ℕ) (found : Option (List ℕ)) (place : LongPlace) → FitsStrip width found place ⊎ (FitsStrip width found place → ⊥)
 fits width None place = inl tt
 fits width (Some bytes) place = elim (cases_lt (8 * length bytes) place.bits) [
   | inl far ↦ inr (λ is. omega (arith, far, is.0))
   | inr within ↦ elim (same_list (runs_of (pels_of White place.runs)) place.runs) [
-    | inl runs ↦ elim (same_number (length (pels_of White place.runs)) width) [
+    | inl runs ↦ elim (cases_eq (length (pels_of White place.runs)) width) [
       | inl count ↦ inl (within, count, runs)
       | inr not ↦ inr (λ is. not is.1)
     ]

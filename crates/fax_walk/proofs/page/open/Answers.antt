@@ -12,21 +12,13 @@ returns-in-Err-clause-refused c =
     c.due.invariant.limits there outside)
 
 pub returns-in-Err-clause-there : goal.returns-in-Err-clause-there
-returns-in-Err-clause-there c =
-    let d = c.due.inside in
-    rw (← c.due.view_is) (due_there (record { page = d.page; chain = d.chain; directory = d.directory; form = d.form }) c.due.invariant.its)
+returns-in-Err-clause-there c = rw (← c.due.view_is) (due_there _ _ _ _ c.due.invariant.its)
 
 pub returns-in_err-strip-clause-there : goal.returns-in_err-strip-clause-there
-returns-in_err-strip-clause-there c =
-    let d = c.due.inside in
-    rw (← c.due.view_is) (due_there (record { page = d.page; chain = d.chain; directory = d.directory; form = d.form }) c.due.invariant.its)
+returns-in_err-strip-clause-there c = rw (← c.due.view_is) (due_there _ _ _ _ c.due.invariant.its)
 
 pub returns-in_err-exchanged-clause-there : goal.returns-in_err-exchanged-clause-there
-returns-in_err-exchanged-clause-there c =
-    let d = c.due.inside in
-    rw (← c.due.view_is) (due_there (record { page = d.page; chain = d.chain; directory = d.directory; form = d.form }) c.due.invariant.its)
+returns-in_err-exchanged-clause-there c = rw (← c.due.view_is) (due_there _ _ _ _ c.due.invariant.its)
 
 pub returns-clause-there : goal.returns-clause-there
-returns-clause-there c =
-    let d = c.due.inside in
-    rw (← c.due.view_is) (due_there (record { page = d.page; chain = d.chain; directory = d.directory; form = d.form }) c.due.invariant.its)
+returns-clause-there c = rw (← c.due.view_is) (due_there _ _ _ _ c.due.invariant.its)
