@@ -236,9 +236,6 @@ impl<'a> Walk<'a> {
     pub(crate) fn items_are_left(&self)
         ensures { (items : List RowItem) × (end : End) × IsLeft self.now items end }
     {
-        fax_bits::laws::bits_stand_by_place();
-        fax_page::laws::lines_are_read_in_one_way();
-        fax_files::laws::files_have_one_chain();
         crate::laws::beginnings_have_one_tail();
         let _ = &self.page;
     }

@@ -5,5 +5,4 @@ pub returns : goal.returns
 returns c =
     let w = c.self.inside in
     rw (← c.self.view_is)
-    (is_left _ w.cursor w.page c.bits_stand_by_place.ensures c.lines_are_read_in_one_way.ensures c.files_have_one_chain.ensures
-    c.beginnings_have_one_tail.ensures c.self.invariant)
+    (is_left _ w.cursor w.page c.beginnings_have_one_tail.ensures c.self.invariant)
