@@ -75,27 +75,22 @@ module _ (file : List ℕ) (number : ℕ) (chain : ChainState) (answer : Result 
       let within = before.within one.offsets one.end is_one in
       omega (arith, few, within, before.given)
 
-  pub none_before : (at : Cursor) → answer ≡ Ok None → number < at.page → IsPageAt file at (Err Outside)
-  none_before at is past =
+  -- where the chain ends properly, and where it ends with a fault
+  ended_at : (at : Cursor) → answer ≡ Ok None → number ≤ at.page → IsPageAt file at (Err (end_past_chain number None at))
+  ended_at at is past =
       let none = due_none chain answer due is one.offsets one.end is_one in
-      let count = count_is none.0 in
-      let end_is : end_past_chain (length one.offsets) one.end at ≡ Outside =
-      rw none.1 (outside_past (length one.offsets) at (omega (arith, count, past))) in
-      rw end_is at (past_chain at none.0 (omega (arith, past)))
+      let end_is : end_past_chain (length one.offsets) one.end at ≡ end_past_chain number None at = rw (none.1, count_is none.0) refl in
+      rw end_is at (past_chain at none.0 past)
+
+  pub none_before : (at : Cursor) → answer ≡ Ok None → number < at.page → IsPageAt file at (Err Outside)
+  none_before at is past = rw (outside_past number at past) at (ended_at at is (omega (arith, past)))
 
   pub row_past : (r : ℕ) → answer ≡ Ok None → 0 < r → IsPageAt file (record { page = number; row = r }) (Err Outside)
   row_past r is some =
-      let at : Cursor = record { page = number; row = r } in
-      let none = due_none chain answer due is one.offsets one.end is_one in
-      let end_is : end_past_chain (length one.offsets) one.end at ≡ Outside = rw none.1 (outside_row (length one.offsets) at some) in
-      rw end_is at (past_chain at none.0 (omega arith))
+      let at : Cursor = record { page = number; row = r } in rw (outside_row number at some) at (ended_at at is (omega arith))
 
   pub proper_end_at : answer ≡ Ok None → IsPageAt file (record { page = number; row = 0 }) (Err Proper)
-  proper_end_at is =
-      let at : Cursor = record { page = number; row = 0 } in
-      let none = due_none chain answer due is one.offsets one.end is_one in
-      let end_is : end_past_chain (length one.offsets) one.end at ≡ Proper = rw (none.1, count_is none.0) (proper_end number) in
-      rw end_is at (past_chain at none.0 (omega arith))
+  proper_end_at is = rw (proper_end number) at (ended_at (record { page = number; row = 0 }) is (omega arith))
 
   pub fault_before_page : (at : Cursor) (fault : FileFault) → answer ≡ Err fault → number ≤ at.page
       → IsPageAt file at (Err (Fault number 0 (File fault)))
