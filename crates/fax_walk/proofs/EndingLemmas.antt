@@ -1,5 +1,5 @@
 -- What a chain's next directory is, and where it ends.
-use Rattle.std.proofs.Common.{◌≡◌, ℕ, ◌+◌, ◌<◌, ◌≤◌, Bool, true, false, List, length, Option, Some, None, Result, Ok, Err, inl, inr, refl}
+use Rattle.std.proofs.Common.{◌≡◌, ℕ, ◌+◌, ◌<◌, ◌≤◌, true, false, List, length, Option, Some, None, Result, Ok, Err, inl, inr, refl}
 use Rattle.std.proofs.Common.{ap, ◌∙◌, arith}
 use Rattle.std.proofs.lemmas.Bool.Decides.{nat_tests}
 use Rattle.std.specs.Prelude.{slice_get, ◌==◌, ◌&&◌, if◌then◌else◌}
@@ -26,14 +26,9 @@ outside_past : (pages : ℕ) (at : Cursor) → pages < at.page → end_past_chai
 outside_past pages at past = let e : (at.page == pages) ≡ false = grind (arith, nat_tests, past) in rw e refl
 
 outside_row : (pages : ℕ) (at : Cursor) → 0 < at.row → end_past_chain pages None at ≡ Outside
-outside_row pages at some = by_test (at.page == pages)
-  where
-    e : (at.row == 0) ≡ false
-    e = grind (arith, nat_tests, some)
-
-    by_test : (b : Bool) → (if b && (at.row == 0) then Proper else Outside) ≡ Outside
-    by_test true = rw e refl
-    by_test false = refl
+outside_row pages at some =
+    let e : (at.row == 0) ≡ false = grind (arith, nat_tests, some) in
+    elim (at.page == pages) as (λ same. (if same && (at.row == 0) then Proper else Outside) ≡ Outside) [ | true ↦ rw e refl | false ↦ refl ]
 
 -- a directory stands there
 pub goes_on : (file : List ℕ) (number : ℕ) (chain new : ChainState) (answer : Result (Option TiffDirectory) FileFault)
