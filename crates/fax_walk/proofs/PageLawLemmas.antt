@@ -289,9 +289,7 @@ module _ (file : List ℕ) where
   to_forms : (p : ℕ) (forms : List FormItem) (end : End) → IsFormTail file (record { page = p; row = 0 }) forms end
       → AreFrom (IsForm file) p forms end
   to_forms p forms end (begin, (Err none, page, e), are) =
-      let both = rw e at are in
-      let there : AreFrom (IsForm file) p [] none = (Err none, page, refl) in
-      subst (λ (l : List FormItem). AreFrom (IsForm file) p l end) (sym both.0) (subst (AreFrom (IsForm file) p []) (sym both.1) there)
+      let both = rw e at are in rw (both.0, both.1) (Err none, page, refl)
   to_forms p forms end (begin, (Ok here, page, e), are) = let here : begin ≡ Ok p = e in rw here at are
 
   of_forms : (p : ℕ) (forms : List FormItem) (end : End) → AreFrom (IsForm file) p forms end
