@@ -258,8 +258,7 @@ module _ (old page : PageState) (keeps : KeepsPlace old page) where
       let step = row_read page limits strip_is due its strip shown reads shown_is reads.within in
       let after = place_next page limits strip_is due its strip shown reads shown_is reads.within in
       let read : IsRow page.directory.file (place_of page) (goes_on its_item (place_of new)) =
-      subst (λ (i : RowItem). IsRow page.directory.file (place_of page) (goes_on i (place_of new))) item_is
-      (subst (λ (t : RowPlace). IsRow page.directory.file (place_of page) (goes_on item t)) (sym after) step) in
+      rw (← item_is, after) step in
       record {
         due = subst (λ (f : PageForm). row_of old < f.rows) same.form (rw keeps.row at (row_below page limits strip_is due));
         same = record { page = same.page; form = same.form; first = same.first; directory = same.directory };
