@@ -106,7 +106,7 @@ fn tell_inside(walk: &Walk, place: &mut FaxPlace, runs: &mut [u32])
     requires none { place.old.runs ≡ 0 }
     ensures { Code.IsInsideTold walk.now place.old runs.old place.new runs.new }
 {
-    let Some(found) = walk.inside() else {
+    let Some(found) = walk.lend_place() else {
         return;
     };
     let Some(to) = Runs::put(found.reference, runs, 0) else {

@@ -1,5 +1,5 @@
 -- What a chain's next directory is, and where it ends.
-use Rattle.std.proofs.Common.{◌≡◌, ℕ, ◌+◌, ◌<◌, ◌≤◌, Bool, true, false, List, length, Option, Some, None, Result, Ok, Err, inl, inr, refl}
+use Rattle.std.proofs.Common.{◌≡◌, ℕ, ◌+◌, ◌<◌, ◌≤◌, true, false, List, length, Option, Some, None, Result, Ok, Err, inl, inr, refl}
 use Rattle.std.proofs.Common.{ap, ◌∙◌, arith}
 use Rattle.std.proofs.lemmas.Bool.Decides.{nat_tests}
 use Rattle.std.specs.Prelude.{slice_get, ◌==◌, ◌&&◌, if◌then◌else◌}
@@ -7,7 +7,7 @@ use Rattle.std.proofs.lemmas.Option.{slice_get_past, slice_get_within}
 use Rattle.fax_files.specs.declared.FileFault.{FileFault}
 use Rattle.fax_files.specs.declared.Cause.TheVariants.{File}
 use Rattle.fax_files.specs.declared.PageForm.{PageForm}
-use Rattle.fax_files.specs.Directory.{header, IsChain}
+use Rattle.fax_files.specs.Directory.{IsChain}
 use Rattle.fax_files.specs.laws.Files.{HasOneChain, FilesHaveOneChain}
 use Rattle.fax_files.specs.views.Page.{IsPageForm}
 use Rattle.fax_files.specs.views.Chain.{ChainState, IsDueAnswer, after_answer}
@@ -17,7 +17,7 @@ use Rattle.fax_walk.specs.declared.end.End.{End}
 use Rattle.fax_walk.specs.declared.end.End.TheVariants.{Proper, Fault, Outside}
 use Rattle.fax_walk.specs.Pages.{IsPageAt}
 use Rattle.fax_walk.specs.code.Opening.{end_past_chain, page_or_end}
-use Rattle.fax_walk.specs.code.Opening.{EndsAt, IsChainBefore, IsFilePage, IsNamed, IsNoPage, IsPageAnswer, IsPageDue, PageDue, page_with}
+use Rattle.fax_walk.specs.code.Opening.{EndsAt, IsChainBefore, IsFilePage, IsNamed, IsNoPage, IsPageAnswer, PageDue, page_with}
 use Rattle.fax_walk.proofs.OpeningLemmas.{due_some, due_none, due_fault}
 use Rattle.fax_walk.proofs.PageLawLemmas.{none_past, page_here, proper_end}
 
@@ -26,18 +26,9 @@ outside_past : (pages : ℕ) (at : Cursor) → pages < at.page → end_past_chai
 outside_past pages at past = let e : (at.page == pages) ≡ false = grind (arith, nat_tests, past) in rw e refl
 
 outside_row : (pages : ℕ) (at : Cursor) → 0 < at.row → end_past_chain pages None at ≡ Outside
-outside_row pages at some = by_test (at.page == pages)
-  where
-    e : (at.row == 0) ≡ false
-    e = grind (arith, nat_tests, some)
-
-    by_test : (b : Bool) → (if b && (at.row == 0) then Proper else Outside) ≡ Outside
-    by_test true = rw e refl
-    by_test false = refl
-
-pub header_refused : (file : List ℕ) (at : Cursor) (fault : FileFault) → header file ≡ Err fault
-    → IsPageAt file at (Err (Fault 0 0 (File fault)))
-header_refused file at fault refused = rw (refused, IsPageAt) refl
+outside_row pages at some =
+    let e : (at.row == 0) ≡ false = grind (arith, nat_tests, some) in
+    elim (at.page == pages) as (λ same. (if same && (at.row == 0) then Proper else Outside) ≡ Outside) [ | true ↦ rw e refl | false ↦ refl ]
 
 -- a directory stands there
 pub goes_on : (file : List ℕ) (number : ℕ) (chain new : ChainState) (answer : Result (Option TiffDirectory) FileFault)
@@ -79,27 +70,22 @@ module _ (file : List ℕ) (number : ℕ) (chain : ChainState) (answer : Result 
       let within = before.within one.offsets one.end is_one in
       omega (arith, few, within, before.given)
 
-  pub none_before : (at : Cursor) → answer ≡ Ok None → number < at.page → IsPageAt file at (Err Outside)
-  none_before at is past =
+  -- where the chain ends properly, and where it ends with a fault
+  ended_at : (at : Cursor) → answer ≡ Ok None → number ≤ at.page → IsPageAt file at (Err (end_past_chain number None at))
+  ended_at at is past =
       let none = due_none chain answer due is one.offsets one.end is_one in
-      let count = count_is none.0 in
-      let end_is : end_past_chain (length one.offsets) one.end at ≡ Outside =
-      rw none.1 (outside_past (length one.offsets) at (omega (arith, count, past))) in
-      rw end_is at (past_chain at none.0 (omega (arith, past)))
+      let end_is : end_past_chain (length one.offsets) one.end at ≡ end_past_chain number None at = rw (none.1, count_is none.0) refl in
+      rw end_is at (past_chain at none.0 past)
+
+  pub none_before : (at : Cursor) → answer ≡ Ok None → number < at.page → IsPageAt file at (Err Outside)
+  none_before at is past = rw (outside_past number at past) at (ended_at at is (omega (arith, past)))
 
   pub row_past : (r : ℕ) → answer ≡ Ok None → 0 < r → IsPageAt file (record { page = number; row = r }) (Err Outside)
   row_past r is some =
-      let at : Cursor = record { page = number; row = r } in
-      let none = due_none chain answer due is one.offsets one.end is_one in
-      let end_is : end_past_chain (length one.offsets) one.end at ≡ Outside = rw none.1 (outside_row (length one.offsets) at some) in
-      rw end_is at (past_chain at none.0 (omega arith))
+      let at : Cursor = record { page = number; row = r } in rw (outside_row number at some) at (ended_at at is (omega arith))
 
   pub proper_end_at : answer ≡ Ok None → IsPageAt file (record { page = number; row = 0 }) (Err Proper)
-  proper_end_at is =
-      let at : Cursor = record { page = number; row = 0 } in
-      let none = due_none chain answer due is one.offsets one.end is_one in
-      let end_is : end_past_chain (length one.offsets) one.end at ≡ Proper = rw (none.1, count_is none.0) (proper_end number) in
-      rw end_is at (past_chain at none.0 (omega arith))
+  proper_end_at is = rw (proper_end number) at (ended_at (record { page = number; row = 0 }) is (omega arith))
 
   pub fault_before_page : (at : Cursor) (fault : FileFault) → answer ≡ Err fault → number ≤ at.page
       → IsPageAt file at (Err (Fault number 0 (File fault)))
@@ -127,16 +113,12 @@ module _ (file : List ℕ) (number : ℕ) (chain : ChainState) (answer : Result 
         (Fault number 0 (File refused))
     fields_refused refused bad r = rw bad at (found r)
 
-    pub page_due : (new : ChainState) (form : PageForm) → new ≡ after_answer chain answer → form_of directory ≡ Ok form → IsPageForm form
-        → IsPageDue number new directory form
-    page_due new form counted form_is limits = record {
-      its = record {
-        here = λ r. rw form_is at (found r);
-        after = let same : directory.file ≡ file = same_file ∙ before.file_is in
-            rw same (goes_on file number chain new answer directory before due is counted);
-      };
-      form_is = form_is;
-      limits = limits;
+    pub page_due : (new : ChainState) (form : PageForm) → new ≡ after_answer chain answer → form_of directory ≡ Ok form
+        → IsFilePage number new directory form
+    page_due new form counted form_is = record {
+      here = λ r. rw form_is at (found r);
+      after = let same : directory.file ≡ file = same_file ∙ before.file_is in
+          rw same (goes_on file number chain new answer directory before due is counted);
     }
 
 -- what a cursor names, where its page stands there
@@ -159,15 +141,6 @@ named_outside file at chain due before answer its above = inr (
   above,
   refl,
 )
-
--- the same where there is none
-pub named_none : (file : List ℕ) (at : Cursor) (chain : ChainState) → IsChainBefore file at.page chain → IsPageAnswer chain (Ok None)
-    → at.row ≡ 0 → IsPageAt file at (Err Proper)
-named_none file at chain before answer first = rw (← first, before.file_is, before.given) at answer.0
-
-pub named_past : (file : List ℕ) (at : Cursor) (chain : ChainState) → IsChainBefore file at.page chain → IsPageAnswer chain (Ok None)
-    → 0 < at.row → EndsAt file at Outside
-named_past file at chain before answer some = inl (rw (before.file_is, before.given) at (answer.1 at.row some))
 
 pub named_refused : (file : List ℕ) (at : Cursor) (chain : ChainState) (end : End) → IsChainBefore file at.page chain
     → IsPageAnswer chain (Err end) → EndsAt file at end

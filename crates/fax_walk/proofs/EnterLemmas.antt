@@ -1,7 +1,8 @@
 -- A walk that enters its first page.
-use Rattle.std.proofs.Common.{◌≡◌, ℕ, ◌*◌, ◌<◌, ◌≤◌, ◌⊎◌, inl, inr, List, [], drop, Some, Result, Ok, Err, refl, sym}
-use Rattle.std.proofs.Common.{◌∙◌, zero, suc, arith}
+use Rattle.std.proofs.Common.{◌≡◌, ℕ, ◌*◌, ◌<◌, ◌≤◌, ◌⊎◌, inl, inr, List, [], Some, Result, Ok, Err, refl, sym}
+use Rattle.std.proofs.Common.{◌∙◌, arith}
 use Rattle.std.proofs.Math.Nat.{div-add-mod}
+use Rattle.std.proofs.Math.Seq.{drop-nil}
 use Rattle.std.proofs.lemmas.Bool.{cases_lt}
 use Rattle.std.specs.Prelude.{IfOk, IfErr, OnOk}
 use Rattle.fax_walk.specs.declared.begun.Begun.{Begun}
@@ -12,17 +13,13 @@ use Rattle.fax_walk.specs.declared.opening.OpenFault.{OpenFault}
 use Rattle.fax_walk.specs.declared.opening.OpenFault.TheVariants.{Memory, Ended}
 use Rattle.fax_walk.specs.Pages.{LongPlace}
 use Rattle.fax_walk.specs.views.Walk.{Begins, EndsBefore}
-use Rattle.fax_walk.specs.Items.{IsInnerOn, IsRow, RowItem, RowPlace, begun_cursor, first_at, inner_at}
+use Rattle.fax_walk.specs.Items.{IsInnerOn, IsRow, RowPlace, begun_cursor, first_at, inner_at}
 use Rattle.fax_walk.specs.code.Places.{row_in_strip, strip_at}
 use Rattle.fax_walk.specs.code.Opening.{EndsAt, IsFilePage, IsNamed, PageDue, page_with}
 use Rattle.fax_walk.specs.code.Stages.{IsNoInner, IsNoStrip, IsOpenedAt, IsRefusal, PageState}
 use Rattle.fax_walk.specs.code.Walk.{HasNoRows, IsOpenedFirst}
 use Rattle.fax_walk.specs.Pages.{ends_as}
 use Rattle.fax_walk.proofs.TailLemmas.{begins_in, begins_after, begins_past}
-
-none_dropped : (n : ℕ) → drop n (let items : List RowItem = [] in items) ≡ []
-none_dropped zero = refl
-none_dropped (suc n) = refl
 
 -- a walk that begins at no place of the file
 no_beginning : (file : List ℕ) (begun : Begun) (end : End) → Begins file begun (Err end) → HasNoRows file begun end
@@ -41,7 +38,7 @@ no_beginning file begun end begins = record {
 no_row : (file : List ℕ) (begun : Begun) (end : End) (at : RowPlace) (n : ℕ) → Begins file begun (Ok (at, n)) → IsRow file at (ends_as end)
     → (n ≡ 0) ⊎ EndsBefore end (begun_cursor begun) → HasNoRows file begun end
 no_row file begun end at n begins stop before = record {
-  tail = (Ok (at, n), begins, ([], stop, sym (none_dropped n)));
+  tail = (Ok (at, n), begins, ([], stop, sym (drop-nil n)));
   read = record {
     before = n;
     are_before = (Ok (at, n), begins, refl);

@@ -1,7 +1,7 @@
 -- What is handed out in order: one answer at each place makes one list, and what follows an item begins after it.
 use Rattle.std.proofs.Common.{◌≡◌, ℕ, zero, suc, ◌+◌, List, [], ◌∷◌, ◌++◌, length, take, drop, Some, refl, sym, ap, ◌∙◌}
 use Rattle.std.proofs.Common.{subst, arith, append_assoc}
-use Rattle.std.proofs.lemmas.List.{take-append-drop}
+use Rattle.std.proofs.lemmas.List.{drop_at, take-append-drop}
 use Rattle.std.specs.Prelude.{slice_get}
 use Rattle.fax_walk.specs.declared.end.End.{End}
 use Rattle.fax_walk.specs.Pages.{AreFrom}
@@ -146,6 +146,12 @@ divided_at {A} (y ∷ xs) (suc n) x e =
     let later = divided_at xs n x e in
     let m : suc n + 1 ≡ suc (n + 1) = omega arith in
     (y ∷ later.0, rw m (ap (λ (l : List A). y ∷ l) later.1), omega (arith, later.2))
+
+-- the item at a number is the first of what is left there
+pub first_left : {A : Type 0} (all : List A) (n : ℕ) (item : A) → slice_get all n ≡ Some item → drop n all ≡ item ∷ drop (n + 1) all
+first_left all n item there =
+    let split = divided_at all n item there in
+    ap (drop n) split.1 ∙ drop_at split.0 (item ∷ drop (n + 1) all) n split.2
 
 module _ {S A : Type 0} (next : S → Step A S → Type 0) where
   -- an item, the place where it was read, and what is handed out after it

@@ -28,8 +28,7 @@ use Rattle.fax_walk.specs.declared.opening.OpenFault.{OpenFault}
 use Rattle.fax_walk.specs.declared.opening.OpenFault.TheVariants.{Memory, Ended}
 use Rattle.fax_walk.specs.Pages.{LongPlace}
 use Rattle.fax_walk.specs.Items.{Inner, RowItem, RowPlace, IsRow, before, exchanged, first_at}
-use Rattle.fax_walk.specs.Items.{IsInnerOn, inner_at, long_at}
-use Rattle.fax_walk.specs.code.Places.{place_over}
+use Rattle.fax_walk.specs.Items.{IsInnerOn, inner_at, long_at, place_after}
 use Rattle.fax_walk.specs.code.Places.{IsInner, cursor_at}
 use Rattle.fax_walk.specs.code.Places.{row_in_strip, strip_at}
 use Rattle.fax_walk.specs.code.Places.{place_on}
@@ -55,24 +54,6 @@ strip_begins form number limits within =
     let more : number + 1 ≤ form.strips = omega (arith, within) in
     let product = mul-le-mul_right form.rows_per_strip more in
     omega (arith, product, all_rows, add-mul number 1 form.rows_per_strip)
-
--- a smaller product with the same number has a smaller factor
-smaller_factor : (a b n : ℕ) → a * n < b * n → a < b
-smaller_factor a b n less = elim (cases_lt a b) [
-  | inl below ↦ below
-  | inr above ↦ absurd (omega (arith, less, mul-le-mul_right n above))
-]
-
--- where a row is due after the end of a strip, there is another strip
-pub more_strips : (form : PageForm) (number : ℕ) (strip : StripState) → IsPageForm form → strip.form ≡ strip_form form number
-    → strip.row ≡ strip.form.rows → number * form.rows_per_strip + strip.row < form.rows → number + 1 < form.strips
-more_strips form number strip limits form_is all_read due =
-    let count : strip.form.rows ≡ min form.rows_per_strip (form.rows - number * form.rows_per_strip) =
-    ap (λ (f : StripForm). f.rows) form_is in
-    let all_rows = div_ceil_times form.rows form.rows_per_strip limits.some_rows_per_strip in
-    let enough : form.rows ≤ form.strips * form.rows_per_strip = rw limits.strips all_rows.0 in
-    smaller_factor (number + 1) form.strips form.rows_per_strip
-    (omega (arith, count, all_read, due, enough, add-mul number 1 form.rows_per_strip))
 
 -- the place of a row of a page: a strip's first, or one inside its strip
 pub at_first : (form : PageForm) (p r : ℕ) (inner : Inner) → r < form.rows → row_in_strip form r ≡ 0 → place_on form p r inner ≡ first_at
@@ -149,7 +130,7 @@ module _ (page : PageState) (limits : IsPageForm page.form) (strip_is : IsStripO
             (drop strip.place (bits page.form.order page.strip.bytes))
         line = rw (reads.same_form, reads.same_bytes, strip_is.form_is) at reads.line
 
-        pub row_read : IsRow page.directory.file (place_of page) (goes_on item (place_over page.form item))
+        pub row_read : IsRow page.directory.file (place_of page) (goes_on item (place_after item))
         row_read = rw stands.place_is (
           Ok (page_with page.directory page.form),
           its.here (row_of page),
@@ -165,7 +146,7 @@ module _ (page : PageState) (limits : IsPageForm page.form) (strip_is : IsStripO
 
         pub place_next : place_on page.form page.page (page.number * n + strip.row)
             (record { bits = strip.place; reference = strip.reference })
-            ≡ place_over page.form item
+            ≡ place_after item
         place_next =
             let next : page.number * n + strip.row ≡ row_of page + 1 = omega (arith, reads.next_row) in
             rw (next, ← twice) refl
@@ -277,8 +258,7 @@ module _ (old page : PageState) (keeps : KeepsPlace old page) where
       let step = row_read page limits strip_is due its strip shown reads shown_is reads.within in
       let after = place_next page limits strip_is due its strip shown reads shown_is reads.within in
       let read : IsRow page.directory.file (place_of page) (goes_on its_item (place_of new)) =
-      subst (λ (i : RowItem). IsRow page.directory.file (place_of page) (goes_on i (place_of new))) item_is
-      (subst (λ (t : RowPlace). IsRow page.directory.file (place_of page) (goes_on item t)) (sym after) step) in
+      rw (← item_is, after) step in
       record {
         due = subst (λ (f : PageForm). row_of old < f.rows) same.form (rw keeps.row at (row_below page limits strip_is due));
         same = record { page = same.page; form = same.form; first = same.first; directory = same.directory };
@@ -287,7 +267,7 @@ module _ (old page : PageState) (keeps : KeepsPlace old page) where
             (subst (λ (t : RowPlace). IsRow page.directory.file t (goes_on its_item (place_of new))) keeps.place read);
         next_row = omega (arith, reads.next_row, keeps.row);
         one_more = omega (arith, keeps.read, read_is);
-        after = after ∙ ap (λ (f : PageForm). place_over f item) same.form ∙ ap (place_over old.form) item_is;
+        after = after ∙ ap place_after item_is;
       }
 
   pub stops_kept : (end : End) → StopsAtRow page end → StopsAtRow old end
@@ -371,7 +351,7 @@ module _ (old now new : PageState) (items : List RowItem) (skips : HasSkipped ol
         item_is = item_is;
         here = rw (same_on.directory, same_on.form, reads.same.page) at (its.here (row_of now));
         within = subst (λ (f : PageForm). row_of now < f.rows) skips.same.form reads.due;
-        after = reads.after ∙ ap (λ (f : PageForm). place_over f its_item) skips.same.form;
+        after = reads.after;
         next_row = omega (arith, reads.next_row, skips.rows, count);
         read = omega (arith, reads.one_more, skips.read, count);
         few = few;
@@ -426,8 +406,9 @@ page_first due p is =
     rw (is, none) refl
 
 -- a page that is due is there
-pub due_there : (due : PageDue) → IsFilePage due.page due.chain due.directory due.form → HasPage due.directory.file due.page
-due_there due its = (Ok (page_with due.directory due.form), its.here 0, tt)
+pub due_there : (p : ℕ) (chain : ChainState) (directory : TiffDirectory) (form : PageForm) → IsFilePage p chain directory form
+    → HasPage directory.file p
+due_there p chain directory form its = (Ok (page_with directory form), its.here 0, tt)
 
 pub opened_after : (file : List ℕ) (due : PageDue) (p read : ℕ) (result : Result PageState OpenFault) → due.page ≡ p
     → due.directory.file ≡ file

@@ -2,6 +2,7 @@
 use Rattle.std.proofs.Common.{◌≤◌, ◌⊎◌, inl, inr, ◌≡◌, ℕ, zero, suc, ◌+◌, List, [], ◌∷◌, length, drop, Option, Some, None, Result, Ok, Err, refl, sym}
 use Rattle.std.proofs.Common.{ap, ◌∙◌}
 use Rattle.std.proofs.Common.{subst, arith, true}
+use Rattle.std.proofs.lemmas.List.{drop-drop}
 use Rattle.std.proofs.lemmas.Option.{slice_get_cases, slice_get_within}
 use Rattle.std.specs.Prelude.{MatchResult, slice_get, ◌==◌, nat_le, if◌then◌else◌}
 use Rattle.std.proofs.lemmas.Bool.Decides.{nat_tests}
@@ -24,7 +25,7 @@ use Rattle.fax_walk.specs.code.Opening.{end_past_chain, page_or_end}
 use Rattle.fax_walk.specs.laws.Tails.{FilesHaveOneForms, CursorsHaveOneFormTail, FormTailOfPage, FormTailOfStart, FormsStandByNumber}
 use Rattle.fax_walk.specs.laws.Tails.{FormTailsGoOn}
 use Rattle.fax_bits.specs.laws.Codes.{IsOne}
-use Rattle.fax_walk.proofs.InOrderLemmas.{IsOneAnswer, IsSingle, IsListed, one_list, same_answer, split_at_number, step_parts}
+use Rattle.fax_walk.proofs.InOrderLemmas.{get_dropped, IsOneAnswer, IsSingle, IsListed, one_list, same_answer, split_at_number, step_parts}
 use Rattle.fax_walk.specs.Pages.{Step, goes_on, ends_as}
 
 -- an equation has one answer
@@ -32,28 +33,11 @@ pub only_it : {A : Type 0} (it : A) → IsOneAnswer (λ (other : A). other ≡ i
 only_it it = record { it = it; is = refl; one = λ other same. same }
 
 -- what stands at a number of a list, where so much is dropped before it
-pub get_none : (n : ℕ) (xs : List ℕ) → drop n xs ≡ [] → slice_get xs n ≡ None
-get_none zero [] e = refl
-get_none (suc n) [] e = refl
-get_none zero (x ∷ xs) e = absurd cc
-get_none (suc n) (x ∷ xs) e = get_none n xs e
-
-pub get_some : (n : ℕ) (xs : List ℕ) (y : ℕ) (ys : List ℕ) → drop n xs ≡ y ∷ ys → slice_get xs n ≡ Some y
-get_some zero [] y ys e = absurd cc
-get_some (suc n) [] y ys e = absurd cc
-get_some zero (x ∷ xs) y ys e = let same : x ≡ y = cc in ap (λ (i : ℕ). Some i) same
-get_some (suc n) (x ∷ xs) y ys e = get_some n xs y ys e
+first_dropped : (n : ℕ) (xs : List ℕ) → slice_get xs n ≡ slice_get (drop n xs) 0
+first_dropped n xs = let none : n + 0 ≡ n = omega arith in rw none at (sym (get_dropped n 0 xs))
 
 pub next_dropped : (n : ℕ) (xs : List ℕ) (y : ℕ) (ys : List ℕ) → drop n xs ≡ y ∷ ys → drop (n + 1) xs ≡ ys
-next_dropped zero [] y ys e = absurd cc
-next_dropped (suc n) [] y ys e = absurd cc
-next_dropped zero (x ∷ xs) y ys e = cc
-next_dropped (suc n) (x ∷ xs) y ys e = let m : suc n + 1 ≡ suc (n + 1) = omega arith in rw m (next_dropped n xs y ys e)
-
-pub dropped_at : (n : ℕ) (xs : List ℕ) (y : ℕ) → slice_get xs n ≡ Some y → drop n xs ≡ y ∷ drop (n + 1) xs
-dropped_at n [] y e = absurd cc
-dropped_at zero (x ∷ xs) y e = let same : x ≡ y = cc in ap (λ (i : ℕ). i ∷ xs) same
-dropped_at (suc n) (x ∷ xs) y e = let m : suc n + 1 ≡ suc (n + 1) = omega arith in rw m (dropped_at n xs y e)
+next_dropped n xs y ys e = sym (drop-drop 1 n xs) ∙ ap (drop 1) e
 
 pub proper_end : (pages : ℕ) → end_past_chain pages None (record { page = pages; row = 0 }) ≡ Proper
 proper_end pages = let test : (pages == pages) ≡ true = grind (arith, nat_tests) in rw test refl
@@ -233,11 +217,11 @@ module _ (file : List ℕ) (head : Header) (is_head : header file ≡ Ok head) (
   page_here at = rw (is_head, IsPageAt) (offsets, fault, chain, refl)
 
   pub no_page : (at : Cursor) → drop at.page offsets ≡ [] → IsPageAt file at (Err (end_past_chain (length offsets) fault at))
-  no_page at e = rw (get_none at.page offsets e) at (page_here at)
+  no_page at e = rw (first_dropped at.page offsets, e) at (page_here at)
 
   pub some_page : (at : Cursor) (q : ℕ) (later : List ℕ) → drop at.page offsets ≡ q ∷ later
       → IsPageAt file at (page_or_end head.endian q at.page (page head.endian file q))
-  some_page at q later e = rw (get_some at.page offsets q later e) at (page_here at)
+  some_page at q later e = rw (first_dropped at.page offsets, e) at (page_here at)
 
   form_first : (p q : ℕ) → IsPageAt file (record { page = p; row = 0 }) (page_or_end head.endian q p (page head.endian file q))
       → IsListed (IsForm file) (p + 1) → (answer : Result PageForm FileFault) → page head.endian file q ≡ answer → IsListed (IsForm file) p
@@ -305,9 +289,7 @@ module _ (file : List ℕ) where
   to_forms : (p : ℕ) (forms : List FormItem) (end : End) → IsFormTail file (record { page = p; row = 0 }) forms end
       → AreFrom (IsForm file) p forms end
   to_forms p forms end (begin, (Err none, page, e), are) =
-      let both = rw e at are in
-      let there : AreFrom (IsForm file) p [] none = (Err none, page, refl) in
-      subst (λ (l : List FormItem). AreFrom (IsForm file) p l end) (sym both.0) (subst (AreFrom (IsForm file) p []) (sym both.1) there)
+      let both = rw e at are in rw (both.0, both.1) (Err none, page, refl)
   to_forms p forms end (begin, (Ok here, page, e), are) = let here : begin ≡ Ok p = e in rw here at are
 
   of_forms : (p : ℕ) (forms : List FormItem) (end : End) → AreFrom (IsForm file) p forms end

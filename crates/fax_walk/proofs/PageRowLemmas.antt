@@ -2,6 +2,7 @@
 use Rattle.std.proofs.Common.{◌≡◌, ℕ, ◌+◌, ◌*◌, ◌<◌, ◌≤◌, inl, inr, Bool, true, false, List, [], ◌∷◌, ◌++◌, map, length, Some, None}
 use Rattle.std.proofs.Common.{Ok, refl, sym, ap, ◌∙◌, subst, arith, append-nil}
 use Rattle.std.proofs.lemmas.Bool.{cases_lt}
+use Rattle.std.proofs.lemmas.List.{map-append}
 use Rattle.std.proofs.lemmas.Bool.Decides.{nat_tests}
 use Rattle.std.specs.Prelude.{if◌then◌else◌, nat_lt}
 use Rattle.fax_bits.specs.declared.Colour.{Colour}
@@ -20,16 +21,12 @@ use Rattle.fax_walk.proofs.InOrderLemmas.{leads_both}
 use Rattle.fax_walk.proofs.StripPlaceLemmas.{shown_length, strip_count}
 use Rattle.fax_walk.proofs.StripRowLemmas.{AreRead, place_of, strip_rows}
 
-pub map_both : {A B : Type 0} (f : A → B) (xs ys : List A) → map f (xs ++ ys) ≡ map f xs ++ map f ys
-map_both f [] ys = refl
-map_both f (x ∷ xs) ys = ap (λ l. f x ∷ l) (map_both f xs ys)
-
 shown_both : (form : PageForm) (rows more : List (List Colour)) → shown form (rows ++ more) ≡ shown form rows ++ shown form more
 shown_both form rows more = by_test form.exchanged
   where
     by_test : (b : Bool) → (if b then map (map other) (rows ++ more) else rows ++ more)
         ≡ (if b then map (map other) rows else rows) ++ (if b then map (map other) more else more)
-    by_test true = map_both (map other) rows more
+    by_test true = map-append (map other) rows more
     by_test false = refl
 
 numbered_both : (p r : ℕ) (rows more : List (List Colour))
@@ -46,7 +43,7 @@ read_both : (file : List ℕ) (at middle : RowPlace) (r : ℕ) (rows more : List
 read_both file at middle r rows more reached same_page first second = record {
   items = first.items ++ second.items;
   rows_are =
-      map_both walked first.items second.items ∙ ap (λ (l : List WalkedRow). l ++ map walked second.items) first.rows_are
+      map-append walked first.items second.items ∙ ap (λ (l : List WalkedRow). l ++ map walked second.items) first.rows_are
       ∙ ap (λ (l : List WalkedRow). numbered at.page r rows ++ l)
       (second.rows_are ∙ ap (λ (p : ℕ). numbered p (r + length rows) more) same_page)
       ∙ sym (numbered_both at.page r rows more);

@@ -1,9 +1,9 @@
 -- Steps of a reader of pages.
 use Rattle.std.proofs.Common.{◌≡◌, ℕ, ◌+◌, ◌^◌, ◌<◌, Bool, true, false, List, [], ◌∷◌, ◌++◌, length, Option, Some, None, Result}
 use Rattle.std.proofs.Common.{Ok}
-use Rattle.std.proofs.Common.{Err, inl, inr, refl, sym, ap, ◌∙◌, subst, arith, append-nil, append_assoc, length-append}
+use Rattle.std.proofs.Common.{Err, inl, inr, refl, sym, ap, ◌∙◌, subst, arith, append-nil, append_assoc}
 use Rattle.std.proofs.lemmas.Bool.Decides.{nat_tests}
-use Rattle.std.proofs.lemmas.List.{drop_at, drop_all, length_push}
+use Rattle.std.proofs.lemmas.List.{length_push}
 use Rattle.std.specs.Prelude.{IfOk, IfErr, nat_le, ◌==◌}
 use Rattle.fax_files.specs.declared.PageForm.{PageForm}
 use Rattle.fax_files.specs.views.Chain.{ChainState}
@@ -11,18 +11,22 @@ use Rattle.fax_files.specs.views.Tiff.{TiffDirectory}
 use Rattle.fax_walk.specs.declared.cursor.Cursor.{Cursor}
 use Rattle.fax_walk.specs.declared.end.End.{End}
 use Rattle.fax_walk.specs.Pages.{AreFrom, FormItem, IsForm, IsFormTail}
-use Rattle.fax_walk.specs.code.Pages.{GoesOnAt, HasGiven, IsPageAfter, IsFirstDue, IsDueIn}
+use Rattle.fax_walk.specs.code.Pages.{told_of, IsSoundReader, GoesOnAt, HasGiven, IsPageAfter, IsFirstDue, IsDueIn}
 use Rattle.fax_walk.specs.code.Pages.{EndsNow}
 use Rattle.fax_walk.specs.views.InOrder.{EndsAfter, HasEndedAs, HasToldNoOther}
 use Rattle.fax_walk.specs.declared.end.End.TheVariants.{Fault, Outside, Proper}
 use Rattle.fax_walk.specs.declared.end.WalkFault.{WalkFault}
 use Rattle.fax_walk.specs.declared.end.WalkFault.TheVariants.{AtRow, CursorOutside}
 use Rattle.fax_walk.specs.code.Walk.{answer_of}
-use Rattle.fax_walk.specs.views.Pages.{PagesView, HandsOutPage, IsNextPage}
+use Rattle.fax_walk.specs.views.Pages.{IsCursorOf, PagesView, HandsOutPage, IsNextPage}
 use Rattle.fax_walk.specs.laws.Forms.{AreFormsLeft}
 use Rattle.fax_walk.specs.laws.Tails.{CursorsHaveOneFormTail, FormTailOfPage}
-use Rattle.fax_walk.specs.code.Opening.{PageDue, IsPageDue, IsFilePage, IsChainBefore, IsNamed, EndsAt, page_with}
+use Rattle.fax_files.specs.views.Page.{IsPageForm}
+use Rattle.fax_walk.specs.code.Opening.{PageDue, IsFilePage, IsChainBefore, IsNamed, EndsAt, page_with}
 use Rattle.fax_walk.proofs.InOrderLemmas.{get_after}
+use Rattle.fax_walk.proofs.LeftLemmas.{left_after, left_ended}
+use Rattle.fax_walk.specs.declared.pages.PagesStage.{PagesStage}
+use Rattle.fax_walk.specs.declared.pages.PagesStage.TheVariants.{Before, After, Ended}
 use Rattle.fax_walk.specs.Pages.{goes_on, ends_as}
 
 -- a page of a file is the form of its number
@@ -116,15 +120,15 @@ module _ (tails : CursorsHaveOneFormTail) (of_page : FormTailOfPage) where
       (one.items, one.end, (of_page file p one.items one.end).0 one.is)
 
   -- the page that is due is handed out
-  pub page_given : (pages : PagesView) (due : PageDue) → IsDueIn pages due → IsPageDue due.page due.chain due.directory due.form
-      → due.page + 1 < 2 ^ 32
+  pub page_given : (pages : PagesView) (due : PageDue) → IsDueIn pages due → IsFilePage due.page due.chain due.directory due.form
+      → IsPageForm due.form → due.page + 1 < 2 ^ 32
       → HandsOutPage pages (record { page = due.page; form = due.form })
       (record pages { given = pages.given + 1; told = None })
-  page_given pages due is its short =
+  page_given pages due is its limits short =
       let item : FormItem = record { page = due.page; form = due.form } in
       let more = forms_on pages.file (due.page + 1) in
       let from : AreFrom (IsForm pages.file) due.page (item ∷ more.0) more.1 =
-      (due.page + 1, rw (is.file_is) at (form_here due.page due.chain due.directory due.form its.its), more.2) in (
+      (due.page + 1, rw (is.file_is) at (form_here due.page due.chain due.directory due.form its), more.2) in (
         record {
           untold = is.untold;
           number = (
@@ -136,41 +140,25 @@ module _ (tails : CursorsHaveOneFormTail) (of_page : FormTailOfPage) where
           few = omega (arith, is.come.few, short);
           new_is = ap (λ (t : Option End). record pages { given = pages.given + 1; told = t }) (sym is.untold);
         },
-        its.limits,
+        limits,
       )
 
-  pub forms_left : (file : List ℕ) (begun : Cursor) (given p : ℕ) → HasGiven file begun given p
-      → (forms : List FormItem) × (end : End)
-      × AreFormsLeft (record { file = file; begun = begun; given = given; told = None }) forms end
-  forms_left file begun given p come =
-      let more = forms_on file p in (
-        more.0,
-        more.1,
-        record {
-          all = come.forms ++ more.0;
-          is = come.on more.0 more.1 more.2;
-          within = omega (arith, come.count, length-append come.forms more.0);
-          rest = sym (drop_at come.forms more.0 given come.count);
-          is_told = tt;
-        },
-      )
+-- what is left of a reader of pages
+untold : (file : List ℕ) (begun : Cursor) (given : ℕ) (cursor : Cursor) → CursorsHaveOneFormTail
+    → IsCursorOf (record { file = file; begun = begun; given = given; told = None }) cursor
+    → (forms : List FormItem) × (end : End)
+    × AreFormsLeft (record { file = file; begun = begun; given = given; told = None }) forms end
+untold file begun given cursor tails is =
+    left_after IsFormTail (record { file = file; begun = begun; given = given; told = None }) (λ at. at)
+    (λ item. record { page = item.page + 1; row = 0 }) cursor (tails file begun) is
 
-  pub forms_left_first : (file : List ℕ) (begun : Cursor)
-      → (forms : List FormItem) × (end : End)
-      × AreFormsLeft (record { file = file; begun = begun; given = 0; told = None }) forms end
-  forms_left_first file begun =
-      let one = tails file begun in
-      (one.items, one.end, record { all = one.items; is = one.is; within = omega arith; rest = refl; is_told = tt })
-
-pub forms_left_none : (file : List ℕ) (begun : Cursor) (given : ℕ) (end : End) → EndsAfter (IsFormTail file begun) given end
-    → AreFormsLeft (record { file = file; begun = begun; given = given; told = Some end }) [] end
-forms_left_none file begun given end (all, is, count) = record {
-  all = all;
-  is = is;
-  within = omega (arith, count);
-  rest = sym (drop_all given all (omega (arith, count)));
-  is_told = (refl, refl);
-}
+pub forms_left : (file : List ℕ) (begun : Cursor) (given : ℕ) (cursor : Cursor) (stage : PagesStage) → CursorsHaveOneFormTail
+    → IsSoundReader file begun given cursor stage
+    → (forms : List FormItem) × (end : End)
+    × AreFormsLeft (record { file = file; begun = begun; given = given; told = told_of stage }) forms end
+forms_left file begun given cursor Before tails sound = untold file begun given cursor tails sound.cursor_is
+forms_left file begun given cursor (After chain) tails sound = untold file begun given cursor tails sound.cursor_is
+forms_left file begun given cursor (Ended end) tails sound = ([], end, left_ended (IsFormTail file begun) given end sound.come)
 
 -- one page more was handed out
 pub given_more : (file : List ℕ) (begun : Cursor) (given : ℕ) (due : PageDue) → HasGiven file begun given due.page

@@ -1,7 +1,10 @@
 -- What a walk begins with has one tail and one end.
 use Rattle.std.proofs.Common.{◌≡◌, ℕ, zero, suc, ◌+◌, ◌*◌, ◌<◌, ◌≤◌, ◌⊎◌, inl, inr, Bool, true, false, List, [], ◌∷◌, map, length, drop}
-use Rattle.std.proofs.Common.{Option, Some, None, Result, Ok, Err, refl, sym, ap, ◌∙◌, arith, length-drop}
-use Rattle.std.proofs.lemmas.Bool.{cases_lt}
+use Rattle.std.proofs.Common.{subst, Option, Some, None, Result, Ok, Err, refl, sym, ap, ◌∙◌, arith, length-drop}
+use Rattle.std.proofs.lemmas.Bool.{cases_eq, cases_lt}
+use Rattle.std.proofs.lemmas.Slice.Eq.{bytes_eq-Decides}
+use Rattle.std.specs.Bool.{Decides}
+use Rattle.std.specs.Str.{bytes_eq}
 use Rattle.std.proofs.lemmas.Bool.Decides.{nat_tests}
 use Rattle.std.specs.Prelude.{if◌then◌else◌, nat_lt, ◌==◌}
 use Rattle.fax_bits.specs.declared.Colour.{Colour}
@@ -30,9 +33,7 @@ use Rattle.fax_walk.specs.Pages.{FilePage, IsPageAt}
 use Rattle.fax_walk.specs.Items.{RowItem, Inner, RowPlace, first_at, exchanged}
 use Rattle.fax_walk.specs.code.Places.{strip_at, row_in_strip}
 use Rattle.fax_walk.specs.Items.{before, IsInStrip, IsRow}
-use Rattle.fax_walk.specs.code.Places.{place_over}
 use Rattle.fax_walk.specs.Items.{place_after}
-use Rattle.fax_walk.specs.code.Places.{IsItem}
 use Rattle.fax_walk.specs.Items.{IsBegunOn, IsInnerOn, IsTailFrom, inner_at, begun_cursor}
 use Rattle.fax_walk.specs.views.Walk.{Begins}
 use Rattle.fax_walk.specs.code.Places.{FitsStrip}
@@ -95,14 +96,17 @@ module _ (by_place : AreBitsByPlace) (lines_read : LinesAreRead) where
     abbrev b : List Bool
     b = drop (before form.width at.inner).bits all
 
-    one_item : (item another : RowItem) → IsItem form bytes at item → IsItem form bytes at another → another ≡ item
-    one_item item another is is_too =
+    abbrev IsItem : RowItem → RowPlace → Type 0
+    IsItem item to = IsInStrip form at (Some bytes) (goes_on item to)
+
+    one_item : (item another : RowItem) (to place : RowPlace) → IsItem item to → IsItem another place → another ≡ item
+    one_item item another to place is is_too =
         let same =
         (lines_read strip i reference).one_answer b (exchanged form another.pels) (exchanged form item.pels) _ _ is_too.3 is.3 in
         let pels : another.pels ≡ item.pels =
         sym (exchanged_twice form another.pels) ∙ ap (exchanged form) same.0 ∙ exchanged_twice form item.pels in
-        let place : another.bits ≡ item.bits = one_place by_place form.order bytes another.bits item.bits is_too.2 is.2 same.1 in
-        same_items another item (is_too.0 ∙ sym is.0) (is_too.4 ∙ sym is.4) (is_too.1 ∙ sym is.1) pels place
+        let place_is : another.bits ≡ item.bits = one_place by_place form.order bytes another.bits item.bits is_too.2 is.2 same.1 in
+        same_items another item (is_too.0 ∙ sym is.0) (is_too.5 ∙ sym is.5) (is_too.1 ∙ sym is.1) pels place_is
 
     by_line : ((row : List Colour) × (rest : List Bool) × IsLine strip i reference b row rest)
         ⊎ ((fault : StripFault) × IsCause strip i reference b fault)
@@ -110,18 +114,17 @@ module _ (by_place : AreBitsByPlace) (lines_read : LinesAreRead) where
     by_line (inl (row, rest, line)) =
         let from = rest_at strip i reference all (before form.width at.inner).bits row rest line in
         let item : RowItem = record { page = at.page; form = form; row = at.row; pels = exchanged form row; bits = from.0 } in
-        let is : IsItem form bytes at item =
-        (refl, refl, omega (arith, from.1, by_place.count form.order bytes), rw (from.2, exchanged_twice form row) line, refl) in
-        record { it = goes_on item (place_after item); is = (is.0, is.1, is.2, is.3, refl, is.4); one = only_item item is }
+        let is : IsItem item (place_after item) =
+        (refl, refl, omega (arith, from.1, by_place.count form.order bytes), rw (from.2, exchanged_twice form row) line, refl, refl) in
+        record { it = goes_on item (place_after item); is = is; one = only_item item is }
       where
-        only_item : (item : RowItem) → IsItem form bytes at item → (other : Step RowItem RowPlace)
+        only_item : (item : RowItem) → IsItem item (place_after item) → (other : Step RowItem RowPlace)
             → IsInStrip form at (Some bytes) other
             → other ≡ goes_on item (place_after item)
         only_item item is (ends_as end) (fault, stop, end_is) =
             absurd ((lines_read strip i reference).answer_has_no_fault b _ _ fault is.3 stop)
         only_item item is (goes_on another to) is_too =
-            let same = one_item item another is (is_too.0, is_too.1, is_too.2, is_too.3, is_too.5) in
-            rw (is_too.4, same) refl
+            let same = one_item item another (place_after item) to is is_too in rw (is_too.4, same) refl
     by_line (inr (fault, stop)) =
         record { it = ends_as (Fault at.page at.row (Strip fault)); is = (fault, stop, refl); one = only_stop }
       where
@@ -154,43 +157,42 @@ module _ (by_place : AreBitsByPlace) (lines_read : LinesAreRead) where
         (λ here. one_in_strip here.form at (strip_bytes here.endian file here.offset (strip_at here.form at.row))) in
         record { it = only.it; is = only.is; one = only.one }
 
--- an item knows its page's form
-pub over_form : (item : RowItem) (form : PageForm) → item.form ≡ form → place_after item ≡ place_over form item
-over_form item form same = ap (λ (f : PageForm). place_over f item) same
-
 -- what the row at a place is, and what is after it
 pub step_of : (form : PageForm) (at : RowPlace) (found : Option (List ℕ)) (item : RowItem) (to : RowPlace)
     → IsInStrip form at found (goes_on item to)
-    → (item.page ≡ at.page) × (item.row ≡ at.row) × (to ≡ place_over form item)
+    → (item.page ≡ at.page) × (item.row ≡ at.row) × (to ≡ place_after item) × (item.form ≡ form)
 step_of form at None item to is = absurd cc
-step_of form at (Some bytes) item to is = (is.0, is.1, is.4 ∙ over_form item form is.5)
+step_of form at (Some bytes) item to is = (is.0, is.1, is.4, is.5)
 
 -- the place inside its strip after an item
 abbrev pub inner_after : PageForm → RowItem → RowPlace
 inner_after form item =
     record { page = item.page; row = item.row + 1; inner = Some (record { bits = item.bits; reference = exchanged form item.pels }) }
 
--- after an item: on the page after, at the page's next strip, or inside its strip
-pub cases_after : (form : PageForm) (item : RowItem)
-    → ((form.rows ≤ item.row + 1) × (place_over form item ≡ first_at (item.page + 1) 0))
-    ⊎ ((item.row + 1 < form.rows) × (row_in_strip form (item.row + 1) ≡ 0) × (place_over form item ≡ first_at item.page (item.row + 1)))
-    ⊎ ((item.row + 1 < form.rows) × (0 < row_in_strip form (item.row + 1)) × (place_over form item ≡ inner_after form item))
-cases_after form item = elim (cases_lt (item.row + 1) form.rows) [
+-- after an item of a page of this form: on the page after, at the page's next strip, or inside its strip
+abbrev pub IsAfter : PageForm → RowItem → RowPlace → Type 0
+IsAfter form item to =
+    ((form.rows ≤ item.row + 1) × (to ≡ first_at (item.page + 1) 0))
+    ⊎ ((item.row + 1 < form.rows) × (row_in_strip form (item.row + 1) ≡ 0) × (to ≡ first_at item.page (item.row + 1)))
+    ⊎ ((item.row + 1 < form.rows) × (0 < row_in_strip form (item.row + 1)) × (to ≡ inner_after form item))
+
+pub cases_after : (form : PageForm) (item : RowItem) → item.form ≡ form → IsAfter form item (place_after item)
+cases_after form item same = subst (λ (f : PageForm). IsAfter f item (place_after item)) same (elim (cases_lt (item.row + 1) item.form.rows) [
   | inl less ↦
-      let test : nat_lt (item.row + 1) form.rows ≡ true = grind (arith, nat_tests, less) in
-      elim (cases_lt 0 (row_in_strip form (item.row + 1))) [
+      let test : nat_lt (item.row + 1) item.form.rows ≡ true = grind (arith, nat_tests, less) in
+      elim (cases_lt 0 (row_in_strip item.form (item.row + 1))) [
         | inl some ↦
-            let first : (row_in_strip form (item.row + 1) == 0) ≡ false = grind (arith, nat_tests, some) in
+            let first : (row_in_strip item.form (item.row + 1) == 0) ≡ false = grind (arith, nat_tests, some) in
             inr (inr (less, some, rw (test, first) refl))
         | inr none ↦
-            let zero_is : row_in_strip form (item.row + 1) ≡ 0 = omega (arith, none) in
-            let first : (row_in_strip form (item.row + 1) == 0) ≡ true = grind (arith, nat_tests, zero_is) in
+            let zero_is : row_in_strip item.form (item.row + 1) ≡ 0 = omega (arith, none) in
+            let first : (row_in_strip item.form (item.row + 1) == 0) ≡ true = grind (arith, nat_tests, zero_is) in
             inr (inl (less, zero_is, rw (test, first) refl))
       ]
   | inr more ↦
-      let test : nat_lt (item.row + 1) form.rows ≡ false = grind (arith, nat_tests, more) in
+      let test : nat_lt (item.row + 1) item.form.rows ≡ false = grind (arith, nat_tests, more) in
       inl (more, rw test refl)
-]
+])
 
 module _ (by_place : AreBitsByPlace) (lines_read : LinesAreRead) (file : List ℕ) (head : Header) (is_head : header file ≡ Ok head)
     (offsets : List ℕ) (fault : Option FileFault) (chain : IsChain head file offsets fault) where
@@ -202,10 +204,10 @@ module _ (by_place : AreBitsByPlace) (lines_read : LinesAreRead) (file : List �
 
   module _ (q : ℕ) (form : PageForm) (at : RowPlace) (here : IsPageAt file (cursor_at at)
       (Ok (record { endian = head.endian; offset = q; form = form }))) where
-    row_after : (item : RowItem) → item.page ≡ at.page → item.row ≡ at.row
+    row_after : (item : RowItem) → item.page ≡ at.page → item.row ≡ at.row → item.form ≡ form
         → ((inner : Option Inner) → at.row + 1 < form.rows → Listed (record { page = at.page; row = at.row + 1; inner = inner }))
-        → Listed (first_at (at.page + 1) 0) → Listed (place_over form item)
-    row_after item same_page same_row next more = elim (cases_after form item) [
+        → Listed (first_at (at.page + 1) 0) → Listed (place_after item)
+    row_after item same_page same_row same_form next more = elim (cases_after form item same_form) [
       | inl (last, is) ↦ rw (is, same_page) more
       | inr (inl (less, first, is)) ↦ rw (is, same_page, same_row) (next None (omega (arith, less, same_row)))
       | inr (inr (less, inside, is)) ↦
@@ -219,7 +221,7 @@ module _ (by_place : AreBitsByPlace) (lines_read : LinesAreRead) (file : List �
     listed_row (ends_as end) is next more = record { items = []; end = end; is = (Ok _, here, is) }
     listed_row (goes_on item to) is next more =
         let step = step_of form at _ item to is in
-        let rest : Listed to = rw step.2 (row_after item step.0 step.1 next more) in
+        let rest : Listed to = rw step.2 (row_after item step.0 step.1 step.3 next more) in
         record { items = item ∷ rest.items; end = rest.end; is = (to, (Ok _, here, is), rest.is) }
 
   rows_on : (fuel q : ℕ) (form : PageForm) (later : List ℕ) (at : RowPlace) → drop at.page offsets ≡ q ∷ later
@@ -251,33 +253,19 @@ module _ (by_place : AreBitsByPlace) (lines_read : LinesAreRead) (file : List �
       on_page q later at e (page head.endian file q) refl (rows_from later (first_at (at.page + 1) 0)
       (next_dropped at.page offsets q later e))
 
-same_number : (a b : ℕ) → (a ≡ b) ⊎ (a ≡ b → ⊥)
-same_number a b = elim (cases_lt a b) [
-  | inl less ↦ inr (λ e. omega (arith, e, less))
-  | inr more ↦ elim (cases_lt b a) [
-    | inl less ↦ inr (λ e. omega (arith, e, less))
-    | inr both ↦ inl (omega (arith, more, both))
-  ]
-]
-
 same_list : (xs ys : List ℕ) → (xs ≡ ys) ⊎ (xs ≡ ys → ⊥)
-same_list [] [] = inl refl
-same_list [] (y ∷ ys) = inr (λ e. cc e)
-same_list (x ∷ xs) [] = inr (λ e. cc e)
-same_list (x ∷ xs) (y ∷ ys) = elim (same_number x y) [
-  | inl first ↦ elim (same_list xs ys) [
-    | inl rest ↦ inl (ap (λ (n : ℕ). n ∷ xs) first ∙ ap (λ (l : List ℕ). y ∷ l) rest)
-    | inr not ↦ inr (λ e. not (let rest : xs ≡ ys = cc e in rest))
-  ]
-  | inr not ↦ inr (λ e. not (let first : x ≡ y = cc e in first))
-]
+same_list xs ys = by_test (bytes_eq xs ys) (bytes_eq-Decides xs ys)
+  where
+    by_test : (test : Bool) → Decides test (xs ≡ ys) → (xs ≡ ys) ⊎ (xs ≡ ys → ⊥)
+    by_test true decides = inl (decides.0 refl)
+    by_test false decides = inr (λ same. let no = decides.1 same in cc)
 
 fits : (width : ℕ) (found : Option (List ℕ)) (place : LongPlace) → FitsStrip width found place ⊎ (FitsStrip width found place → ⊥)
 fits width None place = inl tt
 fits width (Some bytes) place = elim (cases_lt (8 * length bytes) place.bits) [
   | inl far ↦ inr (λ is. omega (arith, far, is.0))
   | inr within ↦ elim (same_list (runs_of (pels_of White place.runs)) place.runs) [
-    | inl runs ↦ elim (same_number (length (pels_of White place.runs)) width) [
+    | inl runs ↦ elim (cases_eq (length (pels_of White place.runs)) width) [
       | inl count ↦ inl (within, count, runs)
       | inr not ↦ inr (λ is. not is.1)
     ]

@@ -1,9 +1,9 @@
 -- Rows that are read from a walk and put.
 use Rattle.std.proofs.Common.{◌≡◌, ◌≢◌, ℕ, zero, suc, ◌+◌, ◌<◌, ◌≤◌, ◌⊎◌, inl, inr, List, [], ◌∷◌, ◌++◌, length, take, Some, None, Ok, Err}
-use Rattle.std.proofs.Common.{Bor, refl, sym}
+use Rattle.std.proofs.Common.{Bor, sym}
 use Rattle.std.proofs.Common.{ap, ◌∙◌, subst, arith, length-append, length-take}
 use Rattle.std.proofs.lemmas.Bool.{cases_lt}
-use Rattle.std.proofs.lemmas.List.{map-append}
+use Rattle.std.proofs.lemmas.List.{map-append, take-map}
 use Rattle.fax_bits.specs.declared.Colour.{Colour}
 use Rattle.fax_files.specs.declared.Cause.{Cause}
 use Rattle.fax_files.specs.laws.Pbm.{AreOfWidth}
@@ -38,11 +38,6 @@ pub record HasConverted (walk : WalkView) (output : Output) (sheet : Sheet) (cou
   pub given : new_walk.given ≡ walk.given + count
   pub within : count ≤ length due.page.own
   pub put : PutsRows output sheet (take count (pels_of due.page.own)) new_output
-
-take_pels : (n : ℕ) (items : List RowItem) → take n (pels_of items) ≡ pels_of (take n items)
-take_pels zero items = refl
-take_pels (suc n) [] = refl
-take_pels (suc n) (x ∷ items) = ap (λ (l : List (List Colour)). x.pels ∷ l) (take_pels n items)
 
 wide_at : (width n : ℕ) (items : List RowItem) (item : RowItem) → AreOfWidth width (pels_of items)
     → take (n + 1) items ≡ take n items ++ item ∷
@@ -164,9 +159,9 @@ module _ (tail : TailOfStart) (answers : (file : List ℕ) (at : RowPlace) → I
       let next = next_of item gives.number in
       let puts : PutsRow middle item.pels new_output = rw gives.pels puts_row in
       let rows_are : rows ++ item.pels ∷ [] ≡ take (count + 1) (pels_of own) =
-      ap (λ (l : List (List Colour)). l ++ item.pels ∷ []) (take_pels count own)
+      ap (λ (l : List (List Colour)). l ++ item.pels ∷ []) (take-map (λ (i : RowItem). i.pels) count own)
       ∙ sym (map-append (λ (i : RowItem). i.pels) (take count own) (item ∷ [])) ∙ sym (ap pels_of next.1)
-      ∙ sym (take_pels (count + 1) own) in
+      ∙ sym (take-map (λ (i : RowItem). i.pels) (count + 1) own) in
       record {
         same_file = gives.same_file ∙ so_far.same_file;
         same_begun = gives.same_begun ∙ so_far.same_begun;

@@ -1,7 +1,7 @@
 -- Cursors after items have numbers of 32 bits.
 use Rattle.std.proofs.Common.{◌≡◌, ℕ, ◌+◌, ◌^◌, ◌<◌, true, false, List, [], ◌∷◌, length, drop, Ok}
 use Rattle.std.proofs.Common.{sym, ap, ◌∙◌, subst, arith}
-use Rattle.std.specs.Prelude.{if◌then◌else◌, nat_lt}
+use Rattle.std.specs.Prelude.{if◌then◌else◌}
 use Rattle.std.specs.List.{All}
 use Rattle.std.proofs.lemmas.Bool.Decides.{nat_tests}
 use Rattle.std.proofs.lemmas.List.Elements.{All-cons, All-nil}
@@ -77,7 +77,7 @@ places_are_short forms chains file begun all end n item place short tail there l
     ∙ (inner forms chains file begun item after end split place long).1 in
     let runs : All (λ run. run < 2 ^ 32) (runs_of (exchanged row.here.form item.pels)) =
     runs_short White 0 (2 ^ 32) (exchanged row.here.form item.pels) (omega (arith, wide, whole.width)) in
-    let bits : item.bits < 2 ^ 32 = by_test fact.bits in
+    let bits : item.bits < 2 ^ 32 = grind (arith, nat_tests, fact.bits) in
     let found : IsLongCursor (long_of forms chains file row.here.form item) = record {
       cursor = record { page = omega (arith, few, short, row.is.0); row = omega (arith, fact.within, whole.rows) };
       bits = bits;
@@ -85,6 +85,3 @@ places_are_short forms chains file begun all end n item place short tail there l
       some = some_run White 0 (exchanged row.here.form item.pels);
     } in
     subst IsLongCursor fact.is found
-  where
-    by_test : nat_lt item.bits (2 ^ 32) ≡ true → item.bits < 2 ^ 32
-    by_test is = grind (arith, nat_tests)

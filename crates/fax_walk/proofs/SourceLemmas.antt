@@ -18,12 +18,11 @@ use Rattle.fax_walk.specs.declared.end.End.{End}
 use Rattle.fax_walk.specs.declared.end.End.TheVariants.{Fault}
 use Rattle.fax_walk.specs.Pages.{IsPageAt}
 use Rattle.fax_walk.specs.Items.{RowItem, Inner, RowPlace, first_at, exchanged, before}
-use Rattle.fax_walk.specs.code.Places.{place_over}
+use Rattle.fax_walk.specs.Items.{place_after}
 use Rattle.fax_walk.specs.code.Places.{strip_at}
 use Rattle.fax_walk.specs.Items.{IsInStrip, IsRow}
-use Rattle.fax_walk.specs.code.Places.{IsItem}
 use Rattle.fax_walk.specs.code.Sources.{HasRows}
-use Rattle.fax_walk.proofs.RowLawLemmas.{over_form, LinesAreRead, one_in_strip, cases_after}
+use Rattle.fax_walk.proofs.RowLawLemmas.{LinesAreRead, one_in_strip, cases_after}
 use Rattle.fax_walk.proofs.WidthLemmas.{row_in}
 use Rattle.fax_walk.specs.Pages.{Step, goes_on, ends_as}
 
@@ -78,16 +77,16 @@ module _ (by_place : AreBitsByPlace) (lines_read : LinesAreRead) (file : List �
   none_left : Rows (first_at (p + 1) 0) 0
   none_left = record { own = []; to = first_at (p + 1) 0; lead = refl; wide = tt; ends = inl (refl, refl) }
 
-  item_wide : (r : ℕ) (inner : Option Inner) (bytes : List ℕ) (item : RowItem) → IsWide inner → IsItem form bytes (place_at r inner) item
-      → length (exchanged form item.pels) ≡ form.width
-  item_wide r inner bytes item wide is =
+  item_wide : (r : ℕ) (inner : Option Inner) (bytes : List ℕ) (item : RowItem) (to : RowPlace) → IsWide inner
+      → IsInStrip form (place_at r inner) (Some bytes) (goes_on item to) → length (exchanged form item.pels) ≡ form.width
+  item_wide r inner bytes item to wide is =
       row_in is.3.dimension form.width (before form.width inner).reference is.3.codes (exchanged form item.pels) _ wide is.3.coded
 
   module _ (rows r : ℕ) (count : r + (rows + 1) ≡ form.rows)
       (next : (inner : Option Inner) → IsWide inner → 0 < rows → Rows (place_at (r + 1) inner) rows) where
-    after : (item : RowItem) → item.page ≡ p → item.row ≡ r → length (exchanged form item.pels) ≡ form.width → Rows (place_over form item)
-        rows
-    after item same_page same_row wide = elim (cases_after form item) [
+    after : (item : RowItem) → item.page ≡ p → item.row ≡ r → item.form ≡ form → length (exchanged form item.pels) ≡ form.width
+        → Rows (place_after item) rows
+    after item same_page same_row same_form wide = elim (cases_after form item same_form) [
       | inl (last, is) ↦
           let none : rows ≡ 0 = omega (arith, last, same_row, count) in
           rw (is, same_page, none) none_left
@@ -110,9 +109,9 @@ module _ (by_place : AreBitsByPlace) (lines_read : LinesAreRead) (file : List �
         stops r (rows + 1) inner r (Strip fault) (omega arith)
         (subst (λ (e : End). IsRow file (place_at r inner) (ends_as e)) end_is row)
     by_found inner wide (Some bytes) (goes_on item to) is row =
-        let item_is = item_wide r inner bytes item wide (is.0, is.1, is.2, is.3, is.5) in
+        let item_is = item_wide r inner bytes item to wide is in
         one_more r rows inner item to (sym (exchanged_length form item.pels) ∙ item_is) row
-        (rw (is.4 ∙ over_form item form is.5) (after item is.0 is.1 item_is))
+        (rw is.4 (after item is.0 is.1 is.5 item_is))
 
   -- from a place on
   pub rows_on : (rows r : ℕ) (inner : Option Inner) → r + rows ≡ form.rows → IsWide inner → 0 < rows → Rows (place_at r inner) rows

@@ -23,10 +23,8 @@ use Rattle.fax_walk.specs.declared.end.End.TheVariants.{Fault}
 use Rattle.fax_walk.specs.laws.InOrder.{LeadTo}
 use Rattle.fax_walk.specs.Pages.{IsPageAt}
 use Rattle.fax_walk.specs.Items.{RowItem, Inner, RowPlace, first_at, exchanged, before}
-use Rattle.fax_walk.specs.code.Places.{place_over}
 use Rattle.fax_walk.specs.code.Places.{strip_at, row_in_strip}
-use Rattle.fax_walk.specs.Items.{IsInStrip, IsRow}
-use Rattle.fax_walk.specs.code.Places.{IsItem}
+use Rattle.fax_walk.specs.Items.{IsInStrip, IsRow, place_after}
 use Rattle.fax_walk.specs.laws.Written.{WalkedRow, walked, numbered}
 use Rattle.fax_walk.proofs.RestLemmas.{rest_at}
 use Rattle.fax_walk.proofs.RowLawLemmas.{exchanged_twice, cases_after}
@@ -102,8 +100,9 @@ module _ (by_place : AreBitsByPlace) (file : List ℕ) (endian : Endian) (q : �
     numbers r i r_is within = in_strip n s i r (omega (arith, within)) r_is
 
     -- after the strip's last row
-    after_strip : (item : RowItem) → item.page ≡ p → item.row + 1 ≡ s * n + strip.rows → place_over form item ≡ place_of (item.row + 1)
-    after_strip item page_is row_is = elim (cases_after form item) [
+    after_strip : (item : RowItem) → item.form ≡ form → item.page ≡ p → item.row + 1 ≡ s * n + strip.rows
+        → place_after item ≡ place_of (item.row + 1)
+    after_strip item same page_is row_is = elim (cases_after form item same) [
       | inl (last, is) ↦
           let test : nat_lt (item.row + 1) form.rows ≡ false = grind (arith, nat_tests, last) in
           is ∙ rw (test, page_is) refl
@@ -146,21 +145,22 @@ module _ (by_place : AreBitsByPlace) (file : List ℕ) (endian : Endian) (q : �
         let number = numbers r i r_is within in
         let from = rest_at strip i (before form.width inner).reference all (before form.width inner).bits row rest line in
         let item : RowItem = record { page = p; form = form; row = r; pels = exchanged form row; bits = from.0 } in
-        let is : IsItem form bytes (place_at r inner) item = (
+        let is : IsInStrip form (place_at r inner) (Some bytes) (goes_on item (place_after item)) = (
           refl,
           refl,
           omega (arith, from.1, by_place.count form.order bytes),
           rw (number.0, number.1, from.2, exchanged_twice form row) line,
           refl,
+          refl,
         ) in
         let count : r + length (row ∷ rows) ≡ r + 1 + length rows = omega arith in
-        let step : IsRow file (place_at r inner) (goes_on item (place_over form item)) =
-        row_at r inner (Some bytes) (goes_on item (place_over form item)) (rw number.0 bytes_are) (is.0, is.1, is.2, is.3, refl, refl) in
+        let step : IsRow file (place_at r inner) (goes_on item (place_after item)) =
+        row_at r inner (Some bytes) (goes_on item (place_after item)) (rw number.0 bytes_are) is in
         elim (cases_lt (i + 1) strip.rows) [
           | inl less ↦
               let next = numbers (r + 1) (i + 1) (omega (arith, r_is)) less in
-              let to : place_over form item ≡ place_at (r + 1) (Some (record { bits = from.0; reference = row })) =
-              elim (cases_after form item) [
+              let to : place_after item ≡ place_at (r + 1) (Some (record { bits = from.0; reference = row })) =
+              elim (cases_after form item refl) [
                 | inl (last, to_is) ↦ absurd (omega (arith, last, less, r_is))
                 | inr (inl (here, first, to_is)) ↦ absurd (omega (arith, next.1, first))
                 | inr (inr (here, inside, to_is)) ↦
@@ -176,7 +176,7 @@ module _ (by_place : AreBitsByPlace) (file : List ℕ) (endian : Endian) (q : �
               (subst (λ (a : RowPlace). IsRow file (place_at r inner) (goes_on item a)) to step) later)
           | inr last ↦
               let none = ended (i + 1) row rest rows stop left last more in
-              let to = after_strip item refl (omega (arith, r_is, last, due)) in
+              let to = after_strip item refl refl (omega (arith, r_is, last, due)) in
               let here : r + length (row ∷ rows) ≡ r + 1 = ap (λ (l : List (List Colour)). r + length (row ∷ l)) none.0 in
               let only : shown form (row ∷ rows) ≡ exchanged form row ∷ [] =
               shown_row form row rows ∙ ap (λ (l : List (List Colour)). exchanged form row ∷ shown form l) none.0

@@ -34,16 +34,15 @@ module _ (file : List ℕ) (at : Cursor) (here : FilePage) (page : IsPageAt file
       let test : (at.row == here.form.rows) ≡ false = grind (arith, nat_tests, past) in
       (Ok here, page, rw (below, test) refl)
 
+pub same_place : (from at : RowPlace) (k n : ℕ) → ◌≡◌ {A = Result (RowPlace × ℕ) End} (Ok (from, k)) (Ok (at, n)) → from ≡ at
+same_place from at k n e = let both : ◌≡◌ {A = RowPlace × ℕ} (from, k) (at, n) = cc in ap (λ (b : RowPlace × ℕ). b.0) both
+
 -- the place where a walk from a cursor begins: the first row of the cursor's strip, or of the page after
 pub begun_cases : (file : List ℕ) (at : Cursor) (here : FilePage) (from : RowPlace) (k : ℕ) → IsBegunOn file (At at) here (Ok (from, k))
     → ((at.row < here.form.rows) × (from ≡ first_at at.page (strip_at here.form at.row * here.form.rows_per_strip)))
     ⊎ (from ≡ first_at (at.page + 1) 0)
 begun_cases file at here from k is = by_test (nat_lt at.row here.form.rows) refl (at.row == here.form.rows) is
   where
-    place_of : Result (RowPlace × ℕ) End → RowPlace
-    place_of (Ok begin) = begin.0
-    place_of (Err end) = from
-
     strip_of_cursor : RowPlace
     strip_of_cursor = first_at at.page (strip_at here.form at.row * here.form.rows_per_strip)
 
@@ -52,6 +51,6 @@ begun_cases file at here from k is = by_test (nat_lt at.row here.form.rows) refl
         (if below then Ok (strip_of_cursor, row_in_strip here.form at.row)
         else (if last then Ok (first_at (at.page + 1) 0, 0) else Err Outside))
         → ((at.row < here.form.rows) × (from ≡ strip_of_cursor)) ⊎ (from ≡ first_at (at.page + 1) 0)
-    by_test true below last e = inl (grind (arith, nat_tests, below), ap place_of e)
-    by_test false below true e = inr (ap place_of e)
+    by_test true below last e = inl (grind (arith, nat_tests, below), same_place _ _ _ _ e)
+    by_test false below true e = inr (same_place _ _ _ _ e)
     by_test false below false e = absurd cc

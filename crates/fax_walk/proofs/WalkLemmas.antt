@@ -1,8 +1,7 @@
 -- A walk that goes on, or ends.
-use Rattle.std.proofs.Common.{◌≡◌, ℕ, ◌+◌, ◌-◌, ◌<◌, ◌≤◌, ◌⊎◌, inl, inr, true, List, [], ◌∷◌, ◌++◌, length, drop, Option, Some}
+use Rattle.std.proofs.Common.{◌≡◌, ℕ, ◌+◌, ◌-◌, ◌<◌, ◌⊎◌, inl, inr, true, List, [], ◌∷◌, ◌++◌, length, drop, Option, Some}
 use Rattle.std.proofs.Common.{None, Ok, Err, refl, sym, ap, ◌∙◌, subst, arith, length-append, length-drop, append_assoc, append-nil}
 use Rattle.std.proofs.lemmas.Bool.{cases_lt}
-use Rattle.std.proofs.lemmas.List.{drop_all}
 use Rattle.std.specs.Prelude.{slice_get}
 use Rattle.fax_bits.specs.declared.Colour.{Colour}
 use Rattle.fax_bits.specs.laws.Codes.{AreBitsByPlace}
@@ -18,19 +17,19 @@ use Rattle.fax_walk.specs.declared.opening.OpenFault.{OpenFault}
 use Rattle.fax_walk.specs.declared.opening.OpenFault.TheVariants.{Memory, Ended}
 use Rattle.fax_walk.specs.Pages.{AreFrom}
 use Rattle.fax_walk.specs.views.InOrder.{EndsAfter, HandsOut, HasEndedAs, HasToldNoOther}
-use Rattle.fax_walk.specs.laws.InOrder.{LeadTo, IsLeftOf}
+use Rattle.fax_walk.specs.laws.InOrder.{LeadTo}
 use Rattle.fax_walk.specs.Pages.{LongPlace}
 use Rattle.fax_walk.specs.views.Walk.{AreRead, dropped, EndsBefore, EntersPage, IsCursorOf, IsItemNumber, IsLongOf, row_limit}
 use Rattle.fax_walk.specs.laws.Left.{IsLeft}
 use Rattle.fax_walk.specs.views.Walk.{WalkView}
-use Rattle.fax_walk.specs.Items.{IsRow, IsTailFrom, RowItem, RowPlace, begun_cursor, first_at, long_after, long_at, place_after}
-use Rattle.fax_walk.specs.code.Places.{place_over}
+use Rattle.fax_walk.specs.Items.{IsRow, IsTailFrom, RowItem, RowPlace, begun_cursor, cursor_after, first_at, long_after, long_at, place_after}
 use Rattle.fax_walk.specs.code.Places.{cursor_at}
 use Rattle.fax_walk.specs.laws.Tails.{BeginningsHaveOneTail}
 use Rattle.fax_walk.specs.code.Stages.{GivesNone, GivesRow, IsOpen, IsOpenedAt, PageState, place_of, row_of, skipped}
 use Rattle.fax_walk.specs.code.Walk.{IsAdvance, answer_of, GoesOnFrom, HasCome, HasEndedOn, HasReadTo, IsAfterItem, IsEntered, IsOpenOrNone}
 use Rattle.fax_walk.specs.code.Walk.{IsOpenedFirst}
 use Rattle.fax_walk.specs.code.Walk.{IsDueOn, IsReadNext, IsShown, IsSound, StandsAt, cursor_on}
+use Rattle.fax_walk.proofs.LeftLemmas.{left_after, left_ended}
 use Rattle.fax_walk.proofs.InOrderLemmas.{IsListed, joined, leads_both, number_dropped}
 use Rattle.fax_walk.proofs.OpenPageLemmas.{at_end}
 use Rattle.fax_walk.proofs.RowLawLemmas.{LinesAreRead, cases_after, rows_listed}
@@ -106,9 +105,9 @@ module _ (file : List ℕ) (begun : Begun) (given : ℕ) (cursor : Cursor) where
       → (last.item.row + 1 ≡ last.item.form.rows) × (old.page + 1 ≡ last.item.page + 1)
   at_page_end old last all =
       let within = last.within in
-      let next : first_at (old.page + 1) 0 ≡ place_over last.item.form last.item =
+      let next : first_at (old.page + 1) 0 ≡ place_after last.item =
       sym (at_end old.form old.page (row_of old) _ all) ∙ last.to_is in
-      elim (cases_after last.item.form last.item) [
+      elim (cases_after last.item.form last.item refl) [
         | inl (past, is) ↦ (omega (arith, past, within), ap (λ (t : RowPlace). t.page) (next ∙ is))
         | inr (inl (less, first, is)) ↦ let rows = ap (λ (t : RowPlace). t.row) (next ∙ is) in absurd (omega (arith, rows))
         | inr (inr (less, inside, is)) ↦ let rows = ap (λ (t : RowPlace). t.row) (next ∙ is) in absurd (omega (arith, rows))
@@ -200,7 +199,7 @@ module _ (by_place : AreBitsByPlace) (lines_read : LinesAreRead) (chains : Files
           let rows : row_of new ≡ gives.item.row + 1 = gives.next_row ∙ ap (λ (i : RowItem). i.row + 1) (sym gives.item_is) in
           let pages : new.page ≡ gives.item.page = gives.same.page ∙ ap (λ (i : RowItem). i.page) (sym gives.item_is) in
           rw (rows, pages) refl;
-      to_is = gives.after ∙ ap (λ (f : PageForm). place_over f gives.item) (sym form_same);
+      to_is = gives.after;
     }
       where
         form_same : gives.item.form ≡ old.form
@@ -314,15 +313,6 @@ module _ (file : List ℕ) (begun : Begun) (given : ℕ) (cursor : Cursor) where
         ]),
       )
 
-  ends_left : (tail : List RowItem → End → Type 0) (end : End) → EndsAfter tail given end → IsLeftOf tail given (Some end) [] end
-  ends_left tail end (all, is, count) = record {
-    all = all;
-    is = is;
-    within = omega (arith, count);
-    rest = sym (drop_all given all (omega (arith, count)));
-    is_told = (refl, refl);
-  }
-
 -- what a walk's contracts say of it
 module _ (walk : WalkView) (cursor : Cursor) (page : Option PageState) where
   abbrev file : List ℕ
@@ -354,7 +344,7 @@ module _ (walk : WalkView) (cursor : Cursor) (page : Option PageState) where
 
   -- the place inside a strip
   long_at_after : (item : RowItem) → long_at (cursor_at (place_after item)) (place_after item).inner ≡ long_after item
-  long_at_after item = elim (cases_after item.form item) [
+  long_at_after item = elim (cases_after item.form item refl) [
     | inl (last, is) ↦ rw is refl
     | inr (inl (within, first, is)) ↦ rw is refl
     | inr (inr (within, inside, is)) ↦ rw is refl
@@ -366,7 +356,7 @@ module _ (walk : WalkView) (cursor : Cursor) (page : Option PageState) where
     | inl first ↦ absurd (omega (arith, some, first.0))
     | inr (on, is, last) ↦
         let same : on ≡ at = cc in
-        let to : place_of at ≡ place_over last.item.form last.item = ap place_of (sym same) ∙ last.to_is in
+        let to : place_of at ≡ place_after last.item = ap place_of (sym same) ∙ last.to_is in
         inr (
           last.before,
           last.item,
@@ -436,63 +426,15 @@ module _ (walk : WalkView) (cursor : Cursor) (page : Option PageState) where
   has_ended end ends no_other = (ends_after file begun walk.given cursor page end ends, no_other, refl)
 
   -- what is left
-  module _ (by_place : AreBitsByPlace) (lines_read : LinesAreRead) (chains : FilesHaveOneChain) (tails : BeginningsHaveOneTail) where
-    left_first : walk.given ≡ 0 → walk.told ≡ None → (items : List RowItem) × (end : End) × IsLeft walk items end
-    left_first none untold =
-        let one = tails file begun in (
-          one.items,
-          one.end,
-          record {
-            all = one.items;
-            is = one.is;
-            within = omega (arith, none);
-            rest = rw none refl;
-            is_told = rw untold tt;
-          },
-        )
-
-    left_on : (at : PageState) → HasReadTo file begun walk.given cursor at → walk.told ≡ None
-        → (items : List RowItem) × (end : End) × IsLeft walk items end
-    left_on at reads untold =
-        let come = reads.come in
-        let more = rows_listed by_place lines_read chains file (place_of at) (header file) refl in
-        let whole = come.items ++ more.items in
-        let all = drop come.dropped whole in
-        let is : AreFrom (IsRow file) come.first whole more.end =
-        joined (IsRow file) come.first (place_of at) come.items more.items more.end come.lead more.is in
-        let count = length-drop come.dropped whole in
-        let parts = length-append come.items more.items in
-        let read = come.count in
-        let total = come.total in
-        let within : walk.given ≤ length all = elim (cases_lt 0 walk.given) [
-          | inl some ↦ let none = come.none_left some in omega (arith, count, parts, read, total, none)
-          | inr none ↦ omega (arith, none)
-        ] in (
-          drop walk.given all,
-          more.end,
-          record {
-            all = all;
-            is = (Ok (come.first, come.dropped), come.begins, (whole, is, refl));
-            within = within;
-            rest = refl;
-            is_told = rw untold tt;
-          },
-        )
-
-    left_told : (end : End) → HasEndedOn file begun walk.given cursor page end → walk.told ≡ Some end
-        → (items : List RowItem) × (end : End) × IsLeft walk items end
-    left_told end ends told =
-        let tail = IsTailFrom file begun in
-        ([], end, rw told (ends_left file begun walk.given cursor tail end (ends_after file begun walk.given cursor page end ends)))
-
-    by_told : (told : Option End) → walk.told ≡ told → (on : Option PageState) → page ≡ on
-        → IsSound file begun walk.given cursor on told → (items : List RowItem) × (end : End) × IsLeft walk items end
-    by_told None untold None none sound = left_first sound.0.0 untold
-    by_told None untold (Some at) is sound = left_on at sound.0.1 untold
-    by_told (Some end) told on is sound = left_told end (rw (← is) at sound) told
-
-    pub is_left : Sound walk.told → (items : List RowItem) × (end : End) × IsLeft walk items end
-    is_left sound = by_told walk.told refl page refl sound
+  pub is_left : BeginningsHaveOneTail → Sound walk.told → (items : List RowItem) × (end : End) × IsLeft walk items end
+  is_left tails sound = by_told walk.told refl
+    where
+      by_told : (told : Option End) → walk.told ≡ told → (items : List RowItem) × (end : End) × IsLeft walk items end
+      by_told None untold =
+          rw untold (left_after IsTailFrom walk begun_cursor cursor_after cursor (tails file begun) (cursor_is sound))
+      by_told (Some end) told =
+          let ends = ended walk.told end told sound in
+          ([], end, rw told (left_ended (IsTailFrom file begun) walk.given end (ends_after file begun walk.given cursor page end ends)))
 
 -- where the next row is read
 pub open_or_none : (file : List ℕ) (begun : Begun) (given : ℕ) (cursor : Cursor) (page : Option PageState)

@@ -17,7 +17,8 @@ use Rattle.fax_walk.specs.Items.{RowItem, first_at, IsRow}
 use Rattle.fax_walk.specs.laws.Written.{WalkedRow, walked, numbered, HoldsRows, rows_of, forms_of, WrittenFilesAreWalked}
 use Rattle.fax_walk.proofs.InOrderLemmas.{joined}
 use Rattle.fax_walk.proofs.PageLawLemmas.{no_page, some_page, next_dropped, proper_end}
-use Rattle.fax_walk.proofs.PageRowLemmas.{strips_from, map_both}
+use Rattle.std.proofs.lemmas.List.{map-append}
+use Rattle.fax_walk.proofs.PageRowLemmas.{strips_from}
 use Rattle.fax_walk.proofs.StripRowLemmas.{AreRead}
 
 -- a page of this number ends the chain properly
@@ -72,7 +73,7 @@ module _ (by_place : AreBitsByPlace) (wholes : FormsAreWhole) (law : WrittenRows
         items = here.items ++ more.items;
         are = joined (IsRow file) (first_at p 0) here.to here.items more.items Proper here.lead (rw here.there more.are);
         rows_are =
-            map_both walked here.items more.items ∙ ap (λ (l : List WalkedRow). l ++ map walked more.items) here.rows_are
+            map-append walked here.items more.items ∙ ap (λ (l : List WalkedRow). l ++ map walked more.items) here.rows_are
             ∙ ap (λ (l : List WalkedRow). numbered p 0 first ++ l) more.rows_are;
       }
 

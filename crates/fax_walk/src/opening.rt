@@ -48,7 +48,6 @@ pub(crate) struct DuePage<'a> {
 }
 
 impl<'a> Model for DuePage<'a> {
-    ghost use Rattle.std.specs.Prelude.{◌≡◌};
     ghost use Rattle.fax_walk.specs.code.Opening.{PageDue, IsPageDue};
 
     ghost Value = { PageDue };
@@ -60,8 +59,7 @@ impl<'a> Model for DuePage<'a> {
       form = p.form;
     } };
 
-    ghost invariant = { λ p. IsPageDue p.page p.chain p.strips.directory p.form
-        × (p.strips.count ≡ p.form.strips) };
+    ghost invariant = { λ p. IsPageDue p.page p.chain p.strips p.form };
 }
 
 /// The chain of a file's directories, before the one of this number, or how the rows end where

@@ -279,7 +279,7 @@ impl<'a> OpenPage<'a> {
 
     /// The place inside the strip after the row that was read last, if the strip goes on after
     /// it, and its bits have a number of 32 bits.
-    pub(crate) fn inside(&self) -> Option<PlaceInside<'_>>
+    pub(crate) fn lend_place(&self) -> Option<PlaceInside<'_>>
         ensures { let at = place_of self.now in
             place_inside result ≡ long_at (cursor_at at) at.inner }
     {
@@ -307,7 +307,7 @@ impl<'a> OpenPage<'a> {
         ensures { IfOk result (λ place. let at = place_of self.now in
             place ≡ long_at (cursor_at at) at.inner) }
     {
-        let Some(place) = self.inside() else {
+        let Some(place) = self.lend_place() else {
             return Ok(None);
         };
         Ok(Some(LongCursor {

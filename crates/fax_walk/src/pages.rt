@@ -129,11 +129,7 @@ impl<'a> Pages<'a> {
         ensures { (forms : List FormItem) × (end : End) × AreFormsLeft self.now forms end }
     {
         crate::laws::form_tails_are_one();
-        match &self.stage {
-            PagesStage::Before => {}
-            PagesStage::After(_) => {}
-            PagesStage::Ended(_) => {}
-        }
+        let _ = &self.stage;
     }
 
     /// Hands out the next page's number, from 0, and its form, or `None` once all pages were handed

@@ -210,12 +210,12 @@ impl<'a> Walk<'a> {
 
     /// The place inside a strip after the last row that was handed out, as `long_cursor` has it
     /// once a row was handed out, and `None` before that. It takes no memory.
-    pub fn inside(&self) -> Option<PlaceInside<'_>>
+    pub fn lend_place(&self) -> Option<PlaceInside<'_>>
         ensures place { 0 < self.now.given → IsLongOf self.now (place_inside result) }
         ensures none { self.now.given ≡ 0 → result ≡ None }
     {
         match &self.page {
-            Some(page) if self.given > 0 => page.inside(),
+            Some(page) if self.given > 0 => page.lend_place(),
             _ => None,
         }
     }
@@ -236,9 +236,6 @@ impl<'a> Walk<'a> {
     pub(crate) fn items_are_left(&self)
         ensures { (items : List RowItem) × (end : End) × IsLeft self.now items end }
     {
-        fax_bits::laws::bits_stand_by_place();
-        fax_page::laws::lines_are_read_in_one_way();
-        fax_files::laws::files_have_one_chain();
         crate::laws::beginnings_have_one_tail();
         let _ = &self.page;
     }

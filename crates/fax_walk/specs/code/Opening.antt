@@ -8,7 +8,7 @@ use Rattle.fax_files.specs.Directory.{Header, header, IsChain}
 use Rattle.fax_files.specs.Page.{page}
 use Rattle.fax_files.specs.views.Page.{IsPageForm}
 use Rattle.fax_files.specs.views.Chain.{ChainState}
-use Rattle.fax_files.specs.views.Tiff.{TiffDirectory, form_of}
+use Rattle.fax_files.specs.views.Tiff.{PageStrips, TiffDirectory, form_of}
 use Rattle.fax_walk.specs.declared.cursor.Cursor.{Cursor}
 use Rattle.fax_walk.specs.declared.end.End.{End}
 use Rattle.fax_walk.specs.declared.end.End.TheVariants.{Proper, Fault, Outside}
@@ -82,11 +82,12 @@ pub record IsFilePage (p : ℕ) (chain : ChainState) (directory : TiffDirectory)
   pub after : IsChainBefore directory.file (p + 1) chain
 
 -- a page that is due is its file's, with a form within the limits
-pub record IsPageDue (number : ℕ) (chain : ChainState) (directory : TiffDirectory)
+pub record IsPageDue (number : ℕ) (chain : ChainState) (strips : PageStrips)
     (form : PageForm) : Type 0 where
-  pub its : IsFilePage number chain directory form
-  pub form_is : form_of directory ≡ Ok form
+  pub its : IsFilePage number chain strips.directory form
+  pub form_is : form_of strips.directory ≡ Ok form
   pub limits : IsPageForm form
+  pub counted : strips.count ≡ form.strips
 
 -- from any row of a page on there is nothing but this end
 abbrev pub IsNoPage : List ℕ → ℕ → End → Type 0

@@ -2,15 +2,12 @@
 -- A definition without a citation is this project's profile.
 use Rattle.std.specs.Prelude.{◌≡◌, ℕ, ◌+◌, ◌*◌, ◌/◌, ◌%◌, ◌≤◌, ◌==◌, nat_lt, if◌then◌else◌}
 use Rattle.std.specs.Prelude.{List, length}
-use Rattle.std.specs.Prelude.{drop, Option, Some, IfSome}
-use Rattle.fax_bits.specs.Bits.{bits}
+use Rattle.std.specs.Prelude.{Option, Some, IfSome}
 use Rattle.fax_rows.specs.Rows.{White, pels_of, runs_of}
 use Rattle.fax_files.specs.declared.PageForm.{PageForm}
-use Rattle.fax_files.specs.Page.{strip_form}
-use Rattle.fax_page.specs.Lines.{IsLine}
 use Rattle.fax_walk.specs.declared.cursor.Cursor.{Cursor}
 use Rattle.fax_walk.specs.Pages.{LongPlace}
-use Rattle.fax_walk.specs.Items.{Inner, RowItem, RowPlace, before, exchanged}
+use Rattle.fax_walk.specs.Items.{Inner, RowPlace}
 use Rattle.fax_walk.specs.Items.{first_at}
 
 -- the cursor of a place
@@ -32,16 +29,6 @@ place_on form p r inner =
     else record { page = p; row = r; inner = Some inner })
     else first_at (p + 1) 0
 
--- the row at a place, in these bytes of its strip
-abbrev pub IsItem : PageForm → List ℕ → RowPlace → RowItem → Type 0
-IsItem form bytes at item =
-    (item.page ≡ at.page) × (item.row ≡ at.row) × (item.bits ≤ 8 * length bytes)
-    × IsLine (strip_form form (strip_at form at.row)) (row_in_strip form at.row)
-    (before form.width at.inner).reference
-    (drop (before form.width at.inner).bits (bits form.order bytes)) (exchanged form item.pels)
-    (drop item.bits (bits form.order bytes))
-    × (item.form ≡ form)
-
 -- a place inside a strip has the longest runs of a row of the width, as coded, and its bits
 abbrev pub IsInner : ℕ → List ℕ → LongPlace → Type 0
 IsInner width bytes place =
@@ -51,9 +38,3 @@ IsInner width bytes place =
 -- the same, where the file has the strip
 abbrev pub FitsStrip : ℕ → Option (List ℕ) → LongPlace → Type 0
 FitsStrip width found place = IfSome found (λ bytes. IsInner width bytes place)
-
--- the place after a row of a page of this form
-abbrev pub place_over : PageForm → RowItem → RowPlace
-place_over form item =
-    let inner : Inner = record { bits = item.bits; reference = exchanged form item.pels } in
-    place_on form item.page (item.row + 1) inner

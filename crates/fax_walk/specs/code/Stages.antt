@@ -22,8 +22,7 @@ use Rattle.fax_walk.specs.declared.opening.OpenFault.TheVariants.{Memory, Ended}
 use Rattle.fax_walk.specs.Pages.{LongPlace}
 use Rattle.fax_walk.specs.laws.InOrder.{LeadTo}
 use Rattle.fax_walk.specs.Pages.{IsPageAt}
-use Rattle.fax_walk.specs.Items.{RowItem, RowPlace, IsInnerOn, IsRow, first_at}
-use Rattle.fax_walk.specs.code.Places.{place_over}
+use Rattle.fax_walk.specs.Items.{RowItem, RowPlace, IsInnerOn, IsRow, first_at, place_after}
 use Rattle.fax_walk.specs.code.Places.{IsInner}
 use Rattle.fax_walk.specs.Items.{inner_at}
 use Rattle.fax_walk.specs.code.Places.{strip_at}
@@ -193,7 +192,7 @@ pub record ReadsPageRow (old new : PageState) : Type 0 where
       (goes_on (item_of old (row_of old) new) (place_of new))
   pub next_row : row_of new ≡ row_of old + 1
   pub one_more : new.read ≡ old.read + 1
-  pub after : place_of new ≡ place_over old.form (item_of old (row_of old) new)
+  pub after : place_of new ≡ place_after (item_of old (row_of old) new)
 
 -- the row that was due was read, or all rows were read before
 abbrev pub ReadsRowOrNone : Bool → PageState → PageState → Type 0
@@ -227,7 +226,7 @@ pub record GivesRow (old new : PageState) : Type 0 where
   pub here : IsPageAt old.directory.file (record { page = item.page; row = item.row })
       (Ok (page_with old.directory old.form))
   pub within : item.row < old.form.rows
-  pub after : place_of new ≡ place_over old.form item
+  pub after : place_of new ≡ place_after item
   pub next_row : row_of new ≡ row_of old + skipped old + 1
   pub read : new.read ≡ old.read + skipped old + 1
   pub few : new.read < 2 ^ 53

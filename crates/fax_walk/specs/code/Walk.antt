@@ -12,7 +12,7 @@ use Rattle.fax_walk.specs.declared.opening.OpenFault.{OpenFault}
 use Rattle.fax_walk.specs.declared.opening.OpenFault.TheVariants.{Memory as NoMemory, Ended}
 use Rattle.fax_walk.specs.laws.InOrder.{LeadTo}
 use Rattle.fax_walk.specs.Items.{RowItem, RowPlace, IsRow, IsTailFrom, begun_cursor, cursor_after}
-use Rattle.fax_walk.specs.code.Places.{place_over}
+use Rattle.fax_walk.specs.Items.{place_after}
 use Rattle.fax_walk.specs.views.InOrder.{HasEndedAs}
 use Rattle.fax_walk.specs.views.Walk.{WalkView, IsItemNumber, EntersPage, HasPage, AreRead}
 use Rattle.fax_walk.specs.views.Walk.{Begins, EndsBefore}
@@ -89,7 +89,7 @@ pub record IsAfterItem (file : List ℕ) (begun : Begun) (given : ℕ) (cursor :
   pub number : IsItemNumber file begun before item
   pub within : item.row < item.form.rows
   pub cursor_is : cursor ≡ cursor_after item
-  pub to_is : to ≡ place_over item.form item
+  pub to_is : to ≡ place_after item
 
 -- the cursor stands where the walk began, or after the item that was handed out last
 abbrev pub StandsAt : List ℕ → Begun → ℕ → Cursor → RowPlace → Type 0

@@ -1,24 +1,7 @@
-use Rattle.std.proofs.Common.{[], ◌∷◌, ◌++◌, ap, arith, length-append, refl, rules, subst, sym, ◌∙◌}
-use Rattle.fax_page.specs.laws.Writer.{HasPut}
-use Rattle.fax_page.specs.views.Writer.{WriterState}
+use Rattle.std.proofs.Common.{[], ◌∷◌, ◌++◌, arith, length-append, subst, sym, ◌∙◌}
 use Rattle.fax_c.specs.views.StripRuns.{IsRowAt}
 use Rattle.fax_c.proofs.RunRowLemmas.{row_there, rows_more}
 use Rattle.fax_c.proofs.coding_runs.code_rows.Goals as goal
-
-pub loop-i-init : goal.loop-i-init
-loop-i-init c = record {
-  width = search rules;
-  rows = [];
-  count = refl;
-  lie = tt;
-  put = subst (λ w. HasPut c.args.form c.args.k [] w) (sym c.in_ok-writer.ensures)
-      (c.strips_are_written_row_by_row.ensures.begins c.args.form c.args.k);
-}
-
-pub put_row-requires-clause-due : goal.put_row-requires-clause-due
-put_row-requires-clause-due c =
-    let so_far = c.loop-i.invariant in
-    omega (arith, ap (λ (w : WriterState). w.row) so_far.put, ap (λ (w : WriterState). w.form.rows) so_far.put, so_far.count, c.loop-i-test.true)
 
 pub loop-i-preserved : goal.loop-i-preserved
 loop-i-preserved c =
@@ -40,26 +23,3 @@ returns-then-not-take_row c = λ rows are.
     let found = row_there c.args.form.width c.args.rows.now c.args.runs.now c.loop-i.i rows are.1 (omega (arith, are.0, c.loop-i-test.true)) in
     c.take_row.ensures.none c.if-not-take_row.true found.0
     (subst (λ w. IsRowAt w c.args.rows.now c.args.runs.now c.loop-i.i found.0) (sym so_far.width) found.1)
-
-pub finish-requires : goal.finish-requires
-finish-requires c =
-    let so_far = c.loop-i.invariant in
-    record {
-      all_put = λ fine. omega (
-        arith,
-        ap (λ (w : WriterState). w.row) so_far.put,
-        ap (λ (w : WriterState). w.form.rows) so_far.put,
-        so_far.count,
-        c.loop-i-test.false,
-        c.loop-i.auto.i-end,
-      );
-    }
-
-pub returns : goal.returns
-returns c =
-    let so_far = c.loop-i.invariant in (
-      so_far.rows,
-      (omega (arith, so_far.count, c.loop-i-test.false, c.loop-i.auto.i-end), so_far.lie),
-      c.strips_are_written_row_by_row.ensures.finishes c.args.form c.args.k so_far.rows c.loop-i.writer c.in_ok-strip.strip.items so_far.put
-          c.in_ok-strip.ensures,
-    )

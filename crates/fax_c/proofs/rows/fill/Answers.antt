@@ -36,12 +36,6 @@ returns-clause-filled g c =
     c.args.rows.now c.loop-count.rows c.args.out.now c.loop-count.out c.loop-count.invariant.law c.loop-count.invariant.so_far
     c.cursor.result (omega (arith, c.loop-count-test.false)) c.cursor.ensures
 
-pub place_after-requires-clause-given : goal.place_after-requires-clause-given
-place_after-requires-clause-given g c =
-    (walk_stopped g.F.RowFormat.numbers c.args.walk.now.file c.args.walk.now.begun c.loop-count.walk c.loop-count.count c.loop-count.used
-    c.args.rows.now c.loop-count.rows c.args.out.now c.loop-count.out c.loop-count.invariant.law c.loop-count.invariant.so_far
-    c.args.walk.now c.in-Err.stop c.put_next.new.walk c.put_next.new.out c.cursor-cursor.result refl refl c.in-Err.ensures.put).given
-
 pub place_after-requires-clause-told : goal.place_after-requires-clause-told
 place_after-requires-clause-told g c = λ some none.
     let walk = walk_stopped g.F.RowFormat.numbers c.args.walk.now.file c.args.walk.now.begun c.loop-count.walk c.loop-count.count c.loop-count.used

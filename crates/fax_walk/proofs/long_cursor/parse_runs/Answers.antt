@@ -22,11 +22,6 @@ returns-clause-ok c =
     rw pushed.2
     (all_cut c.args.text.now c.loop-run.runs.items c.loop-run.rest.now pushed.0 c.loop-run.invariant.cut pushed.1)
 
-pub returns-clause-short : goal.returns-clause-short
-returns-clause-short c =
-    let pushed = c.in_ok-push_run-2.ensures.ok in
-    rw pushed.2 (All-push (λ run. run < 2 ^ 32) c.loop-run.runs.items pushed.0 c.loop-run.invariant.short pushed.3)
-
 pub returns-in_err-push_run-clause-err : goal.returns-in_err-push_run-clause-err
 returns-in_err-push_run-clause-err c =
     let p = err_from_is_err_and c.from_residual.result c.from_residual.ensures.1 in

@@ -1,17 +1,6 @@
-use Rattle.std.proofs.Common.{◌≡◌, ◌≤◌, Ok, ap, ◌∙◌, arith}
-use Rattle.fax_walk.proofs.EndingLemmas.{header_refused, goes_on, none_before, fault_before_page}
+use Rattle.std.proofs.Common.{◌≤◌, Ok, ap, ◌∙◌, arith}
+use Rattle.fax_walk.proofs.EndingLemmas.{goes_on, none_before, fault_before_page}
 use Rattle.fax_walk.proofs.opening.chain_before.Goals as goal
-
-pub loop-number-init : goal.loop-number-init
-loop-number-init c = rw c.new-chain.ensures (record {
-  head = c.in-Ok.ensures.head;
-  file_is = c.in-Ok.ensures.file;
-  given = omega arith;
-  within = λ offsets fault chained. omega arith;
-})
-
-pub returns-in-Err-clause-err : goal.returns-in-Err-clause-err
-returns-in-Err-clause-err c r = rw c.of_file.ensures (header_refused _ _ c.in-Err.fault c.in-Err.ensures.fault)
 
 pub returns-in-Ok-None-clause-err : goal.returns-in-Ok-None-clause-err
 returns-in-Ok-None-clause-err c r =
@@ -28,8 +17,3 @@ pub loop-number-preserved : goal.loop-number-preserved
 loop-number-preserved c =
     goes_on _ _ _ _ _ c.in-Ok-Some.field-0-0 c.loop-number.invariant c.next.ensures.answer
     (c.in-Ok-Some.is ∙ ap Ok c.in-Ok-Some.field-0-is) c.next.ensures.counted
-
-pub returns-clause-ok : goal.returns-clause-ok
-returns-clause-ok c =
-    let all : c.loop-number.number ≡ c.args.page = omega (arith, c.loop-number-test.false, c.loop-number.auto.number-end) in
-    rw all at c.loop-number.invariant

@@ -1,6 +1,5 @@
-use Rattle.std.proofs.Common.{ap, sym}
-use Rattle.fax_page.specs.views.Reader.{StripState}
-use Rattle.fax_walk.proofs.OpenPageLemmas.{due_there, is_opened, refused_strip}
+use Rattle.std.proofs.Common.{sym}
+use Rattle.fax_walk.proofs.OpenPageLemmas.{due_there, refused_strip}
 use Rattle.fax_walk.proofs.page.open.Goals as goal
 
 pub returns-in-Err-clause-refused : goal.returns-in-Err-clause-refused
@@ -9,34 +8,17 @@ returns-in-Err-clause-refused c =
     let outside = c.in-Err.ensures.outside in
     let d = c.due.inside in
     rw (← c.due.view_is, c.of_file.ensures, c.in-Err.ensures.fault)
-    (refused_strip (record { page = d.page; chain = d.chain; directory = d.strips.directory; form = d.form }) c.args.first c.due.invariant.0.its
-    c.due.invariant.0.limits there outside)
-
-pub returns-clause-opened : goal.returns-clause-opened
-returns-clause-opened c =
-    let there = rw (sym c.due.view_is) at c.requires.there in
-    let d = c.due.inside in
-    rw (← c.due.view_is)
-    (is_opened (record { page = d.page; chain = d.chain; directory = d.strips.directory; form = d.form }) c.args.first c.due.invariant.0.its
-    c.due.invariant.0.limits there c.in_ok-strip.strip _ c.args.before (ap (λ (s : StripState). s.row) c.in_ok-strip.ensures)
-    (ap (λ (s : StripState). s.fault) c.in_ok-strip.ensures) (ap (λ (s : StripState). s.read) c.in_ok-strip.ensures))
+    (refused_strip (record { page = d.page; chain = d.chain; directory = d.strips.directory; form = d.form }) c.args.first c.due.invariant.its
+    c.due.invariant.limits there outside)
 
 pub returns-in-Err-clause-there : goal.returns-in-Err-clause-there
-returns-in-Err-clause-there c =
-    let d = c.due.inside in
-    rw (← c.due.view_is) (due_there (record { page = d.page; chain = d.chain; directory = d.strips.directory; form = d.form }) c.due.invariant.0.its)
+returns-in-Err-clause-there c = rw (← c.due.view_is) (due_there _ _ _ _ c.due.invariant.its)
 
 pub returns-in_err-strip-clause-there : goal.returns-in_err-strip-clause-there
-returns-in_err-strip-clause-there c =
-    let d = c.due.inside in
-    rw (← c.due.view_is) (due_there (record { page = d.page; chain = d.chain; directory = d.strips.directory; form = d.form }) c.due.invariant.0.its)
+returns-in_err-strip-clause-there c = rw (← c.due.view_is) (due_there _ _ _ _ c.due.invariant.its)
 
 pub returns-in_err-exchanged-clause-there : goal.returns-in_err-exchanged-clause-there
-returns-in_err-exchanged-clause-there c =
-    let d = c.due.inside in
-    rw (← c.due.view_is) (due_there (record { page = d.page; chain = d.chain; directory = d.strips.directory; form = d.form }) c.due.invariant.0.its)
+returns-in_err-exchanged-clause-there c = rw (← c.due.view_is) (due_there _ _ _ _ c.due.invariant.its)
 
 pub returns-clause-there : goal.returns-clause-there
-returns-clause-there c =
-    let d = c.due.inside in
-    rw (← c.due.view_is) (due_there (record { page = d.page; chain = d.chain; directory = d.strips.directory; form = d.form }) c.due.invariant.0.its)
+returns-clause-there c = rw (← c.due.view_is) (due_there _ _ _ _ c.due.invariant.its)

@@ -1,7 +1,7 @@
 use Rattle.std.proofs.Common.{Err, refl}
 use Rattle.fax_walk.specs.declared.end.End.TheVariants.{Proper}
 use Rattle.std.proofs.lemmas.Result.{err_from_is_err_and}
-use Rattle.fax_walk.proofs.OpenPageLemmas.{opened_after, refused_after}
+use Rattle.fax_walk.proofs.OpenPageLemmas.{refused_after}
 use Rattle.fax_walk.proofs.page.open_after.Goals as goal
 
 pub returns-in_err-due-clause-refused : goal.returns-in_err-due-clause-refused
@@ -9,11 +9,6 @@ returns-in_err-due-clause-refused c =
     let p = err_from_is_err_and c.from_residual.result c.from_residual.ensures.1 in
     let answers = rw c.again.ensures at c.in_err-due.ensures in
     rw (p.1, p.2) (Err (c.in_err-due.field-0.0), answers 0, refl)
-
-pub returns-in-Some-clause-opened : goal.returns-in-Some-clause-opened
-returns-in-Some-clause-opened c =
-    let answers = rw (c.in-Some.is, c.again.ensures) at c.in_ok-due.ensures in
-    opened_after _ c.in-Some.due _ _ c.open.result answers.0 answers.1 c.open.ensures.opened
 
 pub returns-in-Some-clause-refused : goal.returns-in-Some-clause-refused
 returns-in-Some-clause-refused c =

@@ -21,7 +21,7 @@ returns-else-cursor-eq0-clause-ok c =
     let page = c.page.inside in
     let some : 0 < c.args.cursor.row = omega (arith, c.if-cursor-eq0.false) in
     begins_after c.args.file.now c.args.cursor
-    (record { page = page.page; chain = page.chain; directory = page.strips.directory; form = page.form }) named c.page.invariant.0.its
+    (record { page = page.page; chain = page.chain; directory = page.strips.directory; form = page.form }) named c.page.invariant.its
     some c.page_after.result c.page_after.ensures.ok
 
 pub returns-else-cursor-eq0-clause-err : goal.returns-else-cursor-eq0-clause-err
@@ -30,5 +30,5 @@ returns-else-cursor-eq0-clause-err c =
     let page = c.page.inside in
     let some : 0 < c.args.cursor.row = omega (arith, c.if-cursor-eq0.false) in
     ends_after c.args.file.now c.args.cursor
-    (record { page = page.page; chain = page.chain; directory = page.strips.directory; form = page.form }) named c.page.invariant.0.its
+    (record { page = page.page; chain = page.chain; directory = page.strips.directory; form = page.form }) named c.page.invariant.its
     some c.page_after.result c.page_after.ensures.err

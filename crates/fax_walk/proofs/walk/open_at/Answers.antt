@@ -31,7 +31,7 @@ returns-else-cursor-due-clause-opened c =
     let named = rw (sym c.due.view_is) at (rw c.in-Some.is at c.in_ok-due.ensures.ok) in
     let d = c.due.inside in
     let due : PageDue = record { page = d.page; chain = d.chain; directory = d.strips.directory; form = d.form } in
-    opened_next c.args.file.now c.args.cursor due named c.due.invariant.0.its c.if-cursor-due.false c.open_after.result
+    opened_next c.args.file.now c.args.cursor due named c.due.invariant.its c.if-cursor-due.false c.open_after.result
     c.open_after.ensures.opened
 
 pub returns-else-cursor-due-clause-refused : goal.returns-else-cursor-due-clause-refused
@@ -39,5 +39,5 @@ returns-else-cursor-due-clause-refused c =
     let named = rw (sym c.due.view_is) at (rw c.in-Some.is at c.in_ok-due.ensures.ok) in
     let d = c.due.inside in
     let due : PageDue = record { page = d.page; chain = d.chain; directory = d.strips.directory; form = d.form } in
-    refused_next c.args.file.now c.args.cursor due named c.due.invariant.0.its c.if-cursor-due.false c.open_after.result
+    refused_next c.args.file.now c.args.cursor due named c.due.invariant.its c.if-cursor-due.false c.open_after.result
     c.open_after.ensures.refused

@@ -3,12 +3,15 @@ use Rattle.fax_walk.proofs.EndingLemmas.{page_due, proper_end_at, row_past, faul
 use Rattle.fax_walk.proofs.opening.DuePage.after.Goals as goal
 
 pub invariant_of-result : goal.invariant_of-result
-invariant_of-result c =
-    rw (c.given-page.ensures, c.in-Ok.ensures.directory) (
-      page_due _ _ c.args.chain c.next.result c.requires c.files_have_one_chain.ensures c.next.ensures.answer _
-          (c.in-Ok-Some.is ∙ ap Ok c.in-Ok-Some.field-0-is) _ c.in-Ok.form c.next.ensures.counted c.in-Ok.ensures.form c.in-Ok.ensures.limits,
-      c.in-Ok.ensures.count,
-    )
+invariant_of-result c = record {
+  its =
+      rw (c.given-page.ensures, c.in-Ok.ensures.directory)
+      (page_due _ _ c.args.chain c.next.result c.requires c.files_have_one_chain.ensures c.next.ensures.answer _
+      (c.in-Ok-Some.is ∙ ap Ok c.in-Ok-Some.field-0-is) _ c.in-Ok.form c.next.ensures.counted c.in-Ok.ensures.form);
+  form_is = rw c.in-Ok.ensures.directory c.in-Ok.ensures.form;
+  limits = c.in-Ok.ensures.limits;
+  counted = c.in-Ok.ensures.count;
+}
 
 pub returns-in-Ok-None : goal.returns-in-Ok-None
 returns-in-Ok-None c =

@@ -1,6 +1,6 @@
-use Rattle.std.proofs.Common.{inl, sym, arith}
+use Rattle.std.proofs.Common.{inl, sym}
 use Rattle.std.proofs.lemmas.Result.{err_from_is_err_and}
-use Rattle.fax_walk.proofs.EndingLemmas.{named_none, named_past, named_outside, named_page, named_refused}
+use Rattle.fax_walk.proofs.EndingLemmas.{named_outside, named_page, named_refused}
 use Rattle.fax_walk.proofs.opening.DuePage.at.Goals as goal
 
 pub returns-in_err-chain-clause-err : goal.returns-in_err-chain-clause-err
@@ -14,20 +14,10 @@ returns-in_err-page-clause-err c =
     rw (p.1, p.2)
     (named_refused c.args.file.now c.args.cursor c.in_ok-chain.chain _ c.in_ok-chain.ensures.ok c.in_err-page.ensures)
 
-pub returns-then-cursor-eq0-clause-ok : goal.returns-then-cursor-eq0-clause-ok
-returns-then-cursor-eq0-clause-ok c =
-    named_none c.args.file.now c.args.cursor c.in_ok-chain.chain c.in_ok-chain.ensures.ok (rw c.in_default.is at c.in_ok-page.ensures)
-    c.if-cursor-eq0.true
-
-pub returns-else-cursor-eq0-clause-err : goal.returns-else-cursor-eq0-clause-err
-returns-else-cursor-eq0-clause-err c =
-    named_past c.args.file.now c.args.cursor c.in_ok-chain.chain c.in_ok-chain.ensures.ok (rw c.in_default.is at c.in_ok-page.ensures)
-    (omega (arith, c.if-cursor-eq0.false))
-
 pub returns-then-cursor-page-clause-err : goal.returns-then-cursor-page-clause-err
 returns-then-cursor-page-clause-err c =
     let answers = rw (sym c.page.view_is) at (rw c.in-Some.is at c.in_ok-page.ensures) in
-    named_outside c.args.file.now c.args.cursor c.in_ok-chain.chain _ c.in_ok-chain.ensures.ok answers c.page.invariant.0.its
+    named_outside c.args.file.now c.args.cursor c.in_ok-chain.chain _ c.in_ok-chain.ensures.ok answers c.page.invariant.its
     c.if-cursor-page.true
 
 pub returns-clause-ok : goal.returns-clause-ok
@@ -37,4 +27,4 @@ returns-clause-ok c =
     rw (← c.page.view_is)
     (named_page c.args.file.now c.args.cursor c.in_ok-chain.chain
     (record { page = page.page; chain = page.chain; directory = page.strips.directory; form = page.form }) c.in_ok-chain.ensures.ok answers
-    c.page.invariant.0.its c.if-cursor-page.false)
+    c.page.invariant.its c.if-cursor-page.false)

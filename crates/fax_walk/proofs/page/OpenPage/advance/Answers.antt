@@ -1,5 +1,5 @@
-use Rattle.std.proofs.Common.{◌+◌, ◌∙◌, ap, sym, arith}
-use Rattle.fax_walk.specs.code.Stages.{PageState, row_shown}
+use Rattle.std.proofs.Common.{◌+◌, sym, arith}
+use Rattle.fax_walk.specs.code.Stages.{row_shown}
 use Rattle.fax_walk.proofs.OpenPageLemmas.{few_read, fault_stops, reads_kept, stops_kept, state}
 use Rattle.fax_walk.proofs.page.OpenPage.advance.Goals as goal
 
@@ -24,14 +24,3 @@ returns-in-Err-clause-err c =
     stops_kept _ page keeps _
     (fault_stops page c.advance.new.self c.in-Err.fault is_open c.self.invariant.limits c.self.invariant.strip_is
     c.self.invariant.its c.in-Err.ensures _ c.due-in-Err.ensures.due)
-
-pub returns-then-not-next_strip-clause-err : goal.returns-then-not-next_strip-clause-err
-returns-then-not-next_strip-clause-err c =
-    let keeps = rw (sym c.self.view_is) at c.strips.invariant.keeps in
-    let same = rw c.in-Ok-false.field-0-test at c.in-Ok-false.ensures in
-    let kept = rw same.unchanged at c.next_strip.ensures.keeps in
-    let stops = rw same.unchanged at (c.next_strip.ensures.outside c.if-not-next_strip.true) in
-    let q = c.self.inside in
-    let page = state q.page q.chain q.strips.directory q.form q.first q.number q.strip (row_shown q.strip q.exchanged) (q.before + q.strip.read) in
-    let its_page = ap (λ (p : PageState). p.page) c.self-in-Ok-false-2.view_is ∙ kept.same.page in
-    rw (c.of_file.ensures, c.due.ensures.due, its_page, kept.row) (stops_kept _ page keeps _ stops)

@@ -1,11 +1,7 @@
-use Rattle.std.proofs.Common.{◌+◌, ◌≤◌, inl, inr, refl, sym, arith, ◌∙◌}
-use Rattle.std.proofs.lemmas.Result.{err_from_is_err_and}
+use Rattle.std.proofs.Common.{◌+◌, ◌≤◌, inr, sym, arith}
 use Rattle.fax_walk.specs.code.Stages.{row_of, row_shown}
-use Rattle.fax_walk.proofs.OpenPageLemmas.{few_read, none_skipped, one_skipped, row_given, state}
+use Rattle.fax_walk.proofs.OpenPageLemmas.{few_read, one_skipped, row_given, state}
 use Rattle.fax_walk.proofs.page.OpenPage.next.Goals as goal
-
-pub rows-init : goal.rows-init
-rows-init c = record { items = _; skips = none_skipped c.args.self.now; is_open = c.requires; due = inl refl }
 
 pub returns-then-due-self-clause-ok : goal.returns-then-due-self-clause-ok
 returns-then-due-self-clause-ok c =
@@ -31,28 +27,4 @@ rows-preserved c =
       skips = one_skipped c.args.self.now c.rows.self page c.rows.invariant.items c.rows.invariant.skips reads before;
       is_open = reads.still_open;
       due = inr (omega (arith, before, first));
-    })
-
-pub returns-in_err-advance-clause-err : goal.returns-in_err-advance-clause-err
-returns-in_err-advance-clause-err c =
-    let p = err_from_is_err_and c.from_residual.result c.from_residual.ensures.1 in
-    let keeps = c.in_err-advance.ensures.keeps in
-    let stops = c.in_err-advance.ensures.err in
-    let skips = c.rows.invariant.skips in
-    rw (p.1, p.2) (record {
-      items = c.rows.invariant.items;
-      skips = record {
-        same = record {
-          page = keeps.same.page ∙ skips.same.page;
-          form = keeps.same.form ∙ skips.same.form;
-          first = keeps.same.first ∙ skips.same.first;
-          directory = keeps.same.directory ∙ skips.same.directory;
-        };
-        lead = rw (sym keeps.place) at skips.lead;
-        rows = keeps.row ∙ skips.rows;
-        read = keeps.read ∙ skips.read;
-        few = skips.few;
-      };
-      stop = rw (skips.same.directory, sym keeps.place) at stops.stop;
-      told = (stops.told.0, rw (sym keeps.same.page, sym keeps.row) at stops.told.1);
     })

@@ -1,21 +1,8 @@
 use Rattle.std.proofs.Common.{◌+◌, ap, sym}
 use Rattle.fax_page.specs.views.Reader.{StripState}
 use Rattle.fax_walk.specs.code.Stages.{row_shown}
-use Rattle.fax_walk.proofs.OpenPageLemmas.{more_strips, next_keeps, next_stops, state}
+use Rattle.fax_walk.proofs.OpenPageLemmas.{next_keeps, next_stops, state}
 use Rattle.fax_walk.proofs.page.OpenPage.next_strip.Goals as goal
-
-pub bytes-requires : goal.bytes-requires
-bytes-requires c =
-    let due = rw (sym c.self.view_is) at c.requires.due in
-    let all_read = rw (sym c.self.view_is) at c.requires.all_read in
-    rw c.self.invariant.counted
-    (more_strips _ c.self.inside.number c.self.inside.strip c.self.invariant.limits c.self.invariant.strip_is.form_is all_read due)
-
-pub strip_form-form-requires-clause-strip : goal.strip_form-form-requires-clause-strip
-strip_form-form-requires-clause-strip c =
-    let due = rw (sym c.self.view_is) at c.requires.due in
-    let all_read = rw (sym c.self.view_is) at c.requires.all_read in
-    more_strips _ c.self.inside.number c.self.inside.strip c.self.invariant.limits c.self.invariant.strip_is.form_is all_read due
 
 pub returns-in-Ok-clause-keeps : goal.returns-in-Ok-clause-keeps
 returns-in-Ok-clause-keeps c =

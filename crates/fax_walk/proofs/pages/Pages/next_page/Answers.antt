@@ -7,11 +7,11 @@ pub invariant_of-self : goal.invariant_of-self
 invariant_of-self c =
     let laws = c.form_tails_are_one.ensures in
     let due = rw (sym c.page.view_is, sym c.self.view_is) at c.in-Ok.ensures.ok in
-    let after : c.given.result ≡ c.page.inside.page + 1 = c.given.ensures ∙ c.page.invariant.0.its.after.given in
+    let after : c.given.result ≡ c.page.inside.page + 1 = c.given.ensures ∙ c.page.invariant.its.after.given in
     let short : c.page.inside.page + 1 < 2 ^ 32 = omega (arith, after, c.given.type_inv) in
-    let hands = page_given laws.one laws.first _ _ due c.page.invariant.0 short in
+    let hands = page_given laws.one laws.first _ _ due c.page.invariant.its c.page.invariant.limits short in
     record {
-      come = given_more c.self.inside.file.now c.self.inside.begun c.self.inside.given _ due.come due.file_is c.page.invariant.0.its;
+      come = given_more c.self.inside.file.now c.self.inside.begun c.self.inside.given _ due.come due.file_is c.page.invariant.its;
       cursor_is = inr (
         c.self.inside.given,
         record { page = c.page.inside.page; form = c.page.inside.form },
@@ -25,17 +25,9 @@ pub returns-in-Ok : goal.returns-in-Ok
 returns-in-Ok c =
     let laws = c.form_tails_are_one.ensures in
     let due = rw (sym c.page.view_is, sym c.self.view_is) at c.in-Ok.ensures.ok in
-    let after : c.given.result ≡ c.page.inside.page + 1 = c.given.ensures ∙ c.page.invariant.0.its.after.given in
+    let after : c.given.result ≡ c.page.inside.page + 1 = c.given.ensures ∙ c.page.invariant.its.after.given in
     let short : c.page.inside.page + 1 < 2 ^ 32 = omega (arith, after, c.given.type_inv) in
-    rw (← c.self.view_is) (page_given laws.one laws.first _ _ due c.page.invariant.0 short)
-
-pub invariant_of-self-in-Err : goal.invariant_of-self-in-Err
-invariant_of-self-in-Err c =
-    record { come = (rw (sym c.self.view_is) at c.in-Err.ensures.err).0; cursor_is = c.self.invariant.cursor_is }
-
-pub invariant_of-self-in_err-answer-in-Err : goal.invariant_of-self-in_err-answer-in-Err
-invariant_of-self-in_err-answer-in-Err c =
-    record { come = (rw (sym c.self.view_is) at c.in-Err.ensures.err).0; cursor_is = c.self.invariant.cursor_is }
+    rw (← c.self.view_is) (page_given laws.one laws.first _ _ due c.page.invariant.its c.page.invariant.limits short)
 
 pub returns-in_ok-answer-in-Err : goal.returns-in_ok-answer-in-Err
 returns-in_ok-answer-in-Err c =

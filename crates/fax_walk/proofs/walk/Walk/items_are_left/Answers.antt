@@ -1,11 +1,8 @@
-use Rattle.fax_walk.specs.views.Walk.{WalkView}
 use Rattle.fax_walk.proofs.WalkLemmas.{is_left}
 use Rattle.fax_walk.proofs.walk.Walk.items_are_left.Goals as goal
 
 pub returns : goal.returns
 returns c =
     let w = c.self.inside in
-    let walk : WalkView = record { file = w.file.now; begun = w.begun; given = w.given; told = w.told } in
     rw (← c.self.view_is)
-    (is_left walk w.cursor w.page c.bits_stand_by_place.ensures c.lines_are_read_in_one_way.ensures c.files_have_one_chain.ensures
-    c.beginnings_have_one_tail.ensures c.self.invariant)
+    (is_left _ w.cursor w.page c.beginnings_have_one_tail.ensures c.self.invariant)

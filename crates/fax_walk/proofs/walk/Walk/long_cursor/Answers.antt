@@ -2,7 +2,6 @@ use Rattle.std.proofs.Common.{Option, Result, Ok, Err}
 use Rattle.std.specs.Prelude.{IfOk}
 use Rattle.fax_bits.specs.declared.Memory.{Memory}
 use Rattle.fax_walk.specs.Pages.{LongPlace}
-use Rattle.fax_walk.specs.views.Walk.{WalkView}
 use Rattle.fax_walk.proofs.WalkLemmas.{long_is}
 use Rattle.fax_walk.proofs.walk.Walk.long_cursor.Goals as goal
 
@@ -14,7 +13,6 @@ if_ok (Err refused) P Q so holds = holds
 pub returns-in-Some : goal.returns-in-Some
 returns-in-Some c =
     let w = c.self.inside in
-    let walk : WalkView = record { file = w.file.now; begun = w.begun; given = w.given; told = w.told } in
     rw (← c.self.view_is)
-    (if_ok _ _ _ (λ place is. long_is walk w.cursor w.page c.self.invariant c.if-self-gt0.true c.in-Some.page c.in-Some.is place is)
+    (if_ok _ _ _ (λ place is. long_is _ w.cursor w.page c.self.invariant c.if-self-gt0.true c.in-Some.page c.in-Some.is place is)
     c.long_cursor.ensures)

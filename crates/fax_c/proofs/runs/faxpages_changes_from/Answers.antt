@@ -1,4 +1,0 @@
-use Rattle.fax_c.proofs.runs.faxpages_changes_from.Goals as goal
-
-pub returns : goal.returns
-returns c = c.fill_from.ensures
