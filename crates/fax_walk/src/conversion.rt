@@ -4,12 +4,14 @@ ghost use Rattle.fax_bits.specs.Bits.{BeginsWith};
 ghost use Rattle.fax_walk.specs.Converted as Spec;
 ghost use Rattle.fax_walk.specs.Items.{RowItem};
 ghost use Rattle.fax_walk.specs.code.Conversion as Code;
-ghost use Rattle.fax_walk.specs.code.Output.{IsPageDue, Part, Progress};
+ghost use Rattle.fax_walk.specs.code.Output.{IsPageDue, IsPartWritten, Part, Progress};
+ghost use Rattle.fax_files.specs.views.Page.{IsPageForm};
 ghost use Rattle.fax_walk.specs.code.Sources as Reads;
 
 use crate::options::{ConvertFault, Options};
 use crate::output::Output;
 use crate::sheet::Sheet;
+use crate::walk::LastRow;
 use crate::{Pages, Walk, WalkFault};
 use fax_bits::Memory;
 use fax_files::{PbmImage, PbmReader};
@@ -108,6 +110,25 @@ fn count_pages(file: &[u8]) -> u64
     }
 }
 
+/// Begins the page of a row that is its first one.
+#[inline(always)]
+fn begin_page(
+    alloc: Global,
+    last: &LastRow,
+    options: &Options,
+    output: &mut Output,
+) -> Result<(), Memory>
+    requires limits { IsPageForm last.now.form.now }
+    requires due { (part : Part) × Reads.IsLentDue options.now output.old last.now part }
+    ensures { OnOk result ((part : Part) → Reads.IsLentDue options.now output.old last.now part
+        → IsPartWritten output.new part) }
+{
+    if last.place.row > 0 {
+        return Ok(());
+    }
+    output.begin(alloc, options, &Sheet::of_form(last.form))
+}
+
 /// Puts the row that a walk handed out last on its page.
 #[inline(always)]
 fn put_last_row(
@@ -125,9 +146,7 @@ fn put_last_row(
     let Some(last) = walk.last_row() else {
         return Ok(());
     };
-    if last.place.row == 0 {
-        output.begin(alloc, options, &Sheet::of_form(last.form))?;
-    }
+    begin_page(alloc, &last, options, output)?;
     output.put_row(last.row)?;
     if last.place.row + 1 == last.form.rows {
         output.end()?;

@@ -225,16 +225,15 @@ pub record IsPutTo (output : Output) (part : Part) : Type 0 where
   pub some : 0 < length part.rows → length part.rows < part.sheet.rows → IsPartWritten output part
   pub all : length part.rows ≡ part.sheet.rows → IsWrittenTo output (after part)
 
--- row number r of a page of this sheet can be put after the others, and the page is due
-pub record IsRowDue (options : Options) (output : Output) (sheet : Sheet) (r : ℕ) (row : List Colour)
+-- row number r of a page can be put after the others, and the page is due
+pub record IsRowDue (options : Options) (output : Output) (r : ℕ) (row : List Colour)
     (part : Part) : Type 0 where
-  pub sheet_is : part.sheet ≡ sheet
   pub options_are : part.at.options ≡ options
   pub fewer : length part.at.pages < part.at.total
   pub put : IsPutTo output part
   pub count : length part.rows ≡ r
-  pub due : r < sheet.rows
-  pub width : length row ≡ sheet.width
+  pub due : r < part.sheet.rows
+  pub width : length row ≡ part.sheet.width
 
 -- all pages were written
 pub record HasAllPages (output : Output) : Type 0 where
