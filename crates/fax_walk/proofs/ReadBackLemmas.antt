@@ -1,7 +1,8 @@
 -- What is converted is read back.
-use Rattle.std.proofs.Common.{◌≡◌, ◌≢◌, ℕ, suc, ◌+◌, ◌<◌, ◌≤◌, inl, inr, Bool, true, false, List, [], ◌∷◌, ◌++◌, map, drop, length}
+use Rattle.std.proofs.Common.{◌≡◌, ◌≢◌, ℕ, suc, ◌+◌, ◌<◌, ◌≤◌, inl, inr, Bool, true, List, [], ◌∷◌, ◌++◌, map, drop, length}
 use Rattle.std.proofs.Common.{Option, Some, None, Result, Ok, Err, refl, sym, ap, ◌∙◌, subst, arith}
 use Rattle.std.specs.Prelude.{All, IsTrue, codes, nat_le, ◌&&◌, slice_get}
+use Rattle.std.proofs.lemmas.Bool.{cases_lt}
 use Rattle.std.proofs.lemmas.Bool.Decides.{nat_tests}
 use Rattle.std.proofs.lemmas.List.{length-map, map-append}
 use Rattle.std.proofs.lemmas.List.Elements.{All-cons, All-head, All-nil, All-tail}
@@ -192,14 +193,7 @@ images_of_pages (source ∷ pages) are =
     ((All-head IsWritableSource source pages are).image, images_of_pages pages (All-tail IsWritableSource source pages are))
 
 not_over : (n limit : ℕ) → (limit < n → ⊥) → n ≤ limit
-not_over n limit not_more = by_test (nat_le n limit) refl
-  where
-    more : nat_le n limit ≡ false → limit < n
-    more is = grind (arith, nat_tests, is)
-
-    by_test : (b : Bool) → nat_le n limit ≡ b → n ≤ limit
-    by_test true is = grind (arith, nat_tests, is)
-    by_test false is = absurd (not_more (more is))
+not_over n limit not_more = elim (cases_lt limit n) [ inl more ↦ absurd (not_more more) | inr less ↦ less ]
 
 module _ (written : CodedFilesAreWalked) (images : WrittenImagesAreRead) (options : Options) (pages : List SourcePage)
     (are : All IsWritableSource pages) (some : 1 ≤ length pages) where

@@ -1,8 +1,8 @@
 -- The rows of a file, page by page.
-use Rattle.std.proofs.Common.{subst, ◌≡◌, ℕ, zero, suc, ◌+◌, ◌*◌, ◌<◌, ◌⊎◌, inl, inr, Bool, true, false, List, [], ◌∷◌, ◌++◌, map, length, take, drop}
+use Rattle.std.proofs.Common.{subst, ◌≡◌, ℕ, zero, suc, ◌+◌, ◌*◌, ◌<◌, ◌⊎◌, inl, inr, List, [], ◌∷◌, ◌++◌, map, length, take, drop}
 use Rattle.std.proofs.Common.{Option, Some, None, Ok, Err, refl, sym, ap, ◌∙◌, arith, append-nil}
+use Rattle.std.proofs.lemmas.Bool.{cond_both}
 use Rattle.std.proofs.lemmas.List.{drop_at, length-map, length-replicate, take_at}
-use Rattle.std.specs.Prelude.{if◌then◌else◌}
 use Rattle.fax_bits.specs.declared.Colour.{Colour}
 use Rattle.fax_bits.specs.declared.Colour.TheVariants.{White}
 use Rattle.fax_bits.specs.laws.Codes.{AreBitsByPlace}
@@ -31,11 +31,8 @@ use Rattle.fax_walk.proofs.TailLawLemmas.{any_row, whole_page}
 use Rattle.fax_walk.proofs.WidthLemmas.{row_in}
 
 exchanged_length : (form : PageForm) (row : List Colour) → length (exchanged form row) ≡ length row
-exchanged_length form row = by_test form.exchanged
-  where
-    by_test : (b : Bool) → length (if b then map other row else row) ≡ length row
-    by_test true = length-map row other
-    by_test false = refl
+exchanged_length form row =
+    cond_both form.exchanged (map other row) row (λ (l : List Colour). length l ≡ length row) (λ is. length-map row other) (λ is. refl)
 
 -- from the place of a page's row r on these rows stand: all up to the page's last one, which leads to the next page; or
 -- fewer, and then a fault
