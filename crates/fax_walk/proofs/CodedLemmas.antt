@@ -1,12 +1,14 @@
 -- A file of coded strips has the rows and the forms of the pages that it was written of.
-use Rattle.std.proofs.Common.{◌≡◌, ◌≢◌, true, ℕ, zero, suc, ◌+◌, ◌-◌, ◌*◌, ◌<◌, ◌≤◌, min, List, [], ◌∷◌, ◌++◌, length, map, take, drop}
-use Rattle.std.proofs.Common.{Option, Some, None, refl, sym, ap, ◌∙◌, arith, length-take, length-drop}
+use Rattle.std.proofs.Common.{◌≡◌, ◌≢◌, true, ℕ, zero, suc, ◌+◌, ◌*◌, ◌<◌, ◌≤◌, min, List, [], ◌∷◌, ◌++◌, length, map, take, drop}
+use Rattle.std.proofs.Common.{Option, Some, None, refl, sym, ap, ◌∙◌, subst, arith, length-take, length-drop}
 use Rattle.std.specs.Prelude.{All, unwrap_or, IsTrue}
 use Rattle.std.specs.List.{AllZip}
 use Rattle.std.specs.Option.{ForSome}
 use Rattle.std.proofs.lemmas.Bool.Decides.{nat_tests}
 use Rattle.std.proofs.lemmas.Grind.{div_ceil_times}
-use Rattle.std.proofs.lemmas.List.{take-append-drop, length-map}
+use Rattle.std.specs.List.{range_with_len}
+use Rattle.std.proofs.lemmas.List.FromFn.{length-map-range_with_len}
+use Rattle.std.proofs.lemmas.List.{drop-drop, drop_all, take-append-drop, length-map}
 use Rattle.std.proofs.lemmas.List.Elements.{All-take, All-drop, All-nil, All-cons, All-head, All-tail}
 use Rattle.std.proofs.Math.Nat.{mul-le-mul_left}
 use Rattle.fax_bits.specs.declared.Colour.{Colour}
@@ -23,25 +25,20 @@ use Rattle.fax_files.specs.laws.Pbm.{AreOfWidth}
 use Rattle.fax_files.specs.laws.Files.{IsWritable, AreWritable, HoldStripRows}
 use Rattle.fax_walk.specs.declared.options.Options.{Options}
 use Rattle.fax_walk.specs.Converted.{SourcePage, written_page}
-use Rattle.fax_walk.specs.code.OpenStrips.{strips_of, coded_strips}
+use Rattle.fax_walk.specs.code.OpenStrips.{coded_of, rows_of_strip}
 use Rattle.fax_walk.specs.laws.Written.{HoldsRows, IsWritableSource, written_pages, WrittenFilesAreWalked, CodedFilesAreWalked}
-use Rattle.fax_walk.proofs.OpenStripsLemmas.{all_coded, enough}
+use Rattle.fax_walk.proofs.OpenStripsLemmas.{enough}
 
--- strips of enough rows are all rows
-rows_joined : (in_strip n : ℕ) (rows : List (List Colour)) → length rows ≤ n * in_strip → rows ≡ joined (strips_of in_strip n rows)
-rows_joined in_strip zero [] within = refl
-rows_joined in_strip zero (row ∷ rows) within = absurd (omega arith)
-rows_joined in_strip (suc n) rows within =
-    let times : suc n * in_strip ≡ in_strip + n * in_strip = omega arith in
-    let rest : length (drop in_strip rows) ≤ n * in_strip = omega (arith, length-drop in_strip rows) in
-    sym (take-append-drop in_strip rows)
-    ∙ ap (λ (l : List (List Colour)). take in_strip rows ++ l) (rows_joined in_strip n (drop in_strip rows) rest)
-
--- each strip is coded
-strips_count : (form : PageForm) (k s n : ℕ) (rows : List (List Colour))
-    → length (coded_strips form k s (strips_of form.rows_per_strip n rows)) ≡ n
-strips_count form k s zero rows = refl
-strips_count form k s (suc n) rows = ap suc (strips_count form k (s + 1) n (drop form.rows_per_strip rows))
+-- strips of enough rows, from strip s on, are all rows that are left
+rows_joined : (form : PageForm) (s n : ℕ) (rows : List (List Colour)) → length rows ≤ (s + n) * form.rows_per_strip
+    → drop (s * form.rows_per_strip) rows ≡ joined (map (rows_of_strip form rows) (range_with_len s n))
+rows_joined form s zero rows within = drop_all (s * form.rows_per_strip) rows (omega arith)
+rows_joined form s (suc n) rows within =
+    let in_strip = form.rows_per_strip in
+    let place : s * in_strip + in_strip ≡ (s + 1) * in_strip = omega arith in
+    sym (take-append-drop in_strip (drop (s * in_strip) rows))
+    ∙ ap (λ (l : List (List Colour)). rows_of_strip form rows s ++ l)
+    (drop-drop in_strip (s * in_strip) rows ∙ ap (λ (i : ℕ). drop i rows) place ∙ rows_joined form (s + 1) n rows (omega arith))
 
 all_wide : (width : ℕ) (rows : List (List Colour)) → AreOfWidth width rows → All (λ row. length row ≡ width) rows
 all_wide width [] are = All-nil (λ row. length row ≡ width)
@@ -61,18 +58,20 @@ module _ (law : CodedStripsAreRead) (form : PageForm) (limits : IsPageForm form)
   in_strip = form.rows_per_strip
 
   -- coded strips hold their rows
-  holds_from : (s n : ℕ) (rows : List (List Colour)) → s + n ≡ form.strips → length rows ≡ form.rows - s * in_strip
-      → All (λ row. length row ≡ form.width) rows
-      → HoldStripRows form s (coded_strips form k s (strips_of in_strip n rows)) (strips_of in_strip n rows)
-  holds_from s zero rows strips count wide = tt
-  holds_from s (suc n) rows strips count wide =
+  holds_from : (rows : List (List Colour)) → length rows ≡ form.rows → All (λ row. length row ≡ form.width) rows → (s n : ℕ)
+      → s + n ≡ form.strips
+      → HoldStripRows form s (map (coded_of form k rows) (range_with_len s n)) (map (rows_of_strip form rows) (range_with_len s n))
+  holds_from rows count wide s zero strips = tt
+  holds_from rows count wide s (suc n) strips =
       let before : s * in_strip < form.rows = begins_before form s limits (omega arith) in
       let some = limits.some_rows_per_strip in
-      let left : length (drop in_strip rows) ≡ form.rows - (s + 1) * in_strip = omega (arith, length-drop in_strip rows) in
-      let here : length (take in_strip rows) ≡ (strip_form form s).rows = omega (arith, length-take in_strip rows) in
-      let shape : AreRowsOf (strip_form form s) (take in_strip rows) =
-      record { count = here; widths = All-take (λ row. length row ≡ form.width) in_strip rows wide } in (
-        law (strip_form form s) k (take in_strip rows)
+      let left = drop (s * in_strip) rows in
+      let here : length (take in_strip left) ≡ (strip_form form s).rows =
+      omega (arith, length-take in_strip left, length-drop (s * in_strip) rows) in
+      let widths = All-take (λ row. length row ≡ form.width) in_strip left (All-drop (λ row. length row ≡ form.width) (s * in_strip) rows wide)
+      in
+      let shape : AreRowsOf (strip_form form s) (take in_strip left) = record { count = here; widths = widths } in (
+        law (strip_form form s) k (take in_strip left)
             (record {
               some_pels = limits.some_width;
               short_rows = omega (arith, limits.width);
@@ -80,8 +79,7 @@ module _ (law : CodedStripsAreRead) (form : PageForm) (limits : IsPageForm form)
               few_rows = omega (arith, limits.rows);
               aligned = limits.aligned;
             }) shape,
-        holds_from (s + 1) n (drop in_strip rows) (omega arith) left
-            (All-drop (λ row. length row ≡ form.width) in_strip rows wide),
+        holds_from rows count wide (s + 1) n (omega arith),
       )
 
 height : (strip : Option ℕ) (rows : ℕ) → ForSome strip (λ n. 0 < n) → 1 ≤ rows → 1 ≤ min (unwrap_or strip rows) rows
@@ -115,25 +113,22 @@ module _ (law : CodedStripsAreRead) (options : Options) (coding : Coding) (some_
           aligned = has_eols;
         }
 
-    coded : (written_page options coding source).strips
-        ≡ coded_strips form options.k 0 (strips_of form.rows_per_strip form.strips source.image.rows)
-    coded = all_coded form options.k source.image.rows
-
     page_writable : IsWritable (written_page options coding source)
     page_writable = record {
       limits = form_limits;
       exchanged = refl;
-      strips = rw coded (strips_count form options.k 0 form.strips source.image.rows);
+      strips = length-map-range_with_len (coded_of form options.k source.image.rows) 0 form.strips;
     }
 
     page_holds : HoldsRows (written_page options coding source) source.image.rows
-    page_holds = (
-      strips_of form.rows_per_strip form.strips source.image.rows,
-      rw coded
-          (holds_from law form form_limits options.k 0 form.strips source.image.rows (omega arith) (omega arith)
-          (all_wide source.image.width source.image.rows w.image.rows)),
-      rows_joined form.rows_per_strip form.strips source.image.rows (enough form form_limits),
-    )
+    page_holds =
+        let rows = source.image.rows in
+        let none : 0 ≡ 0 * form.rows_per_strip = omega arith in (
+          map (rows_of_strip form rows) (range_with_len 0 form.strips),
+          holds_from law form form_limits options.k rows refl (all_wide source.image.width rows w.image.rows) 0 form.strips (omega arith),
+          ap (λ (i : ℕ). drop i rows) none ∙ rows_joined form 0 form.strips rows
+              (subst (λ (n : ℕ). length rows ≤ n * form.rows_per_strip) (omega arith) (enough form form_limits)),
+        )
 
   all_writable : (pages : List SourcePage) → All IsWritableSource pages → AreWritable (written_pages options coding pages)
   all_writable [] are = tt

@@ -1,10 +1,16 @@
--- The images of a file, counted.
+-- A source that is converted, and the images of a file, counted.
 use Rattle.std.proofs.Common.{◌≡◌, ℕ, ◌+◌, ◌<◌, inl, inr, List, [], ◌∷◌, ◌++◌, length, Some, None, refl, sym, ap, subst, ◌∙◌, arith}
-use Rattle.std.proofs.Common.{append_assoc, append-nil}
+use Rattle.std.proofs.Common.{append_assoc, append-nil, ◌≢◌, Result, Ok, Err}
+use Rattle.std.specs.Prelude.{IfErr, IfOk, Vec}
+use Rattle.std.specs.declared.alloc.Global.{Global}
 use Rattle.std.proofs.lemmas.List.{length-append}
 use Rattle.fax_files.specs.declared.pbm.PbmFault.{PbmFault}
 use Rattle.fax_files.specs.Pbm.{Image, IsImage, IsImageFault, AreImages}
-use Rattle.fax_walk.specs.declared.options.ConvertFault.TheVariants.{Pbm as PbmSource}
+use Rattle.fax_walk.specs.declared.options.ConvertFault.{ConvertFault}
+use Rattle.fax_walk.specs.declared.options.ConvertFault.TheVariants.{Memory, Pbm as PbmSource}
+use Rattle.fax_walk.specs.declared.output.Output.{Output}
+use Rattle.fax_walk.specs.Converted.{IsConverted, IsNotConverted, IsSource}
+use Rattle.fax_walk.specs.code.Output.{FinishesAs, IsRefusedAs, IsWrittenTo, Progress}
 use Rattle.fax_walk.specs.code.Conversion.{AreImagesRead, IsImageCount, IsImagesFault}
 
 pub none_read : (bytes : List ℕ) → AreImagesRead bytes bytes 0
@@ -48,3 +54,19 @@ image_is_long bytes image rest is =
     let width = length-append h.width_digits (h.second_gap ++ (h.height_digits ++ h.space ∷ (is.raster ++ rest))) in
     let first = length-append h.first_gap (h.width_digits ++ (h.second_gap ++ (h.height_digits ++ h.space ∷ (is.raster ++ rest)))) in
     omega (arith, spelled, raster, digits, second, width, first)
+
+-- what the output of all pages of a source is
+module _ (bytes : List ℕ) (at : Progress) (output : Output) (source : IsSource bytes at.pages) (written : IsWrittenTo output at)
+    (all : length at.pages ≡ at.total) where
+  pub converted : (result : Result (Vec ℕ Global) ConvertFault) → IfOk result (FinishesAs output)
+      → IfOk result (λ bytes'. IsConverted bytes at.options bytes'.items)
+  converted (Ok bytes') finishes =
+      let is = finishes at written all in
+      record { pages = at.pages; source = source; output_is = is.bytes_are; fits = is.fits }
+  converted (Err fault) finishes = tt
+
+  pub refused : (result : Result (Vec ℕ Global) ConvertFault) → IfErr result (IsRefusedAs output)
+      → IfErr result (λ fault. fault ≢ Memory → IsNotConverted bytes at.options fault)
+  refused (Ok bytes') large = tt
+  refused (Err fault) (is, large) =
+      λ not_memory. subst (IsNotConverted bytes at.options) (sym is) (at.pages, source, large at written all)

@@ -1,9 +1,9 @@
 -- Images that are converted.
-use Rattle.std.proofs.Common.{◌≡◌, ◌≢◌, ℕ, zero, suc, ◌+◌, ◌*◌, ◌<◌, ◌≤◌, inl, inr, List, [], ◌∷◌, ◌++◌, length, map, take, drop, Some}
-use Rattle.std.proofs.Common.{None, refl, sym, ap, ◌∙◌, subst, arith, append_assoc, length-append, length-take, length-drop}
-use Rattle.std.specs.Prelude.{flat_map}
-use Rattle.std.proofs.lemmas.List.{length-map, drop-drop, map-append, length_push}
-use Rattle.fax_bits.specs.Bits.{bits, byte_bits, code_bits}
+use Rattle.std.proofs.Common.{◌≡◌, ◌≢◌, ℕ, zero, suc, ◌+◌, ◌*◌, ◌≤◌, inl, inr, List, [], ◌∷◌, ◌++◌, length, map, take, drop, Some}
+use Rattle.std.proofs.Common.{None, refl, sym, ap, ◌∙◌, subst, arith, append_assoc, append-nil, length-append, length-take, length-drop}
+use Rattle.std.specs.Prelude.{codes, flat_map}
+use Rattle.std.proofs.lemmas.List.{length-map, drop-drop, map-append}
+use Rattle.fax_bits.specs.Bits.{BeginsWith, bits, byte_bits, code_bits}
 use Rattle.fax_bits.specs.declared.FillOrder.TheVariants.{MsbFirst}
 use Rattle.fax_bits.specs.declared.Colour.{Colour}
 use Rattle.fax_rows.specs.Coded.{packed_len, unpacked_row, colour_of_bit}
@@ -12,11 +12,10 @@ use Rattle.fax_files.specs.Pbm.{Image, IsImage, IsImageFault, AreImages, raster_
 use Rattle.fax_files.specs.laws.Pbm.{AreOfWidth, ImagesAreReadInOneWay, ImagesBeginInOneWay}
 use Rattle.fax_walk.specs.declared.options.Options.{Options}
 use Rattle.fax_walk.specs.declared.output.Output.{Output}
-use Rattle.fax_walk.specs.declared.output.Output.TheVariants.{TooLarge}
-use Rattle.fax_walk.specs.Converted.{SourcePage}
+use Rattle.fax_walk.specs.Converted.{IsSource, SourcePage}
 use Rattle.fax_walk.specs.code.Conversion.{IsImageCount}
-use Rattle.fax_walk.specs.code.Output.{Progress, IsWrittenTo, IsBeginning}
-use Rattle.fax_walk.specs.code.Sources.{page_of_image, PutsImage, AreImagesWritten}
+use Rattle.fax_walk.specs.code.Output.{Progress, IsBeginning, IsPageDue, IsWrittenTo, with_source_page}
+use Rattle.fax_walk.specs.code.Sources.{page_of_image, AreImagesWritten}
 
 pub raster_count : (width n : ℕ) (bytes : List ℕ) → length (raster_rows width n bytes) ≡ n
 raster_count width zero bytes = refl
@@ -62,25 +61,12 @@ raster_widths width (suc n) bytes enough =
     let rest : n * packed_len width ≤ length (drop (packed_len width) bytes) = omega (arith, length-drop (packed_len width) bytes) in
     (row_width width (take (packed_len width) bytes) first, raster_widths width n (drop (packed_len width) bytes) rest)
 
--- an image that is not put, since the output is too large
-pub image_left_out : (output : Output) (width height : ℕ) (raster : List ℕ) → output ≡ TooLarge → height * packed_len width ≤ length raster
-    → PutsImage output width height raster output
-image_left_out output width height raster large enough = λ at written. record {
-  widths = raster_widths width height raster enough;
-  has = rw large (rw large at written.has);
-}
-
 -- no image stands in no bytes
 no_bytes : (image : Image) (rest : List ℕ) → IsImage [] image rest → ⊥
 no_bytes image rest is = let spelled = is.head.spelled in cc
 
 -- the images that are left
 module _ (reads : ImagesAreReadInOneWay) (begins : ImagesBeginInOneWay) where
-  -- an image is left, so there is no end here
-  pub no_end : (left : List ℕ) (rest : List Image) → AreImages left rest None → 0 < length rest → left ≡ [] → ⊥
-  no_end left [] are some empty = omega arith
-  no_end left (image ∷ rest) are some empty = no_bytes image are.0 (subst (λ (l : List ℕ). IsImage l image are.0) empty are.1)
-
   pub no_fault : (left : List ℕ) (rest : List Image) (fault : PbmFault) → AreImages left rest None → (left ≢ []) × IsImageFault left fault
       → ⊥
   no_fault left rest fault are is =
@@ -99,47 +85,58 @@ module _ (reads : ImagesAreReadInOneWay) (begins : ImagesBeginInOneWay) where
 -- the images before the first one
 pub images_begun : (bytes : List ℕ) (options : Options) (total : ℕ) (output : Output) → IsImageCount bytes total
     → IsBeginning options total output
-    → AreImagesWritten bytes bytes options total 0 output
-images_begun bytes options total output counted begun = record {
-  before = [];
-  rest = counted.images;
-  all = counted.are;
-  total_is = counted.count_is;
-  count_is = refl;
-  left_are = counted.are;
-  written = begun;
-}
+    → AreImagesWritten bytes bytes options total output
+images_begun bytes options total output counted begun =
+    record { before = []; rest = counted.images; all = counted.are; total_is = counted.count_is; left_are = counted.are; written = begun }
 
--- an image more
-module _ (bytes left : List ℕ) (options : Options) (total count : ℕ) (output : Output)
-    (so_far : AreImagesWritten bytes left options total count output) where
+module _ (reads : ImagesAreReadInOneWay) (begins : ImagesBeginInOneWay) (bytes left : List ℕ) (options : Options) (total : ℕ)
+    (output : Output) (so_far : AreImagesWritten bytes left options total output) where
   abbrev pub at : Progress
   at = record { options = options; total = total; pages = map page_of_image so_far.before }
 
-  pub some_left : count < total → 0 < length so_far.rest
-  some_left fewer = omega (arith, length-append so_far.before so_far.rest, so_far.total_is, so_far.count_is)
+  pages_are : length at.pages ≡ length so_far.before
+  pages_are = length-map so_far.before page_of_image
 
-  pub pages_fewer : count < total → length at.pages < total
-  pages_fewer fewer = omega (arith, length-map so_far.before page_of_image, so_far.count_is)
+  module _ (image : Image) (next : List ℕ) (is : IsImage left image next) where
+    read : (later : List Image) × (so_far.rest ≡ image ∷ later) × AreImages next later None
+    read = one_read reads begins left next image so_far.rest so_far.left_are is
 
-  pub image_written : (image : Image) (next : List ℕ) (later : List Image) (new : Output) → so_far.rest ≡ image ∷ later
-      → AreImages next later None
-      → IsWrittenTo new (record at { pages = at.pages ++ page_of_image image ∷ [] })
-      → AreImagesWritten bytes next options total (count + 1) new
-  image_written image next later new rest_is are written =
-      let same : so_far.before ++ so_far.rest ≡ (so_far.before ++ image ∷ []) ++ later =
-      ap (λ (l : List Image). so_far.before ++ l) rest_is ∙ sym (append_assoc so_far.before (image ∷ []) later) in
-      record {
-        before = so_far.before ++ image ∷ [];
-        rest = later;
-        all = subst (λ (l : List Image). AreImages bytes l None) same so_far.all;
-        total_is = sym (ap length same) ∙ so_far.total_is;
-        count_is = length_push so_far.before image ∙ ap (λ n. n + 1) so_far.count_is;
-        left_are = are;
-        written = subst (λ (l : List SourcePage). IsWrittenTo new (record { options = options; total = total; pages = l }))
-            (sym (map-append page_of_image so_far.before (image ∷ []))) written;
-      }
+    -- one more image is due
+    pub image_due : IsPageDue options output at
+    image_due = record {
+      options_are = refl;
+      fewer = omega (arith, length-append so_far.before so_far.rest, so_far.total_is, ap length read.1, pages_are);
+      written = so_far.written;
+    }
+
+    pub image_written : (new : Output) → IsWrittenTo new (with_source_page at (page_of_image image))
+        → AreImagesWritten bytes next options total new
+    image_written new written =
+        let same : so_far.before ++ so_far.rest ≡ (so_far.before ++ image ∷ []) ++ read.0 =
+        ap (λ (l : List Image). so_far.before ++ l) read.1 ∙ sym (append_assoc so_far.before (image ∷ []) read.0) in
+        record {
+          before = so_far.before ++ image ∷ [];
+          rest = read.0;
+          all = subst (λ (l : List Image). AreImages bytes l None) same so_far.all;
+          total_is = sym (ap length same) ∙ so_far.total_is;
+          left_are = read.2;
+          written = subst (λ (l : List SourcePage). IsWrittenTo new (record { options = options; total = total; pages = l }))
+              (sym (map-append page_of_image so_far.before (image ∷ []))) written;
+        }
 
   -- after the last image
-  pub all_written : count ≡ total → length at.pages ≡ total
-  all_written last = length-map so_far.before page_of_image ∙ so_far.count_is ∙ last
+  module _ (empty : left ≡ []) where
+    none_left : so_far.rest ≡ []
+    none_left = (reads left so_far.rest [] None None so_far.left_are (inl (empty, refl))).0
+
+    pub all_written : length at.pages ≡ total
+    all_written = omega (arith, pages_are, ap length none_left, length-append so_far.before so_far.rest, so_far.total_is)
+
+    pub source : BeginsWith bytes (codes "P4") → IsSource bytes at.pages
+    source begins = inl (
+      begins,
+      so_far.before,
+      subst (λ (l : List Image). AreImages bytes l None)
+          (ap (λ (l : List Image). so_far.before ++ l) none_left ∙ append-nil so_far.before) so_far.all,
+      refl,
+    )

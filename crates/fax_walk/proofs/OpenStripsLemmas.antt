@@ -3,7 +3,8 @@ use Rattle.std.proofs.Common.{◌≡◌, ◌⊎◌, ℕ, zero, suc, ◌+◌, ◌
 use Rattle.std.specs.List.{range_with_len}
 use Rattle.std.proofs.Common.{map, None, Vec, refl, sym, ap, ◌∙◌, subst, arith, length-drop}
 use Rattle.std.specs.declared.alloc.Global.{Global}
-use Rattle.std.proofs.lemmas.List.{take-append-le, drop-append-le, drop-drop, drop_all, take_all, length_push}
+use Rattle.std.proofs.lemmas.List.FromFn.{map-range_with_len_more}
+use Rattle.std.proofs.lemmas.List.{take-append-le, drop-append-le, drop_all, take_all, length_push}
 use Rattle.std.proofs.Math.Nat.{mul-le-mul_left}
 use Rattle.std.proofs.lemmas.Bool.{cases_lt}
 use Rattle.std.proofs.lemmas.Grind.{div_ceil_times}
@@ -16,71 +17,26 @@ use Rattle.fax_files.specs.views.Page.{IsPageForm}
 use Rattle.fax_files.specs.Page.{strip_form}
 use Rattle.fax_files.specs.views.Writing.{contents}
 use Rattle.fax_walk.specs.declared.open_strips.OpenStrips.{OpenStrips}
-use Rattle.fax_walk.specs.code.OpenStrips.{strips_of, coded_strips, with_writer, AreInStrip, BeginsStrip, HasPutRows}
+use Rattle.fax_walk.specs.code.OpenStrips.{coded_of, with_writer, AreInStrip, BeginsStrip, HasPutRows}
 
 -- rows after n strips do not change them
-pub strips_more : (in_strip n : ℕ) (rows more : List (List Colour)) → n * in_strip ≤ length rows
-    → strips_of in_strip n (rows ++ more) ≡ strips_of in_strip n rows
-strips_more in_strip zero rows more far = refl
-strips_more in_strip (suc n) rows more far =
-    let first : in_strip ≤ length rows = omega arith in
-    let rest : n * in_strip ≤ length (drop in_strip rows) = omega (arith, length-drop in_strip rows) in
-    let later = strips_more in_strip n (drop in_strip rows) more rest in
-    ap (λ (l : List (List Colour)). l ∷ strips_of in_strip n (drop in_strip (rows ++ more))) (take-append-le in_strip rows more first)
-    ∙ ap (λ (l : List (List Colour)). take in_strip rows ∷ strips_of in_strip n l) (drop-append-le in_strip rows more first)
-    ∙ ap (λ (l : List (List (List Colour))). take in_strip rows ∷ l) later
-
--- one more strip
-pub strips_next : (in_strip n : ℕ) (rows : List (List Colour))
-    → strips_of in_strip (n + 1) rows ≡ strips_of in_strip n rows ++ take in_strip (drop (n * in_strip) rows) ∷ []
-strips_next in_strip zero rows =
-    let none : 0 ≡ 0 * in_strip = omega arith in
-    ap (λ (i : ℕ). take in_strip (drop i rows) ∷ []) none
-strips_next in_strip (suc n) rows =
-    let count : suc n + 1 ≡ suc (n + 1) = omega arith in
-    let place : in_strip + n * in_strip ≡ suc n * in_strip = omega arith in
-    let later = strips_next in_strip n (drop in_strip rows) in
-    ap (λ (i : ℕ). strips_of in_strip i rows) count
-    ∙ ap (λ (l : List (List (List Colour))). take in_strip rows ∷ l) later
-    ∙ ap (λ (l : List (List Colour)). take in_strip rows ∷ (strips_of in_strip n (drop in_strip rows) ++ take in_strip l ∷ []))
-    (drop-drop (n * in_strip) in_strip rows ∙ ap (λ (i : ℕ). drop i rows) place)
-
-pub strips_count : (in_strip n : ℕ) (rows : List (List Colour)) → length (strips_of in_strip n rows) ≡ n
-strips_count in_strip zero rows = refl
-strips_count in_strip (suc n) rows = ap suc (strips_count in_strip n (drop in_strip rows))
-
-coded_next : (form : PageForm) (k s : ℕ) (strips : List (List (List Colour))) (rows : List (List Colour))
-    → coded_strips form k s (strips ++ rows ∷ []) ≡ coded_strips form k s strips ++ coded_strip (strip_form form (s + length strips)) k rows
-    ∷ []
-coded_next form k s [] rows =
-    let here : s ≡ s + 0 = omega arith in
-    ap (λ (i : ℕ). coded_strip (strip_form form i) k rows ∷ []) here
-coded_next form k s (first ∷ strips) rows =
-    let there : s + 1 + length strips ≡ s + suc (length strips) = omega arith in
-    ap (λ (l : List (List ℕ)). coded_strip (strip_form form s) k first ∷ l)
-    (coded_next form k (s + 1) strips rows
-    ∙ ap (λ (i : ℕ). coded_strips form k (s + 1) strips ++ coded_strip (strip_form form i) k rows ∷ []) there)
-
--- the strips of a page, each by its number, are these
-coded_from : (form : PageForm) (k in_strip s n : ℕ) (rows : List (List Colour))
-    → map (λ i. coded_strip (strip_form form i) k (take in_strip (drop (i * in_strip) rows))) (range_with_len s n)
-    ≡ coded_strips form k s (strips_of in_strip n (drop (s * in_strip) rows))
-coded_from form k in_strip s zero rows = refl
-coded_from form k in_strip s (suc n) rows =
-    let place : s * in_strip + in_strip ≡ (s + 1) * in_strip = omega arith in
-    let rest = drop-drop in_strip (s * in_strip) rows ∙ ap (λ (i : ℕ). drop i rows) place in
-    ap (λ (l : List (List ℕ)). coded_strip (strip_form form s) k (take in_strip (drop (s * in_strip) rows)) ∷ l)
-    (coded_from form k in_strip (s + 1) n rows
-    ∙ ap (λ (l : List (List Colour)). coded_strips form k (s + 1) (strips_of in_strip n l)) (sym rest))
-
-pub all_coded : (form : PageForm) (k : ℕ) (rows : List (List Colour))
-    → map (λ s. coded_strip (strip_form form s) k (take form.rows_per_strip (drop (s * form.rows_per_strip) rows)))
-    (range_with_len 0 form.strips)
-    ≡ coded_strips form k 0 (strips_of form.rows_per_strip form.strips rows)
-all_coded form k rows =
-    let none : 0 * form.rows_per_strip ≡ 0 = omega arith in
-    coded_from form k form.rows_per_strip 0 form.strips rows
-    ∙ ap (λ (i : ℕ). coded_strips form k 0 (strips_of form.rows_per_strip form.strips (drop i rows))) none
+strips_more : (form : PageForm) (k n : ℕ) (rows more : List (List Colour)) → n * form.rows_per_strip ≤ length rows
+    → map (coded_of form k (rows ++ more)) (range_with_len 0 n) ≡ map (coded_of form k rows) (range_with_len 0 n)
+strips_more form k zero rows more far = refl
+strips_more form k (suc n) rows more far =
+    let place = n * form.rows_per_strip in
+    let before : place ≤ length rows = omega arith in
+    let here : form.rows_per_strip ≤ length (drop place rows) = omega (arith, length-drop place rows) in
+    let last : coded_of form k (rows ++ more) n ≡ coded_of form k rows n =
+    ap (λ (l : List (List Colour)). coded_strip (strip_form form n) k (take form.rows_per_strip l)) (drop-append-le place rows more before)
+    ∙ ap (coded_strip (strip_form form n) k) (take-append-le form.rows_per_strip (drop place rows) more here) in
+    let m : suc n ≡ n + 1 = omega arith in
+    ap (λ (i : ℕ). map (coded_of form k (rows ++ more)) (range_with_len 0 i)) m
+    ∙ map-range_with_len_more (coded_of form k (rows ++ more)) 0 n n (omega arith)
+    ∙ ap (λ (l : List (List ℕ)). l ++ coded_of form k (rows ++ more) n ∷ []) (strips_more form k n rows more before)
+    ∙ ap (λ (b : List ℕ). map (coded_of form k rows) (range_with_len 0 n) ++ b ∷ []) last
+    ∙ sym (map-range_with_len_more (coded_of form k rows) 0 n n (omega arith))
+    ∙ ap (λ (i : ℕ). map (coded_of form k rows) (range_with_len 0 i)) (sym m)
 
 contents_next : (strips : List (Vec ℕ Global)) (bytes : Vec ℕ Global)
     → contents (strips ++ bytes ∷ []) ≡ contents strips ++ bytes.items ∷ []
@@ -179,8 +135,8 @@ module _ (writes : WritesRowByRow) (form : PageForm) (k : ℕ) (rows : List (Lis
     has_put = subst (λ (l : List (List Colour)). HasPut (strip_form form n) k l new) (sym rest_is)
         (writes.goes_on (strip_form form n) k (drop (n * in_strip) rows) row old new ready puts)
 
-    same_strips : strips_of in_strip n more ≡ strips_of in_strip n rows
-    same_strips = strips_more in_strip n rows (row ∷ []) places.0
+    same_strips : map (coded_of form k rows) (range_with_len 0 n) ≡ map (coded_of form k more) (range_with_len 0 n)
+    same_strips = sym (strips_more form k n rows (row ∷ []) places.0)
 
     pub kept : (length rows + 1 ≡ min ((n + 1) * in_strip) form.rows → ⊥)
         → HasPutRows form k more (record page { writer = Some new; rows = page.rows + 1 })
@@ -192,7 +148,7 @@ module _ (writes : WritesRowByRow) (form : PageForm) (k : ℕ) (rows : List (Lis
       count = omega (arith, put.count, count);
       within = omega (arith, count);
       strips = put.strips;
-      done = put.done ∙ ap (coded_strips form k 0) (sym same_strips);
+      done = put.done ∙ same_strips;
       in_strip = (
         omega (arith, places, count),
         omega (arith, places, count, not_whole),
@@ -213,15 +169,6 @@ module _ (writes : WritesRowByRow) (form : PageForm) (k : ℕ) (rows : List (Lis
         take_all in_strip (drop (n * in_strip) more) (omega (arith, length-drop (n * in_strip) more, count, places)) in
         let coded : bytes.items ≡ coded_strip (strip_form form n) k (drop (n * in_strip) more) =
         writes.finishes (strip_form form n) k (drop (n * in_strip) more) new bytes.items has_put ends in
-        let number : 0 + length (strips_of in_strip n more) ≡ n = omega (arith, strips_count in_strip n more) in
-        let strips_next_are : strips_of in_strip (n + 1) more ≡ strips_of in_strip n more ++ drop (n * in_strip) more ∷ [] =
-        strips_next in_strip n more ∙ ap (λ (l : List (List Colour)). strips_of in_strip n more ++ l ∷ []) all_rows in
-        let coded_are : coded_strips form k 0 (strips_of in_strip (n + 1) more)
-        ≡ coded_strips form k 0 (strips_of in_strip n more) ++ coded_strip (strip_form form n) k (drop (n * in_strip) more) ∷ [] =
-        ap (coded_strips form k 0) strips_next_are
-        ∙ coded_next form k 0 (strips_of in_strip n more) (drop (n * in_strip) more)
-        ∙ ap (λ (i : ℕ). coded_strips form k 0 (strips_of in_strip n more) ++ coded_strip (strip_form form i) k (drop (n * in_strip) more)
-        ∷ []) number in
         record {
           form_is = put.form_is;
           k_is = put.k_is;
@@ -231,8 +178,10 @@ module _ (writes : WritesRowByRow) (form : PageForm) (k : ℕ) (rows : List (Lis
           within = omega (arith, count);
           strips = omega (arith, strips_are, one_due);
           done = ap contents done_is ∙ contents_next page.done.items bytes
-              ∙ ap (λ (l : List (List ℕ)). l ++ bytes.items ∷ []) (put.done ∙ ap (coded_strips form k 0) (sym same_strips))
-              ∙ ap (λ (b : List ℕ). coded_strips form k 0 (strips_of in_strip n more) ++ b ∷ []) coded
-              ∙ sym coded_are ∙ ap (λ (i : ℕ). coded_strips form k 0 (strips_of in_strip i more)) (sym strips_are);
+              ∙ ap (λ (l : List (List ℕ)). l ++ bytes.items ∷ []) (put.done ∙ same_strips)
+              ∙ ap (λ (b : List ℕ). map (coded_of form k more) (range_with_len 0 n) ++ b ∷ [])
+              (coded ∙ ap (coded_strip (strip_form form n) k) (sym all_rows))
+              ∙ sym (map-range_with_len_more (coded_of form k more) 0 n n (omega arith))
+              ∙ ap (λ (i : ℕ). map (coded_of form k more) (range_with_len 0 i)) (sym strips_are);
           in_strip = rw strips_are (omega (arith, all, count));
         }

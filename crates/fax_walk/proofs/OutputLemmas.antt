@@ -10,6 +10,7 @@ use Rattle.std.proofs.lemmas.Grind.{div_ceil_times}
 use Rattle.std.proofs.lemmas.List.{length_push, flat_map_more, length-map}
 use Rattle.std.proofs.lemmas.List.{map-append}
 use Rattle.std.proofs.lemmas.List.Concat.{flat_map-append}
+use Rattle.std.specs.List.{range_with_len}
 use Rattle.std.specs.Simd.{first_chunks}
 use Rattle.fax_bits.specs.Bits.{byte_of, packed}
 use Rattle.fax_bits.specs.declared.FillOrder.TheVariants.{MsbFirst}
@@ -34,9 +35,8 @@ use Rattle.fax_walk.specs.declared.options.Target.TheVariants.{Pbm, Mh as ToMh, 
 use Rattle.fax_walk.specs.declared.open_strips.OpenStrips.{OpenStrips}
 use Rattle.fax_walk.specs.declared.sheet.Sheet.{Sheet}
 use Rattle.fax_walk.specs.Converted.{SourcePage, written_page, target_bytes, IsTooLarge}
-use Rattle.fax_walk.specs.code.OpenStrips.{strips_of, coded_strips, HasPutRows, AreInStrip}
+use Rattle.fax_walk.specs.code.OpenStrips.{coded_of, HasPutRows, AreInStrip}
 use Rattle.fax_walk.specs.code.Output.{Progress, Part, no_rows, with_row, page_of, after, nothing_written, sheet_form, coding_of}
-use Rattle.fax_walk.proofs.OpenStripsLemmas.{all_coded}
 use Rattle.fax_walk.specs.code.Output.{StaysTooLarge, HasImages, HasPages, HasRowsOnPage, HasImageRows, BecomesTooLarge}
 
 -- what follows where a call was done
@@ -272,10 +272,9 @@ module _ (part : Part) (coding : Coding) (writer : Writing) (page : OpenStrips) 
   strips_are : contents page.done.items ≡ (written source).strips
   strips_are =
       has.2.done
-      ∙ ap (λ (n : ℕ). coded_strips as_put options.k 0 (strips_of as_put.rows_per_strip n part.rows))
+      ∙ ap (λ (n : ℕ). map (coded_of as_put options.k part.rows) (range_with_len 0 n))
       (all_strips as_put options.k part.rows page has.2 all)
-      ∙ ap (λ (f : PageForm). coded_strips f options.k 0 (strips_of f.rows_per_strip f.strips part.rows)) same_form
-      ∙ sym (all_coded (written source).form options.k part.rows)
+      ∙ ap (λ (f : PageForm). map (coded_of f options.k part.rows) (range_with_len 0 f.strips)) same_form
 
   with_source : with_page writer.written writer.total writer.added page.form (contents page.done.items)
       ≡ with_pages empty_file total 0 (map written pages)

@@ -1,8 +1,8 @@
--- The rows of a page, in order, up to its end or to a fault.
-use Rattle.std.proofs.Common.{subst, ◌≡◌, ℕ, zero, suc, ◌+◌, ◌*◌, ◌<◌, inl, inr, Bool, true, false, List, [], ◌∷◌, map, length, Option, Some, None}
-use Rattle.std.proofs.Common.{Ok, refl, sym, ◌∙◌, arith}
-use Rattle.std.proofs.lemmas.List.{length-map, length-replicate}
-use Rattle.std.specs.Prelude.{if◌then◌else◌}
+-- The rows of a file, page by page.
+use Rattle.std.proofs.Common.{subst, ◌≡◌, ℕ, zero, suc, ◌+◌, ◌*◌, ◌<◌, ◌⊎◌, inl, inr, List, [], ◌∷◌, ◌++◌, map, length, take, drop}
+use Rattle.std.proofs.Common.{Option, Some, None, Ok, Err, refl, sym, ap, ◌∙◌, arith, append-nil}
+use Rattle.std.proofs.lemmas.Bool.{cond_both}
+use Rattle.std.proofs.lemmas.List.{drop_at, length-map, length-replicate, take_at}
 use Rattle.fax_bits.specs.declared.Colour.{Colour}
 use Rattle.fax_bits.specs.declared.Colour.TheVariants.{White}
 use Rattle.fax_bits.specs.laws.Codes.{AreBitsByPlace}
@@ -13,116 +13,203 @@ use Rattle.fax_files.specs.declared.Cause.TheVariants.{File, Strip}
 use Rattle.fax_files.specs.declared.PageForm.{PageForm}
 use Rattle.fax_files.specs.declared.Endian.{Endian}
 use Rattle.fax_files.specs.Page.{strip_bytes}
-use Rattle.fax_files.specs.laws.Files.{IsWholeForm}
+use Rattle.fax_files.specs.laws.Files.{FilesHaveOneChain, FormsAreWhole}
+use Rattle.fax_walk.specs.declared.cursor.Cursor.{Cursor}
 use Rattle.fax_walk.specs.declared.end.End.{End}
 use Rattle.fax_walk.specs.declared.end.End.TheVariants.{Fault}
-use Rattle.fax_walk.specs.Pages.{IsPageAt}
+use Rattle.fax_walk.specs.Pages.{AreFrom, FilePage, FormItem, IsForm, IsPageAt, Step, goes_on, ends_as}
 use Rattle.fax_walk.specs.Items.{RowItem, Inner, RowPlace, first_at, exchanged, before}
+use Rattle.fax_walk.specs.Items.{IsInStrip, IsRow}
+use Rattle.fax_walk.specs.Converted.{pages_of}
+use Rattle.fax_walk.specs.code.Output.{form_sheet, page_of}
 use Rattle.fax_walk.specs.Items.{place_after}
 use Rattle.fax_walk.specs.code.Places.{strip_at}
-use Rattle.fax_walk.specs.Items.{IsInStrip, IsRow}
-use Rattle.fax_walk.specs.code.Sources.{HasRows}
-use Rattle.fax_walk.proofs.RowLawLemmas.{LinesAreRead, one_in_strip, cases_after}
+use Rattle.fax_walk.specs.code.Sources.{ArePaged, AreRowsOn, pels_of}
+use Rattle.fax_walk.specs.laws.InOrder.{LeadTo}
+use Rattle.fax_walk.proofs.InOrderLemmas.{IsOneAnswer, ended_at, one_from, same_answer, same_step}
+use Rattle.fax_walk.proofs.RowLawLemmas.{LinesAreRead, one_in_strip, one_row, cases_after}
+use Rattle.fax_walk.proofs.TailLawLemmas.{any_row, whole_page}
 use Rattle.fax_walk.proofs.WidthLemmas.{row_in}
-use Rattle.fax_walk.specs.Pages.{Step, goes_on, ends_as}
 
 exchanged_length : (form : PageForm) (row : List Colour) → length (exchanged form row) ≡ length row
-exchanged_length form row = by_test form.exchanged
-  where
-    by_test : (b : Bool) → length (if b then map other row else row) ≡ length row
-    by_test true = length-map row other
-    by_test false = refl
+exchanged_length form row =
+    cond_both form.exchanged (map other row) row (λ (l : List Colour). length l ≡ length row) (λ is. length-map row other) (λ is. refl)
+
+-- from the place of a page's row r on these rows stand: all up to the page's last one, which leads to the next page; or
+-- fewer, and then a fault
+record HasRows (file : List ℕ) (p : ℕ) (form : PageForm) (r : ℕ) (from : RowPlace) : Type 0 where
+  own : List RowItem
+  to : RowPlace
+  lead : LeadTo (IsRow file) from own to
+  are : AreRowsOn p form r own
+  ends : ((r + length own ≡ form.rows) × (to ≡ first_at (p + 1) 0))
+      ⊎ ((r + length own < form.rows) × ((q n : ℕ) × (cause : Cause) × IsRow file to (ends_as (Fault q n cause))))
 
 module _ (by_place : AreBitsByPlace) (lines_read : LinesAreRead) (file : List ℕ) (endian : Endian) (q : ℕ) (form : PageForm) (p : ℕ)
     (page : (r : ℕ) → IsPageAt file (record { page = p; row = r }) (Ok (record { endian = endian; offset = q; form = form }))) where
   abbrev place_at : ℕ → Option Inner → RowPlace
   place_at r inner = record { page = p; row = r; inner = inner }
 
-  abbrev Rows : RowPlace → ℕ → Type 0
-  Rows at rows = HasRows file at form.width rows (first_at (p + 1) 0)
+  abbrev Rows : ℕ → RowPlace → Type 0
+  Rows r at = HasRows file p form r at
 
   -- a place whose reference is as wide as the page
   abbrev IsWide : Option Inner → Type 0
   IsWide inner = length (before form.width inner).reference ≡ form.width
 
-  first_wide : IsWide None
-  first_wide = length-replicate form.width White
-
   -- no row is there
-  stops : (r rows : ℕ) (inner : Option Inner) (row : ℕ) (cause : Cause) → 0 < rows → IsRow file (place_at r inner) (ends_as (Fault p row cause))
-      → Rows (place_at r inner) rows
-  stops r rows inner row cause some is = record {
+  stops : (r : ℕ) (inner : Option Inner) (n : ℕ) (cause : Cause) → r < form.rows → IsRow file (place_at r inner) (ends_as (Fault p n cause))
+      → Rows r (place_at r inner)
+  stops r inner n cause less is = record {
     own = [];
     to = place_at r inner;
     lead = refl;
-    wide = tt;
-    ends = inr (some, (p, row, cause, is));
+    are = tt;
+    ends = inr (omega (arith, less), (p, n, cause, is));
   }
 
   -- a row, and those after it
-  one_more : (r rows : ℕ) (inner : Option Inner) (item : RowItem) (to : RowPlace) → length item.pels ≡ form.width
-      → IsRow file (place_at r inner) (goes_on item to) → Rows to rows → Rows (place_at r inner) (rows + 1)
-  one_more r rows inner item to wide step rest = record {
+  one_more : (r : ℕ) (inner : Option Inner) (item : RowItem) (to : RowPlace) → IsRow file (place_at r inner) (goes_on item to)
+      → (item.page ≡ p) × (item.form ≡ form) × (item.row ≡ r) × (length item.pels ≡ form.width) → Rows (r + 1) to
+      → Rows r (place_at r inner)
+  one_more r inner item to step is rest = record {
     own = item ∷ rest.own;
     to = rest.to;
     lead = (to, step, rest.lead);
-    wide = (wide, rest.wide);
+    are = (is.0, is.1, is.2, is.3, rest.are);
     ends = elim rest.ends [
       | inl all ↦ inl (omega (arith, all.0), all.1)
       | inr stop ↦ inr (omega (arith, stop.0), stop.1)
     ];
   }
 
-  -- no more rows
-  none_left : Rows (first_at (p + 1) 0) 0
-  none_left = record { own = []; to = first_at (p + 1) 0; lead = refl; wide = tt; ends = inl (refl, refl) }
-
   item_wide : (r : ℕ) (inner : Option Inner) (bytes : List ℕ) (item : RowItem) (to : RowPlace) → IsWide inner
       → IsInStrip form (place_at r inner) (Some bytes) (goes_on item to) → length (exchanged form item.pels) ≡ form.width
   item_wide r inner bytes item to wide is =
       row_in is.3.dimension form.width (before form.width inner).reference is.3.codes (exchanged form item.pels) _ wide is.3.coded
 
-  module _ (rows r : ℕ) (count : r + (rows + 1) ≡ form.rows)
-      (next : (inner : Option Inner) → IsWide inner → 0 < rows → Rows (place_at (r + 1) inner) rows) where
+  -- the rows from row r on, where those after it are known
+  module _ (r : ℕ) (due : r < form.rows)
+      (next : (inner : Option Inner) → IsWide inner → r + 1 < form.rows → Rows (r + 1) (place_at (r + 1) inner)) where
     after : (item : RowItem) → item.page ≡ p → item.row ≡ r → item.form ≡ form → length (exchanged form item.pels) ≡ form.width
-        → Rows (place_after item) rows
+        → Rows (r + 1) (place_after item)
     after item same_page same_row same_form wide = elim (cases_after form item same_form) [
       | inl (last, is) ↦
-          let none : rows ≡ 0 = omega (arith, last, same_row, count) in
-          rw (is, same_page, none) none_left
+          rw (is, same_page)
+          (record { own = []; to = first_at (p + 1) 0; lead = refl; are = tt; ends = inl (omega (arith, last, same_row, due), refl) })
       | inr (inl (less, first, is)) ↦
-          rw (is, same_page, same_row) (next None first_wide (omega (arith, less, same_row, count)))
+          rw (is, same_page, same_row) (next None (length-replicate form.width White) (omega (arith, less, same_row)))
       | inr (inr (less, inside, is)) ↦
           rw (is, same_page, same_row)
-          (next (Some (record { bits = item.bits; reference = exchanged form item.pels })) wide (omega (arith, less, same_row, count)))
+          (next (Some (record { bits = item.bits; reference = exchanged form item.pels })) wide (omega (arith, less, same_row)))
     ]
 
     -- by what the file has of the strip
     by_found : (inner : Option Inner) → IsWide inner → (found : Option (List ℕ)) → (answer : Step RowItem RowPlace)
-        → IsInStrip form (place_at r inner) found answer → IsRow file (place_at r inner) answer → Rows (place_at r inner) (rows + 1)
+        → IsInStrip form (place_at r inner) found answer → IsRow file (place_at r inner) answer → Rows r (place_at r inner)
     by_found inner wide None (goes_on item to) is row = absurd cc
     by_found inner wide None (ends_as end) is row =
         let same : end ≡ Fault p (strip_at form r * form.rows_per_strip) (File StripOutside) = cc in
-        stops r (rows + 1) inner _ (File StripOutside) (omega arith)
-        (subst (λ (e : End). IsRow file (place_at r inner) (ends_as e)) same row)
+        stops r inner _ (File StripOutside) due (subst (λ (e : End). IsRow file (place_at r inner) (ends_as e)) same row)
     by_found inner wide (Some bytes) (ends_as end) (fault, stop, end_is) row =
-        stops r (rows + 1) inner r (Strip fault) (omega arith)
-        (subst (λ (e : End). IsRow file (place_at r inner) (ends_as e)) end_is row)
+        stops r inner r (Strip fault) due (subst (λ (e : End). IsRow file (place_at r inner) (ends_as e)) end_is row)
     by_found inner wide (Some bytes) (goes_on item to) is row =
         let item_is = item_wide r inner bytes item to wide is in
-        one_more r rows inner item to (sym (exchanged_length form item.pels) ∙ item_is) row
+        one_more r inner item to row (is.0, is.5, is.1, sym (exchanged_length form item.pels) ∙ item_is)
         (rw is.4 (after item is.0 is.1 is.5 item_is))
 
-  -- from a place on
-  pub rows_on : (rows r : ℕ) (inner : Option Inner) → r + rows ≡ form.rows → IsWide inner → 0 < rows → Rows (place_at r inner) rows
-  rows_on zero r inner count wide some = absurd (omega (arith, some))
-  rows_on (suc rows) r inner count wide some =
+  -- from a place on, where so many rows are left
+  rows_on : (left r : ℕ) (inner : Option Inner) → r + left ≡ form.rows → IsWide inner → r < form.rows → Rows r (place_at r inner)
+  rows_on zero r inner count wide due = absurd (omega (arith, count, due))
+  rows_on (suc left) r inner count wide due =
       let only = one_in_strip by_place lines_read form (place_at r inner) (strip_bytes endian file q (strip_at form r)) in
-      let n : suc rows ≡ rows + 1 = omega arith in
-      rw n
-      (by_found rows r (omega (arith, count)) (λ later later_wide more. rows_on rows (r + 1) later (omega (arith, count)) later_wide more)
-      inner wide (strip_bytes endian file q (strip_at form r)) only.it only.is (Ok _, page r, only.is))
+      by_found r due (λ later later_wide more. rows_on left (r + 1) later (omega (arith, count)) later_wide more)
+      inner wide (strip_bytes endian file q (strip_at form r)) only.it only.is (Ok _, page r, only.is)
 
-  -- all rows of the page
-  pub page_rows : IsWholeForm form → Rows (first_at p 0) form.rows
-  page_rows whole = rows_on form.rows 0 None (omega arith) first_wide (omega (arith, whole.some_rows))
+  page_rows : 0 < form.rows → Rows 0 (first_at p 0)
+  page_rows some = rows_on form.rows 0 None (omega arith) (length-replicate form.width White) some
+
+-- a place of a page that is not there has this end, and so has the form due there
+pub not_there : (file : List ℕ) (k : ℕ) (end : End) → IsForm file k (ends_as end) → IsPageAt file (record { page = k; row = 0 }) (Err end)
+not_there file k end (Err none, page, e) = let same : none ≡ end = cc in rw same at page
+not_there file k end (Ok here, page, e) = absurd cc
+
+-- the page whose form is due, and the page after it
+pub found_page : (file : List ℕ) (p : ℕ) (one : FormItem) (next : ℕ) → IsForm file p (goes_on one next)
+    → (here : FilePage) × IsPageAt file (record { page = p; row = 0 }) (Ok here) × (one.form ≡ here.form) × (next ≡ p + 1)
+found_page file p one next (Err end, page, e) = absurd cc
+found_page file p one next (Ok here, page, e) = (here, page, ap form_in e, ap place_in e)
+  where
+    form_in : Step FormItem ℕ → PageForm
+    form_in (goes_on item to) = item.form
+    form_in (ends_as none) = one.form
+
+    place_in : Step FormItem ℕ → ℕ
+    place_in (goes_on item to) = to
+    place_in (ends_as none) = next
+
+-- what is handed out after items that lead to a place
+after_led : {S A : Type 0} (next : S → Step A S → Type 0) → ((at : S) → IsOneAnswer (next at)) → (at to : S)
+    (own items : List A) (end : End) → LeadTo next at own to → AreFrom next at items end
+    → (others : List A) × (items ≡ own ++ others) × AreFrom next to others end
+after_led {S} {A} next answers at to [] items end to_is are = (items, refl, subst (λ (s : S). AreFrom next s items end) (sym to_is) are)
+after_led {S} {A} next answers at to (x ∷ own) [] end (place, step, lead) are =
+    let same = same_answer (answers at) (ends_as end) (goes_on x place) are step in
+    absurd cc
+after_led {S} {A} next answers at to (x ∷ own) (y ∷ items) end (place, step, lead) (place', step', rest) =
+    let same = same_step (answers at) y x place' place step' step in
+    let later = after_led next answers place to own items end lead (subst (λ (s : S). AreFrom next s items end) same.1 rest) in
+    (later.0, ap (λ (i : A). i ∷ items) same.0 ∙ ap (λ (l : List A). x ∷ l) later.1, later.2)
+
+module _ (by_place : AreBitsByPlace) (lines_read : LinesAreRead) (chains : FilesHaveOneChain) (wholes : FormsAreWhole)
+    (file : List ℕ) where
+  answers : (at : RowPlace) → IsOneAnswer (IsRow file at)
+  answers = one_row by_place lines_read chains file
+
+  -- the items of a file are the rows of its pages
+  pub paged : (forms : List FormItem) (p : ℕ) (last : End) (items : List RowItem) (end : End) → AreFrom (IsForm file) p forms last
+      → AreFrom (IsRow file) (first_at p 0) items end → ArePaged p forms last items end
+  paged [] p last items end forms_are items_are =
+      one_from (IsRow file) answers (first_at p 0) items [] end last items_are (Err last, not_there file p last forms_are, refl)
+  paged (one ∷ forms) p last items end (next, step, rest) items_are =
+      let found = found_page file p one next step in
+      let here = found.0 in
+      let k : Cursor = record { page = p; row = 0 } in
+      let whole = whole_page file wholes k here found.1 in
+      let due = page_rows by_place lines_read file here.endian here.offset here.form p (λ r. any_row file k r here found.1) whole.some_rows in
+      let rows_are : AreRowsOn p one.form 0 due.own = subst (λ (f : PageForm). AreRowsOn p f 0 due.own) (sym found.2) due.are in
+      elim due.ends [
+        | inl all ↦
+            let split = after_led (IsRow file) answers (first_at p 0) due.to due.own items end due.lead items_are in
+            let rest' : AreFrom (IsForm file) (p + 1) forms last = rw found.3 at rest in (
+              due.own,
+              split.0,
+              split.1,
+              rows_are,
+              inl (
+                omega (arith, all.0, ap (λ (f : PageForm). f.rows) found.2),
+                omega (arith, whole.some_rows, ap (λ (f : PageForm). f.rows) found.2),
+                paged forms (p + 1) last split.0 end rest'
+                    (subst (λ (t : RowPlace). AreFrom (IsRow file) t split.0 end) all.1 split.2),
+              ),
+            )
+        | inr (fewer, (n, r, cause, stop)) ↦
+            let ended = ended_at (IsRow file) (first_at p 0) due.to due.own (Fault n r cause) due.lead stop in
+            let same = one_from (IsRow file) answers (first_at p 0) items due.own end (Fault n r cause) items_are ended in (
+              due.own,
+              [],
+              same.0 ∙ sym (append-nil due.own),
+              rows_are,
+              inr (omega (arith, fewer, ap (λ (f : PageForm). f.rows) found.2), refl, (n, r, cause, same.1)),
+            )
+      ]
+
+-- the first page of forms and items whose first are its rows
+pub first_page : (one : FormItem) (forms : List FormItem) (items own others : List RowItem) → items ≡ own ++ others
+    → length own ≡ one.form.rows
+    → pages_of (one ∷ forms) items ≡ page_of (form_sheet one.form) (pels_of own) ∷ pages_of forms others
+first_page one forms items own others items_are count =
+    let first : take one.form.rows items ≡ own = ap (take one.form.rows) items_are ∙ take_at own others one.form.rows count in
+    let second : drop one.form.rows items ≡ others = ap (drop one.form.rows) items_are ∙ drop_at own others one.form.rows count in
+    ap (λ (l : List RowItem). page_of (form_sheet one.form) (pels_of l) ∷ pages_of forms (drop one.form.rows items)) first
+    ∙ ap (λ (l : List RowItem). page_of (form_sheet one.form) (pels_of own) ∷ pages_of forms l) second

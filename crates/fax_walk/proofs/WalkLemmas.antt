@@ -229,6 +229,7 @@ module _ (by_place : AreBitsByPlace) (lines_read : LinesAreRead) (chains : Files
       record {
         last = last;
         pels = ap (λ (i : RowItem). i.pels) gives.item_is;
+        form = ap (λ (i : RowItem). i.form) gives.item_is ∙ sym gives.same.form;
         few = omega (arith, come.total, gives.read, gives.few);
       },
     )

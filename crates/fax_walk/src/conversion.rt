@@ -2,13 +2,16 @@
 ghost use Rattle.std.specs.Prelude.{◌≡◌, ◌≢◌, IfOk, IfErr, OnOk, codes};
 ghost use Rattle.fax_bits.specs.Bits.{BeginsWith};
 ghost use Rattle.fax_walk.specs.Converted as Spec;
+ghost use Rattle.fax_walk.specs.Items.{RowItem};
 ghost use Rattle.fax_walk.specs.code.Conversion as Code;
-ghost use Rattle.fax_walk.specs.code.Output.{image_sheet};
+ghost use Rattle.fax_walk.specs.code.Output.{IsPageDue, IsPartWritten, Part, Progress};
+ghost use Rattle.fax_files.specs.views.Page.{IsPageForm};
 ghost use Rattle.fax_walk.specs.code.Sources as Reads;
 
 use crate::options::{ConvertFault, Options};
 use crate::output::Output;
 use crate::sheet::Sheet;
+use crate::walk::LastRow;
 use crate::{Pages, Walk, WalkFault};
 use fax_bits::Memory;
 use fax_files::{PbmImage, PbmReader};
@@ -31,13 +34,19 @@ fn count_images(bytes: &[u8]) -> Result<u64, ConvertFault>
     Ok(u64::MAX)
 }
 
-/// Puts the rows of an image, or none where the output is too large.
-fn convert_raster(alloc: Global, image: &PbmImage, output: &mut Output) -> Result<(), Memory>
-    requires { Reads.HasBegun output.old (image_sheet image.now.width image.now.rows) }
+/// Converts an image. Where the output is too large, its rows are not looked at.
+fn convert_image(
+    alloc: Global,
+    image: &PbmImage,
+    options: &Options,
+    output: &mut Output,
+) -> Result<(), Memory>
+    requires { (at : Progress) × IsPageDue options.now output.old at }
     ensures { OnOk result
-        (Reads.PutsImage output.old image.now.width image.now.rows image.now.raster.now
+        (Reads.PutsImage options.now output.old image.now.width image.now.rows image.now.raster.now
         output.new) }
 {
+    output.begin(alloc, options, &Sheet::of_image(image))?;
     if let Output::TooLarge = output {
         return Ok(());
     }
@@ -46,7 +55,7 @@ fn convert_raster(alloc: Global, image: &PbmImage, output: &mut Output) -> Resul
         row.set_packed(image.row(i));
         output.put_row(&row)?;
     }
-    Ok(())
+    output.end()
 }
 
 /// Converts images.
@@ -61,28 +70,27 @@ fn convert_images(alloc: Global, bytes: &[u8], options: &Options) -> Result<Vec<
     let images = count_images(bytes)?;
     let mut output = Output::new(alloc, options, images)?;
     let mut reader = PbmReader::new(bytes);
-    for _ in 0..images {
-        let image = match reader.next_image() {
-            Ok(Some(image)) => image,
-            Ok(None) => unreachable!(),
-            Err(_) => unreachable!(),
-        };
-        output.begin(alloc, options, &Sheet::of_image(&image))?;
-        convert_raster(alloc, &image, &mut output)?;
-        output.end()?;
+    loop {
+        match reader.next_image() {
+            Ok(Some(image)) => convert_image(alloc, &image, options, &mut output)?,
+            Ok(None) => return output.finish(),
+            // Counting them has met no fault.
+            Err(fault) => return Err(ConvertFault::Pbm {
+                image: images,
+                fault,
+            }),
+        }
     }
-    output.finish()
 }
 
-/// Why the rows or the pages of a TIFF file have ended.
+/// Why the rows of a TIFF file have ended. A walk from its first row on does not begin outside of it.
 fn source_fault(fault: WalkFault) -> ConvertFault
-    requires { fault ≢ WalkFault.CursorOutside }
     ensures { result ≡ Reads.source_fault fault }
 {
     match fault {
         WalkFault::Memory => ConvertFault::Memory,
         WalkFault::AtRow { page, row, cause } => ConvertFault::Source { page, row, cause },
-        WalkFault::CursorOutside => unreachable!(),
+        WalkFault::CursorOutside => ConvertFault::UnknownInput,
     }
 }
 
@@ -102,26 +110,46 @@ fn count_pages(file: &[u8]) -> u64
     }
 }
 
-/// Reads the rows of a page and puts them.
-fn convert_rows(walk: &mut Walk, sheet: &Sheet, output: &mut Output) -> Result<(), ConvertFault>
-    requires due { Reads.IsBeforePage walk.old sheet.now.width sheet.now.rows }
-    requires begun { Reads.HasBegun output.old sheet.now }
-    ensures ok { OnOk result
-        ((due : Reads.IsBeforePage walk.old sheet.now.width sheet.now.rows)
-        → Reads.ConvertsRows walk.old output.old sheet.now walk.new output.new due) }
-    ensures err { IfErr result (λ fault. fault ≢ ConvertFault.Memory
-        → Reads.EndsWith walk.old.file fault) }
+/// Begins the page of a row that is its first one.
+#[inline(always)]
+fn begin_page(
+    alloc: Global,
+    last: &LastRow,
+    options: &Options,
+    output: &mut Output,
+) -> Result<(), Memory>
+    requires limits { IsPageForm last.now.form.now }
+    requires due { (part : Part) × Reads.IsLentDue options.now output.old last.now part }
+    ensures { OnOk result ((part : Part) → Reads.IsLentDue options.now output.old last.now part
+        → IsPartWritten output.new part) }
 {
-    fax_bits::laws::bits_stand_by_place();
-    fax_page::laws::lines_are_read_in_one_way();
-    fax_files::laws::files_have_one_chain();
-    crate::laws::tails_go_on();
-    for _ in 0..sheet.rows {
-        match walk.next_row() {
-            Ok(Some((_, row))) => output.put_row(row)?,
-            Ok(None) => unreachable!(),
-            Err(fault) => return Err(source_fault(fault)),
-        }
+    if last.place.row > 0 {
+        return Ok(());
+    }
+    output.begin(alloc, options, &Sheet::of_form(last.form))
+}
+
+/// Puts the row that a walk handed out last on its page.
+#[inline(always)]
+fn put_last_row(
+    alloc: Global,
+    walk: &Walk,
+    options: &Options,
+    output: &mut Output,
+) -> Result<(), Memory>
+    requires untold { walk.now.told ≡ None }
+    requires due { (item : RowItem) × (part : Part)
+        × Reads.IsItemDue options.now walk.now output.old item part }
+    ensures { OnOk result (Reads.PutsLast options.now walk.now output.old output.new) }
+{
+    crate::laws::beginnings_have_one_tail();
+    let Some(last) = walk.last_row() else {
+        return Ok(());
+    };
+    begin_page(alloc, &last, options, output)?;
+    output.put_row(last.row)?;
+    if last.place.row + 1 == last.form.rows {
+        output.end()?;
     }
     Ok(())
 }
@@ -138,21 +166,17 @@ fn convert_file(alloc: Global, file: &[u8], options: &Options) -> Result<Vec<u8>
     fax_files::laws::files_have_one_chain();
     fax_files::laws::forms_are_whole();
     crate::laws::form_tails_are_one();
+    crate::laws::tails_go_on();
     let count = count_pages(file);
     // A file without a page is refused where its first one is due.
     let mut output = Output::new(alloc, options, count.max(1))?;
     let mut walk = Walk::start(alloc, file);
-    let mut pages = Pages::start(file);
     loop {
-        let form = match pages.next_page() {
-            Ok(Some((_, form))) => form,
+        match walk.next_row() {
+            Ok(Some(_)) => put_last_row(alloc, &walk, options, &mut output)?,
             Ok(None) => return output.finish(),
             Err(fault) => return Err(source_fault(fault)),
-        };
-        let sheet = Sheet::of_form(&form);
-        output.begin(alloc, options, &sheet)?;
-        convert_rows(&mut walk, &sheet, &mut output)?;
-        output.end()?;
+        }
     }
 }
 

@@ -2,6 +2,7 @@
 ghost use Rattle.std.specs.Prelude.{◌≡◌, ◌≤◌, OnOk, IfOk, IfErr};
 ghost use Rattle.fax_walk.specs.declared.options.Options.{Options as Choice};
 ghost use Rattle.fax_walk.specs.code.Output as Spec;
+ghost use Rattle.fax_walk.specs.code.Output.{Progress};
 
 use crate::open_strips::OpenStrips;
 use crate::options::{ConvertFault, Options};
@@ -52,7 +53,7 @@ impl Output {
         sheet: &Sheet,
     ) -> Result<(), Memory>
         requires limits { Spec.IsSheet sheet.now }
-        requires written { Spec.IsWrittenBy options.now self.old }
+        requires due { (at : Progress) × Spec.IsPageDue options.now self.old at }
         ensures { OnOk result (Spec.BeginsPage options.now self.old sheet.now self.new) }
     {
         match self {
@@ -73,6 +74,7 @@ impl Output {
     }
 
     /// Writes the next row of the page.
+    #[inline(always)]
     pub(crate) fn put_row(&mut self, row: &Row) -> Result<(), Memory>
         requires { Spec.TakesRow self.old row.now }
         ensures { OnOk result (Spec.PutsRow self.old row.now self.new) }

@@ -403,6 +403,14 @@ impl<'a> OpenPage<'a> {
         }
     }
 
+    /// The page's form.
+    pub(crate) fn form(&self) -> &PageForm
+        ensures same { result.now ≡ self.now.form }
+        ensures limits { IsPageForm result.now }
+    {
+        &self.form
+    }
+
     /// The row that was read last, as it is handed out.
     pub(crate) fn row(&self) -> &Row
         ensures { result.now ≡ self.now.shown }

@@ -12,6 +12,7 @@ use crate::opening::{DuePage, OpenFault};
 use crate::page::{OpenPage, open, open_after, open_inside};
 use crate::{Begun, Cursor, End, LongCursor, WalkFault};
 use fax_bits::Memory;
+use fax_files::PageForm;
 use fax_rows::Row;
 use std::alloc::Global;
 use std::marker::Model;
@@ -30,6 +31,14 @@ pub struct PlaceInside<'a> {
     pub at: Cursor,
     pub bits: u32,
     pub reference: &'a Row,
+}
+
+/// The row that a walk handed out last, which it lends: its place, its page's form, and its pels.
+#[derive(Clone, Copy)]
+pub(crate) struct LastRow<'a> {
+    pub(crate) place: Place,
+    pub(crate) form: &'a PageForm,
+    pub(crate) row: &'a Row,
 }
 
 /// A walk over the rows of a file. Contracts see its file, what it began with, how many rows it
@@ -217,6 +226,25 @@ impl<'a> Walk<'a> {
         match &self.page {
             Some(page) if self.given > 0 => page.lend_place(),
             _ => None,
+        }
+    }
+
+    /// The row that was handed out last, if one was.
+    #[inline(always)]
+    pub(crate) fn last_row(&self) -> Option<LastRow<'_>>
+        requires { self.now.told ≡ None }
+        ensures { Spec.IsLastOf self.now result }
+    {
+        match &self.page {
+            Some(page) => Some(LastRow {
+                place: Place {
+                    page: self.cursor.page,
+                    row: self.cursor.row - 1,
+                },
+                form: page.form(),
+                row: page.row(),
+            }),
+            None => None,
         }
     }
 

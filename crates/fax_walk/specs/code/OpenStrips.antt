@@ -1,6 +1,7 @@
 -- The strips of a page that is being written.
 use Rattle.std.specs.Prelude.{◌≡◌, ℕ, ◌*◌, ◌<◌, ◌≤◌, min, List, [], ◌∷◌, ◌++◌, length, drop, Option}
-use Rattle.std.specs.Prelude.{Some, None, zero, suc, ◌+◌, take, Vec}
+use Rattle.std.specs.Prelude.{Some, None, map, take, Vec}
+use Rattle.std.specs.List.{range_with_len}
 use Rattle.std.specs.declared.alloc.Global.{Global}
 use Rattle.fax_bits.specs.declared.Colour.{Colour}
 use Rattle.fax_page.specs.Strip.{coded_strip}
@@ -13,17 +14,12 @@ use Rattle.fax_files.specs.Page.{strip_form}
 use Rattle.fax_files.specs.views.Writing.{contents}
 use Rattle.fax_walk.specs.declared.open_strips.OpenStrips.{OpenStrips}
 
--- the rows of n strips of this many rows, the last one perhaps of fewer
-abbrev pub strips_of : ℕ → ℕ → List (List Colour) → List (List (List Colour))
-strips_of rows_per_strip zero rows = []
-strips_of rows_per_strip (suc n) rows =
-    take rows_per_strip rows ∷ strips_of rows_per_strip n (drop rows_per_strip rows)
+-- the rows of strip s of a page, and the strip as it is written
+abbrev pub rows_of_strip : PageForm → List (List Colour) → ℕ → List (List Colour)
+rows_of_strip form rows s = take form.rows_per_strip (drop (s * form.rows_per_strip) rows)
 
--- these strips of a page, from strip s on, as they are written
-abbrev pub coded_strips : PageForm → ℕ → ℕ → List (List (List Colour)) → List (List ℕ)
-coded_strips form k s [] = []
-coded_strips form k s (rows ∷ strips) =
-    coded_strip (strip_form form s) k rows ∷ coded_strips form k (s + 1) strips
+abbrev pub coded_of : PageForm → ℕ → List (List Colour) → ℕ → List ℕ
+coded_of form k rows s = coded_strip (strip_form form s) k (rows_of_strip form rows s)
 
 -- a strip is open, and these rows of it were put, but not all
 pub record IsOpenStrip (form : PageForm) (k n : ℕ) (rows : List (List Colour))
@@ -51,7 +47,7 @@ pub record HasPutRows (form : PageForm) (k : ℕ) (rows : List (List Colour))
   pub within : length rows ≤ form.rows
   pub strips : length page.done.items ≤ form.strips
   pub done : contents page.done.items
-      ≡ coded_strips form k 0 (strips_of form.rows_per_strip (length page.done.items) rows)
+      ≡ map (coded_of form k rows) (range_with_len 0 (length page.done.items))
   pub in_strip : AreInStrip form k (length page.done.items) rows page.writer
 
 -- a page with so many rows and this writer of a strip

@@ -143,10 +143,10 @@ IsWrittenTo (File coding writer None) at = HasPages coding writer at
 IsWrittenTo (File coding writer (Some page)) at = ⊥
 IsWrittenTo TooLarge at = StaysTooLarge at
 
--- an output has some pages, written by these options
-pub record IsWrittenBy (options : Options) (output : Output) : Type 0 where
-  pub at : Progress
+-- these pages are written by these options, and one more is due
+pub record IsPageDue (options : Options) (output : Output) (at : Progress) : Type 0 where
   pub options_are : at.options ≡ options
+  pub fewer : length at.pages < at.total
   pub written : IsWrittenTo output at
 
 -- the page's rows are written after the images of the pages before it, and there is room for those
@@ -190,8 +190,7 @@ IsBeginning options total output = IsWrittenTo output (nothing_written options t
 -- a page is begun
 abbrev pub BeginsPage : Options → Output → Sheet → Output → Type 0
 BeginsPage options old sheet new =
-    (at : Progress) → at.options ≡ options → length at.pages < at.total → IsWrittenTo old at
-    → IsPartWritten new (no_rows at sheet)
+    (at : Progress) → IsPageDue options old at → IsPartWritten new (no_rows at sheet)
 
 -- a row can be put: it is due, and it is as wide as the page
 pub record TakesRow (output : Output) (row : List Colour) : Type 0 where
@@ -218,6 +217,23 @@ abbrev pub EndsPage : Output → Output → Type 0
 EndsPage old new =
     (part : Part) → IsPartWritten old part → length part.rows ≡ part.sheet.rows
     → IsWrittenTo new (after part)
+
+-- these rows of a page were put after some pages: where there are none it is not begun, and where
+-- they are all it is ended
+pub record IsPutTo (output : Output) (part : Part) : Type 0 where
+  pub none : length part.rows ≡ 0 → IsWrittenTo output part.at
+  pub some : 0 < length part.rows → length part.rows < part.sheet.rows → IsPartWritten output part
+  pub all : length part.rows ≡ part.sheet.rows → IsWrittenTo output (after part)
+
+-- row number r of a page can be put after the others, and the page is due
+pub record IsRowDue (options : Options) (output : Output) (r : ℕ) (row : List Colour)
+    (part : Part) : Type 0 where
+  pub options_are : part.at.options ≡ options
+  pub fewer : length part.at.pages < part.at.total
+  pub put : IsPutTo output part
+  pub count : length part.rows ≡ r
+  pub due : r < part.sheet.rows
+  pub width : length row ≡ part.sheet.width
 
 -- all pages were written
 pub record HasAllPages (output : Output) : Type 0 where

@@ -8,6 +8,7 @@ use Rattle.fax_walk.specs.declared.end.End.{End}
 use Rattle.fax_walk.specs.declared.end.End.TheVariants.{Proper, Fault, Outside}
 use Rattle.fax_walk.specs.declared.end.WalkFault.{WalkFault}
 use Rattle.fax_walk.specs.declared.end.WalkFault.TheVariants.{Memory, AtRow, CursorOutside}
+use Rattle.fax_walk.specs.declared.walk.LastRow.{LastRow}
 use Rattle.fax_walk.specs.declared.opening.OpenFault.{OpenFault}
 use Rattle.fax_walk.specs.declared.opening.OpenFault.TheVariants.{Memory as NoMemory, Ended}
 use Rattle.fax_walk.specs.laws.InOrder.{LeadTo}
@@ -15,7 +16,8 @@ use Rattle.fax_walk.specs.Items.{RowItem, RowPlace, IsRow, IsTailFrom, begun_cur
 use Rattle.fax_walk.specs.Items.{place_after}
 use Rattle.fax_walk.specs.views.InOrder.{HasEndedAs}
 use Rattle.fax_walk.specs.views.Walk.{WalkView, IsItemNumber, EntersPage, HasPage, AreRead}
-use Rattle.fax_walk.specs.views.Walk.{Begins, EndsBefore}
+use Rattle.fax_walk.specs.views.Walk.{Begins, EndsBefore, IsLent}
+use Rattle.fax_files.specs.views.Page.{IsPageForm}
 use Rattle.fax_walk.specs.views.Walk.{walk_from}
 use Rattle.fax_walk.specs.code.Stages.{PageState, row_of, skipped, place_of, IsOpen, IsOpenedAt}
 use Rattle.fax_walk.specs.code.Stages.{IsOpenedFrom, IsRefusal}
@@ -117,11 +119,20 @@ pub record IsShown (file : List ℕ) (begun : Begun) (given : ℕ) (cursor : Cur
     (page : PageState) : Type 0 where
   pub last : IsAfterItem file begun given cursor (place_of page)
   pub pels : last.item.pels ≡ page.shown
+  pub form : last.item.form ≡ page.form
   pub few : given < 2 ^ 53
 
 abbrev pub ShowsLast : List ℕ → Begun → ℕ → Cursor → Option PageState → Type 0
 ShowsLast file begun given cursor None = given ≡ 0
 ShowsLast file begun given cursor (Some page) = IsShown file begun given cursor page
+
+-- the row that was handed out last is lent with its form, if one was
+abbrev pub IsLastOf : WalkView → Option LastRow → Type 0
+IsLastOf walk None = walk.given ≡ 0
+IsLastOf walk (Some last) =
+    (before : ℕ) × (item : RowItem) × (walk.given ≡ before + 1)
+    × IsItemNumber walk.file walk.begun before item × IsLent (last.place, last.row) item
+    × (item.form ≡ last.form.now) × IsPageForm last.form.now
 
 -- the rows have ended so, on this page, if one is open
 abbrev pub HasEndedOn : List ℕ → Begun → ℕ → Cursor → Option PageState → End → Type 0

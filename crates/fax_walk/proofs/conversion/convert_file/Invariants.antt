@@ -1,17 +1,12 @@
-use Rattle.std.proofs.Common.{◌≡◌, ℕ, ◌^◌, ◌-◌, max}
-use Rattle.fax_walk.specs.code.Sources.{IsPageCount, ArePagesWritten}
-use Rattle.fax_walk.proofs.FileLemmas.{SourceLaws}
+use Rattle.std.proofs.Common.{◌^◌, ◌-◌}
+use Rattle.fax_walk.specs.code.Sources.{AreRowsPut, IsFile}
 use Rattle.fax_walk.proofs.conversion.convert_file.Given as goal
 
-abbrev pub invariant-loop-form : goal.invariant-loop-form
-invariant-loop-form l = record {
-  total : ℕ;
-  count : ℕ;
-  counted : IsPageCount l.file count;
-  total_is : total ≡ max count 1;
-  laws : SourceLaws;
-  so_far : ArePagesWritten l.file l.options total l.pages l.walk l.output;
+abbrev pub invariant-loop-walk : goal.invariant-loop-walk
+invariant-loop-walk l = record {
+  its : IsFile l.file;
+  so_far : AreRowsPut l.file its l.options l.walk l.output;
 }
 
-abbrev pub decreases-loop-form : goal.decreases-loop-form
-decreases-loop-form l = 2 ^ 32 - l.pages.given
+abbrev pub decreases-loop-walk : goal.decreases-loop-walk
+decreases-loop-walk l = 2 ^ 53 - l.walk.given

@@ -5,8 +5,8 @@ use Rattle.fax_walk.proofs.OutputLemmas.{image_too_large, image_begun}
 use Rattle.fax_walk.proofs.output.Output.begin.Goals as goal
 
 pub returns-then-len-raster-gt-MAX_OUTPUT : goal.returns-then-len-raster-gt-MAX_OUTPUT
-returns-then-len-raster-gt-MAX_OUTPUT c = λ at options_are fewer written.
-    let has = rw c.in-Images.is at written in
+returns-then-len-raster-gt-MAX_OUTPUT c = λ at due.
+    let has = rw c.in-Images.is at due.written in
     let new_is = c.in_ok-put_pbm_head-in-Images.ensures.ok in
     let packed : c.div_ceil.result ≡ packed_len c.args.sheet.now.width = omega (arith, c.div_ceil.ensures) in
     let raster = ap (λ n. c.args.sheet.now.rows * n) packed in
@@ -19,8 +19,8 @@ returns-then-len-raster-gt-MAX_OUTPUT c = λ at options_are fewer written.
     }
 
 pub returns-else-len-raster-gt-MAX_OUTPUT : goal.returns-else-len-raster-gt-MAX_OUTPUT
-returns-else-len-raster-gt-MAX_OUTPUT c = λ at options_are fewer written.
-    let has = rw c.in-Images.is at written in
+returns-else-len-raster-gt-MAX_OUTPUT c = λ at due.
+    let has = rw c.in-Images.is at due.written in
     let packed : c.div_ceil.result ≡ packed_len c.args.sheet.now.width = omega (arith, c.div_ceil.ensures) in
     let raster = ap (λ n. c.args.sheet.now.rows * n) packed in
     let len : c.len.result ≡ length c.put_pbm_head.new.out.items = omega (arith, c.len.ensures) in
