@@ -1,5 +1,5 @@
 -- The runs and the changing elements of a row, written at a place.
-use Rattle.std.proofs.Common.{◌≡◌, ℕ, ◌+◌, ◌<◌, ◌≤◌, List, [], ◌∷◌, ◌++◌, length, set, take, drop, Bool, true, false, cond, refl, ap, sym, ◌∙◌}
+use Rattle.std.proofs.Common.{◌≡◌, ℕ, ◌+◌, ◌<◌, ◌≤◌, List, [], ◌∷◌, ◌++◌, length, set, take, drop, Bool, true, false, cond, ap, sym, ◌∙◌}
 use Rattle.std.proofs.Common.{append_assoc, append-nil, arith, length-append}
 use Rattle.std.specs.List.{filter, range_with_len}
 use Rattle.std.proofs.lemmas.List.{length-take-le}
@@ -29,16 +29,6 @@ pub record AreRunsPut (all left : List ℕ) (at to : ℕ) (old now : List ℕ) :
   pub to_is : to ≡ at + length front
   pub room : at + length all ≤ length old
   pub now_is : now ≡ (take at old ++ front) ++ drop to old
-
-pub none_put : (all : List ℕ) (at : ℕ) (old : List ℕ) → at + length all ≤ length old → take at old ++ drop at old ≡ old
-    → AreRunsPut all all at at old old
-none_put all at old room whole = record {
-  front = [];
-  all_is = refl;
-  to_is = omega arith;
-  room = room;
-  now_is = sym (ap (λ l. l ++ drop at old) (append-nil (take at old)) ∙ whole);
-}
 
 pub one_put : (all left rest : List ℕ) (at to run : ℕ) (old now : List ℕ) → AreRunsPut all left at to old now → left ≡ run ∷ rest
     → AreRunsPut all rest at (to + 1) old (set now to run)

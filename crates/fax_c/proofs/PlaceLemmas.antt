@@ -1,7 +1,7 @@
 -- The place after rows that were written.
 use Rattle.std.proofs.Common.{◌≡◌, ℕ, ◌+◌, ◌-◌, ◌<◌, ◌≤◌, List, [], ◌∷◌, length, take, drop, true, false, inl, inr, refl, ap, sym}
 use Rattle.std.proofs.Common.{subst, ◌∙◌, arith, length-append, length-drop}
-use Rattle.std.specs.Prelude.{Some, None, if◌then◌else◌, nat_lt}
+use Rattle.std.specs.Prelude.{Some, if◌then◌else◌, nat_lt}
 use Rattle.std.proofs.lemmas.Bool.Decides.{nat_tests}
 use Rattle.std.proofs.lemmas.List.{take_at, drop_at, drop-drop}
 use Rattle.fax_rows.specs.Rows.{Colour, other, same_colour, runs_after, runs_of}
@@ -10,7 +10,6 @@ use Rattle.fax_walk.specs.declared.begun.Begun.TheVariants.{At, Inside}
 use Rattle.fax_walk.specs.declared.cursor.Cursor.{Cursor}
 use Rattle.fax_walk.specs.declared.walk.PlaceInside.{PlaceInside}
 use Rattle.fax_walk.specs.Items.{begun_cursor}
-use Rattle.fax_walk.specs.Pages.{LongPlace}
 use Rattle.fax_walk.specs.views.Walk.{IsLongOf, WalkView, begun_place, place_inside}
 use Rattle.fax_c.specs.declared.places.FaxPlace.{FaxPlace}
 use Rattle.fax_c.specs.views.Places.{HasRuns, IsAfterRows, KeepsRuns, begun_of, cursor_of, long_place_of, most_runs, place_at}
@@ -51,15 +50,6 @@ inside_told walk lent count old old_runs runs long few (count_is, within, runs_a
         subst (λ ns. IsLongOf walk (Some (record { at = lent.at; bits = lent.bits; runs = ns }))) (sym same) long,
       ),
     )
-
--- a place that is lent, and whose runs have no room, is not told
-pub inside_kept : (walk : WalkView) (lent : PlaceInside) (old : FaxPlace) (old_runs runs : List ℕ)
-    → IsLongOf walk (place_inside (Some lent)) → IsPutAt (runs_of lent.reference.now) old_runs 0 None runs
-    → IsInsideTold walk old old_runs old runs
-inside_kept walk lent old old_runs runs long (same, few) =
-    let found : LongPlace = record { at = lent.at; bits = lent.bits; runs = runs_of lent.reference.now } in
-    let len = ap (λ (l : List ℕ). length l) same in
-    ((ap (drop most_runs) same, len), inl (refl, inr (found, long, omega (arith, few, len))))
 
 -- a walk from a place begins at its cursor
 pub begun_cursor-begun_of : (place : FaxPlace) (runs : List ℕ) → cursor_of place ≡ begun_cursor (begun_of place runs)

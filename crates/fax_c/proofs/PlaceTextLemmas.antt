@@ -1,5 +1,5 @@
 -- The texts of places are UTF-8, and what they are read as.
-use Rattle.std.proofs.Common.{◌≡◌, ◌≢◌, ℕ, ◌^◌, ◌<◌, List, [], ◌∷◌, ◌++◌, length, ap, inl, inr, subst, sym, ◌∙◌, arith}
+use Rattle.std.proofs.Common.{◌≡◌, ℕ, ◌^◌, ◌<◌, List, [], ◌∷◌, ◌++◌, length, ap, inl, inr, subst, sym, ◌∙◌, arith}
 use Rattle.std.specs.Prelude.{codes, decimal, flat_map}
 use Rattle.std.specs.List.{All}
 use Rattle.std.specs.Str.{IsUtf8}
@@ -69,11 +69,6 @@ no_text text not = (
   λ at is same. not (subst IsUtf8 (sym same) (cursor_text_utf8 at is)),
   λ place is same. absurd (not (subst IsUtf8 (sym same) (long_cursor_text_utf8 place is))),
 )
-
--- a text that is neither a cursor's nor a long cursor's
-pub no_place : (text : List ℕ) → ((at : Cursor) → IsCursor at → text ≢ cursor_text at)
-    → ((place : LongPlace) → IsLongCursor place → text ≢ long_cursor_text place) → NamesNoPlace text
-no_place text no_cursor no_long = (no_cursor, λ place is same. absurd (no_long place is same))
 
 -- the place inside a strip that a text names is told, or it is not, and why
 pub place_read : (text : List ℕ) (found : LongPlace) (old place : FaxPlace) (old_runs runs : List ℕ) (status : ℕ) → TextsNameOne

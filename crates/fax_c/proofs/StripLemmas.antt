@@ -58,21 +58,6 @@ pub record AreReadSoFar (form : StripForm) (bytes : List ℕ) (stride : ℕ) (fr
   pub room : used ≤ length old
   pub written : now ≡ flat_map (padded_row stride) rows ++ drop used old
 
-pub none_read : (stride : ℕ) (state : StripState) (old : List ℕ) → state.fault ≡ None
-    → AreReadSoFar state.form state.bytes stride (place_due state) old 0 0 state old
-none_read stride state old none = record {
-  same_form = refl;
-  same_bytes = refl;
-  no_fault = none;
-  rows = [];
-  read = refl;
-  count_is = refl;
-  used_is = omega arith;
-  len = refl;
-  room = omega arith;
-  written = refl;
-}
-
 -- a row of a form has room where its width has
 pub fits : (row : List Colour) (form first : StripForm) (stride : ℕ) → length row ≡ form.width → form ≡ first → packed_len first.width ≤ stride
     → packed_len (length row) ≤ stride

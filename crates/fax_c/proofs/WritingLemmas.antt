@@ -1,16 +1,11 @@
 -- Pages that are coded and added to a file.
-use Rattle.std.proofs.Common.{◌≡◌, ℕ, ◌+◌, ◌-◌, ◌*◌, ◌≤◌, List, [], ◌∷◌, ◌++◌, Vec, length, map, take, drop, refl, ap, sym, ◌∙◌, arith}
+use Rattle.std.proofs.Common.{◌≡◌, ℕ, ◌+◌, ◌*◌, ◌≤◌, List, [], ◌∷◌, ◌++◌, Vec, length, map, take, drop, refl, ap, sym, ◌∙◌, arith}
 use Rattle.std.proofs.Common.{zero, suc, Bool, nat_eq, length-append, false}
 use Rattle.std.specs.Prelude.{◌==◌, not}
 use Rattle.std.proofs.lemmas.List.{length-drop, length-take-le, drop-drop}
-use Rattle.fax_bits.specs.declared.FillOrder.{FillOrder}
-use Rattle.fax_page.specs.declared.Coding.{Coding}
-use Rattle.fax_c.specs.declared.forms.FaxForm.{FaxForm}
-use Rattle.fax_c.specs.Forms.{form_of}
-use Rattle.fax_c.specs.Numbers.{bool_number, coding_number, order_number}
+use Rattle.fax_c.specs.Numbers.{bool_number}
 use Rattle.std.specs.List.{range_with_len}
 use Rattle.std.specs.declared.alloc.Global.{Global}
-use Rattle.std.proofs.Math.Nat.{mul-le-mul_right}
 use Rattle.std.proofs.lemmas.List.FromFn.{length-map-range_with_len, map-range_with_len_more}
 use Rattle.fax_page.specs.Strip.{coded_strip}
 use Rattle.fax_files.specs.declared.PageForm.{PageForm}
@@ -22,8 +17,8 @@ use Rattle.fax_c.specs.declared.writing.FaxWritten.{FaxWritten}
 use Rattle.fax_c.specs.views.Written.{IsWriting, file_so_far}
 use Rattle.fax_c.specs.code.Writing.{place_of}
 use Rattle.std.proofs.Common.{◌≢◌, ◌⊎◌, inl, inr, true}
-use Rattle.std.proofs.lemmas.Bool.{cases_eq, eq-eqb, eqb-true, ne_eqb}
-use Rattle.fax_c.specs.Raster.{HoldsRaster, page_strips, raster_rows}
+use Rattle.std.proofs.lemmas.Bool.{cases_eq, eq-eqb, ne_eqb}
+use Rattle.fax_c.specs.Raster.{page_strips, raster_rows}
 
 -- strip s of a page
 abbrev pub the_strip : PageForm → ℕ → ℕ → List ℕ → ℕ → List ℕ
@@ -42,45 +37,10 @@ strip_more f s strips new strip so_far new_is strip_is =
     ap contents new_is ∙ contents-push strips strip ∙ ap (λ (l : List (List ℕ)). l ++ strip.items ∷ []) so_far
     ∙ ap (λ (l : List ℕ). map f (range_with_len 0 s) ++ l ∷ []) strip_is ∙ sym (map-range_with_len_more f 0 s s (omega arith))
 
--- a raster holds the rows of each strip
-pub holds_strip : (len width rows stride first count : ℕ) → HoldsRaster len width rows stride → first + count ≤ rows
-    → HoldsRaster len width (first + count) stride
-holds_strip len width rows stride first count holds within =
-    let less : (first + count - 1) * stride ≤ (rows - 1) * stride = mul-le-mul_right stride (omega (arith, within)) in
-    omega (arith, less, holds)
-
 aligned_is : (n : ℕ) → n ≤ 1 → n ≡ bool_number (nat_eq n 1)
 aligned_is zero few = refl
 aligned_is (suc zero) few = refl
 aligned_is (suc (suc n)) few = absurd (omega (arith, few))
-
--- the form that numbers are
-abbrev pub page_form : FaxForm → Coding → FillOrder → PageForm
-page_form given coding order = record {
-  width = given.width;
-  rows = given.rows;
-  coding = coding;
-  order = order;
-  aligned = nat_eq given.aligned 1;
-  exchanged = false;
-  rows_per_strip = given.rows_per_strip;
-  strips = given.strips;
-  x = (given.x_numerator, given.x_denominator);
-  y = (given.y_numerator, given.y_denominator);
-  unit = given.unit;
-}
-
-abbrev with_words : FaxForm → ℕ → ℕ → ℕ → ℕ → FaxForm
-with_words given coding order aligned exchanged =
-    record given { coding = coding; order = order; aligned = aligned; exchanged = exchanged }
-
-pub form_is : (given : FaxForm) (coding : Coding) (order : FillOrder) → given.coding ≡ coding_number coding → given.order ≡ order_number order
-    → given.aligned ≤ 1 → given.exchanged ≡ 0 → given ≡ form_of (page_form given coding order)
-form_is given coding order coding_is order_is few none =
-    ap (λ n. with_words given n given.order given.aligned given.exchanged) coding_is
-    ∙ ap (λ n. with_words given (coding_number coding) n given.aligned given.exchanged) order_is
-    ∙ ap (λ n. with_words given (coding_number coding) (order_number order) n given.exchanged) (aligned_is given.aligned few)
-    ∙ ap (λ n. with_words given (coding_number coding) (order_number order) (bool_number (nat_eq given.aligned 1)) n) none
 
 -- how long a file is with a page more
 len_patched : (bytes : List ℕ) (link n : ℕ) → link + 4 ≤ length bytes → length (take link bytes ++ four n ++ drop (link + 4) bytes) ≡ length bytes
@@ -188,9 +148,6 @@ page_len written old form strips start writing start_is =
 pub not_false : (b : Bool) → not b ≡ false → b ≡ true
 not_false true is = refl
 not_false false is = cc
-
-pub eqb_tells : (m n : ℕ) → nat_eq m n ≡ true → m ≡ n
-eqb_tells m n is = eqb-true m n is
 
 abbrev told_of : FaxWritten → ℕ → ℕ → FaxWritten
 told_of old len link = record { len = len; link = link; total = old.total; added = old.added + 1 }

@@ -28,7 +28,7 @@ outside_past pages at past = let e : (at.page == pages) ≡ false = grind (arith
 outside_row : (pages : ℕ) (at : Cursor) → 0 < at.row → end_past_chain pages None at ≡ Outside
 outside_row pages at some =
     let e : (at.row == 0) ≡ false = grind (arith, nat_tests, some) in
-    elim (at.page == pages) as (λ same. (if same && (at.row == 0) then Proper else Outside) ≡ Outside) [ | true ↦ rw e refl | false ↦ refl ]
+    elim (at.page == pages) as (λ same. (if same && (at.row == 0) then Proper else Outside) ≡ Outside) [ true ↦ rw e refl | false ↦ refl ]
 
 -- a directory stands there
 pub goes_on : (file : List ℕ) (number : ℕ) (chain new : ChainState) (answer : Result (Option TiffDirectory) FileFault)
