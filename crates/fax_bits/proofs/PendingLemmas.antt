@@ -23,10 +23,6 @@ module _ (count number next_count next_number : ℕ) (first : AreWaiting count n
       → code_bits (count + next_count) (bit_or (number * 2 ^ next_count % 2 ^ 64) next_number) ≡ b ++ c
   both_bits b c b_is c_is = grind (arith, joined_bits)
 
--- where all bits are left
-pub all_left : (sink : Sink) (all left : List Bool) → left ≡ all → AppendsAllBut sink all left sink
-all_left sink all left same = grind (arith, common_steps)
-
 pub prefix-second : (old mid new : Sink) (first second : List Bool) → Appends old first mid → AppendsPrefix mid second new
     → AppendsPrefix old (first ++ second) new
 prefix-second old mid new first second one two = grind (arith, common_steps)

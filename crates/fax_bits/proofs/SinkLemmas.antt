@@ -17,11 +17,6 @@ use Rattle.fax_bits.specs.code.Sink.{sink_of}
 use Rattle.fax_bits.proofs.CodeBitsLemmas.{code_bits-add, code_bits-zeros, byte_bits-reversed, length-code_bits}
 use Rattle.fax_bits.proofs.SourceLemmas.{length-bits}
 
--- a call that succeeded
-pub on_ok-holds : {T E P : Type 0} (result : Result T E) → is_ok result ≡ true → OnOk result P → P
-on_ok-holds (Ok x) ok holds = holds
-on_ok-holds (Err e) ok holds = cc
-
 -- one more byte
 pub bits-push : (order : FillOrder) (bytes : List ℕ) (byte : ℕ) → bits order (bytes ++ byte ∷ []) ≡ bits order bytes ++ byte_bits order byte
 unfolding bits
