@@ -4,7 +4,7 @@ use Rattle.std.proofs.Common.{append_assoc, length-append, inl, inr, ◌⊎◌}
 use Rattle.std.proofs.lemmas.Grind.{common_steps}
 use Rattle.std.specs.Prelude.{pos}
 use Rattle.std.proofs.Math.Seq.{drop-append-add}
-use Rattle.std.proofs.lemmas.List.{drop-drop, take-append-drop, take-take, take-replicate, length-replicate}
+use Rattle.std.proofs.lemmas.List.{take-append-drop, take-take, take-replicate, length-replicate}
 use Rattle.fax_bits.specs.declared.FillOrder.{FillOrder}
 use Rattle.fax_bits.specs.declared.window.Window.{Window}
 use Rattle.fax_bits.specs.declared.modes.ModeCode.TheVariants.{Vertical}
@@ -46,7 +46,7 @@ begun_short number begun =
 pub after_ahead : (order : FillOrder) (bytes : List ℕ) (old after : Window) (n : ℕ) → IsAhead order bytes old
     → bits_ahead order bytes after ≡ drop n (bits_ahead order bytes old) → after.count + n ≡ old.count → after.at ≡ old.at
     → IsAhead order bytes after
-after_ahead order bytes old after n is ahead count at = grind (arith, common_steps, drop-drop)
+after_ahead order bytes old after n is ahead count at = grind (arith, common_steps)
 
 -- a window at the place of another, of which more may be loaded
 module _ (order : FillOrder) (bytes : List ℕ) (old window : Window) (source : Source) (is : IsAhead order bytes old)

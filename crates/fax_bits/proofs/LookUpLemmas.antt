@@ -126,11 +126,11 @@ run_written colour front left pels rest is taken = taken ∙ ap (λ b. b ++ rest
 -- and is read
 pub run_taken : (colour : Colour) (front left : List Bool) (pels : ℕ) (rest : List Bool) → IsOneRun colour front pels
     → left ≡ front ++ rest → IsRun colour left pels rest
-run_taken colour front left pels rest is taken = grind (arith, common_steps, run_written, run_bits_are_read)
+run_taken colour front left pels rest is taken = grind (arith, run_bits_are_read)
 
 -- two runs that begin the bits are found
 pub pair_begins : (b : List Bool) (len : ℕ) (pair : Pair) → IsPairAhead b len pair → IsBegun AreTwoRuns b len pair
-pair_begins b len pair found = grind (arith, common_steps, length-code_bits)
+pair_begins b len pair found = grind (arith, length-code_bits)
 
 -- and are read
 pub pair_taken : (front left : List Bool) (pair : Pair) (rest : List Bool) → AreTwoRuns front pair → left ≡ front ++ rest

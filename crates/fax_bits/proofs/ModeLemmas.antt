@@ -54,7 +54,7 @@ has_code (negsuc (suc (suc (suc n)))) written = absurd (omega (arith, few (negsu
 -- a mode that is written is read again
 takes_mode : (place : ℕ) (entry : CodeEntry ModeCode) (more : List Bool) → slice_get modes place ≡ Some entry
     → bits_of entry ≡ mode_bits entry.meaning → Takes modes (mode_bits entry.meaning ++ more) entry.meaning more
-takes_mode place entry more found same = grind (arith, common_steps, listed)
+takes_mode place entry more found same = grind (arith, listed)
 
 pub mode_bits_are_read : ModeBitsAreRead
 unfolding modes mode_bits code_bits
@@ -107,19 +107,12 @@ shifts_are : map read_shift VERTICAL_MODES.shifts ≡ map (λ place. shift_at (s
 unfolding modes
 shifts_are = refl
 
-is_vertical : (mode : ModeCode) (len : ℕ) → 0 < vertical_len mode len
-    → (len ≡ vertical_len mode len) × (mode ≡ Vertical (vertical_shift mode))
-is_vertical Pass len some = absurd (omega arith)
-is_vertical Horizontal len some = absurd (omega arith)
-is_vertical (Vertical d) len some = (refl, refl)
-is_vertical ModeExtension len some = absurd (omega arith)
-
 -- the code at a place begins thirteen bits, if it is one of a vertical mode
 vertical_begins : (number place : ℕ) (found : Option (CodeEntry ModeCode)) → place ≡ place_of modes 13 number
     → slice_get modes place ≡ found → 0 < len_at found
     → HasCodeAhead modes (code_bits 13 number) (len_at found) (Vertical (shift_at found))
 vertical_begins number place None place_is is some = absurd (omega arith)
-vertical_begins number place (Some entry) place_is is some = grind (arith, common_steps, is_vertical, found_at_place)
+vertical_begins number place (Some entry) place_is is some = grind (arith, found_at_place)
 
 -- a vertical mode that the arrays have begins thirteen bits
 pub vertical_is_ahead : (number : ℕ) → number < 2 ^ 13 → 0 < get_or VERTICAL_MODES.lens (number / 2 ^ 6) 0

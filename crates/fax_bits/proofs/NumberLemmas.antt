@@ -1,9 +1,8 @@
 -- The number that bits spell, and the bits of that number.
 use Rattle.std.proofs.lemmas.Grind.{common_steps}
-use Rattle.std.proofs.Common.{◌≡◌, ℕ, ◌+◌, ◌*◌, ◌^◌, ◌<◌, List, [], ◌∷◌, length, Bool, true, false, if◌then◌else◌, nat_eq, refl}
+use Rattle.std.proofs.Common.{◌≡◌, ℕ, ◌+◌, ◌*◌, ◌^◌, ◌<◌, List, [], ◌∷◌, length, Bool, true, false, if◌then◌else◌, refl}
 use Rattle.std.proofs.Common.{ap, sym, ◌∙◌, subst, arith}
 use Rattle.std.specs.Prelude.{fold}
-use Rattle.std.specs.Int.{bit_at}
 use Rattle.std.proofs.Math.Nat.{pow-succ'}
 use Rattle.std.proofs.lemmas.Nat.Bits.{bit_at_cat_high}
 use Rattle.fax_bits.specs.declared.FillOrder.TheVariants.{MsbFirst}
@@ -27,15 +26,11 @@ number-cons : (x : Bool) (b : List Bool) → bits_number (x ∷ b) ≡ digit_of 
 number-cons true b = number-after b 1
 number-cons false b = number-after b 0
 
-first_digit : (x : Bool) → nat_eq (bit_at (digit_of x) 0) 1 ≡ x
-first_digit true = refl
-first_digit false = refl
-
 -- the bits of the number that bits spell
 pub code_bits-number : (b : List Bool) → code_bits (length b) (bits_number b) ≡ b
 unfolding code_bits
 code_bits-number [] = refl
-code_bits-number (x ∷ b) = grind (arith, common_steps, number-cons, bit_at_cat_high, bits_number-lt, first_digit, code_bits-low, code_bits-number b)
+code_bits-number (x ∷ b) = grind (arith, common_steps, number-cons, bit_at_cat_high, bits_number-lt, code_bits-low, code_bits-number b)
 
 -- the number that the bits of a number spell
 pub number-code_bits : (len number : ℕ) → number < 2 ^ len → bits_number (code_bits len number) ≡ number

@@ -5,7 +5,7 @@ use Rattle.std.proofs.Common.{if◌then◌else◌, refl, ap, sym, ◌∙◌, sub
 use Rattle.std.specs.Prelude.{◌&&◌, nat_lt, nat_le, nat_eq}
 use Rattle.std.proofs.lemmas.Bool.{and_parts}
 use Rattle.std.proofs.lemmas.List.FromFn.{get_or-map-range_with_len}
-use Rattle.std.proofs.lemmas.Nat.{mul-add-lt, pow-add}
+use Rattle.std.proofs.lemmas.Nat.{pow-add}
 use Rattle.std.proofs.Math.Nat.{div-div-eq-div-mul, pow-succ'}
 use Rattle.std.specs.List.{range_with_len}
 use Rattle.fax_bits.specs.declared.Colour.{Colour}
@@ -189,7 +189,7 @@ pub record IsPairCode (code len : ℕ) (bits : List Bool) : Type 0 where
 two_codes : (one other : Colour) (first second code len code' len' : ℕ) → IsShortCode one first code len
     → IsShortCode other second code' len'
     → IsPairCode (code * 2 ^ len' + code') (len + len') (run_bits one first ++ run_bits other second)
-two_codes one other first second code len code' len' is is' = grind (arith, common_steps, code_bits-add, mul-add-lt, pow-add)
+two_codes one other first second code len code' len' is is' = grind (arith, code_bits-add, pow-add)
 
 high_of : (first second : ℕ) → second < 16 → (first * 16 + second) / 16 ≡ first
 high_of first second short = omega arith

@@ -21,11 +21,7 @@ module _ (count number next_count next_number : ℕ) (first : AreWaiting count n
 
   pub both_bits : (b c : List Bool) → code_bits count number ≡ b → code_bits next_count next_number ≡ c
       → code_bits (count + next_count) (bit_or (number * 2 ^ next_count % 2 ^ 64) next_number) ≡ b ++ c
-  both_bits b c b_is c_is = grind (arith, common_steps, joined_bits)
-
--- where all bits are left
-pub all_left : (sink : Sink) (all left : List Bool) → left ≡ all → AppendsAllBut sink all left sink
-all_left sink all left same = grind (arith, common_steps)
+  both_bits b c b_is c_is = grind (arith, joined_bits)
 
 pub prefix-second : (old mid new : Sink) (first second : List Bool) → Appends old first mid → AppendsPrefix mid second new
     → AppendsPrefix old (first ++ second) new

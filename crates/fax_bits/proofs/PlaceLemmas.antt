@@ -3,7 +3,7 @@ use Rattle.std.proofs.lemmas.Grind.{common_steps}
 use Rattle.std.proofs.Common.{◌≡◌, ℕ, zero, suc, ◌+◌, ◌-◌, ◌*◌, ◌/◌, ◌%◌, ◌^◌, ◌<◌, ◌≤◌, List, [], ◌∷◌, ◌++◌, length, get_or, Bool, true}
 use Rattle.std.proofs.Common.{false, refl, ap, sym, ◌∙◌, subst, arith, inl, inr, append_assoc, length-append}
 use Rattle.std.specs.Prelude.{◌&&◌, ◌||◌, Option, Some, None, MatchOption, slice_get, Contains, nat_le}
-use Rattle.std.proofs.lemmas.Bool.{and_parts, cases_Bool, leb-true, or_cases}
+use Rattle.std.proofs.lemmas.Bool.{and_parts, cases_Bool, leb-true}
 use Rattle.std.proofs.lemmas.Nat.{pow-add, pow_pos, shl_below, shl-shr}
 use Rattle.std.proofs.Math.Nat.{div-div-eq-div-mul, lt-div-mul-add}
 use Rattle.fax_bits.specs.declared.codes.CodeEntry.{CodeEntry}
@@ -103,7 +103,7 @@ long_is_low entry low number above below is = grind (arith, common_steps, lt-div
 same_begins : {M : Type 0} (entry : CodeEntry M) (short low number : ℕ) → short ≤ 13 → low ≤ number
     → (nat_le entry.len 13 && (nat_le entry.len short || nat_le ((entry.code + 1) * 2 ^ (13 - entry.len)) low)) ≡ true
     → begins entry short (number / 2 ^ (13 - short)) ≡ begins entry 13 number
-same_begins entry short low number few above test = grind (arith, common_steps, and_parts, leb-true, same_test, begins_true, begins_from, first_of_first, or_cases, long_is_low)
+same_begins entry short low number few above test = grind (arith, common_steps, and_parts, leb-true, same_test, first_of_first, long_is_low)
 
 -- the first `short` bits of 13 tell as much, where they are no beginning of a long code
 pub short_place : {M : Type 0} (table : List (CodeEntry M)) (short low number : ℕ) → short ≤ 13 → long_codes_test short low table ≡ true
@@ -162,7 +162,7 @@ module _ {M : Type 0} (table : List (CodeEntry M)) (short : HasShortCodes table)
       ∙ ahead_is_first n window entry.len entry.code within fits (short entry here).2 ahead)
 
   place_past : length table ≤ place → HasNoCode table (code_bits n window)
-  place_past past entry here ahead = grind (arith, common_steps, past_begins_none, ahead_begins)
+  place_past past entry here ahead = grind (arith, past_begins_none, ahead_begins)
 
   -- the entry at the place
   at_place : (entry : CodeEntry M) → slice_get table place ≡ Some entry
@@ -212,7 +212,7 @@ pub found_by_place : {M : Type 0} (table : List (CodeEntry M)) → HasShortCodes
     → MatchOption found (HasNoCode table (code_bits n window)) (λ found. HasCodeAhead table (code_bits n window) found.0 found.1)
 found_by_place table short free n window place few fits place_is entry at None long =
     place_long table short free n window place few fits (place_is ∙ ap (place_of table 13) (aligned_is n window few fits)) entry at long
-found_by_place table short free n window place few fits place_is entry at (Some found) is = grind (arith, common_steps, place_found, aligned_is)
+found_by_place table short free n window place few fits place_is entry at (Some found) is = grind (arith, place_found, aligned_is)
 
 -- where the place is past the table, it answers none
 pub none_by_place : {M : Type 0} (table : List (CodeEntry M)) → HasShortCodes table → IsPrefixFree table → (n window place : ℕ) → n ≤ 13

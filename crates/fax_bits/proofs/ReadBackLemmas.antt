@@ -60,7 +60,7 @@ one_make_up-suc k = let some : nat_eq (suc k) 0 ≡ false = grind (arith, nat_te
 spells_rest : (colour : Colour) (steps : ℕ) (more : List Bool) → steps ≤ 40
     → Spells (run_table colour) (flat_map (run_code_bits colour) (one_make_up steps) ++ more) (one_make_up steps) more
 spells_rest colour zero more few = refl
-spells_rest colour (suc k) more few = grind (arith, common_steps, one_make_up-suc, append-nil, spells_make_up)
+spells_rest colour (suc k) more few = grind (arith, common_steps, spells_make_up)
 
 -- codes that are spelled by their own bits, whatever follows them
 abbrev SpelledByOwn : Colour → List RunCode → Type 0
@@ -131,7 +131,7 @@ same_run colour b (n ∷ pels) (m ∷ others) last end rest remaining first seco
     (cc (here, after.0), after.1, after.2)
 
 pub runs_are_one : (colour : Colour) → HasOneAnswer (IsRun colour)
-runs_are_one colour b n m rest remaining first second = grind (arith, common_steps, same_run)
+runs_are_one colour b n m rest remaining first second = grind (arith, same_run)
 
 pub run_bits_are_one_run : RunBitsAreOneRun
 run_bits_are_one_run colour n m more rest few is =

@@ -1,9 +1,9 @@
 -- A code that is read by the number of the next bits.
 use Rattle.std.proofs.lemmas.Grind.{common_steps}
-use Rattle.std.proofs.Common.{◌≡◌, ℕ, ◌+◌, ◌-◌, ◌^◌, ◌<◌, ◌≤◌, List, ◌∷◌, ◌++◌, length, take, drop, replicate, Bool, false, ap, sym, ◌∙◌}
+use Rattle.std.proofs.Common.{◌≡◌, ℕ, ◌+◌, ◌-◌, ◌^◌, ◌<◌, ◌≤◌, List, ◌∷◌, ◌++◌, length, take, drop, Bool, ap, sym, ◌∙◌}
 use Rattle.std.proofs.Common.{arith, append_assoc, length-append, length-take}
 use Rattle.std.proofs.Math.Seq.{take-append-add}
-use Rattle.std.proofs.lemmas.List.{take-append-drop, take-append-le}
+use Rattle.std.proofs.lemmas.List.{take-append-drop}
 use Rattle.fax_bits.specs.declared.codes.CodeEntry.{CodeEntry}
 use Rattle.fax_bits.specs.Bits.{bits_number, code_bits}
 use Rattle.fax_bits.specs.Codes.{bits_of, HasNoCode, IsCutShort, Takes}
@@ -18,14 +18,11 @@ module _ (left : List Bool) (n : ℕ) (all : n ≤ length left) where
   length-next : length (take n left) ≡ n
   length-next = length-take n left ∙ omega arith
 
-  peeked_is : take n (padded left n) ≡ take n left
-  peeked_is = take-append-le n left (replicate n false) all
-
   pub peeked_bits : (number : ℕ) → number ≡ bits_number (take n (padded left n)) → code_bits n number ≡ take n left
-  peeked_bits number is = grind (arith, common_steps, peeked_is, length-next, code_bits-number)
+  peeked_bits number is = grind (arith, common_steps, length-next, code_bits-number)
 
   pub peeked-below : (number : ℕ) → number ≡ bits_number (take n (padded left n)) → number < 2 ^ n
-  peeked-below number is = grind (arith, common_steps, peeked_is, length-next, bits_number-lt)
+  peeked-below number is = grind (arith, common_steps, bits_number-lt)
 
 -- a code that begins the next bits is taken
 pub takes_found : {M : Type 0} {table : List (CodeEntry M)} {left b : List Bool} (n : ℕ) {len : ℕ} {meaning : M} → b ≡ take n left

@@ -1,6 +1,6 @@
 -- The codes of runs by their places in the run tables.
 use Rattle.std.proofs.lemmas.Grind.{common_steps}
-use Rattle.std.proofs.Common.{◌≡◌, ℕ, zero, suc, ◌+◌, ◌*◌, ◌<◌, ◌≤◌, List, [], ◌∷◌, ◌++◌, length, Bool, false, refl, ap, sym}
+use Rattle.std.proofs.Common.{◌≡◌, ℕ, zero, suc, ◌+◌, ◌*◌, ◌<◌, ◌≤◌, List, [], ◌∷◌, ◌++◌, length, Bool, refl, ap, sym}
 use Rattle.std.proofs.Common.{◌∙◌, arith, zero-add}
 use Rattle.std.specs.Prelude.{Some, slice_get}
 use Rattle.fax_bits.specs.declared.codes.CodeEntry.{CodeEntry}
@@ -25,17 +25,13 @@ run_meaning-terminating n short = grind (arith, common_steps)
 pub run_meaning-make_up : (steps : ℕ) → 0 < steps → steps ≤ 40 → run_meaning (63 + steps) ≡ MakeUp (64 * steps)
 run_meaning-make_up steps some few = grind (arith, common_steps)
 
--- codes at two places mean different things
-differ : (i j : ℕ) → i < j → j < 105 → same_run_code (run_meaning j) (run_meaning i) ≡ false
-differ i j order within = grind (arith, common_steps)
-
 -- the first code with a meaning is the one at its place
 code_for-run_entries : (first : ℕ) (codes lens : List ℕ) (i : ℕ) → i < length codes → i < length lens → first + i < 105
     → code_for (same_run_code (run_meaning (first + i))) (run_entries first codes lens) ≡ bits_at (run_entries first codes lens) i
 code_for-run_entries first [] lens i h k within = absurd (omega arith)
 code_for-run_entries first (c ∷ codes) [] i h k within = absurd (omega arith)
 code_for-run_entries first (c ∷ codes) (l ∷ lens) zero h k within = grind (arith, common_steps)
-code_for-run_entries first (c ∷ codes) (l ∷ lens) (suc i) h k within = grind (arith, common_steps, differ, run_entries, code_for-run_entries (suc first) codes lens i (omega arith) (omega arith) (omega arith))
+code_for-run_entries first (c ∷ codes) (l ∷ lens) (suc i) h k within = grind (arith, code_for-run_entries (suc first) codes lens i (omega arith) (omega arith) (omega arith))
 
 pub bits_at-run_table : (colour : Colour) (place : ℕ) → place < 105 → bits_at (run_table colour) place
     ≡ run_code_bits colour (run_meaning place)

@@ -17,11 +17,6 @@ use Rattle.fax_bits.specs.code.Sink.{sink_of}
 use Rattle.fax_bits.proofs.CodeBitsLemmas.{code_bits-add, code_bits-zeros, byte_bits-reversed, length-code_bits}
 use Rattle.fax_bits.proofs.SourceLemmas.{length-bits}
 
--- a call that succeeded
-pub on_ok-holds : {T E P : Type 0} (result : Result T E) → is_ok result ≡ true → OnOk result P → P
-on_ok-holds (Ok x) ok holds = holds
-on_ok-holds (Err e) ok holds = cc
-
 -- one more byte
 pub bits-push : (order : FillOrder) (bytes : List ℕ) (byte : ℕ) → bits order (bytes ++ byte ∷ []) ≡ bits order bytes ++ byte_bits order byte
 unfolding bits
@@ -44,7 +39,7 @@ module _ (count pending len number : ℕ) (pending_fits : pending < 2 ^ count) (
 -- a number of pending bits, of which the first k are stored
 module _ (k count pending : ℕ) (some : 0 < k) (whole : k ≤ count) (short : count ≤ 64) (fits : pending < 2 ^ count) where
   pub first_part-lt : pending / 2 ^ (count - k) < 2 ^ k
-  first_part-lt = grind (arith, common_steps, shr_below)
+  first_part-lt = grind (arith, shr_below)
 
   pub masked : bit_and pending (1 * 2 ^ (count - k) % 2 ^ 64 - 1) ≡ pending % 2 ^ (count - k)
   masked = ap (λ n. bit_and pending (n - 1)) (one_shl (count - k) 64 (omega arith)) ∙ and_mask pending (count - k)
@@ -71,7 +66,7 @@ byte_bits-msb byte = refl
 pub bits-reversed : (bytes : List ℕ) → bits LsbFirst (map (reverse_bits w8) bytes) ≡ bits MsbFirst bytes
 unfolding bits
 bits-reversed [] = refl
-bits-reversed (byte ∷ bytes) = grind (arith, common_steps, byte_bits-reversed, byte_bits-msb, bits-reversed bytes)
+bits-reversed (byte ∷ bytes) = grind (arith, byte_bits-reversed, byte_bits-msb, bits-reversed bytes)
 
 -- bytes that are all written over
 pub written_over : (len : ℕ) (new old : List ℕ) → length new ≡ len → take len (new ++ drop (length new) old) ≡ new
@@ -90,7 +85,7 @@ bits-append order bytes xs = flat_map-append (byte_bits order) bytes xs
 
 -- the bytes of a word, the highest first
 pub be_coded : (n : ℕ) → n < 2 ^ 32 → bits MsbFirst (n / 16777216 % 256 ∷ n / 65536 % 256 ∷ n / 256 % 256 ∷ n % 256 ∷ []) ≡ code_bits 32 n
-be_coded n fits = grind (arith, common_steps, be_bits, from_be_bytes-to_be_bytes_4)
+be_coded n fits = grind (arith, be_bits, from_be_bytes-to_be_bytes_4)
 
 -- how many bits a sink has
 pub length-sink : (order : FillOrder) (bytes : List ℕ) (count pending : ℕ) (sink : Sink) → sink_of order bytes count pending ≡ sink

@@ -1,5 +1,5 @@
 -- The arrays of the vertical modes hold codes of vertical modes, one after another.
-use Rattle.std.proofs.lemmas.Bool.{eqb-true, and_parts}
+use Rattle.std.proofs.lemmas.Bool.{and_parts}
 use Rattle.std.proofs.lemmas.Grind.{common_steps}
 use Rattle.std.proofs.Common.{◌≡◌, ℕ, zero, suc, ◌+◌, ◌-◌, ◌*◌, ◌/◌, ◌^◌, ◌<◌, ◌≤◌, List, [], ◌∷◌, ◌++◌, map, length, take, get_or, Bool, true}
 use Rattle.std.proofs.Common.{false, if◌then◌else◌, refl, ap, sym, ◌∙◌, subst, arith, append_assoc, zero-add, lit<}
@@ -78,9 +78,6 @@ vertical_at number (len ∷ lens) (count ∷ counts) (four ∷ raises) (suc i) a
 lt-from_test : (n m : ℕ) → nat_lt n m ≡ true → n < m
 lt-from_test n m h = grind (arith, nat_tests)
 
-le-from_test : (n m : ℕ) → nat_le n m ≡ true → n ≤ m
-le-from_test n m h = grind (arith, nat_tests)
-
 near_from_test : (raises : List ℕ) → are_near raises ≡ true → All (λ raised. raised < 7) raises
 near_from_test [] h = All-nil (λ raised. raised < 7)
 near_from_test (raised ∷ raises) h =
@@ -143,7 +140,7 @@ pub record IsSeveral (number len count : ℕ) (four : List ℕ) : Type 0 where
   pub spelled : number / 2 ^ (12 - len) ≡ code_of (take count four)
 
 from_test : (number len count : ℕ) (four : List ℕ) → is_several number len count four ≡ true → IsSeveral number len count four
-from_test number len count four is = grind (arith, common_steps, and_parts, lt-from_test, le-from_test, eqb-true)
+from_test number len count four is = grind arith
 
 found : (number : ℕ) → number < 4096 → 0 < get_or VERTICALS.lens number 0
     → IsSeveral number (get_or VERTICALS.lens number 0) (get_or VERTICALS.counts number 0) (to_le_bytes w32 (get_or VERTICALS.raises number 0))
@@ -203,13 +200,6 @@ all_read (raised ∷ raises) rest near =
       all_read raises rest (All-tail (λ raised. raised < 7) raised raises near),
     )
 
-near_taken : (n : ℕ) (raises : List ℕ) → All (λ raised. raised < 7) raises → All (λ raised. raised < 7) (take n raises)
-near_taken zero raises near = All-nil (λ raised. raised < 7)
-near_taken (suc n) [] near = All-nil (λ raised. raised < 7)
-near_taken (suc n) (raised ∷ raises) near =
-    All-cons (λ raised. raised < 7) raised (take n raises) (All-head (λ raised. raised < 7) raised raises near)
-    (near_taken n raises (All-tail (λ raised. raised < 7) raised raises near))
-
 pub verticals_taken : (front left : List Bool) (found : Verticals) (rest : List Bool) → AreVerticals front found → left ≡ front ++ rest
     → AreVerticalsRead left found rest
-verticals_taken front left found rest are taken = grind (arith, common_steps, found, all_read, near_taken)
+verticals_taken front left found rest are taken = grind (arith, common_steps, all_read)

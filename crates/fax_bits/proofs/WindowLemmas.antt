@@ -5,11 +5,11 @@ use Rattle.std.proofs.Common.{◌≡◌, ℕ, zero, suc, ◌+◌, ◌-◌, ◌*�
 use Rattle.std.proofs.Common.{get_or, Bool, true, false, nat_eq, refl, append_assoc, ap, sym, ◌∙◌, subst, arith, add-zero}
 use Rattle.std.specs.Prelude.{bit_or}
 use Rattle.std.specs.Int.{bit_at}
-use Rattle.std.proofs.Math.Nat.{add-mul, pow-succ', div-div-eq-div-mul, mul_assoc, mul-mod_left}
+use Rattle.std.proofs.Math.Nat.{add-mul, div-div-eq-div-mul, mul_assoc, mul-mod_left}
 use Rattle.std.proofs.Math.Seq.{drop-append_seam, take-append_seam}
 use Rattle.std.proofs.lemmas.List.{take-append-le, take-append-drop, take-replicate, replicate-append-replicate}
 use lib.Count.{count_leading_zeros}
-use Rattle.std.proofs.lemmas.Nat.{leading_length, shr_high, mod-pow-add, mod_below, or_shifted, pow-add, pow_pos, shl_below, shl-shr}
+use Rattle.std.proofs.lemmas.Nat.{leading_length, mod-pow-add, mod_below, or_shifted, pow-add, pow_pos, shl_below, shl-shr}
 use Rattle.std.proofs.lemmas.Nat.{shl_whole, shr_below, shr_split}
 use Rattle.fax_bits.specs.Bits.{code_bits, bits_number}
 use Rattle.fax_bits.specs.views.Source.{HasZerosAhead}
@@ -111,16 +111,16 @@ module _ (count word n : ℕ) (more : List Bool) (few : count ≤ 64) (within : 
       ∙ ap (code_bits n) high
 
   pub next-lt : word / 2 ^ (64 - n) < 2 ^ n
-  next-lt = grind (arith, common_steps, shr_below)
+  next-lt = grind (arith, shr_below)
 
   pub next_number : word / 2 ^ (64 - n) ≡ bits_number (take n (first_bits count word ++ more))
-  next_number = grind (arith, common_steps, next_bits, number-code_bits, next-lt)
+  next_number = grind (arith, next_bits, number-code_bits, next-lt)
 
 -- a 1 after n zeros
 one_bit : (n : ℕ) → code_bits (suc n) 1 ≡ replicate n false ++ true ∷ []
 unfolding code_bits
 one_bit zero = refl
-one_bit (suc n) = grind (arith, common_steps, pow-succ', pow_pos, shr_high, one_bit n)
+one_bit (suc n) = grind (arith, one_bit n)
 
 -- the highest bit of a word, which stands after its leading zeros
 top_bit : (word n m : ℕ) → n + suc m ≡ 64 → word < 2 ^ suc m → 2 ^ suc m ≤ 2 * word + 1 → word / 2 ^ (64 - suc n) ≡ 1

@@ -1,5 +1,4 @@
 use Rattle.fax_bits.proofs.PairLemmas.{short_pair}
-use Rattle.std.proofs.lemmas.Grind.{common_steps}
 use Rattle.std.proofs.Common.{arith}
 use Rattle.fax_bits.proofs.pairs.short_pair_code.Goals as goal
 use Rattle.fax_bits.proofs.pairs.short_pair_code.Goals.{in-White, in-Black}
@@ -21,4 +20,4 @@ of-requires-clause-fits c =
     ]
 
 pub returns : goal.returns
-returns c = grind (arith, common_steps, short_pair, in-White, in-Black, c.requires.first, c.requires.second, c.match-colour.branch, c.of.ensures, c.from.ensures, c.from-2.ensures)
+returns c = grind (arith, short_pair)

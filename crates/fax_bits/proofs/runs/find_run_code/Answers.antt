@@ -7,4 +7,4 @@ use Rattle.fax_bits.proofs.runs.find_run_code.Goals.{then-place-ge-EXTENSION+els
 use Rattle.fax_bits.proofs.runs.find_run_code.Goals.{in-White, in-Black}
 
 pub returns : goal.returns
-returns c = grind (arith, common_steps, in-White, white_short_place, in-Black, black_short_place, then-place-ge-EXTENSION+else-place-ge-EXTENSION-2, else-place-ge-EXTENSION, found_at_place, c.match-colour.branch, c.requires, c.if-place-ge-EXTENSION.branch, c.from-place.ensures, c.from.ensures, c.run_entry-entry.ensures.found)
+returns c = grind (arith, common_steps, in-White, white_short_place, black_short_place, found_at_place)

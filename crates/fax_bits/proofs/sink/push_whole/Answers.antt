@@ -1,11 +1,10 @@
 use Rattle.std.proofs.Common.{◌∙◌, arith}
-use Rattle.std.proofs.lemmas.Grind.{common_steps}
 use Rattle.fax_bits.specs.declared.FillOrder.TheVariants.{MsbFirst}
 use Rattle.fax_bits.proofs.SinkLemmas.{first_part-lt, masked-lt, split_bits, pushed_bits, byte_bits-msb}
 use Rattle.fax_bits.proofs.sink.push_whole.Goals as goal
 
 pub overflow_cast-byte-in-loop-left : goal.overflow_cast-byte-in-loop-left
-overflow_cast-byte-in-loop-left c = grind (arith, common_steps, first_part-lt, c.loop-left.invariant.few, c.loop-left.invariant.fits)
+overflow_cast-byte-in-loop-left c = grind (arith, first_part-lt)
 
 pub loop-left-preserved : goal.loop-left-preserved
 loop-left-preserved c =

@@ -1,11 +1,10 @@
 use Rattle.std.proofs.Common.{◌^◌, ◌<◌, ◌++◌, arith, ap, ◌∙◌}
-use Rattle.std.proofs.lemmas.Grind.{common_steps}
 use Rattle.fax_bits.specs.Bits.{code_bits}
 use Rattle.fax_bits.proofs.SinkLemmas.{joined-lt, put_after}
 use Rattle.fax_bits.proofs.sink.BitSink.put.Goals as goal
 
 pub invariant_of-self : goal.invariant_of-self
-invariant_of-self c = grind (arith, common_steps, joined-lt, c.from.ensures, c.requires.fits, c.self.invariant.few, c.self.invariant.word, c.self.invariant.fits, c.self.invariant.room)
+invariant_of-self c = grind (arith, joined-lt)
 
 pub returns-clause-ok : goal.returns-clause-ok
 returns-clause-ok c =

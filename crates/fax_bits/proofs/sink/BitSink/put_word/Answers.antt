@@ -1,12 +1,11 @@
 use Rattle.std.proofs.Common.{◌+◌, ◌^◌, ◌<◌, ◌≤◌, ◌++◌, arith, ap, ◌∙◌}
-use Rattle.std.proofs.lemmas.Grind.{common_steps}
 use Rattle.fax_bits.specs.Bits.{code_bits}
 use Rattle.fax_bits.proofs.SinkLemmas.{joined-lt, put_after}
 use Rattle.fax_bits.proofs.WordPutLemmas.{high_word-lt, word_put}
 use Rattle.fax_bits.proofs.sink.BitSink.put_word.Goals as goal
 
 pub overflow_cast-pending : goal.overflow_cast-pending
-overflow_cast-pending c = grind (arith, common_steps, joined-lt, high_word-lt, c.from.ensures, c.self.invariant.within, c.self.invariant.few, c.self.invariant.fits)
+overflow_cast-pending c = grind (arith, joined-lt, high_word-lt)
 
 pub returns-clause-ok : goal.returns-clause-ok
 returns-clause-ok c =

@@ -1,14 +1,13 @@
 use Rattle.std.proofs.Common.{◌+◌, ◌-◌, ◌*◌, ◌/◌, ◌%◌, ◌^◌, ◌<◌, ◌≤◌, ◌++◌, arith, ap, ◌∙◌}
-use Rattle.std.proofs.lemmas.Grind.{common_steps}
 use Rattle.std.specs.Prelude.{bit_or}
 use Rattle.fax_bits.specs.declared.FillOrder.TheVariants.{MsbFirst}
 use Rattle.fax_bits.specs.Bits.{bits, code_bits}
 use Rattle.fax_bits.specs.code.Sink.{sink_of}
-use Rattle.fax_bits.proofs.SinkLemmas.{on_ok-holds, joined-lt, first_part-lt, put_after, word_stored}
+use Rattle.fax_bits.proofs.SinkLemmas.{joined-lt, first_part-lt, put_after, word_stored}
 use Rattle.fax_bits.proofs.sink.BitSink.store.Goals as goal
 
 pub invariant_of-self-then-count-lt32 : goal.invariant_of-self-then-count-lt32
-invariant_of-self-then-count-lt32 c = grind (arith, common_steps, joined-lt, on_ok-holds, c.from.ensures, c.requires.fits, c.map_err.ensures.variant, c.in_ok-map_err.was, c.self.invariant.fits, c.reserve.ensures.ok)
+invariant_of-self-then-count-lt32 c = grind (arith, joined-lt)
 
 pub returns-then-count-lt32-clause-ok : goal.returns-then-count-lt32-clause-ok
 returns-then-count-lt32-clause-ok c =
@@ -22,7 +21,7 @@ returns-then-count-lt32-clause-ok c =
     ap (λ items. sink_of inside.order items (inside.count + c.args.len) all) c.reserve.ensures.items ∙ put
 
 pub overflow_cast-pending-2 : goal.overflow_cast-pending-2
-overflow_cast-pending-2 c = grind (arith, common_steps, joined-lt, first_part-lt, c.from.ensures, c.requires.fits, c.self.invariant.within, c.self.invariant.few, c.requires.short, c.self.invariant.fits, c.if-count-lt32.false)
+overflow_cast-pending-2 c = grind (arith, joined-lt, first_part-lt)
 
 pub returns-clause-ok : goal.returns-clause-ok
 returns-clause-ok c =

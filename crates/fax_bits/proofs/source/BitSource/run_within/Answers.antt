@@ -1,11 +1,10 @@
 use Rattle.std.proofs.Common.{inl, arith}
-use Rattle.std.proofs.lemmas.Grind.{common_steps}
 use Rattle.fax_bits.proofs.AheadLemmas.{begun_short, looked_up}
 use Rattle.fax_bits.proofs.LookUpLemmas.{run_written, run_taken}
 use Rattle.fax_bits.proofs.source.BitSource.run_within.Goals as goal
 
 pub after-self-inside-requires : goal.after-self-inside-requires
-after-self-inside-requires c = grind (arith, common_steps, begun_short, c.in_ok-len.ensures, c.in_ok-self-inside.ensures.many)
+after-self-inside-requires c = grind (arith, begun_short)
 
 pub returns : goal.returns
 returns c =

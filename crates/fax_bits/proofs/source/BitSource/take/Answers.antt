@@ -1,7 +1,7 @@
 use Rattle.std.proofs.Common.{◌++◌, take, replicate, false, inl, inr, refl, ◌∙◌, ap, arith}
 use Rattle.std.proofs.lemmas.Grind.{common_steps}
 use Rattle.fax_bits.specs.Bits.{code_bits, bits_number}
-use Rattle.fax_bits.proofs.AheadLemmas.{enough, loaded_left, loaded-left, all_loaded, left_after_code, end_kept}
+use Rattle.fax_bits.proofs.AheadLemmas.{enough, loaded_left, loaded-left, all_loaded, end_kept}
 use Rattle.fax_bits.proofs.TakeLemmas.{spelled, as_many, spells_it}
 use Rattle.fax_bits.proofs.source.BitSource.take.Goals as goal
 use Rattle.fax_bits.proofs.source.BitSource.take.Goals.{then-ahead-len-via-then-ahead-len}
@@ -34,7 +34,7 @@ returns-then-ahead-len-clause-taken c =
     )
 
 pub returns-clause-taken : goal.returns-clause-taken
-returns-clause-taken c = grind (arith, common_steps, loaded_left, loaded-left, enough, spelled, left_after_code, c.filled-ahead.ensures, c.self.invariant, c.if-ahead-len.false, c.number.ensures.number, c.requires.short, c.if-number-bits.false, c.after-self-inside.ensures.count, c.after-self-inside.ensures.at)
+returns-clause-taken c = grind (arith, common_steps, loaded-left, spelled)
 
 pub returns-clause-same_end : goal.returns-clause-same_end
 returns-clause-same_end c =

@@ -1,5 +1,4 @@
 use Rattle.std.proofs.Common.{arith, sym, ◌∙◌}
-use Rattle.std.proofs.lemmas.Grind.{common_steps}
 use Rattle.fax_bits.proofs.ZeroLemmas.{zeros_ahead, all_zeros}
 use Rattle.fax_bits.proofs.source.BitSource.zeros_by_bytes.Goals as goal
 
@@ -8,4 +7,4 @@ returns-then-bit c =
     zeros_ahead c.args.self.now.left c.loop-zeros.zeros (omega arith) c.loop-zeros.invariant.below (sym c.bit.ensures ∙ c.if-bit.true)
 
 pub returns : goal.returns
-returns c = grind (arith, common_steps, all_zeros, c.loop-zeros.invariant.below)
+returns c = grind (arith, all_zeros)

@@ -1,5 +1,4 @@
 use Rattle.std.proofs.Common.{◌≡◌, List, [], ◌∷◌, ◌++◌, Bool, true, false, get_or, ap, arith}
-use Rattle.std.proofs.lemmas.Grind.{common_steps}
 use Rattle.fax_bits.proofs.WindowLemmas.{first_is_one}
 use Rattle.fax_bits.proofs.window.Window.begins_with_one.Goals as goal
 
@@ -8,4 +7,4 @@ first_of [] more is = cc
 first_of (bit ∷ b) more is = (b ++ more, ap (λ first. first ∷ b ++ more) is)
 
 pub returns-clause-ahead : goal.returns-clause-ahead
-returns-clause-ahead c = grind (arith, common_steps, first_of, first_is_one)
+returns-clause-ahead c = grind (arith, first_of, first_is_one)

@@ -1,4 +1,4 @@
-use Rattle.std.proofs.Common.{arith, append_assoc, append-nil}
+use Rattle.std.proofs.Common.{arith}
 use Rattle.std.proofs.lemmas.Grind.{common_steps}
 use Rattle.std.proofs.Math.Pow.{pow_mono}
 use Rattle.fax_bits.proofs.WordLemmas.{bits-past}
@@ -6,7 +6,7 @@ use Rattle.fax_bits.proofs.WindowLemmas.{next_number, past_number, next-lt}
 use Rattle.fax_bits.proofs.window.Window.number.Goals as goal
 
 pub overflow_cast-result-2 : goal.overflow_cast-result-2
-overflow_cast-result-2 c = grind (arith, common_steps, pow_mono, next-lt, c.requires.few)
+overflow_cast-result-2 c = grind (arith, pow_mono, next-lt)
 
 pub returns : goal.returns
-returns c = grind (arith, common_steps, next_number, append_assoc, past_number, bits-past, append-nil, c.requires.few)
+returns c = grind (arith, common_steps, next_number, past_number, bits-past)

@@ -1,11 +1,10 @@
 use Rattle.std.proofs.Common.{drop, arith}
-use Rattle.std.proofs.lemmas.Grind.{common_steps}
 use Rattle.fax_bits.specs.Bits.{bits}
 use Rattle.fax_bits.proofs.OneLemmas.{ones_before, ones_loaded}
 use Rattle.fax_bits.proofs.window.Window.ones.Goals as goal
 
 pub returns-clause-loaded : goal.returns-clause-loaded
-returns-clause-loaded c = grind (arith, common_steps, ones_loaded, c.leading_ones.ensures)
+returns-clause-loaded c = grind (arith, ones_loaded)
 
 pub returns-clause-ahead : goal.returns-clause-ahead
 returns-clause-ahead c order bytes =

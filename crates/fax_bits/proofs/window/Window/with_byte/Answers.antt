@@ -1,5 +1,4 @@
 use Rattle.std.proofs.Common.{◌+◌, ◌<◌, ◌^◌, ◌++◌, drop, arith, ap, ◌∙◌, append_assoc}
-use Rattle.std.proofs.lemmas.Grind.{common_steps}
 use Rattle.fax_bits.specs.Bits.{bits, code_bits}
 use Rattle.fax_bits.specs.code.Window.{first_bits}
 use Rattle.fax_bits.proofs.WindowLemmas.{loaded_bits, loaded_zeros}
@@ -7,7 +6,7 @@ use Rattle.fax_bits.proofs.WordLemmas.{bits-next}
 use Rattle.fax_bits.proofs.window.Window.with_byte.Goals as goal
 
 pub invariant_of-result : goal.invariant_of-result
-invariant_of-result c = grind (arith, common_steps, loaded_zeros, c.from.ensures, c.requires.room)
+invariant_of-result c = grind (arith, loaded_zeros)
 
 pub returns-clause-ahead : goal.returns-clause-ahead
 returns-clause-ahead c =

@@ -1,7 +1,6 @@
 use Rattle.std.proofs.Common.{arith}
-use Rattle.std.proofs.lemmas.Grind.{common_steps}
 use Rattle.fax_bits.proofs.WindowLemmas.{zeros_before}
 use Rattle.fax_bits.proofs.window.Window.zeros.Goals as goal
 
 pub returns : goal.returns
-returns c = grind (arith, common_steps, zeros_before)
+returns c = grind (arith, zeros_before)
