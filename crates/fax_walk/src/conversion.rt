@@ -83,7 +83,7 @@ fn convert_images(alloc: Global, bytes: &[u8], options: &Options) -> Result<Vec<
     }
 }
 
-/// Why the rows of a TIFF file have ended. A walk from its first row on does not begin outside of it.
+/// Why the rows of a TIFF file have ended. A walk from its first row on does not begin outside it.
 fn source_fault(fault: WalkFault) -> ConvertFault
     ensures { result ≡ Reads.source_fault fault }
 {
