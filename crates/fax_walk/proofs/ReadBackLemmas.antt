@@ -8,7 +8,6 @@ use Rattle.std.proofs.lemmas.List.{length-map, map-append}
 use Rattle.std.proofs.lemmas.List.Elements.{All-cons, All-head, All-nil, All-tail}
 use Rattle.fax_bits.specs.Bits.{BeginsWith}
 use Rattle.fax_bits.specs.declared.Colour.{Colour}
-use Rattle.fax_bits.specs.laws.Codes.{AreBitsByPlace}
 use Rattle.fax_page.specs.declared.Coding.{Coding}
 use Rattle.fax_page.specs.declared.Coding.TheVariants.{Mh, Mr, Mmr}
 use Rattle.fax_files.specs.declared.Endian.{Endian}
@@ -18,7 +17,7 @@ use Rattle.fax_files.specs.Directory.{Header, header, max_file}
 use Rattle.fax_files.specs.Page.{page}
 use Rattle.fax_files.specs.Pbm.{AreImages, Image, IsImage, is_within_limits}
 use Rattle.fax_files.specs.Layout.{file_of}
-use Rattle.fax_files.specs.laws.Files.{FilesHaveOneChain, FormsAreWhole, FormsAreWithinLimits}
+use Rattle.fax_files.specs.laws.Files.{FormsAreWithinLimits}
 use Rattle.fax_files.specs.laws.Pbm.{AreOfWidth, AreWritableImages, IsWritableImage, WrittenImagesAreRead}
 use Rattle.fax_files.specs.views.Page.{IsPageForm}
 use Rattle.fax_walk.specs.declared.cursor.Cursor.{Cursor}
@@ -31,14 +30,13 @@ use Rattle.fax_walk.specs.Items.{AreItems, RowItem}
 use Rattle.fax_walk.specs.Converted.{IsSource, IsTiff, IsTooLarge, SourcePage, pages_of, target_bytes}
 use Rattle.fax_walk.specs.code.Opening.{IsPageUnder, page_or_end, page_over}
 use Rattle.fax_walk.specs.code.Output.{form_sheet, page_of}
-use Rattle.fax_walk.specs.code.Sources.{ArePaged, AreRowsOn, page_of_image, pels_of}
+use Rattle.fax_walk.specs.code.Sources.{ArePaged, AreRowsOn, FilesArePaged, page_of_image, pels_of}
 use Rattle.fax_walk.specs.laws.ReadBack.{AreReadBack, AreReadBackIn, ConversionsAreReadBack, ConversionsKeepItems}
 use Rattle.fax_walk.specs.laws.Tails.{FilesHaveOneItems}
 use Rattle.fax_walk.specs.laws.Written.{CodedFilesAreWalked, IsWritableSource, WalkedRow, numbered, rows_of, walked, written_pages}
 use Rattle.fax_walk.proofs.FileLemmas.{some_pages}
 use Rattle.fax_walk.proofs.ImageLemmas.{raster_count, raster_widths}
-use Rattle.fax_walk.proofs.RowLawLemmas.{LinesAreRead}
-use Rattle.fax_walk.proofs.SourceLemmas.{first_page, found_page, paged}
+use Rattle.fax_walk.proofs.SourceLemmas.{first_page, found_page}
 
 both_hold : (low high more most : Bool) → low ≡ true → high ≡ true → more ≡ true → most ≡ true → IsTrue ((low && high) && (more && most))
 both_hold low high more most a b c d = rw (a, b, c, d) refl
@@ -120,8 +118,19 @@ rows_wide : (p : ℕ) (form : PageForm) (r : ℕ) (own : List RowItem) → AreRo
 rows_wide p form r [] are = tt
 rows_wide p form r (x ∷ own) are = (are.3, rows_wide p form (r + 1) own are.4)
 
-module _ (by_place : AreBitsByPlace) (lines_read : LinesAreRead) (chains : FilesHaveOneChain) (wholes : FormsAreWhole)
-    (within_limits : FormsAreWithinLimits) where
+-- the rows of these pages, with their places, are the items
+items_kept : (forms : List FormItem) (p : ℕ) (items : List RowItem) → ArePaged p forms Proper items Proper
+    → rows_of p (map (λ source. source.image.rows) (pages_of forms items)) ≡ map walked items
+items_kept [] p items paged = sym (ap (map walked) paged.0)
+items_kept (one ∷ forms) p items (own, others, items_are, are, inr stop) = let no = stop.2.3 in absurd cc
+items_kept (one ∷ forms) p items (own, others, items_are, are, inl whole) =
+    ap (λ (l : List SourcePage). rows_of p (map (λ source. source.image.rows) l)) (first_page one forms items own others items_are whole.0)
+    ∙ ap (λ (l : List WalkedRow). l ++ rows_of (p + 1) (map (λ source. source.image.rows) (pages_of forms others)))
+    (sym (rows_numbered p one.form 0 own are))
+    ∙ ap (λ (l : List WalkedRow). map walked own ++ l) (items_kept forms (p + 1) others whole.2)
+    ∙ sym (map-append walked own others) ∙ ap (map walked) (sym items_are)
+
+module _ (paged : FilesArePaged) (within_limits : FormsAreWithinLimits) where
   page_limits : (file : List ℕ) → All (λ byte. byte < 256) file → (at : Cursor) (here : FilePage) → IsPageAt file at (Ok here)
       → IsPageForm here.form
   page_limits file bytes at here is = under (header file) is
@@ -160,18 +169,6 @@ module _ (by_place : AreBitsByPlace) (lines_read : LinesAreRead) (chains : Files
       subst (All IsWritableSource) (sym (first_page one forms items own others items_are whole.0))
       (All-cons IsWritableSource (page_of (form_sheet one.form) (pels_of own)) (pages_of forms others) this later)
 
-  -- the rows of these pages, with their places, are the items
-  items_kept : (forms : List FormItem) (p : ℕ) (items : List RowItem) → ArePaged p forms Proper items Proper
-      → rows_of p (map (λ source. source.image.rows) (pages_of forms items)) ≡ map walked items
-  items_kept [] p items paged = sym (ap (map walked) paged.0)
-  items_kept (one ∷ forms) p items (own, others, items_are, are, inr stop) = let no = stop.2.3 in absurd cc
-  items_kept (one ∷ forms) p items (own, others, items_are, are, inl whole) =
-      ap (λ (l : List SourcePage). rows_of p (map (λ source. source.image.rows) l)) (first_page one forms items own others items_are whole.0)
-      ∙ ap (λ (l : List WalkedRow). l ++ rows_of (p + 1) (map (λ source. source.image.rows) (pages_of forms others)))
-      (sym (rows_numbered p one.form 0 own are))
-      ∙ ap (λ (l : List WalkedRow). map walked own ++ l) (items_kept forms (p + 1) others whole.2)
-      ∙ sym (map-append walked own others) ∙ ap (map walked) (sym items_are)
-
   source_writable : (bytes : List ℕ) → All (λ byte. byte < 256) bytes → (pages : List SourcePage) → IsSource bytes pages
       → All IsWritableSource pages × (1 ≤ length pages)
   source_writable bytes are_bytes pages (inl (begins, images, are, pages_are)) =
@@ -183,7 +180,7 @@ module _ (by_place : AreBitsByPlace) (lines_read : LinesAreRead) (chains : Files
       let some = some_pages bytes forms forms_are in
       let count : length pages ≡ length forms = ap (λ (l : List SourcePage). length l) pages_are ∙ pages_counted forms items in (
         subst (All IsWritableSource) (sym pages_are) (forms_writable bytes are_bytes forms 0 items forms_are
-            (paged by_place lines_read chains wholes bytes forms 0 Proper items Proper forms_are items_are)),
+            (paged bytes forms Proper items Proper forms_are items_are)),
         omega (arith, some, count),
       )
 
@@ -221,10 +218,9 @@ module _ (written : CodedFilesAreWalked) (images : WrittenImagesAreRead) (option
       (not_over (length pages) 65535 (λ many. fits (inr ((λ is. cc), many))))
       (not_over (length output) max_file (λ long. fits (inl long)))
 
-pub conversions_are_read_back : AreBitsByPlace → LinesAreRead → FilesHaveOneChain → FormsAreWhole → FormsAreWithinLimits
-    → CodedFilesAreWalked → WrittenImagesAreRead → ConversionsAreReadBack
-conversions_are_read_back by_place lines_read chains wholes within written images bytes options output are_bytes converted =
-    let found = source_writable by_place lines_read chains wholes within bytes are_bytes converted.pages converted.source in
+pub conversions_are_read_back : FilesArePaged → FormsAreWithinLimits → CodedFilesAreWalked → WrittenImagesAreRead → ConversionsAreReadBack
+conversions_are_read_back paged within written images bytes options output are_bytes converted =
+    let found = source_writable paged within bytes are_bytes converted.pages converted.source in
     read_back written images options converted.pages found.0 found.1 options.target refl output converted.output_is converted.fits
 
 -- a TIFF file does not begin as images do
@@ -250,8 +246,7 @@ walked_in To.Mh options pages output other is = (is.items, is.are, is.rows_are)
 walked_in To.Mr options pages output other is = (is.items, is.are, is.rows_are)
 walked_in To.Mmr options pages output other is = (is.items, is.are, is.rows_are)
 
-module _ (by_place : AreBitsByPlace) (lines_read : LinesAreRead) (chains : FilesHaveOneChain) (wholes : FormsAreWhole)
-    (within_limits : FormsAreWithinLimits) where
+module _ (paged : FilesArePaged) where
   source_kept : (bytes : List ℕ) (pages : List SourcePage) → IsTiff bytes → IsSource bytes pages
       → (items : List RowItem) × AreItems bytes items Proper
       × (rows_of 0 (map (λ source. source.image.rows) pages) ≡ map walked items)
@@ -260,8 +255,7 @@ module _ (by_place : AreBitsByPlace) (lines_read : LinesAreRead) (chains : Files
     items,
     items_are,
     ap (λ (l : List SourcePage). rows_of 0 (map (λ source. source.image.rows) l)) pages_are
-        ∙ items_kept by_place lines_read chains wholes within_limits forms 0 items
-        (paged by_place lines_read chains wholes bytes forms 0 Proper items Proper forms_are items_are),
+        ∙ items_kept forms 0 items (paged bytes forms Proper items Proper forms_are items_are),
   )
 
   pub conversions_keep_items : FilesHaveOneItems → ConversionsAreReadBack → ConversionsKeepItems

@@ -83,7 +83,7 @@ fn convert_images(alloc: Global, bytes: &[u8], options: &Options) -> Result<Vec<
     }
 }
 
-/// Why the rows of a TIFF file have ended. A walk from its first row on does not begin outside of it.
+/// Why the rows of a TIFF file have ended. A walk from its first row on does not begin outside it.
 fn source_fault(fault: WalkFault) -> ConvertFault
     ensures { result ≡ Reads.source_fault fault }
 {
@@ -161,10 +161,8 @@ fn convert_file(alloc: Global, file: &[u8], options: &Options) -> Result<Vec<u8>
     ensures err { IfErr result (λ fault. fault ≢ ConvertFault.Memory
         → Spec.IsNotConverted file.now options.now fault) }
 {
-    fax_bits::laws::bits_stand_by_place();
-    fax_page::laws::lines_are_read_in_one_way();
     fax_files::laws::files_have_one_chain();
-    fax_files::laws::forms_are_whole();
+    crate::laws::files_are_paged();
     crate::laws::form_tails_are_one();
     crate::laws::tails_go_on();
     let count = count_pages(file);

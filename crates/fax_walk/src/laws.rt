@@ -2,6 +2,7 @@
 //! contract.
 ghost use Rattle.std.specs.Prelude.{List};
 ghost use Rattle.fax_walk.specs.Pages.{FormItem};
+ghost use Rattle.fax_walk.specs.code.Sources.{FilesArePaged};
 ghost use Rattle.fax_walk.specs.laws.Answers as AnswerLaws;
 ghost use Rattle.fax_walk.specs.laws.Cursors as CursorLaws;
 ghost use Rattle.fax_walk.specs.laws.Forms.{AreFormsLeft};
@@ -35,6 +36,16 @@ pub fn coded_files_are_walked()
     written_files_are_walked();
 }
 
+/// The items of a file are the rows of its pages (TIFF 6.0, section 2).
+pub(crate) fn files_are_paged()
+    ensures { FilesArePaged }
+{
+    fax_bits::laws::bits_stand_by_place();
+    fax_page::laws::lines_are_read_in_one_way();
+    fax_files::laws::files_have_one_chain();
+    fax_files::laws::forms_are_whole();
+}
+
 /// What bytes are converted to is read back as their pages: a PBM has their images, and a TIFF file
 /// their rows and the forms that were asked for, and ends properly (the netpbm format, P4; TIFF
 /// 6.0). A TIFF file that is converted to another has the same rows at the same places.
@@ -42,10 +53,7 @@ pub fn conversions_are_read_back()
     ensures back { ReadBackLaws.ConversionsAreReadBack }
     ensures same { ReadBackLaws.ConversionsKeepItems }
 {
-    fax_bits::laws::bits_stand_by_place();
-    fax_page::laws::lines_are_read_in_one_way();
-    fax_files::laws::files_have_one_chain();
-    fax_files::laws::forms_are_whole();
+    files_are_paged();
     fax_files::laws::forms_are_within_limits();
     fax_files::laws::written_images_are_read();
     coded_files_are_walked();

@@ -5,17 +5,14 @@ use Rattle.fax_walk.proofs.conversion.convert_file.Goals as goal
 
 pub loop-walk-init : goal.loop-walk-init
 loop-walk-init c =
-    let by_place = c.bits_stand_by_place.ensures in
-    let lines_read = c.lines_are_read_in_one_way.ensures in
-    let chains = c.files_have_one_chain.ensures in
     let forms = c.form_tails_are_one.ensures.all in
     let its : IsFile c.args.file.now =
-    its_file by_place lines_read chains forms c.tails_go_on.ensures.files c.tails_go_on.ensures.start c.args.file.now in
+    its_file c.files_have_one_chain.ensures forms c.tails_go_on.ensures.files c.tails_go_on.ensures.start c.args.file.now in
     record {
       its = its;
       so_far = rw c.start-walk.ensures
-          (none_put by_place lines_read chains c.forms_are_whole.ensures forms c.args.file.now its c.args.options.now c.count_pages-count.result
-          c.in_ok-output.output c.count_pages-count.ensures (rw c.max.ensures at c.in_ok-output.ensures));
+          (none_put c.files_are_paged.ensures forms c.args.file.now its c.args.options.now c.count_pages-count.result c.in_ok-output.output
+          c.count_pages-count.ensures (rw c.max.ensures at c.in_ok-output.ensures));
     }
 
 pub put_last_row-requires-clause-due : goal.put_last_row-requires-clause-due
