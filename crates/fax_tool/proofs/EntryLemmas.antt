@@ -82,12 +82,12 @@ module _ (name : Text) (holds : Text → Type 0) where
   good_uses items fits no_file [] words are = tt
   good_uses items fits no_file (u ∷ us) words (inl (own, others, is, among, spelled, rest)) = (
     good (row_of u) u.value refl (read_as_written u.item u.value own spelled)
-    (λ named. (All-contains Fits items u.item fits among named).0 u.value own spelled),
+        (λ named. (All-contains Fits items u.item fits among named).0 u.value own spelled),
     good_uses items fits no_file us others rest,
   )
   good_uses items fits no_file (u ∷ us) words (inr (file_is, none, is)) = (
     good (row_of u) u.value refl (subst (λ item. read_as (reading_by (rule_of item)) u.value ≡ u.value) (sym file_is) refl)
-    (λ named. let here = subst (λ item. bytes_eq (name_of item) name ≡ true) file_is named in absurd cc),
+        (λ named. let here = subst (λ item. bytes_eq (name_of item) name ≡ true) file_is named in absurd cc),
     subst (λ us. AreGood (map row_of us)) (sym none) tt,
   )
 

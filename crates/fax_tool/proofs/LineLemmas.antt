@@ -3,12 +3,11 @@ use Rattle.std.proofs.Common.{◌≡◌, ℕ, zero, suc, ◌+◌, inl, inr, Bool
 use Rattle.std.proofs.Common.{Option, Some, None, Result, Ok, Err, refl, sym, ap, ◌∙◌, arith, subst}
 use Rattle.std.proofs.lemmas.Option.{slice_get_within, slice_get-map}
 use Rattle.std.proofs.lemmas.List.{length-map}
-use Rattle.std.specs.Prelude.{slice_get, if◌then◌else◌, nat_lt, ◌^◌, ◌==◌, ◌%◌}
+use Rattle.std.specs.Prelude.{slice_get, if◌then◌else◌, nat_lt, ◌^◌}
 use Rattle.std.specs.Prelude.{option_map, IfOk}
 use Rattle.fax_bits.specs.declared.Colour.{Colour}
 use Rattle.fax_bits.specs.declared.Memory.{Memory as NoMemory}
 use Rattle.fax_rows.specs.Rows.{runs_of}
-use Rattle.fax_files.specs.declared.PageForm.{PageForm}
 use Rattle.fax_walk.specs.declared.begun.Begun.{Begun}
 use Rattle.fax_walk.specs.declared.begun.Begun.TheVariants.{At}
 use Rattle.fax_walk.specs.declared.cursor.Cursor.{Cursor}
@@ -22,7 +21,7 @@ use Rattle.fax_walk.specs.views.Walk.{WalkView, IsNext, IsCursorOf, IsItemNumber
 use Rattle.fax_walk.specs.views.Pages.{PagesView, HandsOutPage, IsCursorOf as IsPageCursor, IsNextPage}
 use Rattle.fax_walk.specs.laws.Tails.{BeginningsHaveOneTail, CursorsHaveOneFormTail}
 use Rattle.fax_walk.specs.Pages.{FormItem, IsFormTail}
-use Rattle.fax_walk.specs.Items.{RowItem as Item, RowPlace as Place, IsTailFrom, begun_cursor, cursor_after, exchanged}
+use Rattle.fax_walk.specs.Items.{RowItem as Item, IsTailFrom, begun_cursor, cursor_after}
 use Rattle.fax_walk.specs.Items.{Inner, long_after, long_at, place_after}
 use Rattle.fax_tool.specs.Run.{AreRowLines, ArePageLines}
 use Rattle.fax_tool.proofs.BeginLemmas.{begun_at}

@@ -9,7 +9,6 @@ use Rattle.fax_files.specs.declared.Cause.TheVariants.{File}
 use Rattle.fax_files.specs.declared.PageForm.{PageForm}
 use Rattle.fax_files.specs.Directory.{IsChain}
 use Rattle.fax_files.specs.laws.Files.{HasOneChain, FilesHaveOneChain}
-use Rattle.fax_files.specs.views.Page.{IsPageForm}
 use Rattle.fax_files.specs.views.Chain.{ChainState, IsDueAnswer, after_answer}
 use Rattle.fax_files.specs.views.Tiff.{TiffDirectory, directory_of, form_of}
 use Rattle.fax_walk.specs.declared.cursor.Cursor.{Cursor}
