@@ -14,7 +14,7 @@ import warnings
 
 from counted import SMALL, TOP, Claims, faxpages
 
-sys.path.append(os.path.join(TOP, "tests", "plain"))
+sys.path.insert(0, os.path.join(TOP, "tests", "plain"))
 
 from strips import file_of  # noqa: E402
 

@@ -18,7 +18,7 @@ import tracemalloc
 
 from counted import SMALL, TOP, Claims, faxpages, until_fault
 
-sys.path.append(os.path.join(TOP, "tests", "plain"))
+sys.path.insert(0, os.path.join(TOP, "tests", "plain"))
 
 from strips import file_of  # noqa: E402
 
