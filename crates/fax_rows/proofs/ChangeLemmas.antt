@@ -21,8 +21,7 @@ pub record IsFirstPlace (test : ℕ → Bool) (i n place : ℕ) : Type 0 where
 first_place_more : (test : ℕ → Bool) (i n : ℕ) (passes : Bool) → test i ≡ passes
     → IsFirstPlace test (i + 1) n (first_place test (i + 1) n) → IsFirstPlace test i (suc n) (first_place test i (suc n))
 unfolding first_place
-first_place_more test i n true is more = grind (arith, common_steps)
-first_place_more test i n false is more = grind (arith, common_steps)
+first_place_more test i n passes is more = grind arith
 
 pub first_place_is : (test : ℕ → Bool) (i n : ℕ) → IsFirstPlace test i n (first_place test i n)
 unfolding first_place
@@ -66,8 +65,7 @@ abbrev pub first_of : Option ℕ → ℕ
 first_of from = unwrap_or from 0
 
 right_after : (from : Option ℕ) (k : ℕ) → first_of from ≤ k → is_right_of from (suc k) ≡ true
-right_after None k h = refl
-right_after (Some a) k h = lt-ltb a (suc k) (omega arith)
+right_after from k h = grind arith
 
 -- the pels from a place up to the next changing element have one colour
 pub colour_up_to : {row : List Colour} {from : Option ℕ} {place : ℕ} → IsNextChange row from place
@@ -114,5 +112,4 @@ unfolding b1
 next_of_right row from colour inside = grind (arith, first_place_is)
 
 pub still_left : (right change : Bool) → (right ≡ true → change ≡ false) → (right && change) ≡ false
-still_left true change h = h refl
-still_left false change h = refl
+still_left right change h = grind arith

@@ -4,7 +4,7 @@ use Rattle.std.proofs.Common.{rules, ◌≡◌, ℕ, suc, ◌+◌, ◌-◌, ◌<
 use Rattle.std.proofs.Common.{◌∙◌, arith, append_assoc}
 use Rattle.std.proofs.lemmas.Grind.{common_steps}
 use Rattle.std.specs.Prelude.{ℤ, pos, negsuc, ◌-ℤ◌, ◌+ℤ◌, ◌<ℤ◌, ◌≤ℤ◌, nat_abs, nat_lt, nat_le, if◌then◌else◌, Option, Some, None}
-use Rattle.std.proofs.lemmas.Bool.{ltb-true, lt-ltb}
+use Rattle.std.proofs.lemmas.Bool.{ltb-true}
 use Rattle.std.proofs.lemmas.Bool.Decides.{nat_tests}
 use Rattle.std.proofs.lemmas.Int.{ints}
 use Rattle.fax_bits.specs.declared.Colour.{Colour}
@@ -44,8 +44,7 @@ pub record IsChosen (reference row : List Colour) (a0 : Option ℕ) (rest : List
       → colour_after mode (colour_of row a0) ≡ pel row (next_a0 mode (places reference row a0))
 
 pub passed_within : (from : Option ℕ) (width : ℕ) → first_of from < width → passed from ≤ width
-passed_within None width h = omega arith
-passed_within (Some a) width h = omega arith
+passed_within from width h = grind arith
 
 -- a place right of the start of a step, or the width, is passed later
 passes : (from : Option ℕ) (place width : ℕ) → first_of from < width → place ≤ width → (place < width → is_right_of from place ≡ true)
@@ -53,18 +52,15 @@ passes : (from : Option ℕ) (place width : ℕ) → first_of from < width → p
 passes from place width unfinished within right = grind (arith, common_steps)
 
 pub first_passed : (from : Option ℕ) (place : ℕ) → passed from ≤ place → first_of from ≤ place
-first_passed None place h = omega arith
-first_passed (Some a) place h = omega arith
+first_passed from place h = grind arith
 
 number_passes : (from : Option ℕ) (colour : Colour) (pels : List Colour) (place : ℕ) → passed from ≤ place
     → a0_number (record { a0 = from; colour = colour; pels = pels }) <ℤ pos place
-number_passes None colour pels place h = omega (arith, ints)
-number_passes (Some a) colour pels place h = omega (arith, ints)
+number_passes from colour pels place h = grind arith
 
 -- a difference of at most 3 places
 near_is_written : (d : ℤ) → nat_abs d ≤ 3 → (negsuc 2 ≤ℤ d) × (d ≤ℤ pos 3)
-near_is_written (pos n) near = (omega (arith, ints), omega (arith, ints))
-near_is_written (negsuc n) near = (omega (arith, ints), omega (arith, ints))
+near_is_written d near = grind arith
 
 -- a place right of the start of a step, and not after the row
 pub record IsPlaceAhead (from : Option ℕ) (width place : ℕ) : Type 0 where
@@ -72,8 +68,7 @@ pub record IsPlaceAhead (from : Option ℕ) (width place : ℕ) : Type 0 where
   pub within : place ≤ width
 
 pub passed_right : (from : Option ℕ) (place : ℕ) → passed from ≤ place → is_right_of from place ≡ true
-passed_right None place h = refl
-passed_right (Some a) place h = lt-ltb a place (omega arith)
+passed_right from place h = grind arith
 
 module _ (reference row : List Colour) (same_width : length reference ≡ length row) (a0 : Option ℕ)
     (unfinished : first_of a0 < length row) where
@@ -217,9 +212,7 @@ module _ (reference row : List Colour) (same_width : length reference ≡ length
       (if pass then Pass
       else (if near then Vertical (pos (next_change row a0) -ℤ pos (b1 reference a0 (colour_of row a0))) else Horizontal))
       (places reference row a0))
-  place_by_tests true near is = record { right = b2_right; within = b2_within }
-  place_by_tests false true is = record { right = a1_right; within = a1_is.within }
-  place_by_tests false false is = record { right = omega (arith, a1_right, a2_ahead); within = a2_is.within }
+  place_by_tests pass near is = grind (arith, b2_right, b2_within, a1_right, a2_ahead, a2_is)
 
   pub place_ahead : IsPlaceAhead a0 (length row) (next_a0 (chosen_mode (places reference row a0)) (places reference row a0))
   place_ahead = place_by_tests _ _ refl

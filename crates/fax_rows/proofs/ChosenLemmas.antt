@@ -1,6 +1,6 @@
 -- A step that is read as T.4 would have chosen it.
 use Rattle.fax_rows.proofs.ColourLemmas.{other-other, other_than, same_as}
-use Rattle.std.proofs.Common.{rules, ◌≡◌, ℕ, zero, suc, ◌+◌, ◌-◌, ◌<◌, ◌≤◌, ℤ, negsuc, ◌-ℤ◌, List, ◌++◌, length, take, replicate, get_or}
+use Rattle.std.proofs.Common.{rules, ◌≡◌, ℕ, ◌+◌, ◌-◌, ◌<◌, ◌≤◌, ℤ, negsuc, ◌-ℤ◌, List, ◌++◌, length, take, replicate, get_or}
 use Rattle.std.proofs.Common.{Bool, true, false, pos, refl, ap, sym, ◌∙◌, subst, arith, inl, inr, take-take, take_at, append_assoc}
 use Rattle.std.proofs.Common.{append-nil}
 use Rattle.std.proofs.lemmas.Grind.{common_steps}
@@ -29,18 +29,12 @@ use Rattle.fax_rows.proofs.TakenModeLemmas.{is_near}
 -- ---- pels of one colour from a place on
 
 from_start : (from : Option ℕ) (colour : Colour) → (from ≡ None → White ≡ colour) → is_right_of from 0 ≡ true → White ≡ colour
-from_start None colour start right = start refl
-from_start (Some a) colour start right = absurd (omega (arith, ltb-true a 0 right))
-
-right_first : (from : Option ℕ) (k : ℕ) → is_right_of from (suc k) ≡ true → first_of from ≤ k
-right_first None k right = omega arith
-right_first (Some a) k right = omega (arith, ltb-true a (suc k) right)
+from_start from colour start right = grind arith
 
 module _ (row : List Colour) (from : Option ℕ) (colour : Colour) (to : ℕ) (start : from ≡ None → White ≡ colour)
     (each : (k : ℕ) → first_of from ≤ k → k < to → pel row k ≡ colour) where
   before_is : (k : ℕ) → k ≤ to → is_right_of from k ≡ true → pel_before row k ≡ colour
-  before_is zero within right = from_start from colour start right
-  before_is (suc k) within right = each k (right_first from k right) (omega arith)
+  before_is k within right = grind arith
 
   next_is : to ≤ length row → is_right_of from to ≡ true → (to < length row → pel row to ≡ other colour) → to ≡ next_change row from
   next_is within right turn =
@@ -52,11 +46,11 @@ module _ (row : List Colour) (from : Option ℕ) (colour : Colour) (to : ℕ) (s
 
   -- where the colour goes on, the next changing element is further right
   next_after : to < length row → pel row to ≡ colour → to < next_change row from
-  next_after inside goes_on = grind (arith, cases_lt, next_change_is)
+  next_after inside goes_on = grind (arith, next_change_is)
 
 -- at the width there is no changing element any more
 none_after : (row : List Colour) (a : ℕ) → length row ≤ a → next_change row (Some a) ≡ length row
-none_after row a over = grind (arith, common_steps, next_change_is, cases_lt, ltb-true)
+none_after row a over = grind (arith, common_steps, next_change_is)
 
 -- ---- pels that are read, and those after them
 
@@ -70,18 +64,13 @@ module _ (row old tail : List Colour) (first to : ℕ) (len : length old ≡ fir
 
 right_of_number : (a0 : Option ℕ) (colour : Colour) (pels : List Colour) (a1 : ℕ)
     → a0_number (record { a0 = a0; colour = colour; pels = pels }) <ℤ pos a1 → is_right_of a0 a1 ≡ true
-right_of_number None colour pels a1 h = refl
-right_of_number (Some a) colour pels a1 h = lt-ltb a a1 (omega (arith, ints))
+right_of_number a0 colour pels a1 h = grind arith
 
 far_apart : (z : ℤ) → (pos 3 <ℤ z) ⊎ (z <ℤ negsuc 2) → 3 < nat_abs z
-far_apart (pos n) (inl h) = omega (arith, ints)
-far_apart (pos n) (inr h) = omega (arith, ints)
-far_apart (negsuc n) (inl h) = omega (arith, ints)
-far_apart (negsuc n) (inr h) = omega (arith, ints)
+far_apart z h = grind arith
 
 apart : (a b : ℕ) → (a + 3 < b) ⊎ (b + 3 < a) → (pos 3 <ℤ (pos a -ℤ pos b)) ⊎ ((pos a -ℤ pos b) <ℤ negsuc 2)
-apart a b (inl h) = inr (omega (arith, ints))
-apart a b (inr h) = inl (omega (arith, ints))
+apart a b h = grind arith
 
 -- ---- a step by the mode that T.4 chooses
 

@@ -1,7 +1,7 @@
 -- Steps over places of change that T.4 would have chosen.
 use Rattle.std.proofs.lemmas.Grind.{common_steps}
 use Rattle.std.proofs.Common.{◌≡◌, ℕ, ◌<◌, ◌≤◌, List, length, take, Bool, ℤ, pos, ◌≤ℤ◌, subst, arith}
-use Rattle.std.specs.Prelude.{None, Result, Ok, Err, IfOk}
+use Rattle.std.specs.Prelude.{None, Result, IfOk}
 use Rattle.std.proofs.lemmas.Int.{ints}
 use Rattle.fax_bits.specs.declared.Colour.TheVariants.{White}
 use Rattle.fax_bits.specs.declared.modes.ModeCode.TheVariants.{Pass, Horizontal, Vertical}
@@ -25,13 +25,11 @@ use Rattle.fax_rows.proofs.TurnLemmas.{length-pels_by}
 
 -- what holds of a value that is there, by what else holds of it
 pub map_ok : {A E : Type 0} {P Q : A → Type 0} (found : Result A E) → IfOk found P → ((x : A) → P x → Q x) → IfOk found Q
-map_ok (Ok x) p f = f x p
-map_ok (Err e) p f = tt
+map_ok found p f = grind arith
 
 pub map_three : {A E : Type 0} {P Q R S : A → Type 0} (found : Result A E) → IfOk found P → IfOk found Q → IfOk found R
     → ((x : A) → P x → Q x → R x → S x) → IfOk found S
-map_three (Ok x) p q r f = f x p q r
-map_three (Err e) p q r f = tt
+map_three found p q r f = grind arith
 
 module _ {reference : PlacedRow} {places : List ℕ} {at : PlacedReached} (here : IsReadInside reference places at) where
   -- a0's colour just before the first pel

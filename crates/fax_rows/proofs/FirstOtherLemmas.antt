@@ -67,8 +67,7 @@ some_ahead byte from colour bits fits within is some =
 
 -- a byte of pels of the colour has no other
 plain_has_none : (colour : Colour) → all_below (λ i. not (is_other_bit (plain_byte colour) colour i)) 8 ≡ true
-plain_has_none White = refl
-plain_has_none Black = refl
+plain_has_none colour = grind arith
 
 plain_bit : (colour : Colour) (i : ℕ) → i < 8 → is_other_bit (plain_byte colour) colour i ≡ false
 plain_bit colour i within = not-true _ (at_below (λ k. not (is_other_bit (plain_byte colour) colour k)) 8 i (plain_has_none colour) within)
@@ -79,8 +78,7 @@ is_plain_or_less colour byte = nat_eq byte (plain_byte colour) || nat_lt (first_
 
 other_has_one : (colour : Colour) → all_below (is_plain_or_less colour) 256 ≡ true
 unfolding first_other_in_byte first_place
-other_has_one White = refl
-other_has_one Black = refl
+other_has_one colour = grind arith
 
 pub found_in_byte : (byte : ℕ) (colour : Colour) → byte < 256 → byte ≢ plain_byte colour → first_other_in_byte byte 0 colour < 8
 found_in_byte byte colour fits differs =
@@ -93,14 +91,14 @@ pub in_byte-ge : (byte from : ℕ) (colour : Colour) → from ≤ first_other_in
 unfolding first_other_in_byte
 in_byte-ge byte from colour = (first_place_is (is_other_bit byte colour) from (8 - from)).from
 
+abbrev pub differs : ℕ → ℕ → Bool
+differs plain byte = not (nat_eq byte plain)
+
 -- where no lane passes a test, none is set
 none_set : (p : ℕ → Bool) (xs : List ℕ) → ((k : ℕ) → k < length xs → p (get_or xs k 0) ≡ false) → mask_l (map p xs) ≡ 0
 none_set p [] fails = refl
 none_set p (x ∷ xs) fails =
     omega (arith, ap {B = ℕ} (λ (b : Bool). if b then 1 else 0) (fails 0 (omega arith)), none_set p xs (λ k h. fails (suc k) (omega arith)))
-
-abbrev pub differs : ℕ → ℕ → Bool
-differs plain byte = not (nat_eq byte plain)
 
 differs_false : (plain byte : ℕ) → differs plain byte ≡ false → byte ≡ plain
 differs_false plain byte h = eqb-true byte plain (not-false (nat_eq byte plain) h)
@@ -177,7 +175,7 @@ module _ (law : AreBitsByPlace) where
   pub plain_in_byte : (bytes : List ℕ) (colour : Colour) (q from to : ℕ) → q < length bytes → from < 8
       → to ≤ first_other_in_byte (get_or bytes q 0) from colour → IsPlain bytes colour (8 * q + from) (8 * q + to)
   unfolding first_other_in_byte
-  plain_in_byte bytes colour q from to inside within below k l h = grind (arith, common_steps, first_place_is, bit_of)
+  plain_in_byte bytes colour q from to inside within below k l h = grind (arith, common_steps, first_place_is)
 
   pub other_in_byte : (bytes : List ℕ) (colour : Colour) (q from found k : ℕ) → q < length bytes → from < 8
       → found ≡ first_other_in_byte (get_or bytes q 0) from colour → found < 8 → 8 * q + found ≡ k → is_other bytes colour k ≡ true

@@ -3,8 +3,7 @@ use Rattle.std.proofs.lemmas.Grind.{common_steps}
 use Rattle.std.proofs.Common.{◌≡◌, ℕ, zero, suc, ◌+◌, ◌<◌, ◌≤◌, List, [], ◌∷◌, ◌++◌, length, take, get_or, replicate, refl, ap, sym}
 use Rattle.std.proofs.Common.{◌∙◌, arith}
 use Rattle.std.specs.Prelude.{sum}
-use Rattle.std.proofs.lemmas.Bool.{cases_lt}
-use Rattle.std.proofs.lemmas.List.{take_more, ext_get_or}
+use Rattle.std.proofs.lemmas.List.{ext_get_or}
 use Rattle.std.proofs.lemmas.List.Sums.{sum_by-take-le}
 use Rattle.fax_bits.specs.declared.Colour.{Colour}
 use Rattle.fax_bits.specs.declared.Colour.TheVariants.{White, Black}
@@ -15,7 +14,6 @@ use Rattle.fax_rows.specs.code.Turns.{turned, pels_by, IsTurnedFrom}
 use Rattle.fax_rows.proofs.PlacedRowLemmas.{turned-first}
 use Rattle.fax_rows.proofs.RowLaws.{length-pels_of}
 use Rattle.fax_rows.proofs.RowLemmas.{pels_of-push, colour_after_runs-push}
-use Rattle.fax_rows.proofs.RunLemmas.{sum-push}
 use Rattle.fax_rows.proofs.TurnLemmas.{length-pels_by, pel-pels_by}
 use Rattle.fax_rows.proofs.WrittenLemmas.{pels_of-runs_after}
 
@@ -32,12 +30,12 @@ put_none places some first = grind (arith, turned-first)
 -- one run more
 pub put_run : (runs : List ℕ) (total n : ℕ) (old new : List ℕ) → ArePutRuns runs total old → IsTurnedFrom old new (total + n)
     → ArePutRuns (runs ++ n ∷ []) (total + n) new
-put_run runs total n old new put turn = grind (arith, common_steps, sum-push, cases_lt, pels_of-push, colour_after_runs-push, length-pels_of)
+put_run runs total n old new put turn = grind (arith, common_steps, pels_of-push, colour_after_runs-push, length-pels_of)
 
 -- the next of the runs
 pub put_next_run : (runs : List ℕ) (i total n : ℕ) (old new : List ℕ) → i < length runs → n ≡ get_or runs i 0
     → ArePutRuns (take i runs) total old → IsTurnedFrom old new (total + n) → ArePutRuns (take (i + 1) runs) (total + n) new
-put_next_run runs i total n old new inside is put turn = grind (arith, common_steps, take_more, put_run)
+put_next_run runs i total n old new inside is put turn = grind (arith, common_steps, put_run)
 
 -- runs in front are no longer than all together
 pub part_within : (runs : List ℕ) (i : ℕ) → sum (take i runs) ≤ sum runs
@@ -56,8 +54,7 @@ longer : (colour : Colour) (n m : ℕ) (pels : List Colour)
     → runs_after colour n (replicate m colour ++ pels) ≡ runs_after colour (n + m) pels
 unfolding runs_after
 longer colour n zero pels = ap (λ k. runs_after colour k pels) (omega arith)
-longer White n (suc m) pels =
-    longer White (n + 1) m pels ∙ ap (λ k. runs_after White k pels) (omega arith)
+longer White n (suc m) pels = grind (arith, longer White (n + 1) m pels)
 longer Black n (suc m) pels = longer Black (n + 1) m pels ∙ ap (λ k. runs_after Black k pels) (omega arith)
 
 -- after a run stand the runs of the pels after it, where none of them is 0

@@ -1,6 +1,6 @@
 -- Steps after steps, and the bits that they leave.
 use Rattle.std.proofs.lemmas.Grind.{common_steps}
-use Rattle.std.proofs.Common.{◌≡◌, ℕ, ◌+◌, ◌-◌, List, [], ◌∷◌, ◌++◌, length, drop, Bool, refl, ap, sym, ◌∙◌, subst, append_assoc, arith}
+use Rattle.std.proofs.Common.{◌≡◌, ℕ, ◌+◌, ◌-◌, List, [], ◌∷◌, ◌++◌, length, drop, Bool, refl, ap, sym, ◌∙◌, append_assoc, arith}
 use Rattle.std.specs.Prelude.{Option, Some, None}
 use Rattle.fax_bits.specs.declared.codes.CodeEntry.{CodeEntry}
 use Rattle.fax_bits.specs.declared.Colour.{Colour}
@@ -50,8 +50,7 @@ chosen_further some more = grind (arith, more_chosen)
 chosen_on : (reference : List Colour) (b : List Bool) (old : Position) (mid : List Bool) (positions : List Position) (new : Position)
     (rest : List Bool) → IsChosenSoFar reference b old mid → AreChosenSteps reference old mid positions new rest
     → IsChosenSoFar reference b new rest
-chosen_on reference b old mid [] new rest so_far more =
-    subst (λ at. IsChosenSoFar reference b at rest) (sym more.0) (subst (λ c. IsChosenSoFar reference b old c) more.1 so_far)
+chosen_on reference b old mid [] new rest so_far more = grind arith
 chosen_on reference b old mid (next ∷ positions) new rest so_far more = grind (arith, chosen_on reference b next more.1 positions new rest (row_goes_on reference b old mid next more.1 so_far more.2 more.0) more.3)
 
 -- steps that T.4 would have chosen, from the row's beginning

@@ -1,5 +1,4 @@
 -- The longest runs that are still to come, by the place where they begin and those where each ends.
-use Rattle.std.proofs.lemmas.Grind.{common_steps}
 use Rattle.std.proofs.Common.{◌≡◌, ℕ, zero, suc, ◌+◌, ◌-◌, ◌%◌, ◌<◌, ◌≤◌, List, [], ◌∷◌, length, take, drop, get_or, map, refl, ap, sym, ◌∙◌}
 use Rattle.std.proofs.Common.{arith, length-drop}
 use Rattle.std.proofs.Math.Seq.{take-length}
@@ -14,16 +13,14 @@ rest_is xs n = ap (λ k. take k (drop n xs)) (sym (length-drop n xs)) ∙ take-l
 -- the places of a row, from its first pel on
 pub row_bounds : (places : List ℕ) (end : ℕ) → 0 < length places → get_or places 0 0 ≡ 0
     → take (end + 1) places ≡ 0 ∷ take end (drop 1 places)
-row_bounds [] end some first = absurd (omega arith)
-row_bounds (place ∷ places) end some first = grind (arith, common_steps)
+row_bounds places end some first = grind arith
 
 pub are_bounds : (ends : List ℕ) → AreAheadOf 0 ends → AreBounds (0 ∷ ends)
 are_bounds ends ahead = record { some = omega arith; ahead = ahead }
 
 -- there is a run for each place but the first
 pub length-runs_between : (places : List ℕ) → length (runs_between places) ≡ length places - 1
-length-runs_between [] = refl
-length-runs_between (from ∷ ends) = omega (arith, length-gaps from ends)
+length-runs_between places = grind (arith, length-gaps)
 
 -- some runs are left out
 pub skip_bounds : (places : List ℕ) (n : ℕ) → n < length places → AreBounds places → AreBounds (drop n places)
@@ -56,8 +53,7 @@ module _ (sub : ℕ → ℕ → ℕ) (cast : ℕ → ℕ) (is : (a b : ℕ) → 
 
   pub runs_in_lanes : (n : ℕ) (places : List ℕ) → n < length places → AreBounds places
       → map cast (zip2 sub (take n (drop 1 places)) (take n places)) ≡ take n (runs_between places)
-  runs_in_lanes n [] within all = absurd (omega arith)
-  runs_in_lanes n (from ∷ ends) within all = gaps_in_lanes n from ends (omega arith) all.ahead
+  runs_in_lanes n places within all = grind (arith, gaps_in_lanes)
 
 -- each of them fits a lane
 module _ (P : ℕ → Type 0) (sub : ℕ → ℕ → ℕ) (fits : (a b : ℕ) → b ≤ a → a < 65536 → P (sub a b)) where
@@ -70,5 +66,4 @@ module _ (P : ℕ → Type 0) (sub : ℕ → ℕ → ℕ) (fits : (a b : ℕ) �
 
   pub runs_fit : (n : ℕ) (places : List ℕ) → n < length places → AreBounds places
       → Each1 P (zip2 sub (take n (drop 1 places)) (take n places))
-  runs_fit n [] within all = absurd (omega arith)
-  runs_fit n (from ∷ ends) within all = gaps_fit n from ends (omega arith) all.ahead
+  runs_fit n places within all = grind (arith, gaps_fit)

@@ -132,9 +132,4 @@ module _ (word left r : ℕ) (so_far : AreLeft word left r) where
 
   pub one_more : (from at : ℕ) → IsHighest left at
       → ones_among from 63 word r ++ (from + at) ∷ [] ≡ ones_among from 63 word (at + 1)
-  one_more from at top =
-      let one : word_bit word at ≡ true = sym (so_far.rest at (ahead at top) top.within) ∙ top.there in
-      let next : suc at ≡ at + 1 = omega arith in
-      ap (λ xs. xs ++ (from + at) ∷ []) (sym (none_up_to from at (ahead at top) (omega (arith, top.within)) top.before))
-      ∙ ap (λ b. ones_among from 63 word at ++ (if b then (from + at) ∷ [] else [])) (sym one)
-      ∙ ap (ones_among from 63 word) next
+  one_more from at top = grind (arith, none_up_to)

@@ -4,14 +4,14 @@ use Rattle.fax_bits.specs.laws.Codes.{PacksOneWay, AreBitsByPlace}
 use Rattle.fax_rows.specs.code.PackedWord.{IsPackedByte}
 use Rattle.std.proofs.lemmas.Grind.{common_steps}
 use Rattle.std.proofs.Common.{◌≡◌, ℕ, zero, suc, ◌+◌, ◌-◌, ◌*◌, ◌/◌, ◌%◌, ◌<◌, ◌≤◌, List, [], ◌∷◌, ◌++◌, map, length, take, replicate}
-use Rattle.std.proofs.Common.{get_or, Bool, false, refl, ap, sym, ◌∙◌, arith, below_more}
+use Rattle.std.proofs.Common.{get_or, Bool, false, refl, ap, sym, ◌∙◌, arith}
 use Rattle.std.proofs.lemmas.List.{length-append, length-replicate, length-map, get_or-map, get_or-take, ext_get_or, length-take-le}
 use Rattle.fax_bits.specs.declared.FillOrder.TheVariants.{MsbFirst}
 use Rattle.fax_bits.specs.declared.Colour.{Colour}
-use Rattle.fax_bits.specs.declared.Colour.TheVariants.{White, Black}
+use Rattle.fax_bits.specs.declared.Colour.TheVariants.{White}
 use Rattle.fax_bits.specs.Bits.{bits}
 use Rattle.fax_rows.specs.Rows.{other}
-use Rattle.fax_rows.specs.code.Turns.{turned, IsTurnedFrom}
+use Rattle.fax_rows.specs.code.Turns.{IsTurnedFrom}
 use Rattle.fax_rows.specs.code.Unpacked.{IsUnpackedTo}
 use Rattle.fax_rows.proofs.PlacedRowLemmas.{turned-first}
 use Rattle.fax_rows.specs.Coded.{packed_len, is_black, colour_of_bit, packed_row, unpacked_row}
@@ -47,12 +47,7 @@ unpacked_run b places i j colour so_far further same = grind (arith, common_step
 -- and one of the other colour, where it turns
 pub unpacked_turned : (b : List Bool) (old new : List ℕ) (i : ℕ) (colour pel : Colour) → IsUnpackedTo b old i colour → pel ≡ other colour
     → pel ≡ colour_of_bit (get_or b i false) → IsTurnedFrom old new i → IsUnpackedTo b new (i + 1) pel
-unpacked_turned b old new i colour pel so_far turns is turn = record {
-  before = below_more (λ k. turned Black new k ≡ colour_of_bit (get_or b k false)) i
-      (λ k h. turn.left k h ∙ so_far.before k h)
-      (turn.right i (omega arith) ∙ ap other (so_far.after i (omega arith)) ∙ sym turns ∙ is);
-  after = λ k h. turn.right k (omega arith) ∙ ap other (so_far.after k (omega arith)) ∙ sym turns;
-}
+unpacked_turned b old new i colour pel so_far turns is turn = grind arith
 
 pub get_or-padded : (b : List Bool) (n i : ℕ) → get_or (b ++ replicate n false) i false ≡ get_or b i false
 get_or-padded [] zero i = refl

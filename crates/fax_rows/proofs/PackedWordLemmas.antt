@@ -1,13 +1,12 @@
 -- A row packed by words of 64 pels.
 use Rattle.std.proofs.lemmas.Grind.{common_steps}
-use Rattle.std.proofs.Common.{◌≡◌, ℕ, zero, suc, ◌+◌, ◌-◌, ◌*◌, ◌/◌, ◌%◌, ◌^◌, ◌<◌, ◌≤◌, List, map, Bool, add-one}
-use Rattle.std.proofs.Common.{get_or, true, false, not, nat_eq, refl, ap, sym, ◌∙◌, arith, inl, inr}
+use Rattle.std.proofs.Common.{◌≡◌, ℕ, ◌+◌, ◌-◌, ◌*◌, ◌/◌, ◌%◌, ◌^◌, ◌<◌, ◌≤◌, List, map, Bool, add-one}
+use Rattle.std.proofs.Common.{get_or, true, false, not, nat_eq, ap, sym, ◌∙◌, arith, inl, inr}
 use Rattle.std.specs.Int.{bit_at, to_be_bytes, w64}
 use Rattle.std.specs.Int.RustNames.{bit_xor}
 use Rattle.std.proofs.lemmas.Bool.{cases_lt}
-use Rattle.std.proofs.lemmas.Bool.Decides.{nat_tests}
 use Rattle.std.proofs.lemmas.Nat.{shr-shr, shr_split}
-use Rattle.std.proofs.lemmas.Nat.Bits.{bit_at-lt, bit_at-zero, bit_at_xor, bit_at_ones, bit_at_ones_above, bit_at_cat_low, ones_shr}
+use Rattle.std.proofs.lemmas.Nat.Bits.{bit_at-zero, bit_at_xor, bit_at_ones, bit_at_ones_above, bit_at_cat_low, ones_shr}
 use Rattle.fax_bits.specs.declared.Colour.{Colour}
 use Rattle.fax_bits.specs.declared.Colour.TheVariants.{White, Black}
 use Rattle.fax_rows.specs.Rows.{other}
@@ -17,15 +16,10 @@ use Rattle.fax_rows.specs.code.PackedWord.{word_bit, IsPackedByte, IsPackedWord,
 use Rattle.fax_rows.specs.code.PlacedRow.{placed_pels}
 use Rattle.fax_rows.specs.code.Turns.{alternate, HasPassed}
 use Rattle.fax_rows.proofs.PackingLemmas.{bit_after, none_after}
-use Rattle.fax_rows.proofs.PlacedRowLemmas.{at_end}
 use Rattle.fax_rows.proofs.TurnLemmas.{alternate-suc, not_later}
 
--- a bit turned, and one that is not
-turned_bit : (bit : ℕ) → bit < 2 → nat_eq ((bit + 1) % 2) 1 ≡ not (nat_eq bit 1)
-turned_bit bit h = grind (arith, nat_tests)
-
 same_bit : (bit : ℕ) → bit < 2 → nat_eq ((bit + 0) % 2) 1 ≡ nat_eq bit 1
-same_bit bit h = grind (arith, nat_tests)
+same_bit bit h = grind arith
 
 -- a word with its bits turned from one on
 abbrev pub turned_word : ℕ → ℕ → ℕ
@@ -35,17 +29,16 @@ ones-bits : (word s i : ℕ) → s ≤ 64 → bit_at (turned_word word s) i ≡ 
 ones-bits word s i within = ap (λ ones. bit_at (bit_xor word ones) i) (ones_shr 64 s within) ∙ bit_at_xor word (2 ^ (64 - s) - 1) i
 
 turned_left : (word s i : ℕ) → s < 64 → i < s → word_bit (turned_word word s) i ≡ word_bit word i
-turned_left word s i within before = grind (arith, common_steps, nat_eq, ones-bits, bit_at_ones_above, same_bit, bit_at-lt)
+turned_left word s i within before = grind (arith, common_steps, ones-bits, bit_at_ones_above)
 
 turned_right : (word s i : ℕ) → s < 64 → s ≤ i → i < 64 → word_bit (turned_word word s) i ≡ not (word_bit word i)
-turned_right word s i within after inside = grind (arith, common_steps, nat_eq, ones-bits, bit_at_ones, turned_bit, bit_at-lt)
+turned_right word s i within after inside = grind (arith, common_steps, ones-bits, bit_at_ones)
 
 not_after : (k : ℕ) → not (is_black (alternate Black k)) ≡ is_black (alternate Black (k + 1))
 not_after k = rw (add-one, alternate-suc Black k) (not_black (alternate Black k))
   where
     not_black : (c : Colour) → not (is_black c) ≡ is_black (other c)
-    not_black White = refl
-    not_black Black = refl
+    not_black c = grind arith
 
 pub white_word : (i : ℕ) → word_bit 0 i ≡ false
 white_word i = ap (λ b. nat_eq b 1) (bit_at-zero (63 - i))
@@ -64,17 +57,11 @@ module _ (row : PlacedRow) where
   -- the pels up to the next place
   pub pel_of_word : {from word k : ℕ} → IsWordTo row from word k → (i : ℕ) → i < 64 → from + i < row.width
       → (k < row.end → from + i < get_or row.places.now k 0) → word_bit word i ≡ get_or pels (from + i) false
-  pel_of_word so_far i inside wide right = grind (arith, common_steps, cases_lt, bit_after)
+  pel_of_word so_far i inside wide right = grind (arith, common_steps, bit_after)
 
   -- after the last place stands the width
   pub before_end : {from word k : ℕ} → IsWordTo row from word k → get_or row.places.now k 0 < row.width → k < row.end
-  before_end {k = k} so_far near =
-      elim (cases_lt k row.end) [
-        | inl less ↦ less
-        | inr far ↦
-            let same : k ≡ row.end = omega (arith, so_far.within) in
-            absurd (omega (arith, at_end row.placed, ap (λ m. get_or row.places.now m 0) same))
-      ]
+  before_end {k = k} so_far near = grind arith
 
   -- the next place turns the pels from there on
   pub word_turned : (from word k s : ℕ) → IsWordTo row from word k → get_or row.places.now k 0 < row.width
@@ -115,12 +102,7 @@ module _ (row : PlacedRow) where
   -- and of one in which the row ends, where white pels stand after it
   pub white_done : {from word k : ℕ} → IsWordTo row from word k → HasPassed row.places.now row.end row.width k → alternate Black k ≡ White
       → IsPackedWord (placed_pels row) from word
-  white_done {from = from} so_far passed white i h =
-      elim (cases_lt (from + i) row.width) [
-        | inl less ↦ pel_of_word so_far i h less (λ l. omega (arith, passed.right l))
-        | inr more ↦
-            so_far.after i h (omega (arith, passed.left)) ∙ ap is_black white ∙ sym (none_after row.placed (from + i) more)
-      ]
+  white_done {from = from} so_far passed white i h = grind (arith, pel_of_word, none_after)
 
   -- or black ones, which are turned
   pub black_done : {from word k : ℕ} (s : ℕ) → IsWordTo row from word k → HasPassed row.places.now row.end row.width k
@@ -143,15 +125,7 @@ byte_bit word j r few in_byte =
 
 -- the bytes of a word, the highest first
 pub be_byte : (n i : ℕ) → i < 8 → get_or (to_be_bytes w64 n) i 0 ≡ n / 2 ^ (8 * (7 - i)) % 256
-be_byte n zero h = refl
-be_byte n (suc zero) h = refl
-be_byte n (suc (suc zero)) h = refl
-be_byte n (suc (suc (suc zero))) h = refl
-be_byte n (suc (suc (suc (suc zero)))) h = refl
-be_byte n (suc (suc (suc (suc (suc zero))))) h = refl
-be_byte n (suc (suc (suc (suc (suc (suc zero)))))) h = refl
-be_byte n (suc (suc (suc (suc (suc (suc (suc zero))))))) h = omega arith
-be_byte n (suc (suc (suc (suc (suc (suc (suc (suc i)))))))) h = absurd (omega arith)
+be_byte n i h = grind arith
 
 -- they are those of its pels
 pub byte_of_word : (row : List Colour) (from word j place : ℕ) → IsPackedWord row from word → j < 8 → from + 8 * j ≡ place

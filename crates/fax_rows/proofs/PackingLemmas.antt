@@ -13,7 +13,7 @@ use Rattle.fax_bits.specs.declared.Colour.TheVariants.{White, Black}
 use Rattle.fax_rows.specs.Coded.{is_black}
 use Rattle.fax_rows.specs.code.FirstOther.{plain_byte}
 use Rattle.fax_rows.specs.code.Turns.{row_of, alternate, ArePlaces, HasPassed, ArePlacesUpTo}
-use Rattle.fax_rows.proofs.PlacedRowLemmas.{at_end, end_within}
+use Rattle.fax_rows.proofs.PlacedRowLemmas.{end_within}
 use Rattle.fax_rows.proofs.TurnLemmas.{length-pels_by, pel_after}
 
 plain_bit : (colour : Colour) (i : ℕ) → i < 8 → nat_eq (bit_at (plain_byte colour) (7 - i)) 1 ≡ is_black colour
@@ -23,9 +23,7 @@ plain_bit Black i h = ap (λ b. nat_eq b 1) (bit_at_ones 8 (7 - i) (omega arith)
 module _ {places : List ℕ} {end width : ℕ} (all : ArePlaces places end width) where
   -- no pel stands after the last one
   pub none_after : (i : ℕ) → width ≤ i → get_or (map is_black (row_of places end width)) i false ≡ false
-  none_after i over =
-      get_or_past (map is_black (row_of places end width)) i false
-      (omega (arith, length-map (row_of places end width) is_black, length-pels_by width (take end places)))
+  none_after i over = grind (arith, get_or_past, length-map, length-pels_by)
 
   pub bit_after : (i k : ℕ) → i < width → ArePlacesUpTo places end i k
       → get_or (map is_black (row_of places end width)) i false ≡ is_black (alternate Black k)
@@ -41,24 +39,12 @@ module _ {places : List ℕ} {end width : ℕ} (all : ArePlaces places end width
   still_passed at next k passed order before = grind (arith, common_steps)
 
   pub place_at_most : (at k : ℕ) → HasPassed places end at k → get_or places k 0 ≤ width
-  place_at_most at k passed =
-      elim (cases_lt k end) [
-        | inl less ↦ omega (arith, all.below k passed.some less)
-        | inr far ↦
-            let same : k ≡ end = omega (arith, passed.within) in
-            omega (arith, at_end all, ap (λ m. get_or places m 0) same)
-      ]
+  place_at_most at k passed = grind arith
 
   -- a byte in which no colour changes
   pub whole_byte : (at from k : ℕ) → HasPassed places end at k → at ≤ from → from + 8 ≤ get_or places k 0
       → IsPackedByte (row_of places end width) from (plain_byte (alternate Black k))
-  whole_byte at from k passed order whole i h =
-      plain_bit (alternate Black k) i h ∙ sym (bit_after (from + i) k (omega (arith, place_at_most at k passed)) (record {
-        some = passed.some;
-        within = passed.within;
-        left = omega (arith, passed.left);
-        right = λ l. omega arith;
-      }))
+  whole_byte at from k passed order whole i h = grind (arith, plain_bit, bit_after)
 
 -- a list of which the first elements have what they are to have, after a write to the part that follows
 pub part_written : (P : ℕ → ℕ → Type 0) (out part : List ℕ) (a k : ℕ) → a ≤ length out → ((i : ℕ) → i < a → P i (get_or out i 0))

@@ -1,6 +1,6 @@
 -- Pels that are painted from a place on.
 use Rattle.std.proofs.lemmas.Grind.{common_steps}
-use Rattle.std.proofs.Common.{◌≡◌, ℕ, ◌+◌, ◌<◌, ◌≤◌, List, ◌++◌, length, take, get_or, replicate, arith, length-append, inl, inr}
+use Rattle.std.proofs.Common.{◌≡◌, ℕ, ◌+◌, ◌<◌, ◌≤◌, List, ◌++◌, length, take, get_or, replicate, arith, length-append}
 use Rattle.std.specs.Prelude.{◌⊎◌}
 use Rattle.std.proofs.lemmas.Bool.{cases_lt}
 use Rattle.std.proofs.lemmas.List.{length-replicate, ext_get_or, length-take-le}
@@ -25,5 +25,4 @@ painted_front old new from n colour within len before painted =
 
     by : (k : ℕ) → k < from + n → (k < from) ⊎ (from ≤ k)
         → get_or (take (from + n) new) k White ≡ get_or (take from old ++ replicate n colour) k White
-    by k h (inl less) = grind (arith, common_steps)
-    by k h (inr more) = grind (arith, common_steps)
+    by k h h' = grind (arith, common_steps)

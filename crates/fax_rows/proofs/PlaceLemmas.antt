@@ -1,5 +1,5 @@
 -- Changing elements, place by place.
-use Rattle.std.proofs.Common.{◌≡◌, ℕ, zero, suc, ◌+◌, ◌<◌, ◌≤◌, Bool, true, false, cond, List, length, Option, refl, ap, sym, ◌∙◌, arith}
+use Rattle.std.proofs.Common.{◌≡◌, ℕ, zero, suc, ◌+◌, ◌<◌, ◌≤◌, Bool, true, false, cond, List, length, Option, ap, sym, ◌∙◌, arith}
 use Rattle.std.proofs.Common.{inl, inr}
 use Rattle.std.specs.Prelude.{◌⊎◌, ◌&&◌, not}
 use Rattle.std.proofs.lemmas.Bool.{true≢false}
@@ -9,8 +9,7 @@ use Rattle.fax_rows.specs.Rows.{first_place, next_change, b1, is_right_of, is_ch
 
 -- one place of a search
 first_place_by : (b : Bool) (i more r : ℕ) → (b ≡ true → i ≡ r) → (b ≡ false → more ≡ r) → cond b i more ≡ r
-first_place_by true i more r pass fail = pass refl
-first_place_by false i more r pass fail = fail refl
+first_place_by b i more r pass fail = grind arith
 
 -- the first place that passes a test, or the place after them all
 pub first_place_at : (test : ℕ → Bool) (i n r : ℕ) → i ≤ r → r ≤ i + n

@@ -4,8 +4,7 @@ use Rattle.std.proofs.lemmas.Grind.{common_steps}
 use Rattle.std.proofs.Common.{◌≡◌, ℕ, zero, suc, ◌+◌, ◌-◌, ◌<◌, ◌≤◌, List, length, take, get_or, true, false, not, refl, ap, sym, ◌∙◌}
 use Rattle.std.proofs.Common.{subst, arith, inl, inr}
 use Rattle.std.specs.Prelude.{◌⊎◌, ◌&&◌, Option, Some, None, unwrap_or}
-use Rattle.std.proofs.lemmas.Bool.{and_from, cases_lt, ltb-true, lt-ltb, le-ltb, true≢false}
-use Rattle.std.proofs.Math.Nat.{eq-or-lt_of_le}
+use Rattle.std.proofs.lemmas.Bool.{and_from, cases_lt, true≢false}
 use Rattle.fax_bits.specs.declared.Colour.{Colour}
 use Rattle.fax_bits.specs.declared.Colour.TheVariants.{Black}
 use Rattle.fax_rows.specs.Rows.{other, same_colour, pel, is_changing, is_right_of, next_change, b1, b2}
@@ -19,8 +18,7 @@ use Rattle.fax_rows.proofs.PlacedRowLemmas.{next_here, end_within}
 
 -- a place further right is right of a place too
 further_right : (from : Option ℕ) (i j : ℕ) → i ≤ j → is_right_of from i ≡ true → is_right_of from j ≡ true
-further_right None i j order h = refl
-further_right (Some a) i j order h = lt-ltb a j (omega (arith, ltb-true a i h))
+further_right from i j order h = grind arith
 
 -- the row has as many pels as it says
 pub length-placed_pels : (row : PlacedRow) → length (placed_pels row) ≡ row.width
@@ -51,7 +49,7 @@ module _ (row : PlacedRow) where
   -- a changing element is a place after the first
   place_of_change : (i j : ℕ) → ArePlacesUpTo row.places.now row.end i j → i < row.width → is_changing (placed_pels row) i ≡ true
       → (1 < j) × (get_or row.places.now (j - 1) 0 ≡ i)
-  place_of_change i j at inside changes = grind (arith, common_steps, eq-or-lt_of_le, true≢false, unchanging)
+  place_of_change i j at inside changes = grind (arith, common_steps, unchanging)
 
   -- a changing element right of a0 and left of the place of b1 is the one before that
   before_b1 : (a0 : Option ℕ) (colour : Colour) (b i j : ℕ) → IsB1At row a0 colour b → i < get_or row.places.now b 0
@@ -93,7 +91,7 @@ module _ (row : PlacedRow) where
 
   pub b1_within : (b : ℕ) → 0 < b → b ≤ row.end + 1 → ((b < row.end) × (get_or row.places.now b 0 < row.width)) ⊎
       ((row.end ≤ b) × (get_or row.places.now b 0 ≡ row.width))
-  b1_within b some within = grind (arith, common_steps, cases_lt, over_end)
+  b1_within b some within = grind (arith, common_steps, over_end)
 
   pub b1_at_most : (b : ℕ) → 0 < b → b ≤ row.end + 1 → get_or row.places.now b 0 ≤ row.width
   b1_at_most b some within = grind (arith, common_steps, b1_within)
@@ -153,7 +151,7 @@ module _ (row : PlacedRow) where
   -- and b2 is the one after it
   pub after_b1 : (b : ℕ) → 0 < b → b ≤ row.end + 1
       → get_or row.places.now (b + 1) 0 ≡ next_change (placed_pels row) (Some (get_or row.places.now b 0))
-  after_b1 b some within = grind (arith, common_steps, cases_lt, next_here, below_later, over_end, next_change_is, length-placed_pels, ltb-true)
+  after_b1 b some within = grind (arith, common_steps, cases_lt, next_here, over_end, next_change_is, length-placed_pels)
 
   pub b2_is : {a0 : Option ℕ} {colour : Colour} {b : ℕ} → IsB1At row a0 colour b
       → get_or row.places.now (b + 1) 0 ≡ b2 (placed_pels row) a0 colour
@@ -161,8 +159,7 @@ module _ (row : PlacedRow) where
 
   -- the search goes on by two places
   before_end : (place b : ℕ) → place < row.width → get_or row.places.now b 0 ≤ place → b ≤ row.end + 1 → b < row.end
-  before_end place zero inside left within = row.placed.ascending.started
-  before_end place (suc b) inside left within = inside_end (suc b) (omega arith) within (omega arith)
+  before_end place b inside left within = grind arith
 
   pub search_goes_on : (place b : ℕ) → place < row.width → get_or row.places.now b 0 ≤ place → (colour : Colour)
       → IsBeforeB1 row place colour b → IsBeforeB1 row place colour (b + 2)
@@ -181,15 +178,15 @@ module _ (row : PlacedRow) where
 
   -- and b2 not left of b1
   pub b2_ahead : (b : ℕ) → 0 < b → b ≤ row.end + 1 → get_or row.places.now b 0 ≤ get_or row.places.now (b + 1) 0
-  b2_ahead b some within = grind (arith, common_steps, cases_lt, below_later, over_end, b1_at_most)
+  b2_ahead b some within = grind (arith, common_steps, over_end)
 
   pub b2_at_most : (b : ℕ) → 0 < b → b ≤ row.end + 1 → get_or row.places.now (b + 1) 0 ≤ row.width
-  b2_at_most b some within = grind (arith, common_steps, cases_lt, over_end)
+  b2_at_most b some within = grind (arith, common_steps, over_end)
 
   -- after a pass the next place but one is that of b1
   pub b1_passed : {a0 : Option ℕ} {colour : Colour} {b : ℕ} → IsB1At row a0 colour b → get_or row.places.now (b + 1) 0 < row.width
       → IsB1At row (Some (get_or row.places.now (b + 1) 0)) colour (b + 2)
-  b1_passed at inside = grind (arith, common_steps, le-ltb, b2_ahead, lt-ltb, below_later, cases_lt, over_end)
+  b1_passed at inside = grind (arith, common_steps, over_end)
 
   -- where the search for b1 begins as the colour turns at a place that is not left of b1
   pub right_start : (a0 : Option ℕ) (colour : Colour) (b a1 : ℕ) → IsB1At row a0 colour b → get_or row.places.now b 0 ≤ a1 → a1 < row.width
@@ -204,11 +201,7 @@ module _ (row : PlacedRow) where
       (right_start a0 colour b (get_or row.places.now b 0) at (omega arith) inside)
     where
       right : get_or row.places.now b 0 < get_or row.places.now (b + 1) 0
-      right =
-          elim (cases_lt (b + 1) row.end) [
-            | inl inner ↦ below_later row.placed.ascending b (b + 1) at.some (omega arith) inner
-            | inr over ↦ omega (arith, over_end (b + 1) over (omega (arith, at.within)))
-          ]
+      right = grind arith
 
   -- and where it does at a place that is left of b1 and right of a0
   pub left_start : (a0 : Option ℕ) (colour : Colour) (b a1 : ℕ) → IsB1At row a0 colour b → is_right_of a0 a1 ≡ true
@@ -223,9 +216,7 @@ module _ (row : PlacedRow) where
   -- b1 stands at the next change, or at the one after it, by the colour of a0
   pub b1_here : (a0 : Option ℕ) (k b : ℕ) (colour : Colour) → IsFrom row.places.now row.end a0 k → (b ≡ k) ⊎ (b ≡ k + 1)
       → alternate Black b ≡ colour → IsB1At row a0 colour b
-  b1_here None k b colour at which is = grind arith
-  b1_here (Some a) k b colour at (inl same) is = grind (arith, common_steps)
-  b1_here (Some a) k b colour at (inr next) is = grind (arith, common_steps)
+  b1_here a0 k b colour at which is = grind arith
 
   -- b1 and b2 as `next_of` and `b1_b2` answer them
   pub b1_right : {a0 : Option ℕ} {colour : Colour} {b : ℕ} → IsB1At row a0 colour b → get_or row.places.now b 0 < row.width

@@ -40,8 +40,7 @@ take_first old new rest old_is new_is = record {
 
 -- a list that begins with a 0
 begins_with_0 : (places : List ℕ) → 0 < length places → get_or places 0 0 ≡ 0 → places ≡ 0 ∷ drop 1 places
-begins_with_0 [] some first = absurd (omega arith)
-begins_with_0 (p ∷ places) some first = ap (λ q. q ∷ places) first
+begins_with_0 places some first = grind arith
 
 -- the first of some places, and a 0 before them
 longer_by_0 : (few more : List ℕ) (n : ℕ) → n ≤ length few → n + 1 ≤ length more → get_or more 0 0 ≡ 0
@@ -53,8 +52,7 @@ longer_by_0 few more n within room first each =
     long = length-take-le (n + 1) more room
 
     at : (k : ℕ) → k < length (take (n + 1) more) → get_or (take (n + 1) more) k 0 ≡ get_or (0 ∷ take n few) k 0
-    at zero h = get_or-take (n + 1) more 0 0 (omega arith) ∙ first
-    at (suc k) h = grind (arith, common_steps)
+    at k h = grind (arith, common_steps)
 
 -- the places of a row that begins black, and those after the first of them
 module _ (old new : List ℕ) (end width : ℕ) (all : ArePlaces old end width) (black : get_or old 1 0 ≡ 0) (len : length new ≡ length old)
@@ -116,14 +114,10 @@ module _ (old new : List ℕ) (end width : ℕ) (all : ArePlaces old end width) 
       ]
 
   steps_up : (i : ℕ) → 0 < i → i + 1 < end + 1 → get_or new i 0 < get_or new (i + 1) 0
-  steps_up zero some h = absurd (omega arith)
-  steps_up (suc zero) some h = grind (arith, common_steps)
-  steps_up (suc (suc i)) some h = grind (arith, few_changes)
+  steps_up i some h = grind (arith, common_steps, few_changes)
 
   all_below : (i : ℕ) → 0 < i → i < end + 1 → get_or new i 0 < width
-  all_below zero some h = absurd (omega arith)
-  all_below (suc zero) some h = grind (arith, common_steps)
-  all_below (suc (suc i)) some h = grind (arith, common_steps)
+  all_below i some h = grind (arith, common_steps)
 
   pub with_first : ArePlaces new (end + 1) width
   with_first = grind (arith, few_changes, steps_up, all_below)

@@ -1,12 +1,11 @@
 -- Places of change that are put one after the other while a row is read.
-use Rattle.fax_rows.proofs.ColourLemmas.{other-other}
 use Rattle.std.proofs.lemmas.Grind.{common_steps}
-use Rattle.std.proofs.Common.{◌≡◌, ℕ, ◌+◌, ◌-◌, ◌<◌, ◌≤◌, ◌≢◌, List, [], ◌∷◌, ◌++◌, length, take, drop, get_or, Bool}
+use Rattle.std.proofs.Common.{◌≡◌, ℕ, ◌+◌, ◌-◌, ◌<◌, ◌≤◌, ◌≢◌, List, ◌++◌, length, take, drop, get_or, Bool}
 use Rattle.std.proofs.Common.{sym, ◌∙◌, subst, arith, inl, inr}
 use Rattle.std.specs.Prelude.{◌⊎◌}
 use Rattle.std.proofs.Math.ListN.{set}
 use Rattle.std.proofs.Math.Nat.{eq-or-lt_of_le}
-use Rattle.std.proofs.lemmas.List.{take_at, take_more_set, ext_get_or}
+use Rattle.std.proofs.lemmas.List.{take_at, ext_get_or}
 use Rattle.fax_bits.specs.declared.Colour.{Colour}
 use Rattle.fax_bits.specs.declared.Colour.TheVariants.{White, Black}
 use Rattle.fax_bits.specs.Codes.{IsRun}
@@ -19,17 +18,12 @@ use Rattle.fax_rows.proofs.RowLemmas.{IsRowSoFar, row_goes_on}
 -- a place that is put
 pub turned_on : (places : List ℕ) (end place : ℕ) → end < length places
     → IsTurnedFrom (take end places) (take (end + 1) (set places end place)) place
-turned_on places end place room = grind (arith, common_steps, turned-push_left, turned-push_right, take_more_set)
-
--- the last place stands after the others
-last_split : (places : List ℕ) (end place : ℕ) → 0 < end → end ≤ length places → get_or places (end - 1) 0 ≡ place
-    → take end places ≡ take (end - 1) places ++ place ∷ []
-last_split places end place some within is = grind (arith, common_steps)
+turned_on places end place room = grind (arith, common_steps, turned-push_left, turned-push_right)
 
 -- the last place that is taken away again
 pub turned_back : (places : List ℕ) (end place : ℕ) → 0 < end → end ≤ length places → get_or places (end - 1) 0 ≡ place
     → IsTurnedFrom (take end places) (take (end - 1) places) place
-turned_back places end place some within is = grind (arith, common_steps, turned-push_left, turned-push_right, other-other, last_split)
+turned_back places end place some within is = grind (arith, common_steps, turned-push_left, turned-push_right)
 
 -- rows whose pels are the same
 same_pels_by : (width : ℕ) (some others : List ℕ) → ((i : ℕ) → i < width → turned Black some i ≡ turned Black others i)

@@ -4,10 +4,9 @@ use Rattle.std.proofs.Common.{◌≡◌, ℕ, zero, suc, ◌+◌, ◌-◌, ◌<�
 use Rattle.std.proofs.Common.{false, refl, ap, sym, ◌∙◌, subst, arith, inl, inr, drop-cons}
 use Rattle.std.specs.Prelude.{◌⊎◌, Option, Some, None}
 use Rattle.std.specs.List.{filter, range_with_len}
-use Rattle.std.proofs.lemmas.Bool.{and_from, cases_lt, lt-ltb, le-leb}
+use Rattle.std.proofs.lemmas.Bool.{and_from, cases_lt, le-leb}
 use Rattle.std.proofs.Math.Nat.{eq-or-lt_of_le}
 use Rattle.std.proofs.Math.ListN.{set}
-use Rattle.std.proofs.Math.Seq.{take-nil}
 use Rattle.std.proofs.lemmas.List.{get_or-take, length-take-le, ext_get_or, get_or-replicate, length-replicate}
 use Rattle.fax_bits.specs.declared.Colour.{Colour}
 use Rattle.fax_bits.specs.declared.Colour.TheVariants.{White, Black}
@@ -23,8 +22,7 @@ unfolding turned
 turned-first i = rw (le-leb 0 i (omega arith)) refl
 
 pub take-first : (places : List ℕ) → 0 < length places → get_or places 0 0 ≡ 0 → take 1 places ≡ 0 ∷ []
-take-first [] some first = absurd (omega arith)
-take-first (p ∷ places) some first = ap (λ q. q ∷ []) first
+take-first places some first = grind arith
 
 pub white_row : (width : ℕ) → pels_by width (0 ∷ []) ≡ replicate width White
 white_row width =
@@ -37,12 +35,6 @@ white_row width =
 pub white_by : (width : ℕ) (places : List ℕ) → 0 < length places → pels_by width (take 1 (set places 0 0)) ≡ replicate width White
 white_by width [] some = absurd (omega arith)
 white_by width (p ∷ places) some = white_row width
-
-take-drop_first : (places : List ℕ) (end : ℕ) → take (end - 1) (drop 1 places) ≡ drop 1 (take end places)
-take-drop_first [] zero = refl
-take-drop_first [] (suc end) = let same : suc end - 1 ≡ end = omega arith in rw same (take-nil end)
-take-drop_first (p ∷ places) zero = refl
-take-drop_first (p ∷ places) (suc end) = let same : suc end - 1 ≡ end = omega arith in rw same refl
 
 -- the next changing element, as `next_change` answers it
 pub record IsNext (row : List Colour) (from : Option ℕ) (r : ℕ) : Type 0 where
@@ -68,15 +60,14 @@ module _ {places : List ℕ} {end width : ℕ} (all : ArePlaces places end width
       ]
 
   pub place_or_width : (k : ℕ) → 0 < k → k ≤ end → ((k < end) × (get_or places k 0 < width)) ⊎ ((k ≡ end) × (get_or places k 0 ≡ width))
-  place_or_width k some within = grind (arith, common_steps, eq-or-lt_of_le, at_end)
+  place_or_width k some within = grind (arith, common_steps, at_end)
 
   place_within : (k : ℕ) → 0 < k → k ≤ end → get_or places k 0 ≤ width
   place_within k some within = grind (arith, common_steps, place_or_width)
 
   -- the place that is read for the next change right of `from`
   pub at_from : (from : Option ℕ) (k : ℕ) → IsFrom places end from k → (0 < k) × (k ≤ end)
-  at_from None k at = (omega arith, omega (arith, all.ascending.started))
-  at_from (Some a) k at = (at.some, at.within)
+  at_from from k at = grind arith
 
   none_between : (from : Option ℕ) (k : ℕ) → IsFrom places end from k → (i : ℕ) → i < get_or places k 0 → i < width
       → is_right_of from i ≡ true → is_changing (pels_by width (take end places)) i ≡ false
@@ -92,8 +83,7 @@ module _ {places : List ℕ} {end width : ℕ} (all : ArePlaces places end width
   none_between (Some a) k at i before inside right = grind (arith, unchanging)
 
   right_of : (from : Option ℕ) (k : ℕ) → IsFrom places end from k → k < end → is_right_of from (get_or places k 0) ≡ true
-  right_of None k at h = refl
-  right_of (Some a) k at h = lt-ltb a (get_or places k 0) (at.right h)
+  right_of from k at h = grind arith
 
   pub next_here : (from : Option ℕ) (k : ℕ) → IsFrom places end from k → IsNext (pels_by width (take end places)) from (get_or places k 0)
   next_here from k at = record {
@@ -116,11 +106,7 @@ module _ {places : List ℕ} {end width : ℕ} (all : ArePlaces places end width
       within = place_within k bounds.0 bounds.1
 
       less : get_or places k 0 < length (pels_by width (take end places)) → k < end
-      less h =
-          elim (place_or_width k bounds.0 bounds.1) [
-            | inl inside ↦ inside.0
-            | inr same ↦ absurd (omega (arith, len, same.1))
-          ]
+      less h = grind (arith, len)
 
       right : get_or places k 0 < length (pels_by width (take end places)) → is_right_of from (get_or places k 0) ≡ true
       right h = right_of from k at (less h)
@@ -168,7 +154,7 @@ module _ {places : List ℕ} {end width : ℕ} (all : ArePlaces places end width
   -- the changing elements are the places after the first
   pub changes_are : {row : List Colour} → pels_by width (take end places) ≡ row
       → take (end - 1) (drop 1 places) ≡ filter (is_changing row) (range_with_len 0 (length row))
-  changes_are is = grind (arith, common_steps, take-drop_first, filter_from, length-pels_by)
+  changes_are is = grind (arith, common_steps, filter_from, length-pels_by)
 
   -- the width is that of the row
   pub width_is : {row : List Colour} → pels_by width (take end places) ≡ row → width ≡ length row
@@ -176,10 +162,9 @@ module _ {places : List ℕ} {end width : ℕ} (all : ArePlaces places end width
 
   -- a row without a change is white
   pub all_white : {row : List Colour} → pels_by width (take end places) ≡ row → end ≡ 1 → row ≡ replicate (length row) White
-  all_white is alone = grind (arith, common_steps, take-first, white_row, width_is)
+  all_white is alone = grind (arith, common_steps, white_row)
 
   -- the colour of the pel at a place, by how many places it lies after
   pub pel_here : {row : List Colour} → pels_by width (take end places) ≡ row → (i k : ℕ) → i < length row → ArePlacesUpTo places end i k
       → pel row i ≡ alternate Black k
-  pel_here is i k inside at =
-      subst (λ r. pel r i ≡ alternate Black k) is (pel_after all.ascending width i k (omega (arith, width_is is)) at)
+  pel_here is i k inside at = grind (arith, pel_after, width_is)

@@ -3,7 +3,6 @@ use Rattle.std.proofs.Common.{rules, ◌≡◌, ℕ, ◌+◌, ◌-◌, ℤ, negs
 use Rattle.std.proofs.Common.{Bool, true, refl, ap, sym, ◌∙◌, arith, pos}
 use Rattle.std.proofs.lemmas.Grind.{common_steps}
 use Rattle.std.specs.Prelude.{Option, Some, None, unwrap_or, ◌<ℤ◌, nat_abs}
-use Rattle.std.proofs.lemmas.Bool.{ltb-true}
 use Rattle.std.proofs.lemmas.Int.{ints}
 use Rattle.fax_bits.specs.declared.Colour.{Colour}
 use Rattle.fax_bits.specs.declared.Colour.TheVariants.{White, Black}
@@ -21,12 +20,12 @@ use Rattle.fax_rows.specs.code.Turns.{turned, pels_by, IsTurnedFrom, TurnsAt}
 use Rattle.fax_rows.specs.code.PlacedReached.{placed_position, IsReadTo, IsReadInside}
 use Rattle.fax_rows.specs.code.Chosen.{after_pair, GoesOn}
 use Rattle.fax_bits.specs.Codes.{IsRun}
-use Rattle.fax_rows.proofs.StepLemmas.{abs-same, vertical_step}
+use Rattle.fax_rows.proofs.StepLemmas.{abs-same}
 use Rattle.fax_rows.proofs.PaintLemmas.{painted_front}
 use Rattle.fax_rows.proofs.TurnLemmas.{length-pels_by, pel-pels_by}
-use Rattle.fax_rows.proofs.PlacedRowLemmas.{end_within, take-first, turned-first}
-use Rattle.fax_rows.proofs.PlacedReadLemmas.{more_room, none_put}
-use Rattle.fax_rows.proofs.PlacedB1Lemmas.{b1_is, b1_within, b1_at_most, b1_ahead, b2_ahead, b2_at_most, b2_is}
+use Rattle.fax_rows.proofs.PlacedRowLemmas.{end_within, turned-first}
+use Rattle.fax_rows.proofs.PlacedReadLemmas.{more_room}
+use Rattle.fax_rows.proofs.PlacedB1Lemmas.{b1_is, b1_within, b1_at_most, b1_ahead, b2_at_most, b2_is}
 use Rattle.fax_rows.proofs.PlacedB1Lemmas.{length-placed_pels}
 
 -- the pels up to `to` where those from `from` on have one colour
@@ -63,12 +62,11 @@ pub number_right : (at : Reached) (a1 : ℕ) → a0_number (position_of at []) <
 number_right at a1 h = grind (arith, common_steps)
 
 pub right_after_first : (a0 : Option ℕ) (a1 : ℕ) → is_right_of a0 a1 ≡ true → unwrap_or a0 0 ≤ a1
-right_after_first None a1 h = omega arith
-right_after_first (Some a) a1 h = omega (arith, ltb-true a a1 h)
+right_after_first a0 a1 h = grind arith
 
 module _ {reference : PlacedRow} {places : List ℕ} {at : PlacedReached} (here : IsReadInside reference places at) where
   pub b2_order : reached_pel at.reached ≤ get_or reference.places.now (at.b1 + 1) 0
-  b2_order = grind (arith, b2_ahead)
+  b2_order = grind arith
 
   b2_within : get_or reference.places.now (at.b1 + 1) 0 ≤ reference.width
   b2_within = let b1 = here.so_far.b1 here.unfinished in b2_at_most reference at.b1 b1.some b1.within
@@ -108,8 +106,7 @@ module _ {reference : PlacedRow} {places : List ℕ} {at : PlacedReached} (here 
       → IsTurnedFrom (take at.end places) (take next_end new) a1
       → position_of (record { a0 = Some a1; colour = at.reached.colour }) (pels_by reference.width (take next_end new))
       ≡ coloured_up_to (placed_position reference.width places at) a1
-  turned_position new next_end a1 order within turn =
-      coloured reference.width (take at.end places) (take next_end new) at.reached a1 order within turn.left here.so_far.after
+  turned_position new next_end a1 order within turn = grind (arith, coloured)
 
   -- what is read is put
   pub read_put : ArePut reference.width places at.end (reached_pel at.reached)
@@ -131,9 +128,6 @@ module _ {reference : PlacedRow} {places : List ℕ} {at : PlacedReached} (here 
     pub a1_ahead : reached_pel at.reached ≤ nat_abs z
     a1_ahead = right_after_first at.reached.a0 (nat_abs z) a1_right
 
-    pub a1_within : nat_abs z ≤ reference.width
-    a1_within = omega (arith, ints, a1_is)
-
     pub vertical_placed : (new : List ℕ) (next_end next_b1 : ℕ) (colour : Colour)
         → TurnsAt places new at.end next_end (nat_abs z) → colour ≡ other at.reached.colour
         → IsVerticalStep (placed_pels reference) (placed_position reference.width places at) d
@@ -147,14 +141,7 @@ module _ {reference : PlacedRow} {places : List ℕ} {at : PlacedReached} (here 
           b1 = next_b1;
         }))
     vertical_placed new next_end next_b1 colour turns is =
-        let same = b1_is reference (here.so_far.b1 here.unfinished) in
-        let len = length-placed_pels reference in
-        vertical_step (placed_pels reference) (pels_by reference.width (take at.end places)) (pels_by reference.width (take next_end new))
-        at.reached
-        (record { a0 = Some (nat_abs z); colour = at.reached.colour }) d (nat_abs z) colour
-        (record { right_of_a0 = omega (arith, ints, same); within = omega (arith, ints, same, len) })
-        (a1_is ∙ z_is ∙ ap (λ n. pos n +ℤ d) same)
-        (turned_position new next_end (nat_abs z) a1_ahead a1_within turns.turned) is
+        grind (arith, b1_is, length-placed_pels, turned_position)
 
   -- where a1 is in the row, it is right of a0 and not after the width
   pub row_begins : (d : ℤ) → IsInRow (placed_pels reference) (placed_position reference.width places at) d
@@ -167,7 +154,7 @@ module _ {reference : PlacedRow} {places : List ℕ} {at : PlacedReached} (here 
 
   -- b1 is right of a0, and in the row
   pub under_right : a0_number (position_of at.reached []) <ℤ pos (get_or reference.places.now at.b1 0)
-  under_right = grind (arith, common_steps, pos, ints, b1_within, ltb-true)
+  under_right = grind (arith, common_steps, b1_within)
 
   pub under_ahead : reached_pel at.reached ≤ get_or reference.places.now at.b1 0
   under_ahead = b1_ahead reference at.reached.a0 (here.so_far.b1 here.unfinished) here.unfinished
@@ -246,7 +233,7 @@ module _ {reference : PlacedRow} {places : List ℕ} {at : PlacedReached} (here 
 -- before the first pel
 pub nothing_read : {reference : PlacedRow} {places : List ℕ} → HasRoom reference.width places
     → IsReadTo reference places (record { reached = record { a0 = None; colour = White }; end = 1; b1 = 1 })
-nothing_read room = grind (arith, common_steps, none_put, take-first, turned-first)
+nothing_read room = grind (arith, common_steps, turned-first)
 
 -- the row is read to its end
 pub steps_done : (reference : List Colour) (b : List Bool) (at : Reached) (row : List Colour) (rest : List Bool) (width : ℕ)

@@ -1,7 +1,7 @@
 -- Bits that are put part by part.
 use Rattle.std.proofs.Common.{arith, ◌≡◌, ℕ, List, [], ◌∷◌, ◌++◌, Bool, ap, sym, ◌∙◌, append_assoc}
 use Rattle.std.proofs.lemmas.Grind.{common_steps}
-use Rattle.std.specs.Prelude.{Result, Ok, Err, OnErr}
+use Rattle.std.specs.Prelude.{Result, OnErr}
 use Rattle.fax_bits.specs.declared.Colour.{Colour}
 use Rattle.fax_bits.specs.declared.Colour.TheVariants.{White, Black}
 use Rattle.fax_bits.specs.Written.{run_bits}
@@ -44,8 +44,7 @@ pending_stops so_far same = grind (arith, common_steps)
 
 -- a fact holds also where it is asked for after an error alone
 pub on_err : {T E P : Type 0} (r : Result T E) → P → OnErr r P
-on_err (Ok x) fact = tt
-on_err (Err x) fact = fact
+on_err r fact = grind arith
 
 -- the bits of the runs that are left: those of the first, and those of the others
 pub row_bits_go_on : (colour : Colour) (n : ℕ) (left runs : List ℕ) → left ≡ n ∷ runs

@@ -1,18 +1,17 @@
 -- The places of the changes of a word, put together.
 use Rattle.std.proofs.lemmas.Grind.{common_steps}
 use Rattle.std.proofs.Common.{◌≡◌, ℕ, zero, suc, ◌+◌, ◌-◌, ◌^◌, ◌<◌, ◌≤◌, List, [], ◌∷◌, ◌++◌, length, take, get_or}
-use Rattle.std.proofs.Common.{if◌then◌else◌, Bool, true, false, nat_eq, refl, ap, sym, ◌∙◌, subst, arith}
+use Rattle.std.proofs.Common.{if◌then◌else◌, Bool, false, nat_eq, ap, sym, ◌∙◌, subst, arith}
 use Rattle.std.specs.Int.{bit_at}
 use Rattle.std.proofs.lemmas.List.{append-nil, append_assoc, get_or-take, get_or_push, length-append, length-take-le}
-use Rattle.fax_bits.specs.declared.Colour.TheVariants.{Black}
 use Rattle.fax_rows.specs.Coded.{colour_of_bit}
 use Rattle.fax_rows.specs.code.Ones.{ones_among}
 use Rattle.fax_rows.specs.code.PackedWord.{word_bit}
 use Rattle.fax_rows.specs.code.Turns.{IsAscending}
 use Rattle.fax_rows.specs.code.Unpacked.{IsUnpackedTo}
-use Rattle.fax_rows.proofs.PackedLemmas.{unpacked_run, unpacked_turned}
+use Rattle.fax_rows.proofs.PackedLemmas.{unpacked_run}
 use Rattle.fax_rows.proofs.TurnLemmas.{turned-push_left, turned-push_right}
-use Rattle.fax_rows.proofs.UnpackedWordLemmas.{bit_before, change_bit, changes_of, equal_bits, other_colour, turns_bit}
+use Rattle.fax_rows.proofs.UnpackedWordLemmas.{bit_before, change_bit, changes_of, equal_bits, turns_bit}
 
 -- the places of the changes among the first r pels of a word are put after the old ones
 pub record HasPut (old places : List ℕ) (from before word r : ℕ) : Type 0 where
@@ -32,29 +31,8 @@ ascending_on places place up right = grind (arith, common_steps)
 pel_put : (one : Bool) (old places : List ℕ) (from before word r : ℕ) → r < 64
     → one ≡ turns_bit (word_bit word r) (bit_before before word r) → HasPut old places from before word r
     → HasPut old (places ++ (if one then (from + r) ∷ [] else [])) from before word (suc r)
-pel_put false old places from before word r inside is put =
-    let next : from + r + 1 ≡ from + suc r = omega arith in
-    let same = equal_bits (word_bit word r) (bit_before before word r) (sym is) in
-    rw (append-nil places) (record {
-      ascending = put.ascending;
-      last = λ h. omega (arith, put.last h);
-      unpacked = λ b so_far bit. rw same
-          (unpacked_run b places (from + r) (from + suc r) _ (put.unpacked b so_far bit) (omega arith)
-          (λ k l h. let here : k ≡ from + r = omega arith in ap colour_of_bit (ap (λ n. get_or b n false) here ∙ sym (bit r inside) ∙ same)));
-    })
-pel_put true old places from before word r inside is put = record {
-  ascending = ascending_on places (from + r) put.ascending put.last;
-  last = λ h.
-      let end : length (places ++ (from + r) ∷ []) - 1 ≡ length places = omega (arith, length-append places ((from + r) ∷ [])) in
-      let place = ap (λ n. get_or (places ++ (from + r) ∷ []) n 0) end ∙ get_or_push places (from + r) 0 (length places) refl in
-      omega (arith, place);
-  unpacked = λ b so_far bit.
-      let next : from + r + 1 ≡ from + suc r = omega arith in
-      subst (λ n. IsUnpackedTo b (places ++ (from + r) ∷ []) n (colour_of_bit (word_bit word r))) next
-      (unpacked_turned b places (places ++ (from + r) ∷ []) (from + r) (colour_of_bit (bit_before before word r)) (colour_of_bit (word_bit word r))
-      (put.unpacked b so_far bit) (sym (other_colour (word_bit word r) (bit_before before word r) (sym is)))
-      (ap colour_of_bit (bit r inside)) (record { left = turned-push_left Black places (from + r); right = turned-push_right Black places (from + r) }));
-}
+pel_put one old places from before word r inside is put =
+    grind (arith, equal_bits, bit_before, append-nil, unpacked_run, ascending_on, length-append, get_or_push, turned-push_left, turned-push_right)
 
 -- the places of the changes among the first r pels are those of these pels
 pels_put : (old : List ℕ) (from before word r : ℕ) → word < 2 ^ 64 → r ≤ 64 → HasPut old old from before word 0

@@ -52,8 +52,7 @@ module _ (reads : (colour : Colour) → ReadsRunsOneWay colour) where
   ended_or_not : (colour : Colour) (width from place : ℕ) (b c : List Bool) (runs more : List ℕ) (rest : List Bool)
       (fault : RowFault) → b ≡ c → from ≡ place
       → AreRuns width colour from b runs rest → StopsAtRun width colour place c more fault → ⊥
-  ended_or_not colour width from place b c [] more rest fault at here first second =
-      omega (arith, first.0, stop_within width colour place c more fault second)
+  ended_or_not colour width from place b c [] more rest fault at here first second = grind (arith, stop_within)
   ended_or_not colour width from place b c (n ∷ runs) [] rest fault at here first second =
       let within = runs_within width (other colour) (from + n) first.1 runs rest first.3 in
       run_has_no_fault reads at first.2 (omega (arith, within)) second.1

@@ -1,7 +1,7 @@
 -- A row in one-dimensional coding, run by run.
 use Rattle.std.proofs.lemmas.Grind.{common_steps}
-use Rattle.std.proofs.Common.{◌≡◌, ℕ, ◌+◌, ◌-◌, ◌<◌, ◌≤◌, List, [], ◌∷◌, ◌++◌, length, take, get_or, replicate, Bool, refl, ap}
-use Rattle.std.proofs.Common.{sym, ◌∙◌, subst, arith, inl, inr}
+use Rattle.std.proofs.Common.{◌≡◌, ℕ, ◌+◌, ◌<◌, ◌≤◌, List, [], ◌∷◌, ◌++◌, length, take, get_or, replicate, Bool, refl, ap}
+use Rattle.std.proofs.Common.{sym, ◌∙◌, subst, arith}
 use Rattle.std.specs.Prelude.{sum, ◌⊎◌}
 use Rattle.std.proofs.lemmas.Bool.{cases_lt}
 use Rattle.std.proofs.Math.ListN.{get_or-append}
@@ -18,8 +18,7 @@ use Rattle.fax_rows.proofs.RunLemmas.{sum-push}
 AreCodedRuns-push : (c : Colour) (b : List Bool) (runs : List ℕ) (n : ℕ) (mid rest : List Bool)
     → AreCodedRuns c b runs mid → IsRun (colour_after_runs c runs) mid n rest → AreCodedRuns c b (runs ++ n ∷ []) rest
 AreCodedRuns-push c b [] n mid rest coded run = (rest, subst (λ x. IsRun c x n rest) (sym coded) run, refl)
-AreCodedRuns-push c b (m ∷ runs) n mid rest coded run =
-    (coded.0, coded.1, AreCodedRuns-push (other c) coded.0 runs n mid rest coded.2 run)
+AreCodedRuns-push c b (m ∷ runs) n mid rest coded run = grind (arith, AreCodedRuns-push (other c) coded.0 runs n mid rest coded.2 run)
 
 pub colour_after_runs-push : (c : Colour) (runs : List ℕ) (n : ℕ) → colour_after_runs c (runs ++ n ∷ []) ≡ other (colour_after_runs c runs)
 colour_after_runs-push c [] n = refl
@@ -65,18 +64,7 @@ row_goes_on width b total n colour old new mid rest so_far unfinished run before
 
     pel_at : (k : ℕ) → k < total + n → (k < total) ⊎ (total ≤ k)
         → get_or new k White ≡ get_or (pels_of White (so_far.runs ++ n ∷ [])) k White
-    pel_at k h (inl less) =
-        let short : k < length (pels_of White so_far.runs) = omega (arith, len) in
-        before k less ∙ so_far.pels k less
-        ∙ sym (get_or-append (pels_of White so_far.runs) (replicate n (colour_after_runs White so_far.runs)) White k short)
-        ∙ ap (λ xs. get_or xs k White) (sym (pels_of-push White so_far.runs n))
-    pel_at k h (inr more) =
-        let long : length (pels_of White so_far.runs) ≤ k = omega (arith, len) in
-        let short : k - length (pels_of White so_far.runs) < n = omega (arith, len) in
-        painted k more h ∙ so_far.colour_is
-        ∙ sym (get_or-replicate n (k - length (pels_of White so_far.runs)) (colour_after_runs White so_far.runs) White short)
-        ∙ sym (get_or-append_right (pels_of White so_far.runs) (replicate n (colour_after_runs White so_far.runs)) k White long)
-        ∙ ap (λ xs. get_or xs k White) (sym (pels_of-push White so_far.runs n))
+    pel_at k h h' = grind (arith, len, get_or-append, pels_of-push, get_or-replicate, get_or-append_right)
 
 pub row_done : {width : ℕ} {b : List Bool} {total : ℕ} {colour : Colour} {row : List Colour} {rest : List Bool}
     → IsRowSoFar width b total colour row rest → total ≡ width → length row ≡ width → IsOneDimensionalRow width b row rest

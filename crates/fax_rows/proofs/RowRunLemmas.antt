@@ -1,11 +1,10 @@
 -- The longest runs of a row, pel by pel.
 use Rattle.std.proofs.lemmas.Grind.{common_steps}
-use Rattle.std.proofs.Common.{◌≡◌, ◌≢◌, ℕ, zero, suc, ◌+◌, ◌-◌, ◌<◌, ◌≤◌, List, [], ◌∷◌, ◌++◌, length, take, drop, get_or, Bool, true}
-use Rattle.std.proofs.Common.{false, refl, ap, sym, ◌∙◌, subst, arith, inl, inr, drop-cons, get_or-drop, length-drop}
-use Rattle.std.proofs.Math.Numerals.{suc-eq-add-one}
+use Rattle.std.proofs.Common.{◌≡◌, ◌≢◌, ℕ, zero, suc, ◌+◌, ◌-◌, ◌<◌, ◌≤◌, List, [], ◌∷◌, ◌++◌, length, take, drop, get_or, Bool}
+use Rattle.std.proofs.Common.{refl, ap, sym, ◌∙◌, subst, arith, inl, inr, get_or-drop, length-drop}
 use Rattle.std.proofs.lemmas.List.{take_more, length-take-le}
 use Rattle.fax_bits.specs.declared.Colour.{Colour}
-use Rattle.fax_bits.specs.declared.Colour.TheVariants.{White, Black}
+use Rattle.fax_bits.specs.declared.Colour.TheVariants.{White}
 use Rattle.std.specs.List.{filter, range_with_len}
 use Rattle.fax_rows.specs.Rows.{other, pel_before, is_changing, runs_after, runs_of}
 use Rattle.fax_rows.specs.code.LongestRuns.{gaps, AreAheadOf}
@@ -22,29 +21,23 @@ runs_after-nil colour n = refl
 runs_after-same : (colour first : Colour) (n : ℕ) (pels : List Colour) → first ≡ colour
     → runs_after colour n (first ∷ pels) ≡ runs_after colour (n + 1) pels
 unfolding runs_after
-runs_after-same White White n pels same = refl
-runs_after-same Black Black n pels same = refl
-runs_after-same White Black n pels same = cc
-runs_after-same Black White n pels same = cc
+runs_after-same colour first n pels same = grind arith
 
 -- a pel of the other colour
 runs_after-other : (colour first : Colour) (n : ℕ) (pels : List Colour) → first ≢ colour
     → runs_after colour n (first ∷ pels) ≡ n ∷ runs_after first 1 pels
 unfolding runs_after
-runs_after-other White Black n pels other = refl
-runs_after-other Black White n pels other = refl
-runs_after-other White White n pels other = absurd (other refl)
-runs_after-other Black Black n pels other = absurd (other refl)
+runs_after-other colour first n pels other = grind arith
 
 -- the pel at place i is of the run's colour
 pub goes_on : (colour first : Colour) (n i : ℕ) (pels : List Colour) → i < length pels → get_or pels i White ≡ first → first ≡ colour
     → runs_after colour n (drop i pels) ≡ runs_after colour (n + 1) (drop (i + 1) pels)
-goes_on colour first n i pels within at same = grind (arith, common_steps, drop-cons, runs_after-same, suc-eq-add-one)
+goes_on colour first n i pels within at same = grind (arith, common_steps, runs_after-same)
 
 -- it is of the other colour, so that a run ends before it
 pub turns : (colour first : Colour) (n i : ℕ) (pels : List Colour) → i < length pels → get_or pels i White ≡ first → first ≢ colour
     → runs_after colour n (drop i pels) ≡ n ∷ runs_after first 1 (drop (i + 1) pels)
-turns colour first n i pels within at other = grind (arith, common_steps, drop-cons, runs_after-other, suc-eq-add-one)
+turns colour first n i pels within at other = grind (arith, common_steps, runs_after-other)
 
 -- how far it is from a place to each of the next ones, and at last to the width
 gaps_to : ℕ → List ℕ → ℕ → List ℕ
@@ -65,8 +58,7 @@ GapsFrom row n i from =
 gaps_more : (row : List Colour) (n i from : ℕ) (b : Bool) → is_changing row i ≡ b → i < length row → from ≤ i
     → ((next : ℕ) → next ≤ i + 1 → GapsFrom row n (i + 1) next) → GapsFrom row (suc n) i from
 unfolding gaps_to
-gaps_more row n i from true is inside order more = grind (arith, turns)
-gaps_more row n i from false is inside order more = grind (arith, goes_on)
+gaps_more row n i from b is inside order more = grind (arith, turns, goes_on)
 
 -- they are the runs that are left
 gaps_from : (row : List Colour) (n i from : ℕ) → from ≤ i → i + n ≡ length row → GapsFrom row n i from

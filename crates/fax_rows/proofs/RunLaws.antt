@@ -11,7 +11,7 @@ use Rattle.fax_bits.specs.Tables.{run_table}
 use Rattle.fax_bits.specs.Codes.{Takes, Spells, IsFaultOf, IsRun}
 use Rattle.fax_bits.specs.laws.Codes.{ReadsRunsOneWay}
 use Rattle.fax_rows.specs.declared.RowFault.{RowFault}
-use Rattle.fax_rows.specs.declared.RowFault.TheVariants.{Extension, RunTooLong}
+use Rattle.fax_rows.specs.declared.RowFault.TheVariants.{RunTooLong}
 use Rattle.fax_rows.specs.Faults.{row_fault, IsRunCodeFault, IsRunFault}
 use Rattle.fax_rows.specs.code.RowFaults.{IsAtRunCode}
 
@@ -123,8 +123,7 @@ module _ (reads : (colour : Colour) → ReadsRunsOneWay colour) where
 
   fault_at_once : (colour : Colour) (width from : ℕ) (b : List Bool) (fault : RowFault) → from ≤ width
       → IsAtRunCode colour width (from + 0) b fault → IsRunOrFault colour width from b
-  fault_at_once colour width from b fault within at =
-      inr (fault, record { make_up = []; left = b; spelled = refl; within = omega arith; at_code = at })
+  fault_at_once colour width from b fault within at = grind arith
 
   run_by_code : (colour : Colour) (width from : ℕ) (b : List Bool) (code : RunCode) (rest : List Bool) → from ≤ width
       → Takes (run_table colour) b code rest → ((m : ℕ) → from + m ≤ width → IsRunOrFault colour width (from + m) rest)
@@ -170,8 +169,7 @@ module _ (reads : (colour : Colour) → ReadsRunsOneWay colour) where
               )
         ]
       ]
-  run_by_code colour width from b RunExtension rest within taken more =
-      fault_at_once colour width from b Extension within (inr (RunExtension, rest, taken, refl))
+  run_by_code colour width from b RunExtension rest within taken more = grind arith
 
   find_run : (fuel : ℕ) (colour : Colour) (width from : ℕ) (b : List Bool) → length b < fuel → from ≤ width
       → IsRunOrFault colour width from b

@@ -1,6 +1,6 @@
 -- The a1s of vertical modes in lanes.
 use Rattle.std.proofs.Common.{rules, ◌≡◌, ℕ, zero, suc, ◌+◌, ◌-◌, ◌^◌, ◌<◌, ◌≤◌, List, [], ◌∷◌, ◌++◌, length, map, take, drop, get_or, Bool}
-use Rattle.std.proofs.Common.{cond, refl, ap, sym, ◌∙◌, subst, arith, w8, w32, ltb, bit_and}
+use Rattle.std.proofs.Common.{cond, refl, ap, ◌∙◌, subst, arith, w8, w32, ltb, bit_and}
 use Rattle.std.proofs.lemmas.Grind.{common_steps}
 use Rattle.std.specs.Int.{bit_at}
 use Rattle.std.proofs.lemmas.List.{get_or-map, length-map}
@@ -24,9 +24,6 @@ widened = act1 (cast unsigned unsigned w32) (s_int w8) (s_int w32)
 
 pub added_is : (x y : ℕ) → x + y < 2 ^ 32 → added x y ≡ x + y
 added_is x y small = omega arith
-
-pub less_is : (x y : ℕ) → y ≤ x → x < 2 ^ 32 → less x y ≡ x - y
-less_is x y order small = omega arith
 
 -- the lanes of four places, and so much more
 pub raised_at : (f : ℕ → ℕ → ℕ) (others ys : List ℕ) (b i : ℕ) → b + 4 ≤ length others → length ys ≡ 4 → i < 4
@@ -61,31 +58,11 @@ abbrev pub before : List ℕ → ℕ → List ℕ
 before lanes from = pick_l 0 (lanes ++ (from ∷ from ∷ from ∷ from ∷ [])) (4 ∷ 0 ∷ 1 ∷ 2 ∷ [])
 
 pub first_before : (lanes : List ℕ) (from : ℕ) → length lanes ≡ 4 → get_or (before lanes from) 0 0 ≡ from
-first_before (a ∷ b ∷ c ∷ d ∷ []) from long = refl
-first_before [] from long = cc
-first_before (a ∷ []) from long = cc
-first_before (a ∷ b ∷ []) from long = cc
-first_before (a ∷ b ∷ c ∷ []) from long = cc
-first_before (a ∷ b ∷ c ∷ d ∷ e ∷ more) from long = absurd (omega arith)
-
-pub next_before : (lanes : List ℕ) (from i : ℕ) → length lanes ≡ 4 → i < 3 → get_or (before lanes from) (i + 1) 0 ≡ get_or lanes i 0
-next_before (a ∷ b ∷ c ∷ d ∷ []) from zero long h = refl
-next_before (a ∷ b ∷ c ∷ d ∷ []) from (suc zero) long h = refl
-next_before (a ∷ b ∷ c ∷ d ∷ []) from (suc (suc zero)) long h = refl
-next_before (a ∷ b ∷ c ∷ d ∷ []) from (suc (suc (suc i))) long h = absurd (omega arith)
-next_before [] from i long h = cc
-next_before (a ∷ []) from i long h = cc
-next_before (a ∷ b ∷ []) from i long h = cc
-next_before (a ∷ b ∷ c ∷ []) from i long h = cc
-next_before (a ∷ b ∷ c ∷ d ∷ e ∷ more) from i long h = absurd (omega arith)
+first_before lanes from long = grind (arith, common_steps)
 
 -- the same number in four lanes
 pub splat_at : (n i : ℕ) → i < 4 → get_or (n ∷ n ∷ n ∷ n ∷ []) i 0 ≡ n
-splat_at n zero h = refl
-splat_at n (suc zero) h = refl
-splat_at n (suc (suc zero)) h = refl
-splat_at n (suc (suc (suc zero))) h = refl
-splat_at n (suc (suc (suc (suc i)))) h = absurd (omega arith)
+splat_at n i h = grind arith
 
 abbrev pub raised_lanes : List ℕ → List ℕ → ℕ → List ℕ
 raised_lanes others raises b = zip2 added (take 4 (drop b others)) (map widened raises)
@@ -125,11 +102,11 @@ module _ (others raises : List ℕ) (b count from : ℕ) (some : 0 < b) (room : 
 
   splat_is : (c n i : ℕ) → c + 4 ≤ length others → n < 8 → i < 4 → get_or others (c + i) 0 < 2 ^ 16
       → get_or (splat_lanes others c n) i 0 ≡ get_or others (c + i) 0 + n
-  splat_is c n i within less h limit = search (rules, raised_at, splat_at, added_is)
+  splat_is c n i within less h limit = search (rules, raised_at, splat_at)
 
   -- none of the lanes has its highest bit
   pub raised_four : AreFour (raised_lanes others raises b)
-  raised_four = grind (arith, length-raised_lanes, raised_of, limit_at)
+  raised_four = grind (arith, length-raised_lanes, raised_of)
 
   pub left_four : AreFour (splat_lanes others (b - 1) 2)
   left_four = grind (arith, splat_is)
@@ -145,11 +122,7 @@ module _ (others raises : List ℕ) (b count from : ℕ) (some : 0 < b) (room : 
     where
       by : (i : ℕ) → i < 4 → get_or (before (raised_lanes others raises b) from) i 0 < 2 ^ 31
       by zero h = omega (arith, first_before (raised_lanes others raises b) from length-raised_lanes, near_from)
-      by (suc i) h =
-          let e : i + 1 ≡ suc i = omega arith in
-          let is = ap (λ k. get_or (before (raised_lanes others raises b) from) k 0) (sym e)
-          ∙ next_before (raised_lanes others raises b) from i length-raised_lanes (omega (arith, h)) in
-          omega (arith, is, raised_of i (omega (arith, h)), limit_at i (omega (arith, h)), near i (omega (arith, h)))
+      by (suc i) h = grind (arith, common_steps, raised_of, limit_at)
 
   module _ (left_set : (i : ℕ) → i < count → bit_at (mask_l (zip2 ltb (splat_lanes others (b - 1) 2) (raised_lanes others raises b))) i ≡ 1)
       (right_set : (i : ℕ) → i < count → bit_at (mask_l (zip2 ltb (raised_lanes others raises b) (splat_lanes others (b + 1) 3))) i ≡ 1)
@@ -159,27 +132,10 @@ module _ (others raises : List ℕ) (b count from : ℕ) (some : 0 < b) (room : 
     lanes = zip2 less (raised_lanes others raises b) (3 ∷ 3 ∷ 3 ∷ 3 ∷ [])
 
     left_of : (i : ℕ) → i < count → get_or others (b - 1 + i) 0 + 2 < get_or (raised_lanes others raises b) i 0
-    left_of i h =
-        omega (
-          arith,
-          splat_is (b - 1) 2 i (omega (arith, room)) (omega arith) (omega (arith, h, few)) (small i (omega (arith, h, few))),
-          lane_less (splat_lanes others (b - 1) 2) (raised_lanes others raises b) i (omega (arith, length-left_lanes, h, few))
-              (omega (arith, length-raised_lanes, h, few)) (left_set i h),
-        )
+    left_of i h = grind (arith, splat_is, lane_less, length-left_lanes, length-raised_lanes)
 
     pub lane_is : (i : ℕ) → i < count → get_or lanes i 0 + 3 ≡ get_or (raised_lanes others raises b) i 0
-    lane_is i h =
-        let e : b - 1 + (i + 1) ≡ b + i = omega (arith, some) in
-        let limit = subst (λ m. get_or others m 0 < 2 ^ 16) e (small (i + 1) (omega (arith, h, few))) in
-        let four : i < 4 = omega (arith, h, few) in
-        omega (
-          arith,
-          left_of i h,
-          get_or-zip2 less (raised_lanes others raises b) (3 ∷ 3 ∷ 3 ∷ 3 ∷ []) i 0 0 0 (omega (arith, length-raised_lanes, four)) four
-              ∙ ap (less (get_or (raised_lanes others raises b) i 0)) (splat_at 3 i four)
-              ∙ less_is (get_or (raised_lanes others raises b) i 0) 3 (omega (arith, left_of i h))
-              (omega (arith, raised_is i h, limit, near i (omega (arith, h, few)))),
-        )
+    lane_is i h = grind (arith, left_of)
 
     pub lane_raised : (i : ℕ) → i < count → get_or lanes i 0 + 3 ≡ get_or others (b + i) 0 + get_or raises i 0
     lane_raised i h = lane_is i h ∙ raised_is i h
@@ -212,11 +168,4 @@ module _ (others raises : List ℕ) (b count from : ℕ) (some : 0 < b) (room : 
     lane_first h = omega (arith, lane_is 0 h, before_of 0 h, first_before (raised_lanes others raises b) from length-raised_lanes)
 
     pub lane_ascending : (i : ℕ) → i + 1 < count → get_or lanes i 0 < get_or lanes (i + 1) 0
-    lane_ascending i h =
-        omega (
-          arith,
-          lane_is i (omega (arith, h)),
-          lane_is (i + 1) h,
-          before_of (i + 1) h,
-          next_before (raised_lanes others raises b) from i length-raised_lanes (omega (arith, h, few)),
-        )
+    lane_ascending i h = grind (arith, lane_is, before_of)

@@ -1,9 +1,10 @@
 -- Steps in vertical mode, one after another, each to a place that is right of the one before, and between the changes before and
 -- after its b1.
+use Rattle.std.proofs.lemmas.Grind.{common_steps}
 use Rattle.std.proofs.Common.{◌≡◌, ℕ, zero, suc, ◌+◌, ◌-◌, ◌<◌, ◌≤◌, List, [], ◌∷◌, length, map, take, get_or, Bool, pos, refl, ap}
-use Rattle.std.proofs.Common.{sym, ◌∙◌, subst, arith, inl, inr, true}
-use Rattle.std.specs.Prelude.{◌⊎◌, ◌<ℤ◌, Option, Some, None, unwrap_or, nat_lt}
-use Rattle.std.proofs.lemmas.Bool.{cases_lt, ltb-true, lt-ltb, le-ltb}
+use Rattle.std.proofs.Common.{sym, ◌∙◌, subst, arith, true}
+use Rattle.std.specs.Prelude.{◌<ℤ◌, Option, Some}
+use Rattle.std.proofs.lemmas.Bool.{lt-ltb}
 use Rattle.std.proofs.lemmas.Int.{ints}
 use Rattle.fax_bits.specs.declared.Colour.{Colour}
 use Rattle.fax_bits.specs.declared.Colour.TheVariants.{Black}
@@ -21,7 +22,7 @@ use Rattle.fax_rows.specs.code.Several.{AreFine}
 use Rattle.fax_rows.specs.code.Turns.{alternate, pels_by, IsAscending, TurnsAt}
 use Rattle.fax_rows.proofs.ChosenStepLemmas.{vertical_chosen}
 use Rattle.fax_rows.proofs.PlacedB1Lemmas.{length-placed_pels, b2_is, b1_at_most}
-use Rattle.fax_rows.proofs.PlacedStepLemmas.{vertical_placed, turned_so_far, from_start, room_left, right_after_first}
+use Rattle.fax_rows.proofs.PlacedStepLemmas.{vertical_placed, from_start, right_after_first}
 use Rattle.fax_rows.proofs.StepLemmas.{unfinished_below}
 use Rattle.fax_rows.proofs.TurnLemmas.{alternate-suc}
 use Rattle.fax_rows.proofs.UnderLemmas.{turned_more, so_far_kept, alternate-add}
@@ -40,8 +41,7 @@ after (suc k) places at = after k places (next places at)
 
 right_number : (at0 : Option ℕ) (colour : Colour) (a1 : ℕ) → is_right_of at0 a1 ≡ true
     → a0_number (record { a0 = at0; colour = colour; pels = [] }) <ℤ pos a1
-right_number None colour a1 h = omega (arith, ints)
-right_number (Some a) colour a1 h = omega (arith, ints, ltb-true a a1 h)
+right_number at0 colour a1 h = grind arith
 
 module _ (reference : PlacedRow) (places : List ℕ) where
   -- a step to a place that stands there already
@@ -51,48 +51,16 @@ module _ (reference : PlacedRow) (places : List ℕ) where
     place = get_or places at.end 0
 
     below : place < reference.width
-    below =
-        let most = b1_at_most reference (at.b1 + 1) (omega arith) (omega arith) in
-        omega (arith, fine.3, most)
+    below = grind (arith, b1_at_most)
 
     ahead : reached_pel at.reached ≤ place
     ahead = right_after_first at.reached.a0 place fine.0
 
-    last_left : 1 < at.end → get_or places (at.end - 1) 0 < place
-    last_left some = by at.reached.a0 refl
-      where
-        by : (a0 : Option ℕ) → at.reached.a0 ≡ a0 → get_or places (at.end - 1) 0 < place
-        by None is = absurd (omega (arith, here.so_far.started is))
-        by (Some a) is =
-            let right = subst (λ a0. is_right_of a0 place ≡ true) is fine.0 in
-            let last = subst (λ a0. get_or places (at.end - 1) 0 ≤ unwrap_or a0 0) is here.so_far.last in
-            omega (arith, ltb-true a place right, last)
-
     ascending_more : IsAscending places (at.end + 1)
-    ascending_more = record {
-      started = omega arith;
-      within = let room = room_left here in omega arith;
-      first = here.so_far.ascending.first;
-      steps = λ i some h. by i some h (cases_lt (i + 1) at.end);
-    }
-      where
-        by : (i : ℕ) → 0 < i → i + 1 < at.end + 1 → (i + 1 < at.end) ⊎ (at.end ≤ i + 1) → get_or places i 0 < get_or places (i + 1) 0
-        by i some h (inl less) = here.so_far.ascending.steps i some less
-        by i some h (inr over) =
-            let last : i + 1 ≡ at.end = omega arith in
-            let before : i ≡ at.end - 1 = omega arith in
-            let less = last_left (omega arith) in
-            subst (λ m. get_or places i 0 < get_or places m 0) (sym last)
-            (subst (λ n. get_or places n 0 < get_or places at.end 0) (sym before) less)
+    ascending_more = grind (arith, common_steps)
 
     turns : TurnsAt places places at.end (at.end + 1) place
-    turns = record {
-      ascending = ascending_more;
-      last = let same : at.end + 1 - 1 ≡ at.end = omega arith in
-          subst (λ n. get_or places n 0 ≤ place) (sym same) (omega arith);
-      turned = turned_more places at.end place (let room = room_left here in omega arith) refl;
-      same_len = refl;
-    }
+    turns = grind (arith, ascending_more, turned_more)
 
     step : IsVerticalStep (placed_pels reference) (placed_position reference.width places at) (shift raised)
         (placed_position reference.width places (next places at))
@@ -102,25 +70,10 @@ module _ (reference : PlacedRow) (places : List ℕ) where
         places (at.end + 1) (at.b1 + 1) (other at.reached.colour) turns refl
 
     b1 : IsB1At reference (Some place) (other at.reached.colour) (at.b1 + 1)
-    b1 =
-        let old = here.so_far.b1 here.unfinished in record {
-          some = omega arith;
-          within = omega arith;
-          colour_is =
-              let e : at.b1 + 1 ≡ suc at.b1 = omega arith in
-              ap (alternate Black) e ∙ alternate-suc Black at.b1 ∙ ap other old.colour_is;
-          passed = λ h.
-              let e : at.b1 + 1 - 2 ≡ at.b1 - 1 = omega arith in
-              ap (λ n. nat_lt place (get_or reference.places.now n 0)) e
-              ∙ le-ltb place (get_or reference.places.now (at.b1 - 1) 0) fine.2;
-          ahead = λ h. lt-ltb place (get_or reference.places.now (at.b1 + 1) 0) fine.3;
-        }
+    b1 = grind (arith, alternate-suc)
 
     read : IsReadInside reference places (next places at)
-    read = record {
-      so_far = turned_so_far here ahead (omega (arith, below)) turns (λ h. b1) refl;
-      unfinished = below;
-    }
+    read = grind (arith, turns, b1)
 
     left : place ≤ get_or reference.places.now (at.b1 + 1) 0
     left = omega (arith, fine.3)

@@ -1,8 +1,6 @@
 -- Lanes that are compared with a sign.
-use Rattle.std.proofs.Common.{◌≡◌, ℕ, ◌-◌, ◌<◌, ◌^◌, suc, List, [], ◌∷◌, map, Bool, true, false, ltb, cond, refl, ap, ◌∙◌, length, get_or, arith, w32}
+use Rattle.std.proofs.Common.{◌≡◌, ℕ, ◌-◌, ◌<◌, ◌^◌, suc, List, [], ◌∷◌, map, Bool, ltb, cond, refl, ap, ◌∙◌, length, get_or, arith, w32}
 use Rattle.std.specs.Prelude.{ℤ, pos, negsuc}
-use Rattle.std.proofs.lemmas.Bool.{lt-ltb}
-use lib.Signed.{lt_z}
 use lib.Lanes.{zip2}
 use borrow.Rule.Simd.Lanes.{act1, act2}
 use borrow.Table.Row.{s_int}
@@ -18,15 +16,8 @@ compared = act2 (mask (lt signed)) (s_int w32) (s_int w32) (s_int w32)
 abbrev with_sign : Bool → ℕ → ℤ
 with_sign s a = cond s (pos a) (negsuc (2 ^ 32 - suc a))
 
-signs : (s t : Bool) (a b : ℕ) → s ≡ true → t ≡ true
-    → cond (lt_z (with_sign s a) (with_sign t b)) (2 ^ 32 - 1) 0 ≡ cond (ltb a b) (2 ^ 32 - 1) 0
-signs true true a b first second = refl
-signs true false a b first second = cc
-signs false t a b first second = cc
-
 compared_is : (a b : ℕ) → a < 2 ^ 31 → b < 2 ^ 31 → compared a b ≡ cond (ltb a b) (2 ^ 32 - 1) 0
-compared_is a b small less =
-    signs (ltb a (2 ^ 31)) (ltb b (2 ^ 31)) a b (lt-ltb a (2 ^ 31) small) (lt-ltb b (2 ^ 31) less)
+compared_is a b small less = grind arith
 
 -- those that have no highest bit are compared as numbers
 pub all_compared : (xs ys : List ℕ) → ((i : ℕ) → i < length xs → get_or xs i 0 < 2 ^ 31)

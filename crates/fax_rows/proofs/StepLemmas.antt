@@ -1,8 +1,7 @@
 -- A row in two-dimensional coding, step by step.
 use Rattle.std.proofs.lemmas.Grind.{common_steps}
-use Rattle.std.proofs.Common.{◌≡◌, ℕ, ◌<◌, List, length, Option, Some, None, pos, negsuc, ◌+ℤ◌, ◌≤ℤ◌, ℤ, arith}
+use Rattle.std.proofs.Common.{◌≡◌, ℕ, ◌<◌, List, length, Option, Some, pos, ◌+ℤ◌, ◌≤ℤ◌, ℤ, arith}
 use Rattle.std.specs.Prelude.{unwrap_or, nat_abs}
-use Rattle.std.proofs.lemmas.Int.{ints}
 use Rattle.fax_bits.specs.declared.Colour.{Colour}
 use Rattle.fax_rows.specs.declared.two_dimensional.steps.Reached.{Reached}
 use Rattle.fax_rows.specs.Rows.{other, coloured_up_to, IsInRow, IsVerticalStep}
@@ -11,8 +10,7 @@ use Rattle.fax_rows.specs.code.Reached.{position_of}
 
 -- a place that is not negative
 pub abs-same : (z sum : ℤ) → pos 0 ≤ℤ z → z ≡ sum → pos (nat_abs z) ≡ sum
-abs-same (pos n) sum h same = same
-abs-same (negsuc n) sum h same = absurd (omega (arith, ints))
+abs-same z sum h same = grind arith
 
 -- a step in vertical mode
 pub vertical_step : (reference old new : List Colour) (at next : Reached) (d : ℤ) (a1 : ℕ) (colour : Colour)
@@ -23,5 +21,4 @@ vertical_step reference old new at next d a1 colour in_row a1_is coloured turn =
 
 -- a row is unfinished while a pel is left
 pub unfinished_below : (reference : List Colour) (o : Option ℕ) → unwrap_or o 0 < length reference → o ≡ Some (length reference) → ⊥
-unfinished_below reference None less e = cc
-unfinished_below reference (Some a) less e = let same : a ≡ length reference = cc in omega arith
+unfinished_below reference o less e = grind arith

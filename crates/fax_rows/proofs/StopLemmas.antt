@@ -1,11 +1,10 @@
 -- A row in one-dimensional coding whose next run has a fault, and why a row in two-dimensional coding is not read on.
 use Rattle.std.proofs.Common.{ℕ, ◌<◌, List, Bool, arith}
-use Rattle.std.specs.Prelude.{Result, Ok, Err, IfErr}
+use Rattle.std.specs.Prelude.{Result, IfErr}
 use Rattle.std.proofs.lemmas.Grind.{common_steps}
 use Rattle.fax_bits.specs.declared.Colour.{Colour}
 use Rattle.fax_rows.specs.declared.RowFault.{RowFault}
 use Rattle.fax_rows.specs.declared.two_dimensional.codes.Stop.{Stop}
-use Rattle.fax_rows.specs.declared.two_dimensional.codes.Stop.TheVariants.{Due, Other, Fault}
 use Rattle.fax_rows.specs.Faults.{IsOneDimensionalFault, IsRunFault}
 use Rattle.fax_rows.specs.code.Stop.{IsStopOf}
 use Rattle.fax_rows.proofs.CodedRunLemmas.{stop_from}
@@ -20,12 +19,9 @@ row_stops read unfinished stops = grind (arith, common_steps, stop_from)
 pub stop_as : {D : Type 0} (choice : Bool) {faults others : RowFault → Type 0} {dues more : D → Type 0} (stop : Stop D)
     → IsStopOf choice faults dues stop → ((fault : RowFault) → faults fault → others fault) → ((due : D) → dues due → more due)
     → IsStopOf choice others more stop
-stop_as choice (Due due) is all each = each due is
-stop_as choice Other is all each = is
-stop_as choice (Fault fault) is all each = all fault is
+stop_as choice stop is all each = grind arith
 
 pub stops_as : {A D : Type 0} (choice : Bool) {faults others : RowFault → Type 0} {dues more : D → Type 0} (found : Result A (Stop D))
     → IfErr found (λ stop. IsStopOf choice faults dues stop) → ((fault : RowFault) → faults fault → others fault)
     → ((due : D) → dues due → more due) → IfErr found (λ stop. IsStopOf choice others more stop)
-stops_as choice (Ok x) is all each = tt
-stops_as choice (Err stop) is all each = stop_as choice stop is all each
+stops_as choice found is all each = grind arith

@@ -1,6 +1,6 @@
 -- A mode that is read has the bits that are written.
 use Rattle.std.proofs.lemmas.Grind.{common_steps}
-use Rattle.std.proofs.Common.{◌≡◌, ℕ, zero, suc, ◌<◌, List, ◌++◌, length, Bool, true, refl, ap, sym, ◌∙◌, arith}
+use Rattle.std.proofs.Common.{◌≡◌, ℕ, ◌<◌, List, ◌++◌, length, Bool, true, refl, ap, sym, ◌∙◌, arith}
 use Rattle.std.specs.Prelude.{Some, slice_get, nat_abs, nat_le}
 use Rattle.std.proofs.lemmas.Option.{slice_get_read}
 use Rattle.fax_bits.specs.declared.codes.CodeEntry.{CodeEntry}
@@ -27,17 +27,7 @@ own entry listed found bits near = grind (arith, common_steps)
 
 own_at : (place : ℕ) → place < 10 → (entry : CodeEntry ModeCode) → slice_get modes place ≡ Some entry → IsOwn entry
 unfolding modes mode_bits code_bits
-own_at zero h entry found = own entry _ found refl refl
-own_at (suc zero) h entry found = own entry _ found refl refl
-own_at (suc (suc zero)) h entry found = own entry _ found refl refl
-own_at (suc (suc (suc zero))) h entry found = own entry _ found refl refl
-own_at (suc (suc (suc (suc zero)))) h entry found = own entry _ found refl refl
-own_at (suc (suc (suc (suc (suc zero))))) h entry found = own entry _ found refl refl
-own_at (suc (suc (suc (suc (suc (suc zero)))))) h entry found = own entry _ found refl refl
-own_at (suc (suc (suc (suc (suc (suc (suc zero))))))) h entry found = own entry _ found refl refl
-own_at (suc (suc (suc (suc (suc (suc (suc (suc zero)))))))) h entry found = own entry _ found refl refl
-own_at (suc (suc (suc (suc (suc (suc (suc (suc (suc zero))))))))) h entry found = own entry _ found refl refl
-own_at (suc (suc (suc (suc (suc (suc (suc (suc (suc (suc n)))))))))) h entry found = absurd (omega arith)
+own_at place h entry found = grind arith
 
 within_table : (place : ℕ) → place < length modes → place < 10
 unfolding modes

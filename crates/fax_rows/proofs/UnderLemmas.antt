@@ -5,7 +5,7 @@ use Rattle.std.proofs.Common.{pos, refl, ap, sym, ◌∙◌, subst, arith, true,
 use Prim.{search}
 use Rattle.std.specs.Prelude.{Some}
 use Rattle.std.proofs.lemmas.Int.{ints}
-use Rattle.std.proofs.lemmas.List.{take_more, get_or-take}
+use Rattle.std.proofs.lemmas.List.{get_or-take}
 use Rattle.fax_bits.specs.declared.Colour.{Colour}
 use Rattle.fax_bits.specs.declared.Colour.TheVariants.{Black}
 use Rattle.fax_bits.specs.declared.modes.ModeCode.TheVariants.{Vertical}
@@ -24,7 +24,7 @@ use Rattle.fax_rows.specs.code.Reached.{position_of}
 use Rattle.fax_rows.specs.code.Turns.{alternate, pels_by, IsAscending, IsTurnedFrom, TurnsAt}
 use Rattle.fax_rows.proofs.ChosenStepLemmas.{under_chosen}
 use Rattle.fax_rows.proofs.PlacedB1Lemmas.{length-placed_pels, b1_next}
-use Rattle.fax_rows.proofs.PlacedStepLemmas.{vertical_placed, turned_so_far, under_right, under_ahead, under_within, from_start, room_left}
+use Rattle.fax_rows.proofs.PlacedStepLemmas.{vertical_placed, turned_so_far, under_right, under_ahead, under_within, from_start}
 use Rattle.fax_rows.proofs.StepLemmas.{unfinished_below}
 use Rattle.fax_rows.proofs.TurnLemmas.{alternate-suc, turned-push_left, turned-push_right}
 
@@ -57,7 +57,7 @@ chosen_goes_on {reference} {places} {at} here b new rest step = record {
 -- a place that stands where the next one is to be put
 pub turned_more : (places : List ℕ) (end place : ℕ) → end < length places → get_or places end 0 ≡ place
     → IsTurnedFrom (take end places) (take (end + 1) places) place
-turned_more places end place room is = grind (arith, common_steps, turned-push_left, turned-push_right, take_more)
+turned_more places end place room is = grind (arith, common_steps, turned-push_left, turned-push_right)
 
 -- how far the row is read after the step to b1, and after so many of them
 abbrev pub under : PlacedRow → PlacedReached → PlacedReached
@@ -81,14 +81,7 @@ module _ (reference : PlacedRow) (places : List ℕ) where
   module _ (at : PlacedReached) (here : IsReadInside reference places at)
       (inside : at.b1 < reference.end) (is : get_or places at.end 0 ≡ get_or reference.places.now at.b1 0) where
     turns : TurnsAt places places at.end (at.end + 1) (get_or reference.places.now at.b1 0)
-    turns = record {
-      ascending = ascending_more at here inside is;
-      last = let same : at.end + 1 - 1 ≡ at.end = omega arith in
-          subst (λ n. get_or places n 0 ≤ get_or reference.places.now at.b1 0) (sym same) (omega (arith, is));
-      turned = turned_more places at.end (get_or reference.places.now at.b1 0)
-          (let room = room_left here in omega arith) is;
-      same_len = refl;
-    }
+    turns = grind (arith, ascending_more, turned_more)
 
     step : IsVerticalStep (placed_pels reference) (placed_position reference.width places at) (pos 0)
         (placed_position reference.width places (under reference at))

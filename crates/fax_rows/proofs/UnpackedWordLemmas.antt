@@ -1,18 +1,16 @@
 -- A row unpacked by words of 64 pels.
 use Rattle.std.proofs.lemmas.Grind.{common_steps}
 use Rattle.std.proofs.Common.{◌≡◌, ℕ, zero, suc, ◌+◌, ◌-◌, ◌*◌, ◌/◌, ◌%◌, ◌^◌, ◌<◌, ◌≤◌, List, length, get_or, Bool, true}
-use Rattle.std.proofs.Common.{false, not, nat_eq, refl, ap, sym, ◌∙◌, arith, inl, inr, take, drop, length-drop, get_or-drop}
+use Rattle.std.proofs.Common.{false, not, nat_eq, ap, sym, ◌∙◌, arith, inl, inr, take, drop, length-drop, get_or-drop}
 use Rattle.std.specs.Int.{bit_at, from_be_bytes, to_be_bytes, w64}
 use Rattle.std.specs.Int.RustNames.{bit_xor}
 use Rattle.std.proofs.lemmas.Bool.{cases_lt}
-use Rattle.std.proofs.lemmas.List.{get_or_past, get_or-take, length-take-le}
+use Rattle.std.proofs.lemmas.List.{get_or-take, length-take-le}
 use Rattle.std.proofs.lemmas.Nat.{be_bytes_8, shr-shr}
 use Rattle.std.proofs.lemmas.Nat.Bits.{bit_at-lt, bit_at-zero, bit_at_xor, bit_at_above, bit_at_cat_low, bit_at_cat_high, bit_at_lowest}
 use Rattle.fax_bits.specs.declared.FillOrder.TheVariants.{MsbFirst}
 use Rattle.fax_bits.specs.Bits.{bits}
 use Rattle.fax_bits.specs.laws.Codes.{AreBitsByPlace}
-use Rattle.fax_rows.specs.Rows.{other}
-use Rattle.fax_rows.specs.Coded.{colour_of_bit}
 use Rattle.fax_rows.specs.code.PackedWord.{word_bit}
 use Rattle.fax_rows.specs.code.Turns.{IsAscending}
 use Rattle.fax_rows.proofs.PackedWordLemmas.{be_byte, byte_bit}
@@ -47,10 +45,7 @@ bits_of_word law bytes at word room fit is i inside =
 
     -- a byte past the last one is 0
     fits : (k : ℕ) → get_or eight k 0 < 256
-    fits k = elim (cases_lt k 8) [
-      | inl less ↦ rw (there k less) (fit (at + k))
-      | inr more ↦ rw (get_or_past eight k 0 (omega (arith, long))) (omega arith)
-    ]
+    fits k = grind (arith, there)
 
     byte_there : (k : ℕ) → k < 8 → get_or (to_be_bytes w64 word) k 0 ≡ get_or bytes (at + k) 0
     byte_there k h = ap (λ b. get_or b k 0) (be_bytes_8 eight word long fits is) ∙ there k h
@@ -70,18 +65,11 @@ abbrev pub changes_of : ℕ → ℕ → ℕ
 changes_of before word = bit_xor (bit_xor word (word / 2 ^ 1)) (before * 2 ^ 63 % 2 ^ 64)
 
 two_digits : (a b : ℕ) → a < 2 → b < 2 → nat_eq ((a + b) % 2) 1 ≡ turns_bit (nat_eq a 1) (nat_eq b 1)
-two_digits zero zero ha hb = refl
-two_digits zero (suc zero) ha hb = refl
-two_digits (suc zero) zero ha hb = refl
-two_digits (suc zero) (suc zero) ha hb = refl
-two_digits (suc (suc a)) b ha hb = absurd (omega arith)
-two_digits a (suc (suc b)) ha hb = absurd (omega arith)
+two_digits a b ha hb = grind arith
 
 three_bits : (before word k : ℕ)
     → bit_at (changes_of before word) k ≡ ((bit_at word k + bit_at (word / 2 ^ 1) k) % 2 + bit_at (before * 2 ^ 63 % 2 ^ 64) k) % 2
-three_bits before word k =
-    bit_at_xor (bit_xor word (word / 2 ^ 1)) (before * 2 ^ 63 % 2 ^ 64) k
-    ∙ ap (λ b. (b + bit_at (before * 2 ^ 63 % 2 ^ 64) k) % 2) (bit_at_xor word (word / 2 ^ 1) k)
+three_bits before word k = grind (arith, bit_at_xor)
 
 carried : (before : ℕ) → before * 2 ^ 63 % 2 ^ 64 ≡ before % 2 * 2 ^ 63 + 0
 carried before = omega arith
@@ -116,16 +104,7 @@ change_bit before word (suc i) fits inside =
     ∙ two_digits (bit_at word k) (bit_at word (63 - i)) (bit_at-lt word k) (bit_at-lt word (63 - i))
 
 pub equal_bits : (a b : Bool) → turns_bit a b ≡ false → a ≡ b
-equal_bits true true h = refl
-equal_bits false false h = refl
-equal_bits true false h = cc
-equal_bits false true h = cc
-
-pub other_colour : (a b : Bool) → turns_bit a b ≡ true → other (colour_of_bit b) ≡ colour_of_bit a
-other_colour true false h = refl
-other_colour false true h = refl
-other_colour true true h = cc
-other_colour false false h = cc
+equal_bits a b h = grind arith
 
 -- the places left of a pel are no more than the pels before it, and two
 pub room_after : (places : List ℕ) (end from : ℕ) → IsAscending places end → (1 < end → get_or places (end - 1) 0 < from) → end ≤ from + 2

@@ -30,8 +30,7 @@ white_pel width i inside = get_or-replicate width i White White inside
 
 -- no pel of it is a changing element
 pub none_changes : (width i : ℕ) → i < width → is_changing (white width) i ≡ false
-none_changes width zero inside = rw (white_pel width zero inside) refl
-none_changes width (suc i) inside = rw (white_pel width (suc i) inside, white_pel width i (omega arith)) refl
+none_changes width i inside = grind (arith, white_pel)
 
 module _ {places : List ℕ} {end width : ℕ} (all : ArePlaces places end width) where
   -- a row of more places than the first changes at the second
@@ -40,7 +39,7 @@ module _ {places : List ℕ} {end width : ℕ} (all : ArePlaces places end width
       let inside = all.below 1 (omega arith) more in
       let changes = changing_at all.ascending width (get_or places 1 0) 1 (omega arith) more refl inside in
       let none = none_changes width (get_or places 1 0) inside in
-      cc (sym changes ∙ ap (λ row. is_changing row (get_or places 1 0)) is ∙ none)
+      cc
 
   -- a row is white just where it has one place
   one_place : {row : List Colour} → row_of places end width ≡ row → row ≡ replicate (length row) White → IsTrue (nat_eq end 1)

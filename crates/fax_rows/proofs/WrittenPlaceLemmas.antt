@@ -6,7 +6,7 @@ use Rattle.fax_rows.specs.declared.put.ChangesAhead.{ChangesAhead}
 use Rattle.fax_rows.specs.declared.rows.RowPair.{RowPair}
 use Rattle.fax_rows.specs.code.ChangesAhead.{AreAhead}
 use Rattle.fax_rows.specs.code.PlacedRow.{placed_pels}
-use Rattle.fax_rows.proofs.ChangeLemmas.{first_of, next_change_is, next_of_within}
+use Rattle.fax_rows.proofs.ChangeLemmas.{next_change_is, next_of_within}
 use Rattle.fax_rows.proofs.PlacedB1Lemmas.{length-placed_pels}
 
 pub written_width : (rows : RowPair) → length (placed_pels rows.row) ≡ rows.row.width
@@ -26,4 +26,4 @@ pub record AreBounded (rows : RowPair) (ahead : ChangesAhead) : Type 0 where
   pub b1 : ahead.b1 ≤ rows.row.width
 
 pub known_bounds : {rows : RowPair} {ahead : ChangesAhead} → AreAhead rows ahead → AreBounded rows ahead
-known_bounds is = grind (arith, common_steps, written_width, first_of, same_widths, next_change_is, next_of_within)
+known_bounds is = grind (arith, common_steps, written_width, same_widths, next_change_is, next_of_within)

@@ -1,10 +1,8 @@
 -- How far a row is written after a step: the indexes of a1 and b1 after each mode.
 use Rattle.std.proofs.lemmas.Grind.{common_steps}
-use Rattle.std.proofs.Common.{◌≡◌, ℕ, ◌+◌, ◌-◌, ◌<◌, ◌≤◌, ◌++◌, length, get_or, true, ap, sym, ◌∙◌, subst, arith}
-use Rattle.std.specs.Prelude.{Option, Some, None, unwrap_or, pos}
-use Rattle.std.proofs.lemmas.Bool.Decides.{nat_tests}
+use Rattle.std.proofs.Common.{◌≡◌, ℕ, ◌+◌, ◌-◌, ◌<◌, ◌≤◌, ◌++◌, length, get_or, true, sym, ◌∙◌, subst, arith}
+use Rattle.std.specs.Prelude.{Option, Some, unwrap_or, pos}
 use Rattle.std.proofs.lemmas.Int.{ints}
-use Rattle.std.proofs.lemmas.List.{append-nil}
 use Rattle.fax_bits.specs.declared.modes.ModeCode.{ModeCode}
 use Rattle.fax_bits.specs.declared.modes.ModeCode.TheVariants.{Horizontal, Vertical}
 use Rattle.fax_bits.specs.Written.{mode_bits}
@@ -17,7 +15,7 @@ use Rattle.fax_rows.specs.declared.rows.RowPair.{RowPair}
 use Rattle.fax_rows.specs.Rows.{other, is_right_of}
 use Rattle.fax_rows.specs.code.ChangesAhead.{AreAhead, mode_from, bits_from, place_from, run_pair}
 use Rattle.fax_rows.specs.code.PlacedRow.{placed_pels, IsBeforeB1, IsB1At}
-use Rattle.fax_rows.specs.code.Turns.{alternate, IsFrom, ArePlacesUpTo}
+use Rattle.fax_rows.specs.code.Turns.{alternate, IsFrom}
 use Rattle.fax_rows.proofs.ChangeLemmas.{first_of}
 use Rattle.fax_rows.proofs.ChoiceLemmas.{a1_right, passed_right}
 use Rattle.fax_rows.proofs.PlacedB1Lemmas.{inside_end, b1_ahead, b2_ahead, b1_next, b1_passed, same_start}
@@ -26,37 +24,31 @@ use Rattle.fax_rows.proofs.TurnLemmas.{alternate-suc, pel_after}
 use Rattle.fax_rows.proofs.WrittenPlaceLemmas.{known_bounds, same_widths, written_width}
 
 module _ (row : PlacedRow) where
-  -- a change is the last of the places that are not right of it
-  after_place : (k : ℕ) → 0 < k → k < row.end → ArePlacesUpTo row.places.now row.end (get_or row.places.now k 0) (k + 1)
-  after_place k some inside = grind (arith, common_steps)
-
   -- the places before that index are not right of a0
   first_left : (a0 : Option ℕ) (k : ℕ) → IsFrom row.places.now row.end a0 k → get_or row.places.now (k - 1) 0 ≤ unwrap_or a0 0
-  first_left None k at = subst (λ m. get_or row.places.now (m - 1) 0 ≤ 0) (sym at) (omega (arith, row.placed.ascending.first))
-  first_left (Some a) k at = at.left
+  first_left a0 k at = grind arith
 
   -- the colour of a0, where it is inside the row
   pub colour_here : (a0 : Option ℕ) (k : ℕ) → IsFrom row.places.now row.end a0 k → unwrap_or a0 0 < row.width
       → alternate Black k ≡ colour_of (placed_pels row) a0
-  colour_here None k at inside = ap (alternate Black) at
-  colour_here (Some a) k at inside = sym (pel_after row.placed.ascending row.width a k inside at)
+  colour_here a0 k at inside = grind (arith, pel_after)
 
 module _ {rows : RowPair} {ahead : ChangesAhead} (is : AreAhead rows ahead) where
   row_at : (0 < ahead.row) × (ahead.row ≤ rows.row.end)
   row_at = at_from rows.row.placed ahead.a0 ahead.row is.row
 
   pub from_a1 : ahead.a1 < rows.row.width → IsFrom rows.row.places.now rows.row.end (Some ahead.a1) (ahead.row + 1)
-  from_a1 inside = grind (arith, common_steps, inside_end, row_at, after_place)
+  from_a1 inside = grind (arith, common_steps, inside_end)
 
   pub from_a2 : ahead.a2 < rows.row.width → IsFrom rows.row.places.now rows.row.end (Some ahead.a2) (ahead.row + 2)
-  from_a2 inside = grind (arith, common_steps, inside_end, row_at, after_place)
+  from_a2 inside = grind (arith, common_steps, inside_end)
 
   -- b2 is not left of a0
   b2_from_a0 : unwrap_or ahead.a0 0 ≤ ahead.b2
   b2_from_a0 = grind (arith, b1_ahead, b2_ahead)
 
   pub from_b2 : ahead.b2 < ahead.a1 → IsFrom rows.row.places.now rows.row.end (Some ahead.b2) ahead.row
-  from_b2 left = grind (arith, common_steps, row_at, b2_from_a0, first_left)
+  from_b2 left = grind (arith, common_steps, b2_from_a0)
 
   -- the colour after one change, and after two
   turned_colour : other ahead.colour ≡ alternate Black (ahead.row + 1)
@@ -112,11 +104,11 @@ module _ {rows : RowPair} {ahead : ChangesAhead} (is : AreAhead rows ahead) wher
 
   -- a1 under b1
   under_mode : ahead.a1 ≡ ahead.b1 → mode_from (placed_pels rows.reference) (placed_pels rows.row) ahead.a0 ≡ Vertical (pos 0)
-  under_mode same = grind (arith, common_steps, b2_ahead, nat_tests, ints, mode_is)
+  under_mode same = grind (arith, common_steps, b2_ahead, ints)
 
   pub under_bits : ahead.a1 ≡ ahead.b1 → bits_from (placed_pels rows.reference) (placed_pels rows.row) ahead.a0 ≡ mode_bits
       (Vertical (pos 0))
-  under_bits same = grind (arith, common_steps, under_mode, append-nil)
+  under_bits same = grind (arith, common_steps, under_mode)
 
   pub under_place : ahead.a1 ≡ ahead.b1 → ahead.a1 ≡ place_from (placed_pels rows.reference) (placed_pels rows.row) ahead.a0
   under_place same = grind (arith, under_mode)

@@ -11,7 +11,7 @@ pub overflow_sub-second : goal.overflow_sub-second
 overflow_sub-second c = (known_bounds c.requires.places).a1_a2
 
 pub put_pair-requires-clause-first : goal.put_pair-requires-clause-first
-put_pair-requires-clause-first c = grind (arith, known_bounds)
+put_pair-requires-clause-first c = grind arith
 
 pub put_pair-requires-clause-second : goal.put_pair-requires-clause-second
 put_pair-requires-clause-second c = grind (arith, known_bounds)

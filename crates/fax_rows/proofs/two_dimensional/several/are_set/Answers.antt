@@ -1,16 +1,12 @@
-use Rattle.std.proofs.Common.{◌≡◌, ℕ, ◌-◌, ◌*◌, ◌%◌, ◌^◌, ◌<◌, ◌≤◌, subst, zero, suc, refl, bit_and, nat_eq, arith, IsTrue}
+use Rattle.std.proofs.lemmas.Grind.{common_steps}
+use Rattle.std.proofs.Common.{◌≡◌, ℕ, ◌-◌, ◌*◌, ◌%◌, ◌^◌, ◌<◌, ◌≤◌, subst, bit_and, nat_eq, arith, IsTrue}
 use Rattle.std.proofs.lemmas.Bool.{eqb-true}
 use Rattle.std.specs.Int.{bit_at}
 use Rattle.fax_rows.proofs.SeveralLaneLemmas.{three_set}
 use Rattle.fax_rows.proofs.two_dimensional.several.are_set.Goals as goal
 
 wanted_is : (count : ℕ) → count ≤ 4 → 1 * 2 ^ count % 18446744073709551616 - 1 ≡ 2 ^ count - 1
-wanted_is zero h = refl
-wanted_is (suc zero) h = refl
-wanted_is (suc (suc zero)) h = refl
-wanted_is (suc (suc (suc zero))) h = refl
-wanted_is (suc (suc (suc (suc zero)))) h = refl
-wanted_is (suc (suc (suc (suc (suc n))))) h = absurd (omega arith)
+wanted_is count h = grind (arith, common_steps)
 
 all : (a b d count i : ℕ) → count ≤ 4
     → IsTrue (nat_eq (bit_and (bit_and (bit_and a b) d) (1 * 2 ^ count % 18446744073709551616 - 1)) (1 * 2 ^ count % 18446744073709551616 - 1))

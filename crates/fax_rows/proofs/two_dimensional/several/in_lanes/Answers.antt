@@ -63,4 +63,4 @@ returns-clause-ascending c =
     (λ i h. subst (λ n. bit_at n i ≡ 1) c.less_lanes-3.ensures (c.if-not-fine.ensures.third refl i h))
 
 pub returns-clause-first : goal.returns-clause-first
-returns-clause-first c = grind (arith, common_steps, lane_first, near, c.raised_a0.ensures.right, c.requires.some, c.requires.room, c.requires.small, c.requires.few, c.requires.few.few, c.requires.few.lanes, c.less_lanes.ensures)
+returns-clause-first c = grind (arith, common_steps, lane_first, near, c.raised_a0.ensures.right, c.requires.some, c.less_lanes.ensures)
