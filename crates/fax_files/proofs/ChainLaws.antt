@@ -1,28 +1,20 @@
 -- Each file has one chain of directories.
-use Rattle.std.proofs.Common.{◌≡◌, ℕ, zero, suc, ◌+◌, ◌*◌, ◌<◌, ◌≤◌, ◌⊎◌, inl, inr, Bool, true, false, ◌&&◌, ◌||◌, eqb, List, [], ◌∷◌}
+use Rattle.std.proofs.Common.{◌≡◌, ℕ, zero, suc, ◌+◌, ◌<◌, ◌≤◌, ◌⊎◌, Bool, true, false, ◌&&◌, ◌||◌, eqb, List, [], ◌∷◌}
 use Rattle.std.proofs.Common.{length, Option, Some, None, ◌≢◌, refl, subst, arith}
-use Rattle.std.specs.Prelude.{◌==◌, if◌then◌else◌, nat_le}
+use Rattle.std.specs.Prelude.{◌==◌, if◌then◌else◌}
 use Rattle.std.specs.List.{list_any, IsDistinct, All}
 use Rattle.std.proofs.lemmas.List.Elements.{All-nil, All-cons, recursion_from_All}
 use Rattle.std.proofs.lemmas.Map.Steps.{length-le_from_distinct_below}
-use Rattle.std.proofs.lemmas.Bool.{ne_eqb}
-use Rattle.std.proofs.lemmas.Bool.Decides.{nat_tests}
 use Rattle.fax_files.specs.declared.FileFault.{FileFault}
 use Rattle.fax_files.specs.declared.FileFault.TheVariants.{DirectoryOutside, DirectoryLoop}
 use Rattle.fax_files.specs.declared.Endian.{Endian}
-use Rattle.fax_files.specs.Directory.{Header, is_inside, is_directory, next_offset}
-use Rattle.fax_files.specs.code.Entries.{entry_count}
+use Rattle.fax_files.specs.Directory.{Header, is_directory, next_offset}
 use Rattle.fax_files.specs.Directory.{offset_fault, IsChainFrom}
 use Rattle.fax_files.specs.laws.Files.{HasOneChain}
 
 -- what the two tests of an offset say
 abbrev pub fault_by : Bool → Bool → Option FileFault
 fault_by again there = if again then (Some DirectoryLoop) else (if there then None else (Some DirectoryOutside))
-
-none_by : (again there : Bool) → fault_by again there ≡ None → (again ≡ false) × (there ≡ true)
-none_by true there e = absurd cc
-none_by false false e = absurd cc
-none_by false true e = (refl, refl)
 
 -- the chain goes on at an offset
 pub record GoesOn (endian : Endian) (file before : List ℕ) (due : ℕ) : Type 0 where
@@ -32,20 +24,14 @@ pub record GoesOn (endian : Endian) (file before : List ℕ) (due : ℕ) : Type 
 
 pub going_on : (endian : Endian) (file before : List ℕ) (due : ℕ) → due ≢ 0 → offset_fault endian file before due ≡ None
     → GoesOn endian file before due
-going_on endian file before due some e =
-    let p = none_by (list_any (λ q. due == q) before) (is_directory endian file due) e in
-    record { not_last = ne_eqb due 0 some; fresh = p.0; there = p.1 }
+going_on endian file before due some e = grind arith
 
 both : (a b : Bool) → (a && b) ≡ true → (a ≡ true) × (b ≡ true)
-both true b e = (refl, e)
-both false b e = absurd cc
+both a b e = grind arith
 
 -- a directory that is there begins inside the file
 pub begins_inside : (endian : Endian) (file : List ℕ) (q : ℕ) → is_directory endian file q ≡ true → q < length file
-begins_inside endian file q e =
-    let p = both (is_inside file q 2) (is_inside file q (6 + 12 * entry_count endian file q)) e in
-    let inside : nat_le (q + 2) (length file) ≡ true = p.0 in
-    grind (arith, nat_tests)
+begins_inside endian file q e = grind arith
 
 -- no two of the offsets are equal
 abbrev pub IsApart : List ℕ → Type 0
@@ -53,8 +39,7 @@ IsApart [] = Unit {0}
 IsApart (x ∷ xs) = (list_any (λ q. x == q) xs ≡ false) × IsApart xs
 
 pub neither : (a b : Bool) → (a || b) ≡ false → (a ≡ false) × (b ≡ false)
-neither true b e = absurd cc
-neither false b e = (refl, e)
+neither a b e = grind arith
 
 apart_from_all : (x : ℕ) (xs : List ℕ) → list_any (λ q. x == q) xs ≡ false → All (λ y. eqb x y ≡ false) xs
 apart_from_all x [] e = All-nil (λ y. eqb x y ≡ false)
@@ -71,14 +56,10 @@ abbrev pub AreBelow : List ℕ → ℕ → Type 0
 AreBelow xs n = (q : ℕ) → list_any (λ x. q == x) xs ≡ true → q < n
 
 pub either : (a b : Bool) → (a || b) ≡ true → (a ≡ true) ⊎ (b ≡ true)
-either true b e = inl refl
-either false b e = inr e
+either a b e = grind arith
 
 pub still_below : (xs : List ℕ) (n x : ℕ) → x < n → AreBelow xs n → AreBelow (x ∷ xs) n
-still_below xs n x within all = λ q e. elim (either (q == x) (list_any (λ y. q == y) xs) e) [
-  | inl same ↦ let h : (q == x) ≡ true = same in grind (arith, nat_tests)
-  | inr later ↦ all q later
-]
+still_below xs n x within all = grind arith
 
 pub few : (xs : List ℕ) (n : ℕ) → IsApart xs → AreBelow xs n → length xs ≤ n
 few xs n apart all = length-le_from_distinct_below xs n (distinct xs apart) all
@@ -139,8 +120,7 @@ module _ (endian : Endian) (file : List ℕ) where
   one before due (q ∷ offsets) [] end None is that = absurd (is.1 that)
   one before due (q ∷ offsets) [] end (Some other) is that = absurd cc
   one before due (p ∷ offsets) (q ∷ others) end other is that =
-      let rest = one (due ∷ before) (next_offset endian file due) offsets others end other is.3 that.3 in
-      (cc, rest.1)
+      grind (arith, one (due ∷ before) (next_offset endian file due) offsets others end other is.3 that.3)
 
 pub has_one_chain : (head : Header) (file : List ℕ) → HasOneChain head file
 has_one_chain head file =

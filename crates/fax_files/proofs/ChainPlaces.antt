@@ -3,16 +3,14 @@ use Rattle.std.proofs.Common.{◌≡◌, ℕ, zero, suc, ◌+◌, ◌^◌, ◌<�
 use Rattle.std.proofs.Common.{get_or, Option, Some, None, refl, sym, ap, ◌∙◌, arith}
 use Rattle.std.specs.Prelude.{◌==◌, slice_get}
 use Rattle.std.specs.List.{list_any}
-use Rattle.std.proofs.lemmas.Bool.{ne_eqb}
 use Rattle.std.proofs.lemmas.Bool.Decides.{nat_tests}
 use Rattle.std.proofs.lemmas.List.{get_or-drop}
 use Rattle.fax_files.specs.declared.FileFault.{FileFault}
 use Rattle.fax_files.specs.declared.FileFault.TheVariants.{DirectoryOutside, DirectoryLoop}
 use Rattle.fax_files.specs.declared.Endian.{Endian}
-use Rattle.fax_files.specs.declared.Endian.TheVariants.{Little, Big}
 use Rattle.fax_files.specs.Directory.{number_at, is_directory, next_offset, IsChainFrom}
 use Rattle.fax_files.specs.code.Chain.{link, onward}
-use Rattle.fax_files.proofs.ChainLaws.{IsApart, AreBelow, GoesOn, going_on, still_below, few, either, fault_by}
+use Rattle.fax_files.proofs.ChainLaws.{IsApart, AreBelow, GoesOn, going_on, still_below, few, fault_by}
 
 module _ (endian : Endian) (file : List ℕ) where
   abbrev pub next : ℕ → ℕ
@@ -64,8 +62,7 @@ module _ (endian : Endian) (file : List ℕ) where
   on before due (q ∷ offsets) end is (suc i) h = on (due ∷ before) (next due) offsets end is.3 i (omega arith)
 
   or_right : (a b : Bool) → b ≡ true → (a || b) ≡ true
-  or_right true b e = refl
-  or_right false b e = e
+  or_right a b e = grind arith
 
   here : (x : ℕ) (xs : List ℕ) → list_any (λ q. x == q) (x ∷ xs) ≡ true
   here x xs = let e : (x == x) ≡ true = grind (arith, nat_tests) in rw e refl
@@ -74,10 +71,7 @@ module _ (endian : Endian) (file : List ℕ) where
   not_before : (before : List ℕ) (due : ℕ) (offsets : List ℕ) (end : Option FileFault) → IsChainFrom endian file before due offsets end
       → (x : ℕ) → list_any (λ q. x == q) before ≡ true → (j : ℕ) → j < length offsets → x ≢ link endian file due j
   not_before before due [] end is x there j h = absurd (omega arith)
-  not_before before due (q ∷ offsets) end is x there zero h = λ same.
-      let on : GoesOn endian file before due = going_on endian file before due is.1 is.2 in
-      let fresh : list_any (λ y. x == y) before ≡ false = rw (← same) at on.fresh in
-      absurd (cc)
+  not_before before due (q ∷ offsets) end is x there zero h = grind arith
   not_before before due (q ∷ offsets) end is x there (suc j) h =
       not_before (due ∷ before) (next due) offsets end is.3 x (or_right (x == due) (list_any (λ y. x == y) before) there) j (omega arith)
 
@@ -93,9 +87,7 @@ module _ (endian : Endian) (file : List ℕ) where
   -- the fault of an offset by the two tests
   by_tests : (again there : Bool) (fault : FileFault) → fault_by again there ≡ Some fault
       → ((there ≡ false) × (fault ≡ DirectoryOutside)) ⊎ ((again ≡ true) × (fault ≡ DirectoryLoop))
-  by_tests true there fault e = inr (refl, cc)
-  by_tests false true fault e = absurd cc
-  by_tests false false fault e = inl (refl, cc)
+  by_tests again there fault e = grind arith
 
   -- the same after offsets that stood before: one that is met again is one of those or stands in the chain
   abbrev EndsAfterPlaces : List ℕ → ℕ → ℕ → Option FileFault → Type 0
@@ -111,20 +103,13 @@ module _ (endian : Endian) (file : List ℕ) where
       ⊎ ((j : ℕ) × (j < n) × (link endian file (next due) n ≡ link endian file (next due) j)))
       → (list_any (λ q. link endian file due (suc n) == q) before ≡ true)
       ⊎ ((j : ℕ) × (j < suc n) × (link endian file due (suc n) ≡ link endian file due j))
-  met_one_on before due n (inl there) =
-      elim (either (link endian file (next due) n == due) (list_any (λ q. link endian file (next due) n == q) before) there) [
-        | inl same ↦ let e : link endian file (next due) n ≡ due = grind (arith, nat_tests) in inr (0, omega arith, e)
-        | inr earlier ↦ inl earlier
-      ]
+  met_one_on before due n (inl there) = grind arith
   met_one_on before due n (inr p) = inr (suc p.0, omega arith, p.2)
 
   ends : (before : List ℕ) (due : ℕ) (offsets : List ℕ) (end : Option FileFault) → IsChainFrom endian file before due offsets end
       → EndsAfterPlaces before due (length offsets) end
   ends before due [] None is = let last : (due == 0) ≡ true = rw is refl in inl (last, refl)
-  ends before due [] (Some fault) is = elim (by_tests (list_any (λ q. due == q) before) (is_directory endian file due) fault is.1) [
-    | inl p ↦ inr (inl (ne_eqb due 0 is.0, p.0, ap (λ (f : FileFault). Some f) p.1))
-    | inr p ↦ inr (inr (inl p.0, ap (λ (f : FileFault). Some f) p.1))
-  ]
+  ends before due [] (Some fault) is = grind arith
   ends before due (q ∷ offsets) end is = elim (ends (due ∷ before) (next due) offsets end is.3) [
     | inl p ↦ inl p
     | inr (inl p) ↦ inr (inl p)
@@ -132,10 +117,7 @@ module _ (endian : Endian) (file : List ℕ) where
   ]
 
   at_first : (due n : ℕ) (end : Option FileFault) → EndsAfterPlaces [] due n end → EndsSo due n end
-  at_first due n end (inl p) = inl p
-  at_first due n end (inr (inl p)) = inr (inl p)
-  at_first due n end (inr (inr (inl there, e))) = absurd cc
-  at_first due n end (inr (inr (inr p, e))) = inr (inr (p.0, p.1, p.2, e))
+  at_first due n end h = grind arith
 
   pub by_places : (due : ℕ) (offsets : List ℕ) (end : Option FileFault) → IsChainFrom endian file [] due offsets end
       → IsByPlaces due offsets end
@@ -150,8 +132,7 @@ module _ (endian : Endian) (file : List ℕ) where
   module _ (bytes : (k : ℕ) → get_or file k 0 < 256) where
     number_below : (order : Endian) (place : ℕ) → number_at order 4 file place < 2 ^ 32
     unfolding number_at
-    number_below Little place = simp get_or-drop (omega (arith, bytes (place + 0), bytes (place + 1), bytes (place + 2), bytes (place + 3)))
-    number_below Big place = simp get_or-drop (omega (arith, bytes (place + 0), bytes (place + 1), bytes (place + 2), bytes (place + 3)))
+    number_below order place = grind (arith, get_or-drop)
 
     short : (before : List ℕ) (due : ℕ) (offsets : List ℕ) (end : Option FileFault) → IsChainFrom endian file before due offsets end
         → IsApart before → AreBelow before (2 ^ 32) → list_any (λ q. 0 == q) before ≡ false → due < 2 ^ 32
@@ -169,5 +150,4 @@ module _ (endian : Endian) (file : List ℕ) where
     -- a chain has fewer than 2^32 offsets
     pub few_places : (due : ℕ) (offsets : List ℕ) (end : Option FileFault) → IsChainFrom endian file [] due offsets end → due < 2 ^ 32
         → length offsets < 2 ^ 32
-    few_places due offsets end is within =
-        let n = short [] due offsets end is tt (λ q e. absurd cc) refl within in omega (arith, n)
+    few_places due offsets end is within = grind (arith, short)

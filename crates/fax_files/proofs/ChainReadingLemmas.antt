@@ -2,7 +2,6 @@
 use Rattle.std.proofs.Common.{◌≡◌, ℕ, zero, suc, ◌+◌, ◌^◌, ◌<◌, ◌≤◌, ◌≢◌, inl, inr, true, false, List, [], ◌∷◌, length, Option, Some, None}
 use Rattle.std.proofs.Common.{Result, Ok, Err, refl, sym, ap, ◌∙◌, arith}
 use Rattle.std.specs.Prelude.{◌==◌, slice_get}
-use Rattle.std.proofs.lemmas.Bool.{cases_lt}
 use Rattle.std.proofs.lemmas.Bool.Decides.{nat_tests}
 use Rattle.fax_files.specs.declared.FileFault.{FileFault}
 use Rattle.fax_files.specs.declared.FileFault.TheVariants.{DirectoryOutside, DirectoryLoop}
@@ -20,14 +19,7 @@ past (x ∷ xs) zero h = absurd (omega arith)
 past (x ∷ xs) (suc i) h = past xs i (omega arith)
 
 turning : (end : Option FileFault) (pages given : ℕ) → Some given ≡ turning_page end pages → (end ≡ Some DirectoryLoop) × (given ≡ pages)
-turning None pages given e = absurd cc
-turning (Some DirectoryLoop) pages given e = (refl, cc)
-turning (Some _) pages given e = absurd cc
-
-no_directory : (tiff : TiffFile) (directory : TiffDirectory) (end : Option FileFault)
-    → (let r : Result (Option TiffDirectory) FileFault = Ok (Some directory) in r) ≡ answer_at tiff None end → ⊥
-no_directory tiff directory None e = cc
-no_directory tiff directory (Some fault) e = cc
+turning end pages given e = grind arith
 
 module _ (tiff : TiffFile) (due given : ℕ) (turn : Option ℕ) (sound : IsChainPlace tiff due given turn) where
   module _ (offsets : List ℕ) (end : Option FileFault) (is : IsChain tiff.head tiff.file offsets end) where
@@ -49,10 +41,7 @@ module _ (tiff : TiffFile) (due given : ℕ) (turn : Option ℕ) (sound : IsChai
 
     -- at the end, where it is known not to be before it
     at_end : (given < length offsets → ⊥) → (slice_get offsets given ≡ None) × (given ≡ length offsets)
-    at_end not_before = elim (cases_lt given (length offsets)) [
-      | inl before ↦ absurd (not_before before)
-      | inr after ↦ let _w = within in (past offsets given after, omega arith)
-    ]
+    at_end not_before = grind (arith, past)
 
     abbrev answer : Result (Option TiffDirectory) FileFault
     answer = answer_at tiff (slice_get offsets given) end
@@ -72,9 +61,7 @@ module _ (tiff : TiffFile) (due given : ℕ) (turn : Option ℕ) (sound : IsChai
         ]
 
     pub turned : turn ≡ Some given → Err DirectoryLoop ≡ answer
-    turned here =
-        let p = turning end (length offsets) given (sym here ∙ sound.turn_is offsets end is) in
-        sym (ends_with (Some DirectoryLoop) (past offsets given (omega (arith, p.1))) p.0)
+    turned here = grind (arith, past)
 
     pub outside : due ≢ 0 → is_directory tiff.head.endian tiff.file due ≡ false → Err DirectoryOutside ≡ answer
     outside some none_there =
@@ -89,40 +76,15 @@ module _ (tiff : TiffFile) (due given : ℕ) (turn : Option ℕ) (sound : IsChai
           | inr (inr p) ↦ absurd (cc ((known_alike (length offsets) p.0 p.2 p.1).1, last))
         ]
 
-    there_before : due ≢ 0 → is_directory tiff.head.endian tiff.file due ≡ true → turn ≢ Some given → given < length offsets
-    there_before some there no_turn = elim (cases_lt given (length offsets)) [
-      | inl before ↦ before
-      | inr after ↦
-          let _w = within in
-          let last : given ≡ length offsets = omega arith in
-          let due_last : due ≡ place tiff (length offsets) = sound.due_is ∙ ap (place tiff) last in
-          let here : is_directory tiff.head.endian tiff.file (place tiff (length offsets)) ≡ true = rw due_last at there in
-          elim the_places.ends [
-            | inl p ↦
-                let none : place tiff (length offsets) ≡ 0 = grind (arith, nat_tests, p.0) in
-                absurd (some (due_last ∙ none))
-            | inr (inl p) ↦ absurd (cc (p.1, here))
-            | inr (inr p) ↦ absurd (no_turn (sound.turn_is offsets end is
-                ∙ ap (λ (o : Option FileFault). turning_page o (length offsets)) p.3 ∙ ap (λ (n : ℕ). Some n) (sym last)))
-          ]
-    ]
-
     pub found : (directory : TiffDirectory) → directory ≡ directory_of tiff due → due ≢ 0
         → is_directory tiff.head.endian tiff.file due ≡ true → turn ≢ Some given
         → Ok (Some directory) ≡ answer
-    found directory is_it some there no_turn =
-        let before = there_before some there no_turn in
-        rw (the_places.at given before, is_it, sound.due_is) refl
+    found directory is_it some there no_turn = grind (arith, the_places)
 
     -- what an answer says of the place
     pub answered : (directory : TiffDirectory) → (let r : Result (Option TiffDirectory) FileFault = Ok (Some directory) in r) ≡ answer
         → (given < length offsets) × (directory ≡ directory_of tiff (place tiff given))
-    answered directory e = elim (cases_lt given (length offsets)) [
-      | inl before ↦ let at : (let r : Result (Option TiffDirectory) FileFault = Ok (Some directory) in r)
-          ≡ Ok (Some (directory_of tiff (place tiff given))) = e
-          ∙ ap (λ (o : Option ℕ). answer_at tiff o end) (the_places.at given before) in (before, cc)
-      | inr after ↦ absurd (no_directory tiff directory end (e ∙ ap (λ (o : Option ℕ). answer_at tiff o end) (past offsets given after)))
-    ]
+    answered directory e = grind (arith, the_places, past)
 
   abbrev state : ChainState
   state = record { tiff = tiff; given = given }

@@ -1,7 +1,6 @@
 -- A search that goes along with a reader of a chain.
 use Rattle.std.proofs.Common.{◌≡◌, ◌≢◌, ℕ, zero, suc, ◌+◌, ◌-◌, ◌*◌, ◌/◌, ◌%◌, ◌<◌, ◌≤◌, inl, inr, true, false, List, length, Option, Some}
-use Rattle.std.proofs.Common.{None, refl, sym, ap, ◌∙◌, subst, arith}
-use Rattle.std.proofs.lemmas.Bool.{cases_lt}
+use Rattle.std.proofs.Common.{None, sym, ap, ◌∙◌, arith}
 use Rattle.std.proofs.lemmas.Bool.Decides.{nat_tests}
 use Rattle.fax_files.specs.declared.FileFault.{FileFault}
 use Rattle.fax_files.specs.declared.FileFault.TheVariants.{DirectoryLoop}
@@ -59,9 +58,7 @@ module _ (tiff : TiffFile) where
       )
 
   turning : (end : Option FileFault) (pages given : ℕ) → Some given ≡ turning_page end pages → (end ≡ Some DirectoryLoop) × (given ≡ pages)
-  turning None pages given e = absurd cc
-  turning (Some DirectoryLoop) pages given e = (refl, cc)
-  turning (Some _) pages given e = absurd cc
+  turning end pages given e = grind arith
 
   -- while a search runs, the chain does not turn back at the reader's place
   pub running : (given fast : ℕ) → IsSearch tiff given (Running fast) → true_turn.0 ≢ Some given
@@ -79,8 +76,7 @@ module _ (tiff : TiffFile) where
   pub place_of : (due given : ℕ) (search : Search) → IsSearchPlace tiff due given search → IsChainPlace tiff due given (turn_of search)
   unfolding turn_of
   place_of due given (Running fast) sound = record { due_is = sound.due_is; within = sound.within; turn_is = true_turn.1; few = sound.few }
-  place_of due given (Known turn) sound =
-      record { due_is = sound.due_is; within = sound.within; turn_is = sound.search_is; few = sound.few }
+  place_of due given (Known turn) sound = grind arith
 
   pub turned_here : (search : Search) (given : ℕ) → turns_at search given ≡ true → turn_of search ≡ Some given
   unfolding turn_of
@@ -97,8 +93,7 @@ module _ (tiff : TiffFile) where
   -- one directory on
   pub one_further : (due given : ℕ) (search later : Search) (next : ℕ) → IsSearchPlace tiff due given search
       → IsChainPlace tiff next (given + 1) (turn_of search) → IsSearch tiff (given + 1) later → IsSearchPlace tiff next (given + 1) later
-  one_further due given search later next sound on found =
-      record { due_is = on.due_is; within = on.within; search_is = found; few = sound.few }
+  one_further due given search later next sound on found = grind arith
 
   -- A step of the search.
   module _ (given fast between : ℕ) (search : IsSearch tiff given (Running fast))
@@ -117,27 +112,11 @@ module _ (tiff : TiffFile) where
       next_is = let n : given + given + 1 + 1 ≡ given + 1 + (given + 1) = omega arith in second_lead.0 ∙ ap (place tiff) n
 
       pub on_two : (i : ℕ) → i < given + 1 + (given + 1) → LeadsOn tiff i
-      on_two i h = elim (cases_lt i (given + given)) [
-        | inl low ↦ search.1 i low
-        | inr high ↦ elim (cases_lt (given + given) i) [
-          | inl last ↦ let same : given + given + 1 ≡ i = omega arith in subst (λ (k : ℕ). LeadsOn tiff k) same second_lead.1
-          | inr not_last ↦ let same : given + given ≡ i = omega arith in subst (λ (k : ℕ). LeadsOn tiff k) same first_lead.1
-        ]
-      ]
+      on_two i h = grind (arith, second_lead, first_lead)
 
       pub still_running : next ≢ place tiff (given + 1) → IsSearch tiff (given + 1) (Running next)
-      still_running differs = (
-        next_is,
-        on_two,
-        λ k some within. elim (cases_lt given k) [
-          | inl last ↦
-              let same : k ≡ given + 1 = omega arith in
-              λ e. differs (next_is ∙ ap (λ (i : ℕ). place tiff (i + i)) (sym same) ∙ sym e ∙ ap (place tiff) same)
-          | inr before ↦ search.2 k some before
-        ],
-      )
+      still_running differs = grind (arith, on_two)
 
   pub stopped_first : (given fast : ℕ) → IsSearch tiff given (Running fast) → onward tiff.head.endian tiff.file fast ≡ None
       → IsTurningPage tiff None
-  stopped_first given fast search none =
-      no_turning_page tiff (λ offsets end is. stops tiff offsets end is (given + given) (rw search.0 at none))
+  stopped_first given fast search none = grind (arith, stops)

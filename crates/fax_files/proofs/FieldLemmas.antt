@@ -1,12 +1,12 @@
 -- The first entries of the tags that are looked for.
 use Rattle.std.proofs.Common.{◌≡◌, ◌≢◌, ℕ, zero, suc, ◌+◌, ◌-◌, ◌*◌, ◌<◌, ◌≤◌, Bool, true, false, ◌&&◌, List, [], ◌∷◌, length, get_or}
-use Rattle.std.proofs.Common.{Option, Some, None, Result, Ok, Err, inl, inr, refl, sym, ap, ◌∙◌, arith, get_or-set_other, get_or-set_same}
+use Rattle.std.proofs.Common.{Option, Some, None, Result, Ok, Err, inl, inr, refl, sym, ◌∙◌, arith, get_or-set_other, get_or-set_same}
 use Rattle.std.specs.Prelude.{IsTrue, IfSome, ◌==◌, MatchResult, nat_lt}
 use Rattle.std.specs.List.Sorted.{IsBinarySearchResult}
 use Rattle.std.specs.Ordering.{nat_cmp}
 use Rattle.std.proofs.Math.ListN.{set, length-set}
 use Rattle.std.proofs.Math.Nat.{eq-or-lt_of_le}
-use Rattle.std.proofs.lemmas.Bool.{ltb-true, eqb-true, eq-eqb, ne_eqb, and_parts, cases_eq, cases_lt, lt-ltb, le-ltb}
+use Rattle.std.proofs.lemmas.Bool.{ltb-true, eqb-true, eq-eqb, ne_eqb, and_parts, cases_eq, cases_lt, le-ltb}
 use Rattle.std.proofs.lemmas.List.Sorted.{searched}
 use Rattle.std.proofs.lemmas.List.{get_or_default}
 use Rattle.std.proofs.lemmas.List.Folds.{Any-from_list_any}
@@ -25,8 +25,7 @@ rises (a ∷ b ∷ rest) = nat_lt a b && rises (b ∷ rest)
 
 rises_after : (a : ℕ) (rest : List ℕ) → rises (a ∷ rest) ≡ true → rises rest ≡ true
 unfolding rises
-rises_after a [] up = refl
-rises_after a (b ∷ rest) up = (and_parts (nat_lt a b) (rises (b ∷ rest)) up).1
+rises_after a rest up = grind arith
 
 first_is_least : (a : ℕ) (rest : List ℕ) → rises (a ∷ rest) ≡ true → (j : ℕ) → j < length rest → a < get_or rest j 0
 unfolding rises
@@ -74,11 +73,7 @@ tag_searched tag found h = answer found (searched TAGS tag found h not_below)
         (λ i. (i ≤ length TAGS) × ((k : ℕ) → k < i → get_or TAGS k 0 < tag)
         × ((k : ℕ) → i ≤ k → k < length TAGS → tag < get_or TAGS k 0))
         → IsSearched tag r
-    answer (Ok i) there = there
-    answer (Err i) apart = λ k inside e. elim (cases_lt k i) [
-      | inl lt ↦ (let below = apart.1 k lt in absurd (omega arith))
-      | inr le ↦ (let above = apart.2 k le inside in absurd (omega arith))
-    ]
+    answer r there = grind arith
 
 -- an entry of a tag that is looked for
 pub seen : (entry : Entry) (fields : List Entry) (first : List (Option Entry)) (slot : ℕ) → slot < length TAGS
@@ -111,9 +106,7 @@ passed entry fields first other h = record {
 pub found_first : (fields : List Entry) (first : List (Option Entry)) (slot tag : ℕ) (other : Option Entry) → slot < length TAGS
     → get_or TAGS slot 0 ≡ tag
     → AreFirst fields first → get_or first slot other ≡ field fields tag
-found_first fields first slot tag other inside is h =
-    let there : slot < length first = omega (arith, h.count) in
-    get_or_default first slot other None there ∙ h.first_is slot inside ∙ ap (field fields) is
+found_first fields first slot tag other inside is h = grind (arith, get_or_default)
 
 -- a tag that is looked for stands among them
 pub sought_stands : (tag : ℕ) → IsTrue (is_sought tag) → ((k : ℕ) → k < length TAGS → get_or TAGS k 0 ≢ tag) → ⊥
@@ -126,23 +119,13 @@ pub entry_inside : (endian : Endian) (file : List ℕ) (place n tag : ℕ) (foun
     → found ≡ field (entries_at endian file place n) tag → IfSome found (λ entry. entry.place + 4 ≤ length file)
 unfolding entries_at
 entry_inside endian file place zero tag found inside is = rw is tt
-entry_inside endian file place (suc n) tag found inside is =
-    here ((entry_at endian file place).tag == tag) refl (entry_inside endian file (place + 12) n tag
-    (field (entries_at endian file (place + 12) n) tag) (omega arith) refl)
-  where
-    here : (same : Bool) → ((entry_at endian file place).tag == tag) ≡ same
-        → IfSome (field (entries_at endian file (place + 12) n) tag) (λ entry. entry.place + 4 ≤ length file)
-        → IfSome found (λ entry. entry.place + 4 ≤ length file)
-    here true e rest = rw (is, e) (omega (arith, inside))
-    here false e rest = rw (is, e) rest
+entry_inside endian file place (suc n) tag found inside is = grind (arith, entry_inside endian file (place + 12) n tag)
 
 -- after the last entry there is none
 pub none_left : (endian : Endian) (file : List ℕ) (place count : ℕ) (first : List (Option Entry)) → AreFirst [] first
     → AreFirst (entries_at endian file place (count - count)) first
 unfolding entries_at
-none_left endian file place count first none =
-    let n : count - count ≡ 0 = omega arith in
-    rw n none
+none_left endian file place count first none = grind arith
 
 -- an entry, and those after it
 pub one_more : (endian : Endian) (file : List ℕ) (start count k : ℕ) (entry : Entry) (old new : List (Option Entry)) → 0 < k → k ≤ count
@@ -167,9 +150,7 @@ two_ascend endian file place n (suc m) is some = rw is refl
 -- fewer than two always do
 few_ascend : (endian : Endian) (file : List ℕ) (place n : ℕ) → n ≤ 1 → ascend (entries_at endian file place n) ≡ true
 unfolding entries_at
-few_ascend endian file place zero few = refl
-few_ascend endian file place (suc zero) few = refl
-few_ascend endian file place (suc (suc n)) few = absurd (omega arith)
+few_ascend endian file place n few = grind arith
 
 -- the tags of the entries at `start`, from the one before the k-th on
 module _ (endian : Endian) (file : List ℕ) (start count k : ℕ) (total : Bool) (some : 1 ≤ k)
@@ -181,27 +162,14 @@ module _ (endian : Endian) (file : List ℕ) (start count k : ℕ) (total : Bool
   here = number_at endian 2 file (start + 12 * k)
 
   after : k < count → total ≡ (nat_lt before here && ascend (entries_at endian file (start + 12 * k) (count - k)))
-  after within =
-      let place : start + 12 * k - 12 ≡ start + 12 * (k - 1) = omega arith in
-      let next : start + 12 * k ≡ start + 12 * (k - 1) + 12 = omega arith in
-      let two = two_ascend endian file (start + 12 * (k - 1)) (count - (k - 1)) (count - k) (omega arith) (omega arith) in
-      let here_is : number_at endian 2 file (start + 12 * k) ≡ number_at endian 2 file (start + 12 * (k - 1) + 12) =
-      ap (number_at endian 2 file) next in
-      let before_is : number_at endian 2 file (start + 12 * k - 12) ≡ number_at endian 2 file (start + 12 * (k - 1)) =
-      ap (number_at endian 2 file) place in
-      let rest_is : ascend (entries_at endian file (start + 12 * k) (count - k))
-      ≡ ascend (entries_at endian file (start + 12 * (k - 1) + 12) (count - k)) =
-      ap (λ (p : ℕ). ascend (entries_at endian file p (count - k))) next in
-      rw (before_is, here_is, rest_is) (sym so_far ∙ two)
+  after within = grind (arith, two_ascend)
 
   pub out_of_order : k < count → here ≤ before → false ≡ total
   out_of_order within above = sym (after within ∙ rw (le-ltb before here above) refl)
 
   pub still_in_order : k < count → before < here
       → ascend (entries_at endian file (start + 12 * (k + 1 - 1)) (count - (k + 1 - 1))) ≡ total
-  still_in_order within below =
-      let next : k + 1 - 1 ≡ k = omega arith in
-      rw next (sym (after within ∙ rw (lt-ltb before here below) refl))
+  still_in_order within below = grind (arith, after)
 
   pub in_order_to_the_end : count ≤ k → true ≡ total
   in_order_to_the_end end = sym (few_ascend endian file (start + 12 * (k - 1)) (count - (k - 1)) (omega arith)) ∙ so_far

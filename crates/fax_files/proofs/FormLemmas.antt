@@ -1,5 +1,6 @@
 -- The form of a page that is not refused.
-use Rattle.std.proofs.Common.{◌≡◌, ℕ, List, Ok, sym, subst}
+use Rattle.std.proofs.Common.{arith}
+use Rattle.std.proofs.Common.{◌≡◌, ℕ, List, Ok, subst}
 use Rattle.std.specs.Prelude.{IfOk}
 use Rattle.std.proofs.lemmas.Grind.{div_ceil_times}
 use Rattle.fax_files.specs.declared.PageForm.{PageForm}
@@ -14,22 +15,7 @@ use Rattle.fax_files.proofs.StepLemmas.{form_of_fields, form_within}
 -- a form of good numbers
 pub within : (endian : Endian) (file : List ℕ) (fields : List Entry) (form : PageForm) → IsFormOf endian file fields form
     → IsGoodResolution (resolution_in endian file fields) → IsPageForm form
-within endian file fields form is good =
-    let found = subst IsGoodResolution (sym is.found) good in
-    record {
-      some_width = is.some_width;
-      width = is.width;
-      some_rows = is.some_rows;
-      rows = is.rows;
-      some_rows_per_strip = is.some_in_strip;
-      rows_per_strip = is.in_strip;
-      strips = is.strips;
-      x = found.x;
-      y = found.y;
-      some_unit = found.some_unit;
-      unit = found.unit;
-      aligned = is.aligned;
-    }
+within endian file fields form is good = grind arith
 
 -- the form that fields say
 pub limits : (endian : Endian) (file : List ℕ) (fields : List Entry) (form : PageForm) → form_in endian file fields ≡ Ok form

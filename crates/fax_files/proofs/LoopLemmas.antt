@@ -14,31 +14,24 @@ use Rattle.fax_files.proofs.ChainPlaces.{IsByPlaces, by_places, along, link_next
 module _ (tiff : TiffFile) where
   -- the next offset, one place on
   pub place_next : (i : ℕ) → place tiff (i + 1) ≡ next_offset tiff.head.endian tiff.file (place tiff i)
-  place_next i =
-      let n : i + 1 ≡ suc i = omega arith in
-      ap (place tiff) n ∙ link_next tiff.head.endian tiff.file tiff.head.first i
+  place_next i = grind (arith, link_next)
 
   pub along_places : (i j k a b : ℕ) → a ≡ i + k → b ≡ j + k → place tiff i ≡ place tiff j → place tiff a ≡ place tiff b
   along_places = along tiff.head.endian tiff.file tiff.head.first
 
   tested : (last there : Bool) (next x : ℕ) → (if last then None else (if there then (Some next) else None)) ≡ Some x
       → (last ≡ false) × (there ≡ true) × (next ≡ x)
-  tested true there next x e = absurd cc
-  tested false true next x e = (refl, refl, cc)
-  tested false false next x e = absurd cc
+  tested last there next x e = grind arith
 
   -- what is known where a place leads on
   pub led : (i x : ℕ) → onward tiff.head.endian tiff.file (place tiff i) ≡ Some x
       → ((place tiff i == 0) ≡ false) × (is_directory tiff.head.endian tiff.file (place tiff i) ≡ true)
       × (next_offset tiff.head.endian tiff.file (place tiff i) ≡ x)
-  led i x e = tested (place tiff i == 0) (is_directory tiff.head.endian tiff.file (place tiff i))
-      (next_offset tiff.head.endian tiff.file (place tiff i)) x e
+  led i x e = grind arith
 
   -- a place leads on to the next one
   pub leads : (i x : ℕ) → onward tiff.head.endian tiff.file (place tiff i) ≡ Some x → (x ≡ place tiff (i + 1)) × LeadsOn tiff i
-  leads i x e =
-      let same : x ≡ place tiff (i + 1) = sym ((led i x e).2) ∙ sym (place_next i) in
-      (same, e ∙ ap (λ (n : ℕ). Some n) same)
+  leads i x e = grind (arith, place_next)
 
   alike : (i j : ℕ) → place tiff i ≡ place tiff j → LeadsOn tiff j → (x : ℕ) × (onward tiff.head.endian tiff.file (place tiff i) ≡ Some x)
   alike i j same on = (place tiff (j + 1), ap (onward tiff.head.endian tiff.file) same ∙ on)
@@ -77,13 +70,7 @@ module _ (tiff : TiffFile) where
 
     -- a chain whose end leads on turns back there
     pub turns : LeadsOn tiff n → Turns
-    turns on =
-        let p = led n (place tiff (n + 1)) on in
-        elim the_places.ends [
-          | inl e ↦ absurd (cc (e.0, p.0))
-          | inr (inl e) ↦ absurd (cc (e.1, p.1))
-          | inr (inr e) ↦ e
-        ]
+    turns on = grind (arith, the_places)
 
     module _ (j : ℕ) (earlier : j < n) (back : place tiff n ≡ place tiff j) where
       -- each place on the loop has the offset of one of the chain
@@ -169,25 +156,10 @@ module _ (tiff : TiffFile) where
           ]
 
       page_is : page ≡ the_turn.0
-      page_is =
-          let j = the_turn.0 in
-          let earlier : j < n = the_turn.1 in
-          let whole : len ≡ n - j = length_is in
-          let count : j + len ≡ n = omega arith in
-          elim (cases_lt page j) [
-            | inl low ↦ absurd (the_places.apart page (page + len) (omega (arith, some)) (omega arith) turn.again)
-            | inr high ↦ elim (cases_lt j page) [
-              | inl below ↦ absurd (turn.first j below (sym (ap (place tiff) count ∙ the_turn.2)))
-              | inr equal ↦ omega arith
-            ]
-          ]
+      page_is = grind (arith, length_is, the_places)
 
       pub turning : (end ≡ Some DirectoryLoop) × (page + len ≡ n)
-      turning =
-          let earlier : the_turn.0 < n = the_turn.1 in
-          let whole = length_is in
-          let same = page_is in
-          (the_turn.3, omega arith)
+      turning = grind (arith, length_is, page_is)
 
   pub is_turning_page : (start len page : ℕ) → IsRound tiff start len → IsTurn tiff len page → IsTurningPage tiff (Some (page + len))
   is_turning_page start len page round turn = λ offsets end is.
@@ -195,9 +167,7 @@ module _ (tiff : TiffFile) where
       rw (p.0, p.1) refl
 
   not_turning : (end : Option FileFault) (pages : ℕ) → end ≢ Some DirectoryLoop → None ≡ turning_page end pages
-  not_turning None pages h = refl
-  not_turning (Some DirectoryLoop) pages h = absurd (h refl)
-  not_turning (Some _) pages h = refl
+  not_turning end pages h = grind arith
 
   pub no_turning_page : HasNoLoop tiff → IsTurningPage tiff None
   no_turning_page none = λ offsets end is. not_turning end (length offsets) (none offsets end is)

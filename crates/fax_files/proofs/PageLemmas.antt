@@ -1,7 +1,5 @@
 -- Where the strips of a page begin, and where their bytes stand.
 use Rattle.std.proofs.Common.{◌≡◌, ℕ, ◌+◌, ◌-◌, ◌*◌, ◌<◌, ◌≤◌, true, false, List, take, drop, Some, None, refl, arith}
-use Rattle.std.proofs.lemmas.Grind.{div_ceil_times}
-use Rattle.std.proofs.Math.Nat.{add-mul, mul-le-mul_right}
 use Rattle.fax_files.specs.Directory.{is_inside, Entry, value_at}
 use Rattle.fax_files.specs.Page.{strip_bytes}
 use Rattle.fax_files.specs.code.Steps.{bytes_at}
@@ -11,11 +9,7 @@ use Rattle.fax_files.specs.code.Tiff.{AreStripPlaces}
 
 -- a page's strip begins before the page's last row
 pub strip_begins_before : (rows rows_per_strip s : ℕ) → 1 ≤ rows_per_strip → s < strip_count rows rows_per_strip → s * rows_per_strip < rows
-strip_begins_before rows rows_per_strip s some below =
-    let bounds = div_ceil_times rows rows_per_strip some in
-    let up : s + 1 ≤ strip_count rows rows_per_strip = omega arith in
-    let all : (s + 1) * rows_per_strip ≤ strip_count rows rows_per_strip * rows_per_strip = mul-le-mul_right rows_per_strip up in
-    omega (arith, bounds, all, add-mul s 1 rows_per_strip)
+strip_begins_before rows rows_per_strip s some below = grind arith
 
 -- where the bytes of a strip are looked for
 pub strip_place : (directory : TiffDirectory) (count s : ℕ) (offsets counts : Entry) → AreStripPlaces directory count offsets counts
@@ -27,9 +21,7 @@ strip_place directory count s offsets counts are = rw (strip_bytes, are.offsets_
 -- bytes that lie in the file
 pub bytes_inside : (file : List ℕ) (offset len : ℕ) → is_inside file offset len ≡ true
     → bytes_at file offset len ≡ Some (take (offset + len - offset) (drop offset file))
-bytes_inside file offset len inside =
-    let n : offset + len - offset ≡ len = omega arith in
-    rw (inside, n) refl
+bytes_inside file offset len inside = grind arith
 
 -- bytes that do not
 pub bytes_outside : (file : List ℕ) (offset len : ℕ) → is_inside file offset len ≡ false → bytes_at file offset len ≡ None

@@ -3,23 +3,19 @@ use Rattle.std.proofs.Common.{◌≡◌, ℕ, inl, inr, Bool, true, false, not, 
 use Rattle.std.proofs.Common.{append_assoc}
 use Rattle.std.specs.Prelude.{◌==◌, IsTrue, if◌then◌else◌}
 use Rattle.std.specs.List.{list_all}
-use Rattle.std.proofs.lemmas.Bool.{eqb-true, and_parts}
-use Rattle.std.proofs.lemmas.Bool.Decides.{nat_tests}
+use Rattle.std.proofs.lemmas.Bool.{and_parts}
 use Rattle.fax_files.specs.Pbm.{is_white_space, IsPiece, ArePieces, IsGap}
 use Rattle.fax_files.specs.code.Pbm.{is_line_end, is_digit}
 use Rattle.fax_files.specs.code.Pbm.{begins_piece, after_pieces, after_gap, has_digit}
 
 pub white_is_no_hash : (c : ℕ) → is_white_space c ≡ true → (c == 35) ≡ false
-white_is_no_hash c white = grind (arith, nat_tests)
+white_is_no_hash c white = grind arith
 
 pub white_begins : (c : ℕ) → is_white_space c ≡ true → begins_piece c ≡ true
 white_begins c white = rw (white_is_no_hash c white) white
 
-pub digit_begins_none : (c : ℕ) → is_digit c ≡ true → begins_piece c ≡ false
-digit_begins_none c digit = grind (arith, nat_tests)
-
 pub piece_is_no_digit : (c : ℕ) → begins_piece c ≡ true → is_digit c ≡ false
-piece_is_no_digit c piece = grind (arith, nat_tests)
+piece_is_no_digit c piece = grind arith
 
 pub white_is_no_digit : (c : ℕ) → is_white_space c ≡ true → is_digit c ≡ false
 white_is_no_digit c white = piece_is_no_digit c (white_begins c white)
@@ -110,11 +106,7 @@ gap_has_pieces bytes rest has = record { pieces = has.first ∷ has.pieces; gap 
 first_piece : (c : ℕ) (bytes rest : List ℕ) → begins_piece c ≡ true
     → ((in_comment : Bool) → after_pieces in_comment bytes ≡ Some rest → Has in_comment bytes rest)
     → after_pieces (c == 35) bytes ≡ Some rest → HasGap (c ∷ bytes) rest
-first_piece c bytes rest begins has next =
-    elim (c == 35) as (λ v. (c == 35) ≡ v → after_pieces v bytes ≡ Some rest → HasGap (c ∷ bytes) rest) [
-      | true ↦ λ hash more. comment_is_piece c bytes rest (eqb-true c 35 hash) (has true more)
-      | false ↦ λ other more. white_is_piece c bytes rest (rw other at begins) (has false more)
-    ] refl next
+first_piece c bytes rest begins has next = grind (arith, comment_is_piece, white_is_piece)
 
 has_read : (in_comment : Bool) (bytes rest : List ℕ) → after_pieces in_comment bytes ≡ Some rest → Has in_comment bytes rest
 has_read in_comment [] rest is = let no : ⊥ = cc in absurd no
@@ -152,27 +144,13 @@ after_text (t ∷ text) c more all ends =
     let parts = and_parts (not (is_line_end t)) (list_all (λ t. not (is_line_end t)) text) all in
     ap (λ v. after_pieces v (text ++ c ∷ more)) parts.0 ∙ after_text text c more parts.1 ends
 
-white_passed : (c : ℕ) (more : List ℕ) → is_white_space c ≡ true → after_pieces false (c ∷ more) ≡ after_pieces false more
-white_passed c more white =
-    ap (λ v. if v then (after_pieces (c == 35) more) else (Some (c ∷ more))) (white_begins c white)
-    ∙ ap (λ v. after_pieces v more) (white_is_no_hash c white)
-
 piece_passed : (piece more : List ℕ) → IsPiece piece → after_pieces false (piece ++ more) ≡ after_pieces false more
-piece_passed piece more (inl w) =
-    ap (λ (p : List ℕ). after_pieces false (p ++ more)) w.2 ∙ white_passed w.0 more w.1
-piece_passed piece more (inr w) =
-    ap (λ (p : List ℕ). after_pieces false (p ++ more)) w.4
-    ∙ ap (λ (l : List ℕ). after_pieces true l) (append_assoc w.0 (w.1 ∷ []) more)
-    ∙ after_text w.0 w.1 more w.2 w.3
+piece_passed piece more h = grind (arith, append_assoc, after_text)
 
 pieces_passed : (pieces : List (List ℕ)) (gap rest : List ℕ) → ArePieces pieces gap
     → after_pieces false (gap ++ rest) ≡ after_pieces false rest
 pieces_passed [] gap rest are = ap (λ (g : List ℕ). after_pieces false (g ++ rest)) are
-pieces_passed (piece ∷ pieces) gap rest are =
-    ap (λ (g : List ℕ). after_pieces false (g ++ rest)) are.3
-    ∙ ap (λ (l : List ℕ). after_pieces false l) (append_assoc piece are.0 rest)
-    ∙ piece_passed piece (are.0 ++ rest) are.1
-    ∙ pieces_passed pieces are.0 rest are.2
+pieces_passed (piece ∷ pieces) gap rest are = grind (arith, append_assoc, piece_passed, pieces_passed pieces are.0 rest are.2)
 
 -- a gap's first byte
 record Begins (gap : List ℕ) : Type 0 where
@@ -181,15 +159,9 @@ record Begins (gap : List ℕ) : Type 0 where
   begins : begins_piece first ≡ true
   is : gap ≡ first ∷ others
 
-piece_begins : (piece : List ℕ) → IsPiece piece → Begins piece
-piece_begins piece (inl w) = record { first = w.0; others = []; begins = white_begins w.0 w.1; is = w.2 }
-piece_begins piece (inr w) = record { first = 35; others = w.0 ++ w.1 ∷ []; begins = refl; is = w.4 }
-
 pieces_begin : (pieces : List (List ℕ)) (gap : List ℕ) → (pieces ≡ [] → ⊥) → ArePieces pieces gap → Begins gap
 pieces_begin [] gap some are = absurd (some refl)
-pieces_begin (piece ∷ pieces) gap some are =
-    let b = piece_begins piece are.1 in
-    record { first = b.first; others = b.others ++ are.0; begins = b.begins; is = are.3 ∙ ap (λ (p : List ℕ). p ++ are.0) b.is }
+pieces_begin (piece ∷ pieces) gap some are = grind arith
 
 gap_begins : (gap : List ℕ) → IsGap gap → Begins gap
 gap_begins gap is = pieces_begin is.0 gap is.1 is.2
@@ -201,9 +173,7 @@ gap_has_no_digit gap rest is =
     ap (λ (g : List ℕ). has_digit (g ++ rest)) b.is ∙ piece_is_no_digit b.first b.begins
 
 digit_stops : (rest : List ℕ) → has_digit rest ≡ true → after_pieces false rest ≡ Some rest
-digit_stops [] digit = let no : ⊥ = cc in absurd no
-digit_stops (c ∷ rest) digit =
-    ap (λ v. if v then (after_pieces (c == 35) rest) else (Some (c ∷ rest))) (digit_begins_none c digit)
+digit_stops rest digit = grind arith
 
 begun_gap : (c : ℕ) (bytes : List ℕ) → begins_piece c ≡ true → after_gap (c ∷ bytes) ≡ after_pieces false (c ∷ bytes)
 begun_gap c bytes begins = ap (λ v. if v then (after_pieces false (c ∷ bytes)) else None) begins

@@ -1,7 +1,6 @@
 -- The header of a PBM's image: one that is read is one, and each is read, in one way.
-use Rattle.std.proofs.Common.{◌≡◌, ℕ, ◌-◌, ◌≤◌, Bool, true, false, List, ◌∷◌, ◌++◌, length, take, drop, refl, sym, ap, ◌∙◌, arith}
+use Rattle.std.proofs.Common.{◌≡◌, ℕ, ◌-◌, ◌≤◌, Bool, true, false, List, ◌∷◌, ◌++◌, length, take, drop, sym, ap, ◌∙◌, arith}
 use Rattle.std.specs.Prelude.{codes}
-use Rattle.std.proofs.lemmas.Bool.Decides.{nat_tests}
 use Rattle.std.proofs.lemmas.Grind.{common_steps}
 use Rattle.fax_files.specs.declared.pbm.PbmFault.TheVariants.{BadHeader, OutOfLimits}
 use Rattle.fax_files.specs.Pbm.{IsHead, IsImage, IsImageFault, is_within_limits}
@@ -85,11 +84,8 @@ head_passed bytes width height rest head =
       space_is = head.space_is;
     }
 
-pub capped_limits : (width height : ℕ) → is_within_limits (capped width) (capped height) ≡ is_within_limits width height
-capped_limits width height = grind (arith, nat_tests)
-
 pub within_is_exact : (width height : ℕ) → is_within_limits width height ≡ true → (capped width ≡ width) × (capped height ≡ height)
-within_is_exact width height within = grind (arith, nat_tests)
+within_is_exact width height within = grind arith
 
 -- where there is no header
 pub no_head : (bytes : List ℕ) → ((width height : ℕ) (rest : List ℕ) → IsHeadRead bytes width height rest → ⊥)
@@ -102,9 +98,7 @@ head_along bytes w width h height rest width_is height_is head = rw (width_is, h
 
 limits_along : (w width h height : ℕ) (v : Bool) → width ≡ capped w → height ≡ capped h → is_within_limits width height ≡ v
     → is_within_limits w h ≡ v
-limits_along w width h height v width_is height_is within =
-    let same : is_within_limits width height ≡ is_within_limits (capped w) (capped h) = rw (width_is, height_is) refl in
-    sym (capped_limits w h) ∙ sym same ∙ within
+limits_along w width h height v width_is height_is within = grind arith
 
 -- a header within the limits
 pub exact_head : (bytes : List ℕ) (width height : ℕ) (rest : List ℕ) → IsHeadRead bytes width height rest
@@ -130,14 +124,7 @@ head_outside bytes width height rest read outside =
 -- an image after its header
 pub image_read : (bytes : List ℕ) (width height : ℕ) (raster rest : List ℕ) → IsHeadRead bytes width height (raster ++ rest)
     → is_within_limits width height ≡ true → length raster ≡ raster_len width height → IsImage bytes (image_of width height raster) rest
-image_read bytes width height raster rest read within whole = record {
-  height = height;
-  raster = raster;
-  head = exact_head bytes width height (raster ++ rest) read within;
-  within = within;
-  whole = whole;
-  rows_are = refl;
-}
+image_read bytes width height raster rest read within whole = grind (arith, exact_head)
 
 -- the two parts of a list
 pub take_both : (l : List ℕ) (n : ℕ) → l ≡ take n l ++ take (length l - n) (drop n l)

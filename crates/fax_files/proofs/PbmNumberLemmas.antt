@@ -69,12 +69,10 @@ number_is_read bytes digit =
 
 -- digits are read to their end
 stops : (n : ℕ) (after : List ℕ) → has_digit after ≡ false → capped_from n after ≡ n
-stops n [] none = refl
-stops n (c ∷ after) none = ap (λ v. if v then (capped_from (capped (10 * n + (c - 48))) after) else n) none
+stops n after none = grind arith
 
 stays : (after : List ℕ) → has_digit after ≡ false → after_digits after ≡ after
-stays [] none = refl
-stays (c ∷ after) none = ap (λ v. if v then (after_digits after) else (c ∷ after)) none
+stays after none = grind arith
 
 pub digits_passed : (digits after : List ℕ) → list_all is_digit digits ≡ true → has_digit after ≡ false
     → after_digits (digits ++ after) ≡ after

@@ -4,13 +4,12 @@ use Rattle.std.proofs.Common.{subst, ◌∙◌, arith}
 use Rattle.std.proofs.lemmas.Bool.{both_ways}
 use Rattle.std.proofs.lemmas.List.{length-append}
 use Rattle.std.proofs.Math.Seq.{take-append_seam, drop-append_seam}
-use Rattle.fax_bits.specs.declared.Colour.{Colour}
 use Rattle.fax_files.specs.declared.pbm.PbmFault.{PbmFault}
 use Rattle.fax_files.specs.declared.pbm.PbmFault.TheVariants.{BadHeader, OutOfLimits, ShortRaster}
 use Rattle.fax_files.specs.Pbm.{Image, IsHead, IsImage, IsImageFault, AreImages, is_within_limits, raster_rows}
 use Rattle.fax_files.specs.code.Pbm.{raster_len}
 use Rattle.fax_files.specs.code.Pbm.{capped, capped_from, after_gap, after_digits}
-use Rattle.fax_files.proofs.PbmHeadLemmas.{head_passed, capped_limits, within_is_exact}
+use Rattle.fax_files.proofs.PbmHeadLemmas.{head_passed}
 
 of_some : (a b : List ℕ) → Some a ≡ Some b → a ≡ b
 of_some a b same = cc
@@ -41,19 +40,12 @@ one_head bytes width height w h rest others first second =
 
 same_limits : (width height w h : ℕ) → capped width ≡ capped w → capped height ≡ capped h
     → is_within_limits width height ≡ is_within_limits w h
-same_limits width height w h width_is height_is =
-    sym (capped_limits width height)
-    ∙ ap (λ n. is_within_limits n (capped height)) width_is
-    ∙ ap (λ n. is_within_limits (capped w) n) height_is
-    ∙ capped_limits w h
+same_limits width height w h width_is height_is = grind arith
 
 -- within the limits the numbers are the same
 same_sizes : (width height w h : ℕ) → capped width ≡ capped w → capped height ≡ capped h → is_within_limits width height ≡ true
     → (width ≡ w) × (height ≡ h)
-same_sizes width height w h width_is height_is within =
-    let a = within_is_exact width height within in
-    let b = within_is_exact w h (sym (same_limits width height w h width_is height_is) ∙ within) in
-    (sym a.0 ∙ width_is ∙ b.0, sym a.1 ∙ height_is ∙ b.1)
+same_sizes width height w h width_is height_is within = grind arith
 
 front_of : (a b c d : List ℕ) → length a ≡ length c → a ++ b ≡ c ++ d → a ≡ c
 front_of a b c d len same =
@@ -64,10 +56,7 @@ back_of a b c d len same =
     sym (drop-append_seam a b) ∙ ap (λ n. drop n (a ++ b)) len ∙ ap (drop (length c)) same ∙ drop-append_seam c d
 
 same_image : (image other : Image) → image.width ≡ other.width → image.rows ≡ other.rows → image ≡ other
-same_image image other width_is rows_are =
-    let first : image ≡ record { width = other.width; rows = image.rows } =
-    ap (λ w. let i : Image = record { width = w; rows = image.rows } in i) width_is in
-    first ∙ ap (λ (r : List (List Colour)). let i : Image = record { width = other.width; rows = r } in i) rows_are
+same_image image other width_is rows_are = grind arith
 
 pub one_image : (bytes : List ℕ) (image other : Image) (rest others : List ℕ) → IsImage bytes image rest → IsImage bytes other others
     → (image ≡ other) × (rest ≡ others)
@@ -118,15 +107,10 @@ one_fault bytes ShortRaster ShortRaster a b = refl
 
 -- an image has bytes
 image_has_bytes : (bytes : List ℕ) (image : Image) (rest : List ℕ) → IsImage bytes image rest → bytes ≢ []
-image_has_bytes bytes image rest a = λ empty.
-    let spelled = sym empty ∙ a.head.spelled in
-    let no : ⊥ = cc in no
+image_has_bytes bytes image rest a = grind arith
 
 ends_are_one : (bytes : List ℕ) (end other : Option PbmFault) → AreImages bytes [] end → AreImages bytes [] other → end ≡ other
-ends_are_one bytes end other (inl a) (inl b) = a.1 ∙ sym b.1
-ends_are_one bytes end other (inl a) (inr b) = absurd (b.1 a.0)
-ends_are_one bytes end other (inr a) (inl b) = absurd (a.1 b.0)
-ends_are_one bytes end other (inr a) (inr b) = a.3 ∙ ap Some (one_fault bytes a.0 b.0 a.2 b.2) ∙ sym b.3
+ends_are_one bytes end other h h' = grind (arith, one_fault)
 
 end_is_no_image : (bytes : List ℕ) (end : Option PbmFault) (image : Image) (rest : List ℕ) → AreImages bytes [] end
     → IsImage bytes image rest → ⊥

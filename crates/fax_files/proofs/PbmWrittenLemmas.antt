@@ -1,24 +1,21 @@
 -- Images that are written are read back.
-use Rattle.std.proofs.Common.{◌≡◌, ◌≢◌, ℕ, zero, suc, ◌+◌, ◌-◌, ◌*◌, ◌/◌, ◌%◌, ◌^◌, ◌<◌, ◌≤◌, inl, Bool, true, false, ◌&&◌, List, [], ◌∷◌}
-use Rattle.std.proofs.Common.{◌++◌, length, take}
-use Rattle.std.proofs.Common.{drop, map, replicate, None, refl, sym, ap, ◌∙◌, arith, append_assoc}
+use Rattle.std.proofs.lemmas.Grind.{common_steps}
+use Rattle.std.proofs.Common.{◌≡◌, ◌≢◌, ℕ, zero, suc, ◌+◌, ◌/◌, ◌%◌, ◌^◌, ◌<◌, ◌≤◌, inl, Bool, List, [], ◌∷◌}
+use Rattle.std.proofs.Common.{◌++◌, length}
+use Rattle.std.proofs.Common.{drop, None, refl, sym, ap, ◌∙◌, arith, append_assoc}
 use Rattle.std.specs.Prelude.{codes, decimal}
-use Rattle.std.specs.List.{list_all, flat_map}
-use Rattle.std.proofs.lemmas.Bool.{and_from}
-use Rattle.std.proofs.lemmas.Bool.Decides.{nat_tests}
+use Rattle.std.specs.List.{flat_map}
 use Rattle.std.proofs.lemmas.Fmt.{decimal_by_steps}
 use Rattle.std.proofs.lemmas.List.{length-append, length-map}
 use Rattle.std.proofs.lemmas.List.Folds.{list_all-append}
 use Rattle.std.proofs.lemmas.List.Sums.{fold-append}
 use Rattle.std.proofs.Math.Seq.{take-append_seam, drop-append_seam}
 use Rattle.std.specs.Simd.{first_chunks}
-use Rattle.fax_bits.specs.Bits.{byte_of, packed}
-use Rattle.fax_bits.specs.declared.FillOrder.TheVariants.{MsbFirst}
+use Rattle.fax_bits.specs.Bits.{packed}
 use Rattle.fax_bits.specs.declared.Colour.{Colour}
-use Rattle.fax_rows.specs.Coded.{is_black, packed_len, packed_row, unpacked_row}
+use Rattle.fax_rows.specs.Coded.{packed_len, packed_row, unpacked_row}
 use Rattle.fax_rows.specs.laws.Packed.{PackingUndoesUnpacking}
-use Rattle.fax_files.specs.Pbm.{Image, IsHead, IsImage, SpellsNumber, AreImages, is_within_limits}
-use Rattle.fax_files.specs.code.Pbm.{is_digit, spelled_number}
+use Rattle.fax_files.specs.Pbm.{Image, IsHead, IsImage, SpellsNumber, AreImages}
 use Rattle.fax_files.specs.views.Pbm.{head_bytes}
 use Rattle.fax_files.specs.Pbm.{pbm_of, raster_rows}
 use Rattle.fax_files.specs.code.Pbm.{image_bytes, raster_len}
@@ -26,24 +23,14 @@ use Rattle.fax_files.specs.laws.Pbm.{AreOfWidth, IsWritableImage, AreWritableIma
 
 -- decimals as they are written are a number
 digit_is_number : (n : ℕ) → n < 10 → SpellsNumber ((48 + n) ∷ []) n
-digit_is_number n small =
-    let digit : is_digit (48 + n) ≡ true = grind (arith, nat_tests) in
-    ((λ e. cc), ap (λ v. v && true) digit, omega arith)
+digit_is_number n small = grind arith
 
 nonempty_push : (digits : List ℕ) (d : ℕ) → digits ++ d ∷ [] ≢ []
 nonempty_push [] d = λ e. cc
 nonempty_push (c ∷ digits) d = λ e. cc
 
 more_is_number : (n : ℕ) (digits : List ℕ) → 10 ≤ n → SpellsNumber digits (n / 10) → SpellsNumber (digits ++ ((48 + n % 10) ∷ [])) n
-more_is_number n digits large is =
-    let last = 48 + n % 10 in
-    let digit : is_digit last ≡ true = grind (arith, nat_tests) in
-    let last_all : list_all is_digit (last ∷ []) ≡ true = ap (λ v. v && true) digit in (
-      nonempty_push digits last,
-      list_all-append is_digit digits (last ∷ []) ∙ and_from (list_all is_digit digits) (list_all is_digit (last ∷ [])) is.1 last_all,
-      (let spelled : spelled_number (digits ++ last ∷ []) ≡ 10 * spelled_number digits + (last - 48) =
-          fold-append (λ number digit. 10 * number + (digit - 48)) 0 digits (last ∷ []) in omega (arith, is.2)),
-    )
+more_is_number n digits large is = grind (arith, nonempty_push, list_all-append, fold-append)
 
 decimal_is_number : (n : ℕ) → n < 2 ^ 64 → SpellsNumber (decimal n) n
 decimal_is_number = decimal_by_steps (λ n digits. SpellsNumber digits n) digit_is_number more_is_number
@@ -67,9 +54,6 @@ head_written width height rest width_small height_small = record {
   spelled = regroup (codes "P4\n") (decimal width) (codes " ") (decimal height) (codes "\n") rest;
 }
 
-within_is_small : (width height : ℕ) → is_within_limits width height ≡ true → (width < 2 ^ 64) × (height < 2 ^ 64)
-within_is_small width height within = grind (arith, nat_tests)
-
 -- as many chunks as are asked for
 chunk_count : (n : ℕ) (b : List Bool) → length (first_chunks 8 n b) ≡ n
 chunk_count zero b = refl
@@ -77,11 +61,7 @@ chunk_count (suc n) b = ap (λ (k : ℕ). suc k) (chunk_count n (drop 8 b))
 
 length-packed_row : (row : List Colour) → length (packed_row row) ≡ packed_len (length row)
 unfolding packed_row packed
-length-packed_row row =
-    let b = map is_black row ++ replicate 7 false in
-    length-map (first_chunks 8 ((length (map is_black row) + 7) / 8) b) (byte_of MsbFirst)
-    ∙ chunk_count ((length (map is_black row) + 7) / 8) b
-    ∙ ap (λ (n : ℕ). (n + 7) / 8) (length-map row is_black)
+length-packed_row row = grind (arith, length-map, chunk_count)
 
 -- the rows of a raster as it is written
 module _ (law : PackingUndoesUnpacking) where
@@ -94,45 +74,15 @@ module _ (law : PackingUndoesUnpacking) where
   raster_read : (width : ℕ) (rows : List (List Colour)) → AreOfWidth width rows
       → rows ≡ raster_rows width (length rows) (flat_map packed_row rows)
   raster_read width [] are = refl
-  raster_read width (row ∷ rows) are =
-      let bytes = packed_row row in
-      let more = flat_map packed_row rows in
-      let len : length bytes ≡ packed_len width = row_len width row are.0 in
-      let front : take (packed_len width) (bytes ++ more) ≡ bytes = rw (sym len) (take-append_seam bytes more) in
-      let back : drop (packed_len width) (bytes ++ more) ≡ more = rw (sym len) (drop-append_seam bytes more) in
-      sym (
-      ap (λ (l : List ℕ). unpacked_row width l ∷ raster_rows width (length rows) (drop (packed_len width) (bytes ++ more))) front
-      ∙ ap (λ (r : List Colour). r ∷ raster_rows width (length rows) (drop (packed_len width) (bytes ++ more))) (row_read width row are.0)
-      ∙ ap (λ (l : List ℕ). row ∷ raster_rows width (length rows) l) back
-      ∙ ap (λ (l : List (List Colour)). row ∷ l) (sym (raster_read width rows are.1))
-      )
+  raster_read width (row ∷ rows) are = grind (arith, row_len, take-append_seam, drop-append_seam, raster_read width rows are.1)
 
   raster_length : (width : ℕ) (rows : List (List Colour)) → AreOfWidth width rows
       → length (flat_map packed_row rows) ≡ raster_len width (length rows)
   raster_length width [] are = omega arith
-  raster_length width (row ∷ rows) are =
-      let rec = raster_length width rows are.1 in
-      length-append (packed_row row) (flat_map packed_row rows)
-      ∙ ap (λ n. n + length (flat_map packed_row rows)) (row_len width row are.0)
-      ∙ ap (λ n. packed_len width + n) rec
-      ∙ more_rows (length rows) (packed_len width)
-    where
-      more_rows : (n len : ℕ) → len + n * len ≡ suc n * len
-      more_rows n len = grind arith
+  raster_length width (row ∷ rows) are = grind (arith, length-append, row_len, raster_length width rows are.1)
 
   image_written : (image : Image) (rest : List ℕ) → IsWritableImage image → IsImage (image_bytes image ++ rest) image rest
-  image_written image rest is =
-      let height = length image.rows in
-      let raster = flat_map packed_row image.rows in
-      let small = within_is_small image.width height is.within in
-      record {
-        height = height;
-        raster = raster;
-        head = rw append_assoc (head_written image.width height (raster ++ rest) small.0 small.1);
-        within = is.within;
-        whole = raster_length image.width image.rows is.rows;
-        rows_are = raster_read image.width image.rows is.rows;
-      }
+  image_written image rest is = grind (arith, common_steps, head_written, raster_length, raster_read)
 
   pub images_written : (images : List Image) → AreWritableImages images → AreImages (pbm_of images) images None
   images_written [] are = inl (refl, refl)

@@ -1,13 +1,14 @@
 -- Bytes that stand at a place of a file.
-use Rattle.std.proofs.Common.{◌≡◌, ℕ, ◌+◌, ◌-◌, ◌^◌, ◌<◌, ◌≤◌, true, List, [], ◌∷◌, ◌++◌, length, take, drop, Some, refl, sym, ap, ◌∙◌}
+use Rattle.std.proofs.lemmas.Grind.{common_steps}
+use Rattle.std.proofs.Common.{rules}
+use Rattle.std.proofs.Common.{◌≡◌, ℕ, ◌+◌, ◌-◌, ◌^◌, ◌<◌, ◌≤◌, List, [], ◌++◌, length, take, drop, Some, refl, sym, ap, ◌∙◌}
 use Rattle.std.proofs.Common.{append_assoc, arith}
 use Rattle.std.proofs.lemmas.List.{length-append, length-drop, length-take-le, take-append-drop, drop_at, drop-append-le}
 use Rattle.std.proofs.Math.Seq.{take-append_seam, take-append-add}
-use Rattle.std.proofs.lemmas.Bool.{le-leb}
 use Rattle.byteorder.specs.Endian.{little_bytes}
 use Rattle.byteorder.specs.Numbers.{little_number-reads_back}
 use Rattle.fax_files.specs.declared.Endian.TheVariants.{Little}
-use Rattle.fax_files.specs.Directory.{is_inside, number_at}
+use Rattle.fax_files.specs.Directory.{number_at}
 use Rattle.fax_files.specs.code.Steps.{bytes_at}
 use Rattle.fax_files.specs.Layout.{four}
 use Rattle.fax_files.specs.code.Parts.{with_four_at}
@@ -25,12 +26,7 @@ at_place e h = record { before = h.before; after = h.after; there = h.there; pla
 
 -- the first part of what stands there
 pub at_left : {file : List ℕ} {p : ℕ} (xs ys : List ℕ) → HasBytesAt file p (xs ++ ys) → HasBytesAt file p xs
-at_left xs ys h = record {
-  before = h.before;
-  after = ys ++ h.after;
-  there = h.there ∙ ap (λ (l : List ℕ). h.before ++ l) (append_assoc xs ys h.after);
-  place_is = h.place_is;
-}
+at_left xs ys h = grind (arith, append_assoc)
 
 -- the rest of it
 pub at_right : {file : List ℕ} {p : ℕ} (xs ys : List ℕ) → HasBytesAt file p (xs ++ ys) → HasBytesAt file (p + length xs) ys
@@ -44,9 +40,7 @@ at_right xs ys h = record {
 
 -- bytes that stand at a place lie in the file
 pub at_inside : {file : List ℕ} {p : ℕ} (bytes : List ℕ) → HasBytesAt file p bytes → p + length bytes ≤ length file
-at_inside bytes h =
-    let n = ap length h.there in
-    omega (arith, n, h.place_is, length-append h.before (bytes ++ h.after), length-append bytes h.after)
+at_inside bytes h = grind (arith, length-append)
 
 -- all that stands from the place on
 pub at_drop : {file : List ℕ} {p : ℕ} (bytes : List ℕ) → (h : HasBytesAt file p bytes) → drop p file ≡ bytes ++ h.after
@@ -58,26 +52,11 @@ at_start xs ys = record { before = []; after = ys; there = refl; place_is = refl
 
 -- a file's last bytes
 pub at_end : (xs ys : List ℕ) → HasBytesAt (xs ++ ys) (length xs) ys
-at_end xs ys = record {
-  before = xs;
-  after = [];
-  there = ap (λ (l : List ℕ). xs ++ l) (sym (append-nil' ys));
-  place_is = refl;
-} where
-  append-nil' : (l : List ℕ) → l ++ [] ≡ l
-  append-nil' [] = refl
-  append-nil' (x ∷ l) = ap (λ (m : List ℕ). x ∷ m) (append-nil' l)
+at_end xs ys = search rules
 
 -- a file that grows keeps its bytes
 pub at_grown : {file : List ℕ} {p : ℕ} (bytes more : List ℕ) → HasBytesAt file p bytes → HasBytesAt (file ++ more) p bytes
-at_grown bytes more h = record {
-  before = h.before;
-  after = h.after ++ more;
-  there =
-      ap (λ (l : List ℕ). l ++ more) h.there ∙ append_assoc h.before (bytes ++ h.after) more
-      ∙ ap (λ (l : List ℕ). h.before ++ l) (append_assoc bytes h.after more);
-  place_is = h.place_is;
-}
+at_grown bytes more h = grind (arith, append_assoc)
 
 -- a number that stands at a place is read there
 pub number_there : (n : ℕ) {file : List ℕ} {p x : ℕ} → HasBytesAt file p (little_bytes n x) → x < 256 ^ n → number_at Little n file p ≡ x
@@ -86,9 +65,7 @@ number_there n {x = x} h lt = rw (at_drop (little_bytes n x) h) (little_number-r
 
 -- bytes that stand at a place are found there
 pub bytes_there : {file : List ℕ} {p : ℕ} (bytes : List ℕ) → HasBytesAt file p bytes → bytes_at file p (length bytes) ≡ Some bytes
-bytes_there {file} {p} bytes h =
-    let inside : is_inside file p (length bytes) ≡ true = le-leb _ _ (at_inside bytes h) in
-    rw (inside, at_drop bytes h, take-append_seam bytes h.after) refl
+bytes_there {file} {p} bytes h = grind (arith, common_steps)
 
 -- the bytes that a file has at a place stand there
 pub at_slice : (file : List ℕ) (p n : ℕ) → p + n ≤ length file → HasBytesAt file p (take n (drop p file))
@@ -108,24 +85,11 @@ slice_there bytes h = ap (take (length bytes)) (at_drop bytes h) ∙ take-append
 
 -- bytes that stand outside of a place to which four bytes are written stay
 pub length-patched : (file : List ℕ) (link n : ℕ) → link + 4 ≤ length file → length (with_four_at file link n) ≡ length file
-length-patched file link n le =
-    omega (
-      arith,
-      length-append (take link file ++ four n) (drop (link + 4) file),
-      length-append (take link file) (four n),
-      length-take-le
-          link file (omega arith),
-      length-drop (link + 4) file,
-    )
+length-patched file link n le = grind (arith, length-append, length-take-le, length-drop)
 
 -- what is written there stands there
 pub at_patch : (file : List ℕ) (link n : ℕ) → link + 4 ≤ length file → HasBytesAt (with_four_at file link n) link (four n)
-at_patch file link n le = record {
-  before = take link file;
-  after = drop (link + 4) file;
-  there = append_assoc (take link file) (four n) (drop (link + 4) file);
-  place_is = length-take-le link file (omega arith);
-}
+at_patch file link n le = grind (arith, append_assoc, length-take-le)
 
 -- bytes before the place stay
 pub at_before_patch : {file : List ℕ} {p : ℕ} (bytes : List ℕ) (link n : ℕ) → p + length bytes ≤ link

@@ -1,44 +1,37 @@
 -- The form of a page is that of its fields, and within the limits.
-use Rattle.std.proofs.Common.{◌≡◌, ◌≢◌, ℕ, ◌-◌, ◌/◌, ◌%◌, ◌^◌, ◌≤◌, min, Bool, true, false, List, Option, Some, None, Result, Ok, Err}
-use Rattle.std.proofs.Common.{refl, sym, ap, subst, ◌∙◌, arith}
+use Rattle.std.proofs.Common.{◌≡◌, ◌≢◌, ℕ, ◌-◌, ◌/◌, ◌%◌, ◌^◌, ◌≤◌, min, Bool, true, List, Option, Some, None, Result, Ok}
+use Rattle.std.proofs.Common.{refl, sym, subst, ◌∙◌, arith}
 use Rattle.std.specs.Int.{div_ceil}
 use Rattle.fax_bits.specs.declared.FillOrder.TheVariants.{LsbFirst, MsbFirst}
 use Rattle.fax_page.specs.declared.Coding.TheVariants.{Mh, Mr, Mmr}
-use Rattle.std.specs.Prelude.{IfOk, option_and_then, nat_lt, ◌==◌, if◌then◌else◌}
+use Rattle.std.specs.Prelude.{IfOk, nat_lt, ◌==◌, if◌then◌else◌}
 use Rattle.std.proofs.lemmas.Bool.Decides.{nat_tests}
-use Rattle.fax_files.specs.Directory.{◌>>=◌, Endian, FileFault, Entry, check, entries, field, has_integers, needed, scalar, value_at}
+use Rattle.fax_files.specs.Directory.{◌>>=◌, Endian, FileFault, Entry, check, entries, field, scalar}
 use Rattle.fax_files.specs.Page.{PageForm, form_in, is_between, most_pels, most_rows, page, strip_bytes}
 use Rattle.fax_files.specs.declared.FileFault.TheVariants.{BadField, OutOfLimits, Unsupported}
 use Rattle.fax_files.specs.declared.tags.TheConstants as Tags
-use Rattle.fax_files.specs.code.Steps.{IsFormOf, bytes_at, first_number, placed_bytes, resolution_in, strip_field}
+use Rattle.fax_files.specs.code.Steps.{IsFormOf, first_number, placed_bytes, resolution_in, strip_field}
 
 -- the value of a step that did not fail
 pub bind_ok : {A B : Type 0} (r : Result A FileFault) (next : A → Result B FileFault) (y : B) → (r >>= next) ≡ Ok y
     → (x : A) × (r ≡ Ok x) × (next x ≡ Ok y)
-bind_ok (Ok x) next y e = (x, refl, e)
-bind_ok (Err fault) next y e = absurd cc
+bind_ok r next y e = grind arith
 
 pub checked : {A : Type 0} (test : Bool) (fault : FileFault) (next : Unit {0} → Result A FileFault) (y : A)
     → (check test fault >>= next) ≡ Ok y → (test ≡ true) × (next tt ≡ Ok y)
-checked true fault next y e = (refl, e)
-checked false fault next y e = absurd cc
+checked test fault next y e = grind arith
 
 -- what holds after a step holds, where the step did not fail
 after : {A B : Type 0} (P : B → Type 0) (r : Result A FileFault) (next : A → Result B FileFault)
     → ((x : A) → r ≡ Ok x → IfOk (next x) P) → IfOk (r >>= next) P
-after P (Ok x) next holds = holds x refl
-after P (Err fault) next holds = tt
+after P r next holds = grind arith
 
 module _ (endian : Endian) (file : List ℕ) (fields : List Entry) where
   -- a scalar passed its test
   pub passed : (tag : ℕ) (absent : Option ℕ) (test : ℕ → Bool) (fault : ℕ → FileFault) (n : ℕ)
       → scalar endian file fields tag absent test fault ≡ Ok n → test n ≡ true
   unfolding scalar
-  passed tag absent test fault n is =
-      let first = bind_ok _ (λ n. check (test n) (fault tag) >>= λ _. Ok n) n is in
-      let test_is = checked (test first.0) (fault tag) (λ _. Ok first.0) n first.2 in
-      let same : first.0 ≡ n = cc in
-      rw same at test_is.0
+  passed tag absent test fault n is = grind arith
 
   -- a scalar whose first value passes its test
   pub taken : (tag : ℕ) (absent : Option ℕ) (test : ℕ → Bool) (fault : ℕ → FileFault) (n : ℕ)
@@ -52,12 +45,7 @@ module _ (endian : Endian) (file : List ℕ) (fields : List Entry) where
   -- EOLs are aligned only where rows have them
   no_mmr : (compression options : ℕ) (is_t6 odd : Bool) → (if is_t6 then (Ok 0) else t4_options) ≡ Ok options
       → (options / 4 % 2 == 1) ≡ true → (if is_t6 then Mmr else (if odd then Mr else Mh)) ≢ Mmr
-  no_mmr compression options true odd options_are aligned =
-      let none : options ≡ 0 = cc in
-      let no : false ≡ true = rw none at aligned in
-      absurd cc
-  no_mmr compression options false true options_are aligned = λ same. cc
-  no_mmr compression options false false options_are aligned = λ same. cc
+  no_mmr compression options is_t6 odd options_are aligned = grind arith
 
   -- the form that fields say is within the limits
   pub form_within : IfOk (form_in endian file fields) (IsFormOf endian file fields)
@@ -107,19 +95,7 @@ module _ (endian : Endian) (file : List ℕ) (fields : List Entry) where
 -- a form that is handed out after two steps
 same_end : {A B C : Type 0} (a : Result A FileFault) (b : Result B FileFault) (made form : C) → (a >>= λ _. b >>= λ _. Ok made) ≡ Ok form
     → form ≡ made
-same_end (Ok x) (Ok y) made form e = cc
-same_end (Ok x) (Err fault) made form e = absurd cc
-same_end (Err fault) b made form e = absurd cc
-
--- the entry of a tag and its test, and then what is left
-strip_step : {A : Type 0} (r : Result Entry FileFault) (test : Entry → Bool) (fault : FileFault) (next : Result A FileFault)
-    → (r >>= λ entry. check (test entry) fault >>= λ _. next) ≡ ((r >>= λ entry. check (test entry) fault >>= λ _. Ok entry) >>= λ _. next)
-strip_step (Err f) test fault next = refl
-strip_step (Ok entry) test fault next = go (test entry)
-  where
-    go : (b : Bool) → (check b fault >>= λ _. next) ≡ ((check b fault >>= λ _. Ok entry) >>= λ _. next)
-    go true = refl
-    go false = refl
+same_end a b made form e = grind arith
 
 module _ (endian : Endian) (file : List ℕ) (q : ℕ) where
   abbrev pub after_form : PageForm → Result PageForm FileFault
@@ -130,23 +106,7 @@ module _ (endian : Endian) (file : List ℕ) (q : ℕ) where
   -- a page has the form that its fields say, where its strips have their entries
   pub page_is : page endian file q ≡ (form_in endian file (entries endian file q) >>= after_form)
   unfolding page
-  page_is = go (form_in endian file (entries endian file q))
-    where
-      fields : List Entry
-      fields = entries endian file q
-
-      go : (r : Result PageForm FileFault)
-          → (r >>= λ form. needed fields Tags.STRIP_OFFSETS
-          >>= λ offsets. check (has_integers endian file offsets form.strips) (BadField Tags.STRIP_OFFSETS)
-          >>= λ _. needed fields Tags.STRIP_BYTE_COUNTS
-          >>= λ counts. check (has_integers endian file counts form.strips) (BadField Tags.STRIP_BYTE_COUNTS) >>= λ _. Ok form)
-          ≡ (r >>= after_form)
-      go (Err fault) = refl
-      go (Ok form) =
-          strip_step (needed fields Tags.STRIP_OFFSETS) (λ offsets. has_integers endian file offsets form.strips) (BadField Tags.STRIP_OFFSETS) _
-          ∙ ap (λ next. strip_field endian file fields Tags.STRIP_OFFSETS form.strips >>= λ _. next)
-          (strip_step (needed fields Tags.STRIP_BYTE_COUNTS) (λ counts. has_integers endian file counts form.strips)
-          (BadField Tags.STRIP_BYTE_COUNTS) (Ok form))
+  page_is = grind arith
 
   -- so it is within the limits
   pub form_of_fields : (form : PageForm) → page endian file q ≡ Ok form → IsFormOf endian file (entries endian file q) form
@@ -157,18 +117,7 @@ module _ (endian : Endian) (file : List ℕ) (q : ℕ) where
       let within = subst (λ r. IfOk r (IsFormOf endian file fields)) made.1 (form_within endian file fields) in
       subst (IsFormOf endian file fields) (sym (same_end (field Tags.STRIP_OFFSETS) (field Tags.STRIP_BYTE_COUNTS) made.0 form made.2)) within
 
--- the bytes of a strip are found by two entries
-placed_from : (endian : Endian) (file : List ℕ) (s : ℕ) (offsets counts : Option Entry)
-    → option_and_then (λ at_offsets. option_and_then
-    (λ at_counts. bytes_at file (value_at endian file at_offsets s) (value_at endian file at_counts s)) counts) offsets
-    ≡ placed_bytes endian file offsets counts s
-placed_from endian file s None None = refl
-placed_from endian file s None (Some counts) = refl
-placed_from endian file s (Some offsets) None = refl
-placed_from endian file s (Some offsets) (Some counts) = refl
-
 pub strip_is_placed : (endian : Endian) (file : List ℕ) (q s : ℕ) → strip_bytes endian file q s
     ≡ placed_bytes endian file (field (entries endian file q) Tags.STRIP_OFFSETS) (field (entries endian file q) Tags.STRIP_BYTE_COUNTS) s
 unfolding strip_bytes
-strip_is_placed endian file q s =
-    placed_from endian file s (field (entries endian file q) Tags.STRIP_OFFSETS) (field (entries endian file q) Tags.STRIP_BYTE_COUNTS)
+strip_is_placed endian file q s = grind arith

@@ -1,9 +1,9 @@
 -- A page that is added to a file.
-use Rattle.std.proofs.Common.{◌≡◌, ℕ, ◌+◌, ◌-◌, ◌*◌, ◌%◌, ◌<◌, ◌≤◌, true, false, List, [], ◌∷◌, ◌++◌, length, take, drop, Vec, inl, inr}
-use Rattle.std.proofs.Common.{refl, sym, ap, subst, ◌∙◌, arith, append_assoc}
+use Rattle.std.proofs.Common.{◌≡◌, ℕ, ◌+◌, ◌-◌, ◌*◌, ◌%◌, ◌<◌, ◌≤◌, false, List, [], ◌∷◌, ◌++◌, length, Vec}
+use Rattle.std.proofs.Common.{sym, ap, subst, ◌∙◌, arith, append_assoc}
 use Rattle.std.specs.Prelude.{◌==◌, nat_le, if◌then◌else◌, replicate}
 use Rattle.std.specs.declared.alloc.Global.{Global}
-use Rattle.std.proofs.lemmas.Bool.{cases_eq, eq-eqb, ne_eqb, le-leb, lt-leb}
+use Rattle.std.proofs.lemmas.Bool.{ne_eqb}
 use Rattle.std.proofs.lemmas.List.{length-append, length-replicate, take-append-le, drop-append-le}
 use Rattle.fax_files.specs.declared.PageForm.{PageForm}
 use Rattle.fax_files.specs.declared.written.Layout.{Layout}
@@ -22,42 +22,25 @@ use Rattle.fax_files.specs.code.Writing.{IsWriting, IsLayout, laid_out_fields, t
 use Rattle.fax_files.proofs.PlaceLemmas.{length-patched}
 use Rattle.fax_files.proofs.WritingLemmas.{length-contents}
 use Rattle.fax_files.proofs.WrittenStripLemmas.{length-offsets_from, length-lengths_of}
-use Rattle.fax_files.proofs.WrittenPageLemmas.{some_strips}
 use Rattle.fax_files.proofs.WrittenFileLemmas.{length-with_page}
 
 -- the values of the entries of strips
 offsets_value : (start place n : ℕ) (strips : List (List ℕ)) → length strips ≡ n
     → (if n == 1 then start else place) ≡ one_or_place (offsets_from start strips) place
-offsets_value start place n [] count =
-    let many : (n == 1) ≡ false = ne_eqb _ _ (λ e. absurd (omega arith)) in
-    rw many refl
-offsets_value start place n (strip ∷ []) count =
-    let one : (n == 1) ≡ true = eq-eqb _ _ (omega arith) in
-    rw one refl
-offsets_value start place n (strip ∷ next ∷ strips) count =
-    let many : (n == 1) ≡ false = ne_eqb _ _ (λ e. absurd (omega arith)) in
-    rw many refl
+offsets_value start place n [] count = grind arith
+offsets_value start place n (strip ∷ []) count = grind arith
+offsets_value start place n (strip ∷ next ∷ strips) count = grind arith
 
 lengths_value : (start end place n : ℕ) (strips : List (List ℕ)) → length strips ≡ n → end ≡ start + length (joined_strips strips)
     → (if n == 1 then (end - start) else place) ≡ one_or_place (lengths_of strips) place
-lengths_value start end place n [] count end_is =
-    let many : (n == 1) ≡ false = ne_eqb _ _ (λ e. absurd (omega arith)) in
-    rw many refl
-lengths_value start end place n (strip ∷ []) count end_is =
-    let one : (n == 1) ≡ true = eq-eqb _ _ (omega arith) in
-    let len : end - start ≡ length strip = omega (arith, end_is, length-append strip (joined_strips [])) in
-    rw one len
-lengths_value start end place n (strip ∷ next ∷ strips) count end_is =
-    let many : (n == 1) ≡ false = ne_eqb _ _ (λ e. absurd (omega arith)) in
-    rw many refl
+lengths_value start end place n [] count end_is = grind arith
+lengths_value start end place n (strip ∷ []) count end_is = grind (arith, length-append)
+lengths_value start end place n (strip ∷ next ∷ strips) count end_is = grind (arith, ne_eqb)
 
 -- a file that was patched grows as it would have before
 patched : (bytes more : List ℕ) (link n : ℕ) → link + 4 ≤ length bytes
     → with_four_at (bytes ++ more) link n ≡ with_four_at bytes link n ++ more
-patched bytes more link n inside =
-    let front : take link (bytes ++ more) ≡ take link bytes = take-append-le link bytes more (omega arith) in
-    let back : drop (link + 4) (bytes ++ more) ≡ drop (link + 4) bytes ++ more = drop-append-le (link + 4) bytes more inside in
-    rw (front, back) (sym (append_assoc (take link bytes ++ four n) (drop (link + 4) bytes) more))
+patched bytes more link n inside = grind (arith, take-append-le, drop-append-le, append_assoc)
 
 regrouped : (j r f z v : List ℕ) → j ++ (r ++ (f ++ z ++ v)) ≡ j ++ r ++ f ++ z ++ v
 regrouped j r f z v = simp append_assoc
@@ -83,10 +66,7 @@ module _ (bytes : List ℕ) (link total added end : ℕ) (form : PageForm) (stri
 
   new_split : length new.bytes ≡ length bytes + length (page_bytes (length bytes) total added form (contents strips))
   unfolding with_page
-  new_split =
-      let q = directory_place (length bytes) (contents strips) in
-      let page = page_bytes (length bytes) total added form (contents strips) in
-      length-append (with_four_at bytes link q) page ∙ ap (λ (n : ℕ). n + length page) (length-patched bytes link q inside)
+  new_split = grind (arith, length-append, length-patched)
 
   pub too_long : max_file < length bytes + length (joined_strips (contents strips)) → max_file < length new.bytes
   too_long long = omega (arith, new_length)
@@ -94,19 +74,7 @@ module _ (bytes : List ℕ) (link total added end : ℕ) (form : PageForm) (stri
   -- its strips end there
   module _ (end_is : end ≡ length bytes + length (joined_strips (contents strips))) where
     pub size : length new.bytes ≡ page_end (end + end % 2) form.strips
-    size = elim (cases_eq form.strips 1) [
-      | inl one ↦
-          (let single : (form.strips == 1) ≡ true = eq-eqb _ _ one in
-          let few : nat_le (length (contents strips)) 1 ≡ true = le-leb _ _ (omega (arith, count)) in
-          let sum = rw few at new_length in
-          rw (single, end_is) sum)
-      | inr many ↦
-          (let several : (form.strips == 1) ≡ false = ne_eqb _ _ many in
-          let some = some_strips (record { form = form; strips = contents strips }) writable in
-          let more : nat_le (length (contents strips)) 1 ≡ false = lt-leb _ _ (omega (arith, count, some, many)) in
-          let sum = rw more at new_length in
-          rw (several, end_is) (omega (arith, sum, count)))
-    ]
+    size = grind (arith, count, new_length)
 
     module _ (at : Layout) (laid : IsLayout at form.strips (length bytes) end added total) where
       place : at.directory ≡ directory_place (length bytes) (contents strips)
@@ -115,14 +83,7 @@ module _ (bytes : List ℕ) (link total added end : ℕ) (form : PageForm) (stri
       fields_are : laid_out_fields at form
           ≡ fields_of (directory_place (length bytes) (contents strips)) total added form (offsets_from (length bytes) (contents strips))
           (lengths_of (contents strips))
-      fields_are =
-          let offsets = laid.offsets_are ∙ offsets_value (length bytes) (at.directory + to_offsets) form.strips (contents strips) count in
-          let counts = laid.byte_counts_are ∙ lengths_value (length bytes) end (at.directory + to_offsets + 4 * form.strips) form.strips
-          (contents strips) count end_is in
-          let offsets_len : length (offsets_from (length bytes) (contents strips)) ≡ form.strips =
-          length-offsets_from (length bytes) (contents strips) ∙ count in
-          let counts_len : length (lengths_of (contents strips)) ≡ form.strips = length-lengths_of (contents strips) ∙ count in
-          rw (laid.total_is, laid.number_is, offsets, counts, laid.strips_are, place, offsets_len, counts_len) refl
+      fields_are = grind (arith, offsets_value, count, lengths_value, length-offsets_from, length-lengths_of)
 
       pub page_is : (tail : List ℕ) → tail ≡ tail_bytes end (laid_out_fields at form) form (length bytes) (contents strips)
           → joined_strips (contents strips) ++ tail ≡ page_bytes (length bytes) total added form (contents strips)
@@ -164,10 +125,7 @@ module _ (bytes : List ℕ) (link total added end : ℕ) (form : PageForm) (stri
 
       pub still_writing : (now : List ℕ) → now ≡ new.bytes → page_end (end + end % 2) form.strips ≤ max_file
           → IsWriting now (at.directory + to_link)
-      still_writing now now_is short = record {
-        link_inside = rw now_is (omega (arith, size, laid.directory_is));
-        limit = rw now_is (omega (arith, size, short));
-      }
+      still_writing now now_is short = grind (arith, size)
 
 -- a page that is written for a place of a file, whatever stands before it
 module _ (start total added : ℕ) (form : PageForm) (strips : List (Vec ℕ Global)) (header : 8 ≤ start) (limits : IsPageForm form)
@@ -204,10 +162,6 @@ module _ (start total added : ℕ) (form : PageForm) (strips : List (Vec ℕ Glo
 
     laid_there : IsLayout at form.strips (length front) end added total
     laid_there = subst (λ n. IsLayout at form.strips n end added total) (sym front_len) laid
-
-    pub page_place : at.directory ≡ directory_place start (contents strips)
-    page_place = subst (λ n. at.directory ≡ directory_place n (contents strips)) front_len
-        (place_is front 0 total added end form strips room limits exchanged counted there at laid_there)
 
     pub whole_page : (tail bytes : List ℕ) → tail ≡ tail_bytes end (laid_out_fields at form) form start (contents strips)
         → bytes ≡ joined_strips (contents strips) ++ tail → bytes ≡ page_bytes start total added form (contents strips)

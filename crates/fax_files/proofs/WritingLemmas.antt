@@ -12,19 +12,15 @@ pub contents_more : (strips : List (Vec ℕ Global)) (i : ℕ) (strip : Vec ℕ 
     → contents (take (i + 1) strips) ≡ contents (take i strips) ++ strip.items ∷ []
 contents_more [] i strip lt is = absurd (omega arith)
 contents_more (first ∷ strips) zero strip lt is = ap (λ (v : Vec ℕ Global). v.items ∷ []) (sym is)
-contents_more (first ∷ strips) (suc i) strip lt is =
-    let n : suc i + 1 ≡ suc (i + 1) = omega arith in
-    rw n (ap (λ (l : List (List ℕ)). first.items ∷ l) (contents_more strips i strip (omega arith) is))
+contents_more (first ∷ strips) (suc i) strip lt is = grind (arith, contents_more strips i strip (omega arith) is)
 
 joined-push : (strips : List (List ℕ)) (strip : List ℕ) → joined_strips (strips ++ strip ∷ []) ≡ joined_strips strips ++ strip
 joined-push [] strip = append-nil strip
-joined-push (first ∷ strips) strip =
-    ap (λ (l : List ℕ). first ++ l) (joined-push strips strip) ∙ sym (append_assoc first (joined_strips strips) strip)
+joined-push (first ∷ strips) strip = grind (arith, append_assoc, joined-push strips strip)
 
 longs-push : (numbers : List ℕ) (n : ℕ) → longs (numbers ++ n ∷ []) ≡ longs numbers ++ four n
 longs-push [] n = append-nil (four n)
-longs-push (first ∷ numbers) n =
-    ap (λ (l : List ℕ). four first ++ l) (longs-push numbers n) ∙ sym (append_assoc (four first) (longs numbers) (four n))
+longs-push (first ∷ numbers) n = grind (arith, longs-push numbers n)
 
 lengths_of-push : (strips : List (List ℕ)) (strip : List ℕ) → lengths_of (strips ++ strip ∷ []) ≡ lengths_of strips ++ length strip ∷ []
 lengths_of-push [] strip = refl
@@ -33,25 +29,14 @@ lengths_of-push (first ∷ strips) strip = ap (λ (l : List ℕ). length first �
 offsets_from-push : (start : ℕ) (strips : List (List ℕ)) (strip : List ℕ)
     → offsets_from start (strips ++ strip ∷ []) ≡ offsets_from start strips ++ (start + length (joined_strips strips)) ∷ []
 offsets_from-push start [] strip = ap (λ (n : ℕ). n ∷ []) (omega arith)
-offsets_from-push start (first ∷ strips) strip =
-    let n : start + length first + length (joined_strips strips) ≡ start + length (first ++ joined_strips strips) =
-    omega (arith, length-append first (joined_strips strips)) in
-    ap (λ (l : List ℕ). start ∷ l)
-    (offsets_from-push (start + length first) strips strip ∙ ap (λ (m : ℕ). offsets_from (start + length first) strips ++ m ∷ []) n)
+offsets_from-push start (first ∷ strips) strip = grind (arith, length-append, offsets_from-push (start + length first) strips strip)
 
 -- the strips up to one are no longer than all
 joined-take : (strips : List (Vec ℕ Global)) (i : ℕ)
     → length (joined_strips (contents (take i strips))) ≤ length (joined_strips (contents strips))
 joined-take strips zero = omega arith
 joined-take [] (suc i) = omega arith
-joined-take (first ∷ strips) (suc i) =
-    omega (
-      arith,
-      joined-take strips i,
-      length-append first.items (joined_strips (contents (take i strips))),
-      length-append first.items
-          (joined_strips (contents strips)),
-    )
+joined-take (first ∷ strips) (suc i) = grind (arith, length-append, joined-take strips i)
 
 -- what is put for strip i of these
 module _ (strips : List (Vec ℕ Global)) (i : ℕ) (strip : Vec ℕ Global) (lt : i < length strips) (is : strip ≡ get_or strips i strip) where
@@ -92,11 +77,7 @@ length-contents (first ∷ strips) = ap suc (length-contents strips)
 
 -- numbers stand after the directory where there is not one
 pub array_of_many : (numbers : List ℕ) → (length numbers ≡ 1 → ⊥) → array_bytes numbers ≡ longs numbers
-array_of_many [] many = refl
-array_of_many (n ∷ []) many = absurd (many refl)
-array_of_many (m ∷ n ∷ numbers) many = refl
+array_of_many numbers many = grind arith
 
 pub array_of_one : (numbers : List ℕ) → length numbers ≡ 1 → array_bytes numbers ≡ []
-array_of_one [] one = refl
-array_of_one (n ∷ []) one = refl
-array_of_one (m ∷ n ∷ numbers) one = absurd (omega arith)
+array_of_one numbers one = grind arith

@@ -62,20 +62,12 @@ HasValues file place (written ∷ fields) = HasBytesAt file (place + 8) written.
 
 pub length-field_bytes : (written : WrittenField) → Fits written → length (field_bytes written) ≡ 12
 unfolding field_bytes
-length-field_bytes written fits =
-    omega (arith, fits.value, length-append (two written.tag ++ two written.kind ++ four written.count) written.value)
+length-field_bytes written fits = grind arith
 
 -- fields take twelve bytes each
 pub length-fields : (fields : List WrittenField) → AllFit fields → length (flat_map field_bytes fields) ≡ 12 * length fields
 length-fields [] fit = refl
-length-fields (written ∷ fields) fit =
-    omega (
-      arith,
-      length-append (field_bytes written) (flat_map field_bytes fields),
-      length-field_bytes written fit.0,
-      length-fields fields
-          fit.1,
-    )
+length-fields (written ∷ fields) fit = grind (arith, length-append, length-field_bytes, length-fields fields)
 
 entry_there : (file : List ℕ) (p : ℕ) (written : WrittenField) → Fits written → HasBytesAt file p (field_bytes written)
     → entry_at Little file p ≡ read_field p written
@@ -124,12 +116,8 @@ field_there file place tag (first ∷ fields) written values found =
     step : (same : Bool) → (first.tag == tag) ≡ same → cond same (Some first) (written_field fields tag) ≡ Some written
         → (written_field fields tag ≡ Some written → FieldThere file (place + 12) tag fields written)
         → FieldThere file place tag (first ∷ fields) written
-    step true e f rest =
-        let here : first ≡ written = cc in
-        record { at_entry = place; entry_is = rw (e, here) refl; value_is = rw here at values.0 }
-    step false e f rest =
-        let there = rest f in
-        record { at_entry = there.at_entry; entry_is = rw e there.entry_is; value_is = there.value_is }
+    step true e f rest = grind arith
+    step false e f rest = grind arith
 
 -- the value of a field with one Tags.LONG
 pub long_there : (file : List ℕ) (p tag n : ℕ) → n < 4294967296 → HasBytesAt file p (four n)

@@ -1,8 +1,9 @@
 -- A written file is read as the pages that were written.
-use Rattle.std.proofs.Common.{◌≡◌, ℕ, suc, ◌+◌, ◌%◌, ◌<◌, ◌≤◌, ◌≢◌, ◌⊎◌, inl, inr, true, false, List, [], ◌∷◌, ◌++◌, length, take, drop, None}
+use Rattle.std.proofs.Common.{rules}
+use Rattle.std.proofs.Common.{◌≡◌, ℕ, ◌+◌, ◌%◌, ◌<◌, ◌≤◌, ◌≢◌, ◌⊎◌, inl, inr, true, false, List, [], ◌∷◌, ◌++◌, length, take, drop, None}
 use Rattle.std.proofs.Common.{Result, Ok, Err, refl, sym, ap, ◌∙◌, arith, ◌*◌}
 use Rattle.std.proofs.lemmas.List.{length-append, length-replicate}
-use Rattle.std.proofs.lemmas.Bool.{le-leb, lt-leb, ne_eqb}
+use Rattle.std.proofs.lemmas.Bool.{le-leb, ne_eqb}
 use Rattle.std.proofs.lemmas.List.Elements.{All-nil, All-cons, All-weaker}
 use Rattle.std.specs.List.{All, AllZip, list_any}
 use Rattle.std.proofs.lemmas.List.Folds.{list_any_none}
@@ -14,9 +15,8 @@ use Rattle.fax_files.specs.Directory.{header, IsChainFrom}
 use Rattle.fax_files.specs.Layout.{to_link, two, four, offsets_from}
 use Rattle.fax_files.specs.code.Parts.{to_x, to_offsets, lengths_of, fields_bytes, values_bytes}
 use Rattle.fax_files.specs.Layout.{directory_place, page_bytes, Written, with_page, with_pages, WrittenPage}
-use Rattle.fax_files.specs.code.Parts.{joined_strips, with_four_at}
+use Rattle.fax_files.specs.code.Parts.{joined_strips}
 use Rattle.fax_files.specs.Layout.{file_of, array_bytes}
-use Rattle.fax_files.specs.code.Parts.{longs, rational_bytes}
 use Rattle.fax_files.specs.views.Writing.{empty_file}
 use Rattle.fax_files.specs.laws.Files.{IsWritable, AreWritable, IsReadAt, AppendedPagesAreRead, WrittenFilesAreRead}
 use Rattle.fax_files.proofs.PlaceLemmas.{HasBytesAt, at_place, at_left, at_right, at_inside, at_drop, at_start, at_slice, length-slice}
@@ -47,9 +47,7 @@ appended : (old : Written) (total k : ℕ) (written : WrittenPage) → HasOpenLi
     → HasBytesAt (with_written old total k written).bytes (length old.bytes)
     (page_bytes (length old.bytes) total k written.form written.strips)
 unfolding with_page
-appended old total k written open' =
-    at_place (length-patched old.bytes old.link (place_of old written) (at_inside (four 0) open'))
-    (at_end (with_four_at old.bytes old.link (place_of old written)) (page_bytes (length old.bytes) total k written.form written.strips))
+appended old total k written open' = grind (arith, length-patched, at_inside, at_end)
 
 -- the parts of a page that was appended
 record Appended (old new : Written) (total k : ℕ) (written : WrittenPage) : Type 0 where
@@ -63,19 +61,13 @@ record Appended (old new : Written) (total k : ℕ) (written : WrittenPage) : Ty
 stays : (old : Written) (total k : ℕ) (written : WrittenPage) (p : ℕ) (bytes : List ℕ) → (p + length bytes ≤ old.link) ⊎ (old.link + 4 ≤ p)
     → HasBytesAt old.bytes p bytes → HasBytesAt (with_written old total k written).bytes p bytes
 unfolding with_page
-stays old total k written p bytes (inl before) h =
-    at_grown bytes (page_bytes (length old.bytes) total k written.form written.strips)
-    (at_before_patch bytes old.link (place_of old written) before h)
-stays old total k written p bytes (inr after) h =
-    at_grown bytes (page_bytes (length old.bytes) total k written.form written.strips)
-    (at_after_patch bytes old.link (place_of old written) after h)
+stays old total k written p bytes (inl before) h = grind (arith, at_grown, at_before_patch)
+stays old total k written p bytes (inr after) h = grind (arith, at_grown, at_after_patch)
 
 linked : (old : Written) (total k : ℕ) (written : WrittenPage) → HasOpenLink old
     → HasBytesAt (with_written old total k written).bytes old.link (four (place_of old written))
 unfolding with_page
-linked old total k written open' =
-    at_grown (four (place_of old written)) (page_bytes (length old.bytes) total k written.form written.strips)
-    (at_patch old.bytes old.link (place_of old written) (at_inside (four 0) open'))
+linked old total k written open' = grind (arith, at_grown, at_patch, at_inside)
 
 link_of : (old : Written) (total k : ℕ) (written : WrittenPage) → (with_written old total k written).link ≡ place_of old written + to_link
 unfolding with_page
@@ -116,55 +108,14 @@ is_appended old total k written open' w =
 
 -- how long a file with one more page is
 length-array : (numbers : List ℕ) → length (array_bytes numbers) ≡ (if nat_le (length numbers) 1 then 0 else 4 * length numbers)
-length-array [] = refl
-length-array (n ∷ []) = refl
-length-array (m ∷ n ∷ numbers) =
-    let many : nat_le (length (m ∷ n ∷ numbers)) 1 ≡ false = lt-leb _ _ (omega arith) in
-    let len : length (longs (m ∷ n ∷ numbers)) ≡ 4 * length (m ∷ n ∷ numbers) = omega (arith, length-longs (m ∷ n ∷ numbers)) in
-    rw many len
+length-array numbers = grind (arith, length-longs)
 
 pub length-with_page : (old : Written) (total k : ℕ) (written : WrittenPage) → old.link + 4 ≤ length old.bytes → IsWritable written
     → length (with_written old total k written).bytes
     ≡ place_of old written + to_offsets + 2 * (if nat_le (length written.strips) 1 then 0 else 4 * length written.strips)
 unfolding with_page page_bytes
 length-with_page old total k written inside w =
-    let start = length old.bytes in
-    let q = place_of old written in
-    let strips = joined_strips written.strips in
-    let pad : List ℕ = replicate ((start + length strips) % 2) 0 in
-    let pad_len : length pad ≡ (start + length strips) % 2 = length-replicate _ 0 in
-    let fields = fields_bytes (page_fields q start total k written) in
-    let offsets = offsets_from start written.strips in
-    let lengths = lengths_of written.strips in
-    let x = rational_bytes written.form.x in
-    let y = rational_bytes written.form.y in
-    let values = values_bytes written.form offsets lengths in
-    let patched = with_four_at old.bytes old.link q in
-    let array = if nat_le (length written.strips) 1 then 0 else 4 * length written.strips in
-    let offsets_len : length (array_bytes offsets) ≡ array =
-    length-array offsets ∙ ap (λ (n : ℕ). if nat_le n 1 then 0 else 4 * n) (length-offsets_from start written.strips) in
-    let lengths_len : length (array_bytes lengths) ≡ array =
-    length-array lengths ∙ ap (λ (n : ℕ). if nat_le n 1 then 0 else 4 * n) (length-lengths_of written.strips) in
-    let values_len : length values ≡ 16 + array + array =
-    omega (
-      arith,
-      length-append (x ++ y ++ array_bytes offsets) (array_bytes lengths),
-      length-append (x ++ y) (array_bytes offsets),
-      offsets_len,
-      lengths_len,
-    ) in
-    omega (
-      arith,
-      length-append patched (strips ++ pad ++ fields ++ four 0 ++ values),
-      length-patched old.bytes old.link q inside,
-      length-append (strips ++ pad ++ fields ++ four 0) values,
-      length-append (strips ++ pad ++ fields) (four 0),
-      length-append (strips ++ pad) fields,
-      length-append strips pad,
-      pad_len,
-      length-page_fields q start total k written w,
-      values_len,
-    )
+    grind (arith, length-replicate, length-array, length-offsets_from, length-lengths_of, length-append, length-patched, length-page_fields)
 
 -- the law of one page appended
 pub appended_pages_are_read : AppendedPagesAreRead
@@ -195,10 +146,7 @@ pub with_pages-push : (old : Written) (total k : ℕ) (pages : List WrittenPage)
     → with_pages old total k (pages ++ written ∷ []) ≡ with_written (with_pages old total k pages) total (k + length pages) written
 unfolding with_pages
 with_pages-push old total k [] written = ap (λ (n : ℕ). with_written old total n written) (omega arith)
-with_pages-push old total k (first ∷ pages) written =
-    let n : k + 1 + length pages ≡ k + suc (length pages) = omega arith in
-    with_pages-push (with_written old total k first) total (k + 1) pages written
-    ∙ ap (λ (m : ℕ). with_written (with_pages (with_written old total k first) total (k + 1) pages) total m written) n
+with_pages-push old total k (first ∷ pages) written = grind (arith, with_pages-push (with_written old total k first) total (k + 1) pages written)
 
 -- where the directories of pages that are appended stand
 abbrev pub offsets_of : Written → ℕ → ℕ → List WrittenPage → List ℕ
@@ -209,19 +157,6 @@ offsets_of old total k (written ∷ pages) = place_of old written ∷ offsets_of
 abbrev pub AscendFrom : ℕ → List ℕ → Type 0
 AscendFrom low [] = Unit {0}
 AscendFrom low (q ∷ offsets) = low ≤ q × AscendFrom (q + 1) offsets
-
-ascend_lower : (low high : ℕ) (offsets : List ℕ) → low ≤ high → AscendFrom high offsets → AscendFrom low offsets
-ascend_lower low high [] le a = tt
-ascend_lower low high (q ∷ offsets) le a = (omega (arith, le, a.0), a.1)
-
-pub offsets_ascend : (old : Written) (total k : ℕ) (pages : List WrittenPage) → HasOpenLink old → AreWritable pages
-    → AscendFrom (length old.bytes) (offsets_of old total k pages)
-offsets_ascend old total k [] open' w = tt
-offsets_ascend old total k (written ∷ pages) open' w =
-    let one = is_appended old total k written open' w.0 in
-    let new = with_written old total k written in
-    let longer : place_of old written + 1 ≤ length new.bytes = omega (arith, at_inside (four 0) one.is_open, one.new_link) in
-    (omega arith, ascend_lower _ _ (offsets_of new total (k + 1) pages) longer (offsets_ascend new total (k + 1) pages one.is_open w.1))
 
 -- the file with them
 abbrev with_all : Written → ℕ → ℕ → List WrittenPage → List ℕ
@@ -261,8 +196,7 @@ chain_through : (old : Written) (total k : ℕ) (pages : List WrittenPage) → H
     → IsChainFrom Little (with_all old total k pages) before (number_at Little 4 (with_all old total k pages) old.link)
     (offsets_of old total k pages) None
 unfolding with_pages
-chain_through old total k [] open' w small before below =
-    number_there 4 open' (omega arith)
+chain_through old total k [] open' w small before below = search (rules, number_there)
 chain_through old total k (written ∷ pages) open' w small before below =
     let one = is_appended old total k written open' w.0 in
     let new = with_written old total k written in

@@ -1,12 +1,9 @@
 -- A page that stands written in a file is read as it was written.
-use Rattle.std.proofs.Common.{◌≡◌, ◌≢◌, ℕ, zero, suc, ◌+◌, ◌-◌, ◌*◌, ◌/◌, ◌%◌, ◌^◌, ◌<◌, ◌≤◌, Option, None, Bool, true, false, List, [], ◌∷◌, ◌++◌, length, get_or}
-use Rattle.std.proofs.Common.{Some, Result, Ok, Err, refl, sym, ap, ◌∙◌, arith}
+use Rattle.std.proofs.Common.{rules}
+use Rattle.std.proofs.Common.{◌≡◌, ◌≢◌, ℕ, ◌+◌, ◌-◌, ◌*◌, ◌/◌, ◌%◌, ◌^◌, ◌<◌, ◌≤◌, Option, None, Bool, true, false, List, [], ◌∷◌, ◌++◌, length, get_or}
+use Rattle.std.proofs.Common.{Some, Result, Ok, refl, sym, ap, ◌∙◌, arith}
 use Rattle.std.proofs.lemmas.List.{length-append}
-use Rattle.std.proofs.lemmas.Bool.{le-leb, lt-ltb, false≢true}
-use Rattle.std.proofs.lemmas.Bool.Decides.{nat_tests}
-use Rattle.std.proofs.lemmas.Grind.{div_ceil_times}
-use Rattle.std.proofs.Math.Nat.{div-le_self}
-use Rattle.std.specs.List.{list_all}
+use Rattle.std.proofs.lemmas.Bool.{le-leb, lt-ltb}
 use Rattle.std.specs.Prelude.{flat_map, nat_lt, IsOk, ◌==◌, min, if◌then◌else◌}
 use Rattle.fax_bits.specs.declared.FillOrder.{FillOrder}
 use Rattle.fax_bits.specs.declared.FillOrder.TheVariants.{MsbFirst, LsbFirst}
@@ -22,7 +19,6 @@ use Rattle.fax_files.specs.declared.PageForm.{PageForm}
 use Rattle.fax_files.specs.Page.{fill_order_of, form_in, is_between, most_pels, most_rows, page}
 use Rattle.fax_files.specs.Page.{strip_bytes}
 use Rattle.fax_files.specs.code.Steps.{resolution_in}
-use Rattle.fax_files.specs.views.Page.{strip_count}
 use Rattle.fax_files.specs.Layout.{to_link, two, WrittenField}
 use Rattle.fax_files.specs.code.Parts.{field_count, to_x, to_y, to_offsets}
 use Rattle.fax_files.specs.Layout.{field_bytes, compression_of, options_field}
@@ -33,7 +29,7 @@ use Rattle.fax_files.specs.code.Parts.{fields_of, fields_bytes, values_bytes, jo
 use Rattle.fax_files.specs.Layout.{WrittenPage}
 use Rattle.fax_files.specs.laws.Files.{IsWritable, IsReadAt}
 use Rattle.fax_files.proofs.PlaceLemmas.{HasBytesAt, at_place, at_left, at_right, at_inside, number_there}
-use Rattle.fax_files.proofs.WrittenFieldLemmas.{AllFit, fits, all_fit, length-fields, read_fields, HasValues, written_field, entries_there}
+use Rattle.fax_files.proofs.WrittenFieldLemmas.{AllFit, length-fields, read_fields, HasValues, written_field, entries_there}
 use Rattle.fax_files.proofs.WrittenFieldLemmas.{long_read, short_read, rational_back}
 use Rattle.fax_files.proofs.WrittenStripLemmas.{ArrayThere, array_back, array_checked, array_is_longs, length-longs, length-offsets_from}
 use Rattle.fax_files.proofs.WrittenStripLemmas.{length-lengths_of, strip_there}
@@ -49,16 +45,6 @@ pub record IsPageAt (file : List ℕ) (q start total k : ℕ) (written : Written
   pub fields : HasBytesAt file q (fields_bytes (page_fields q start total k written))
   pub values : HasBytesAt file (q + to_x) (values_bytes written.form (offsets_from start written.strips) (lengths_of written.strips))
   pub strips : HasBytesAt file start (joined_strips written.strips)
-
--- the fields fit their bytes, where the strips can be counted
-fields_fit : (coding : Coding) (aligned : Bool) (q total k : ℕ) (form : PageForm) (offsets lengths : List ℕ)
-    → nat_lt (length offsets) 4294967296 ≡ true → nat_lt (length lengths) 4294967296 ≡ true
-    → list_all fits (fields_of q total k (record form { coding = coding; aligned = aligned }) offsets lengths) ≡ true
-fields_fit Mh true q total k form offsets lengths o l = rw (o, l) refl
-fields_fit Mh false q total k form offsets lengths o l = rw (o, l) refl
-fields_fit Mr true q total k form offsets lengths o l = rw (o, l) refl
-fields_fit Mr false q total k form offsets lengths o l = rw (o, l) refl
-fields_fit Mmr aligned q total k form offsets lengths o l = rw (o, l) refl
 
 -- the last two fields
 abbrev last_fields : ℕ → ℕ → PageForm → List WrittenField
@@ -93,72 +79,39 @@ options_from Mmr aligned file place fields values found = refl
 -- they say how the rows are coded
 coding_back : (coding : Coding) (aligned : Bool)
     → (if compression_of coding == 4 then Mmr else (if options_number coding aligned % 2 == 1 then Mr else Mh)) ≡ coding
-coding_back Mh true = refl
-coding_back Mh false = refl
-coding_back Mr true = refl
-coding_back Mr false = refl
-coding_back Mmr aligned = refl
+coding_back coding aligned = grind arith
 
 aligned_back : (coding : Coding) (aligned : Bool) → (aligned ≡ true → coding ≢ Mmr) → (options_number coding aligned / 4 % 2 == 1) ≡ aligned
-aligned_back Mh true has_eols = refl
-aligned_back Mh false has_eols = refl
-aligned_back Mr true has_eols = refl
-aligned_back Mr false has_eols = refl
-aligned_back Mmr true has_eols = absurd (has_eols refl refl)
-aligned_back Mmr false has_eols = refl
+aligned_back coding aligned has_eols = grind arith
 
 -- which it is
 options_found : (coding : Coding) (aligned : Bool) (total k : ℕ) (form : PageForm)
     → written_field (options_field coding aligned ∷ last_fields total k form) Tags.T4_OPTIONS
     ≡ written_field (options_field coding aligned ∷ []) Tags.T4_OPTIONS
-options_found Mh aligned total k form = refl
-options_found Mr aligned total k form = refl
-options_found Mmr aligned total k form = refl
+options_found coding aligned total k form = grind arith
 
 unit_found : (coding : Coding) (aligned : Bool) (total k : ℕ) (form : PageForm)
     → written_field (options_field coding aligned ∷ last_fields total k form) Tags.RESOLUTION_UNIT
     ≡ Some (short_field Tags.RESOLUTION_UNIT form.unit)
-unit_found Mh aligned total k form = refl
-unit_found Mr aligned total k form = refl
-unit_found Mmr aligned total k form = refl
+unit_found coding aligned total k form = grind arith
 
 compression_small : (coding : Coding) → compression_of coding < 65536
-compression_small Mh = omega arith
-compression_small Mr = omega arith
-compression_small Mmr = omega arith
+compression_small coding = grind arith
 
 compression_known : (coding : Coding) → is_between 3 4 (compression_of coding) ≡ true
-compression_known Mh = refl
-compression_known Mr = refl
-compression_known Mmr = refl
+compression_known coding = grind arith
 
 order_small : (order : FillOrder) → fill_order_of order < 65536
-order_small MsbFirst = omega arith
-order_small LsbFirst = omega arith
+order_small order = grind arith
 
 order_known : (order : FillOrder) → is_between 1 2 (fill_order_of order) ≡ true
-order_known MsbFirst = refl
-order_known LsbFirst = refl
+order_known order = grind arith
 
 order_back : (order : FillOrder) → (if fill_order_of order == 2 then LsbFirst else MsbFirst) ≡ order
-order_back MsbFirst = refl
-order_back LsbFirst = refl
-
--- there are no more strips than rows, and one more
-strips_small : (written : WrittenPage) → IsWritable written → length written.strips < 1000002
-strips_small written w =
-    let fewer : strip_count written.form.rows written.form.rows_per_strip ≤ written.form.rows + 1 =
-    omega (arith, div-le_self written.form.rows written.form.rows_per_strip) in
-    omega (arith, fewer, w.limits.strips, w.strips, w.limits.rows)
+order_back order = grind arith
 
 pub page_fits : (q start total k : ℕ) (written : WrittenPage) → IsWritable written → AllFit (page_fields q start total k written)
-page_fits q start total k written w =
-    let many = strips_small written w in
-    all_fit (page_fields q start total k written)
-    (fields_fit written.form.coding written.form.aligned q total k written.form (offsets_from start written.strips)
-    (lengths_of written.strips)
-    (lt-ltb _ _ (omega (arith, many, length-offsets_from start written.strips)))
-    (lt-ltb _ _ (omega (arith, many, length-lengths_of written.strips))))
+page_fits q start total k written w = grind (arith, length-offsets_from, length-lengths_of)
 
 pub length-page_fields : (q start total k : ℕ) (written : WrittenPage) → IsWritable written
     → length (fields_bytes (page_fields q start total k written)) ≡ to_link
@@ -169,8 +122,7 @@ length-page_fields q start total k written w =
 -- the number of entries
 count_there : (file : List ℕ) (q start total k : ℕ) (written : WrittenPage) → IsPageAt file q start total k written
     → entry_count Little file q ≡ field_count
-count_there file q start total k written here =
-    number_there 2 (at_left (two field_count) (flat_map field_bytes (page_fields q start total k written)) here.fields) (omega arith)
+count_there file q start total k written here = search (rules, number_there)
 
 -- the parts of what stands after a directory
 record ValuesThere (file : List ℕ) (q : ℕ) (form : PageForm) (offsets lengths : List ℕ) : Type 0 where
@@ -194,21 +146,12 @@ values_there file q form offsets lengths h =
           (at_right (x ++ y ++ array_bytes offsets) (array_bytes lengths) h);
     }
 
-some_from_product : (n a b : ℕ) → 1 ≤ a → a ≤ n * b → 1 ≤ n
-some_from_product zero a b some le = absurd (omega arith)
-some_from_product (suc n) a b some le = omega arith
-
 pub some_strips : (written : WrittenPage) → IsWritable written → 1 ≤ length written.strips
-some_strips written w =
-    let all_rows = div_ceil_times written.form.rows written.form.rows_per_strip w.limits.some_rows_per_strip in
-    let some : 1 ≤ strip_count written.form.rows written.form.rows_per_strip =
-    some_from_product _ written.form.rows written.form.rows_per_strip w.limits.some_rows all_rows.0 in
-    omega (arith, some, w.limits.strips, w.strips)
+some_strips written w = grind arith
 
 -- the step that checks an entry goes on
 checked_on : {B : Type 0} (r : Result Entry FileFault) (next : Result B FileFault) → IsOk r → (r >>= λ _. next) ≡ next
-checked_on (Ok entry) next ok = refl
-checked_on (Err fault) next ok = absurd (false≢true ok)
+checked_on r next ok = grind arith
 
 -- what is known of a page that stands in a file
 pub record Standing (file : List ℕ) (q start total k : ℕ) (written : WrittenPage) : Type 0 where
@@ -244,7 +187,7 @@ module _ (file : List ℕ) (q start total k : ℕ) (written : WrittenPage) (know
   short tag n absent test fault passes = short_read file (q + 2) tag n fields values absent test fault passes
 
   between : (low high n : ℕ) → low ≤ n → n ≤ high → is_between low high n ≡ true
-  between low high n above below = grind (arith, nat_tests)
+  between low high n above below = grind arith
 
   parts : ValuesThere file q written.form (offsets_from start written.strips) (lengths_of written.strips)
   parts = values_there file q written.form (offsets_from start written.strips) (lengths_of written.strips) known.here.values

@@ -1,9 +1,10 @@
 -- The strips of a written page are found by their offsets and byte counts.
+use Rattle.std.proofs.lemmas.Grind.{common_steps}
 use Rattle.std.proofs.Common.{◌≡◌, ℕ, zero, suc, ◌+◌, ◌*◌, ◌<◌, ◌≤◌, true, false, List, [], ◌∷◌, length, get_or, Some, refl, ap, arith}
 use Rattle.std.proofs.lemmas.List.{length-append}
-use Rattle.std.proofs.lemmas.Bool.{le-leb, lt-leb}
+use Rattle.std.proofs.lemmas.Bool.{lt-leb}
 use Rattle.std.specs.Prelude.{nat_le, IsOk}
-use Rattle.fax_files.specs.Directory.{Entry, is_inside, field, needed, values_place, value_at}
+use Rattle.fax_files.specs.Directory.{Entry, field, values_place, value_at}
 use Rattle.fax_files.specs.Directory.{has_integers}
 use Rattle.fax_files.specs.declared.Endian.TheVariants.{Little}
 use Rattle.fax_files.specs.code.Steps.{placed_bytes, strip_field}
@@ -32,9 +33,7 @@ array_there file p tag place (m ∷ n ∷ numbers) some small h there =
 
 -- more than one number stand as they are
 pub array_is_longs : (numbers : List ℕ) → 2 ≤ length numbers → array_bytes numbers ≡ longs numbers
-array_is_longs [] le = refl
-array_is_longs (n ∷ []) le = absurd (omega arith)
-array_is_longs (m ∷ n ∷ numbers) le = refl
+array_is_longs numbers le = grind arith
 
 pub length-longs : (numbers : List ℕ) → length (longs numbers) ≡ length numbers * 4
 length-longs [] = refl
@@ -72,18 +71,12 @@ longs_inside : (file : List ℕ) (p tag : ℕ) (numbers : List ℕ)
     → HasBytesAt file (values_place Little file (longs_entry tag (length numbers) p)) (longs numbers)
     → has_integers Little file (longs_entry tag (length numbers) p) (length numbers) ≡ true
 unfolding has_integers
-longs_inside file p tag numbers h =
-    let enough : nat_le (length numbers) (length numbers) ≡ true = le-leb _ _ (omega arith) in
-    let place = values_place Little file (longs_entry tag (length numbers) p) in
-    let inside : is_inside file place (length numbers * 4) ≡ true =
-    le-leb _ _ (omega (arith, at_inside (longs numbers) h, length-longs numbers)) in
-    rw (enough, inside) refl
+longs_inside file p tag numbers h = grind (arith, common_steps, length-longs)
 
 pub array_checked : (file : List ℕ) (fields : List Entry) (tag n : ℕ) (numbers : List ℕ) → ArrayThere file fields tag numbers
     → n ≡ length numbers
     → IsOk (strip_field Little file fields tag n)
-array_checked file fields tag n numbers array count =
-    rw (needed, array.entry_is, count, longs_inside file array.at_entry tag numbers array.stands) refl
+array_checked file fields tag n numbers array count = grind (arith, longs_inside)
 
 -- and each of them is read
 long_value : (file : List ℕ) (p tag : ℕ) (numbers : List ℕ) (i : ℕ) → i < length numbers → get_or numbers i 0 < 4294967296

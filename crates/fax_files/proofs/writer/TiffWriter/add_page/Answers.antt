@@ -1,6 +1,6 @@
 use Rattle.std.proofs.Common.{◌≡◌, ◌++◌, length, refl, sym, ◌∙◌, arith}
 use Rattle.std.proofs.lemmas.List.{length-append}
-use Rattle.std.specs.Prelude.{Result, Ok, Err, OnOk, false}
+use Rattle.std.specs.Prelude.{Result, OnOk, false}
 use Rattle.std.specs.Result.{is_err}
 use Rattle.fax_files.specs.code.Parts.{joined_strips}
 use Rattle.fax_files.specs.views.Writing.{contents}
@@ -8,8 +8,7 @@ use Rattle.fax_files.proofs.WriterLemmas.{too_long, size, added_bytes, new_link,
 use Rattle.fax_files.proofs.writer.TiffWriter.add_page.Goals as goal
 
 OnOk-at_not_err : {A E : Type 0} {P : Type 0} (r : Result A E) → is_err r ≡ false → OnOk r P → P
-OnOk-at_not_err (Ok x) not_err p = p
-OnOk-at_not_err (Err e) not_err p = absurd (cc)
+OnOk-at_not_err r not_err p = grind arith
 
 pub returns-in_default-clause-too_large : goal.returns-in_default-clause-too_large
 returns-in_default-clause-too_large c =
