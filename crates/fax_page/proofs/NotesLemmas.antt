@@ -1,5 +1,5 @@
 -- A strip that is read for its notes, row by row.
-use Rattle.std.proofs.Common.{◌≡◌, ℕ, ◌+◌, ◌<◌, ◌↔◌, List, [], ◌∷◌, ◌++◌, length, Bool, true, false, not, IsTrue, refl, ap, sym, ◌∙◌, subst}
+use Rattle.std.proofs.Common.{◌≡◌, ℕ, ◌+◌, ◌<◌, ◌↔◌, List, [], ◌∷◌, ◌++◌, length, Bool, true, false, IsTrue, refl, ap, sym, ◌∙◌, subst}
 use Rattle.std.proofs.Common.{Result, Ok, Err, OnOk, IfErr}
 use Rattle.std.proofs.Common.{arith, append_assoc, append-nil, length-append, inl, inr, Option, Some, None}
 use Rattle.fax_bits.specs.declared.Colour.{Colour}
@@ -75,7 +75,7 @@ module _ (reads : (form : StripForm) (i : ℕ) (reference : List Colour) → Rea
   same_line form i reference row b rest remaining line other =
       let start = one_start form.coding i b line.dimension other.dimension line.codes other.codes
       (started form.coding i b line.dimension line.codes line.start) (started form.coding i b other.dimension other.codes other.start) in
-      let after = ((reads form i reference).one_answer b row row rest remaining line other).1 in
+      let after = ((reads form i reference).line.one_answer b row row rest remaining line other).1 in
       record {
         same_after = after;
         chosen = λ is.

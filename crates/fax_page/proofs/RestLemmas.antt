@@ -1,8 +1,8 @@
 -- After a row of a strip stands a rest of the bits that it began in.
-use Rattle.std.proofs.Common.{◌≡◌, ℕ, ◌+◌, ◌*◌, ◌≤◌, List, [], ◌∷◌, ◌++◌, length, drop, map, replicate, Bool, true, false, refl, ap, sym}
+use Rattle.std.proofs.Common.{◌≡◌, ℕ, ◌+◌, ◌*◌, ◌≤◌, List, [], ◌∷◌, ◌++◌, length, take, drop, map, replicate, Bool, true, false, refl, ap, sym}
 use Rattle.std.proofs.Common.{◌∙◌, subst, arith, append_assoc, length-append, length-drop, inl, inr}
 use Rattle.std.proofs.Math.Seq.{drop-append_seam}
-use Rattle.std.proofs.lemmas.List.{drop-drop}
+use Rattle.std.proofs.lemmas.List.{drop-drop, take-append-drop}
 use Rattle.fax_bits.specs.declared.codes.CodeEntry.{CodeEntry}
 use Rattle.fax_bits.specs.declared.Colour.{Colour}
 use Rattle.fax_bits.specs.declared.Colour.TheVariants.{White}
@@ -104,6 +104,15 @@ line_rest form i reference b row rest line =
     onwards b line.codes rest (start_rest form.coding i b line.dimension line.codes
     (started form.coding i b line.dimension line.codes line.start))
     (row_rest line.dimension form.width reference line.codes row rest line.coded)
+
+-- so many bits stand before the rest of a row that begins among them
+pub rest_among : (form : StripForm) (i : ℕ) (reference : List Colour) (b : List Bool) (n : ℕ) (row : List Colour) (rest : List Bool)
+    → IsLine form i reference (drop n b) row rest → (after : ℕ) × (after ≤ length b) × (drop after b ≡ rest)
+rest_among form i reference b n row rest line =
+    let from = onwards b (drop n b) rest (record { front = take n b; parts = sym (take-append-drop n b) })
+    (line_rest form i reference (drop n b) row rest line) in
+    let count : length b ≡ length from.front + length rest = ap length from.parts ∙ length-append from.front rest in
+    (length from.front, omega (arith, count), ap (drop (length from.front)) from.parts ∙ drop-append_seam from.front rest)
 
 -- a source that goes on in the bits of some bytes stands there where their rest begins
 source_goes_on : (order : FillOrder) (bytes : List ℕ) (place : ℕ) (old new : Source) → old ≡ source_of order bytes place

@@ -19,6 +19,7 @@ use Rattle.fax_walk.specs.Items.{RowPlace, first_at, IsRow}
 use Rattle.fax_walk.specs.laws.Written.{WalkedRow, walked, numbered}
 use Rattle.fax_walk.proofs.InOrderLemmas.{leads_both}
 use Rattle.fax_walk.proofs.StripPlaceLemmas.{shown_length, strip_count}
+use Rattle.fax_walk.proofs.RowLawLemmas.{LinesAreRead}
 use Rattle.fax_walk.proofs.StripRowLemmas.{AreRead, place_of, strip_rows}
 
 shown_both : (form : PageForm) (rows more : List (List Colour)) → shown form (rows ++ more) ≡ shown form rows ++ shown form more
@@ -54,7 +55,7 @@ read_both file at middle r rows more reached same_page first second = record {
   there = second.there;
 }
 
-module _ (by_place : AreBitsByPlace) (file : List ℕ) (endian : Endian) (q : ℕ) (form : PageForm) (p : ℕ)
+module _ (by_place : AreBitsByPlace) (lines_read : LinesAreRead) (file : List ℕ) (endian : Endian) (q : ℕ) (form : PageForm) (p : ℕ)
     (page : (r : ℕ) → IsPageAt file (record { page = p; row = r }) (Ok (record { endian = endian; offset = q; form = form })))
     (whole : IsWholeForm form) where
   abbrev n : ℕ
@@ -69,13 +70,13 @@ module _ (by_place : AreBitsByPlace) (file : List ℕ) (endian : Endian) (q : �
   strips_from (rows ∷ strips) s below (due, bytes, Some fault, there, strip, (inl (none, rest))) = absurd cc
   strips_from (rows ∷ strips) s below (due, bytes, None, there, strip, (inl (none, rest))) =
       let count = strip_count (strip_form form s) _ rows None strip in
-      let first = strip_rows by_place file endian q form p page whole s below bytes there rows None strip in
+      let first = strip_rows by_place lines_read file endian q form p page whole s below bytes there rows None strip in
       elim (cases_lt (s + 1) form.strips) [
         | inl more ↦
             let next : (s + 1) * n < form.rows = whole.needed (s + 1) more in
             let e : s * n + length rows ≡ (s + 1) * n = omega (arith, count, next) in
             let inside : nat_lt ((s + 1) * n) form.rows ≡ true = grind (arith, nat_tests, next) in
-            let to : place_of by_place file endian q form p page whole (s * n + length rows) ≡ first_at p ((s + 1) * n) =
+            let to : place_of by_place lines_read file endian q form p page whole (s * n + length rows) ≡ first_at p ((s + 1) * n) =
             rw (e, inside) refl in
             let later = strips_from strips (s + 1) next rest in
             let same : s * n + length (shown form rows) ≡ (s + 1) * n = omega (arith, e, shown_length form rows) in
@@ -93,7 +94,7 @@ module _ (by_place : AreBitsByPlace) (file : List ℕ) (endian : Endian) (q : �
             let enough : form.rows ≤ (s + 1) * n = rw strips_are at whole.enough in
             let e : s * n + length rows ≡ form.rows = omega (arith, count, enough, below) in
             let past : nat_lt form.rows form.rows ≡ false = grind (arith, nat_tests) in
-            let to : place_of by_place file endian q form p page whole (s * n + length rows) ≡ first_at (p + 1) 0 = rw (e, past) refl in
+            let to : place_of by_place lines_read file endian q form p page whole (s * n + length rows) ≡ first_at (p + 1) 0 = rw (e, past) refl in
             let none_left : strips ≡ [] = no_more strips (s + 1) last rest in
             let all : joined (rows ∷ strips) ≡ rows =
             ap (λ (l : List (List (List Colour))). rows ++ joined l) none_left ∙ append-nil rows in

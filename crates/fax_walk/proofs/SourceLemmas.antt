@@ -29,7 +29,6 @@ use Rattle.fax_walk.specs.laws.InOrder.{LeadTo}
 use Rattle.fax_walk.proofs.InOrderLemmas.{IsOneAnswer, ended_at, one_from, same_answer, same_step}
 use Rattle.fax_walk.proofs.RowLawLemmas.{LinesAreRead, one_in_strip, one_row, cases_after}
 use Rattle.fax_walk.proofs.TailLawLemmas.{any_row, whole_page}
-use Rattle.fax_walk.proofs.WidthLemmas.{row_in}
 
 exchanged_length : (form : PageForm) (row : List Colour) → length (exchanged form row) ≡ length row
 exchanged_length form row =
@@ -86,7 +85,7 @@ module _ (by_place : AreBitsByPlace) (lines_read : LinesAreRead) (file : List �
   item_wide : (r : ℕ) (inner : Option Inner) (bytes : List ℕ) (item : RowItem) (to : RowPlace) → IsWide inner
       → IsInStrip form (place_at r inner) (Some bytes) (goes_on item to) → length (exchanged form item.pels) ≡ form.width
   item_wide r inner bytes item to wide is =
-      row_in is.3.dimension form.width (before form.width inner).reference is.3.codes (exchanged form item.pels) _ wide is.3.coded
+      (lines_read _ _ (before form.width inner).reference).width _ (exchanged form item.pels) _ wide is.3
 
   -- the rows from row r on, where those after it are known
   module _ (r : ℕ) (due : r < form.rows)

@@ -37,10 +37,11 @@ use Rattle.fax_files.specs.Page.{most_rows}
 use Rattle.fax_walk.proofs.CheckLemmas.{nothing_checked, checked_on, checked_to, ends_at}
 use Rattle.fax_walk.proofs.InOrderLemmas.{ended_at}
 use Rattle.fax_walk.proofs.StripPlaceLemmas.{in_strip, shown_length, strip_count}
+use Rattle.fax_walk.proofs.RowLawLemmas.{LinesAreRead}
 use Rattle.fax_walk.proofs.StripRowLemmas.{place_of, row_at, strip_rows, walked_length}
 use Rattle.fax_walk.specs.Pages.{Step, ends_as}
 
-module _ (by_place : AreBitsByPlace) (directory : TiffDirectory) (form : PageForm) (p : ℕ) (whole : IsWholeForm form)
+module _ (by_place : AreBitsByPlace) (lines_read : LinesAreRead) (directory : TiffDirectory) (form : PageForm) (p : ℕ) (whole : IsWholeForm form)
     (form_is : form_of directory ≡ Ok form) (here : IsDirectoryOfPage directory p) where
   abbrev file : List ℕ
   file = directory.file
@@ -75,7 +76,7 @@ module _ (by_place : AreBitsByPlace) (directory : TiffDirectory) (form : PageFor
 
   -- the rows of a strip that is whole lead to the next one
   next_row : (s : ℕ) (count : ℕ) → s < form.strips → count ≡ (strip_form form s).rows
-      → place_of by_place file directory.endian directory.offset form p page whole (s * n + count) ≡ (before_strip form p (s + 1)).row
+      → place_of by_place lines_read file directory.endian directory.offset form p page whole (s * n + count) ≡ (before_strip form p (s + 1)).row
   next_row s count due is = elim (cases_lt (s + 1) form.strips) [
     | inl more ↦
         let below = whole.needed (s + 1) more in
@@ -99,7 +100,7 @@ module _ (by_place : AreBitsByPlace) (directory : TiffDirectory) (form : PageFor
   strip_checked s bytes rows found due there is =
       let strip : IsStrip (strip_form form s) (bits form.order bytes) rows None = record { left = is.left; lines = is.lines } in
       let read =
-      strip_rows by_place file directory.endian directory.offset form p page whole s (whole.needed s due) bytes there rows None strip in
+      strip_rows by_place lines_read file directory.endian directory.offset form p page whole s (whole.needed s due) bytes there rows None strip in
       let to = read.there ∙ next_row s (length rows) due (strip_count (strip_form form s) (bits form.order bytes) rows None strip) in
       rw (at_strip s due) (record {
         found = notes_on_strip p s found ∷ [];
@@ -177,7 +178,7 @@ module _ (by_place : AreBitsByPlace) (directory : TiffDirectory) (form : PageFor
       let end : End = Fault p (s * n) (File StripOutside) in
       let zero : s * n + 0 ≡ s * n = omega arith in
       let row : IsRow file (first_at p (s * n)) (ends_as end) =
-      row_at by_place file directory.endian directory.offset form p page whole (s * n) None None (ends_as end) (rw number.0 none)
+      row_at by_place lines_read file directory.endian directory.offset form p page whole (s * n) None None (ends_as end) (rw number.0 none)
       (rw number.0 refl) in
       let ends = ends_at file (record { next = (p, Some s); row = first_at p (s * n) }) end (noted_on s (ends_as end) (rw none refl)) row in
       rw zero at
@@ -197,7 +198,7 @@ module _ (by_place : AreBitsByPlace) (directory : TiffDirectory) (form : PageFor
   strip_refused few s old new bytes rows fault due so_far there strip =
       let end : End = Fault p (s * n + length rows) (Strip fault) in
       let read =
-      strip_rows by_place file directory.endian directory.offset form p page whole s (whole.needed s due) bytes there rows (Some fault)
+      strip_rows by_place lines_read file directory.endian directory.offset form p page whole s (whole.needed s due) bytes there rows (Some fault)
       strip in
       fault_after few s (length rows) (Strip fault) old new due (inside_page s bytes rows fault due strip) so_far
       (rw (at_strip s due) (record {

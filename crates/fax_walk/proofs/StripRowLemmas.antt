@@ -26,8 +26,7 @@ use Rattle.fax_walk.specs.Items.{RowItem, Inner, RowPlace, first_at, exchanged, 
 use Rattle.fax_walk.specs.code.Places.{strip_at, row_in_strip}
 use Rattle.fax_walk.specs.Items.{IsInStrip, IsRow, place_after}
 use Rattle.fax_walk.specs.laws.Written.{WalkedRow, walked, numbered}
-use Rattle.fax_walk.proofs.RestLemmas.{rest_at}
-use Rattle.fax_walk.proofs.RowLawLemmas.{exchanged_twice, cases_after}
+use Rattle.fax_walk.proofs.RowLawLemmas.{LinesAreRead, exchanged_twice, cases_after}
 use Rattle.fax_walk.proofs.StripPlaceLemmas.{in_strip, shown_none, shown_row}
 use Rattle.fax_walk.specs.Pages.{Step, goes_on, ends_as}
 
@@ -65,7 +64,7 @@ one_more file at r rows reached item next item_is same_page step more = record {
   there = more.there;
 }
 
-module _ (by_place : AreBitsByPlace) (file : List ℕ) (endian : Endian) (q : ℕ) (form : PageForm) (p : ℕ)
+module _ (by_place : AreBitsByPlace) (lines_read : LinesAreRead) (file : List ℕ) (endian : Endian) (q : ℕ) (form : PageForm) (p : ℕ)
     (page : (r : ℕ) → IsPageAt file (record { page = p; row = r }) (Ok (record { endian = endian; offset = q; form = form })))
     (whole : IsWholeForm form) where
   abbrev n : ℕ
@@ -143,7 +142,7 @@ module _ (by_place : AreBitsByPlace) (file : List ℕ) (endian : Endian) (q : �
         (row_at r inner (Some bytes) (ends_as (Fault p r (Strip fault))) (rw number.0 bytes_are) is))
     lines_from inner r i (row ∷ rows) stop left r_is within (rest, due, line, more) =
         let number = numbers r i r_is within in
-        let from = rest_at strip i (before form.width inner).reference all (before form.width inner).bits row rest line in
+        let from = (lines_read strip i (before form.width inner).reference).rest all (before form.width inner).bits row rest line in
         let item : RowItem = record { page = p; form = form; row = r; pels = exchanged form row; bits = from.0 } in
         let is : IsInStrip form (place_at r inner) (Some bytes) (goes_on item (place_after item)) = (
           refl,

@@ -178,6 +178,7 @@ fn check_strips(
         page notes.old.items notes.new.items) }
 {
     fax_bits::laws::bits_stand_by_place();
+    fax_page::laws::lines_are_read_in_one_way();
     fax_files::laws::forms_are_whole();
     let mut reader = NotesReader::new(alloc, form.width)?;
     for s in 0..form.strips {
