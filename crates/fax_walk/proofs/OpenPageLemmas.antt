@@ -18,6 +18,7 @@ use Rattle.fax_page.specs.views.Reader.{StripState, ReadsRow, MeetsFault, IsAdva
 use Rattle.fax_files.specs.declared.FileFault.TheVariants.{StripOutside}
 use Rattle.fax_files.specs.declared.Cause.TheVariants.{File, Strip}
 use Rattle.fax_files.specs.declared.PageForm.{PageForm}
+use Rattle.fax_files.specs.laws.Files.{IsWholeForm}
 use Rattle.fax_files.specs.views.Page.{IsPageForm}
 use Rattle.fax_files.specs.Page.{most_rows, strip_form}
 use Rattle.fax_files.specs.views.Chain.{ChainState}
@@ -45,15 +46,23 @@ use Rattle.fax_walk.proofs.StripPlaceLemmas.{in_strip}
 use Rattle.fax_walk.proofs.RowLawLemmas.{exchanged_twice}
 use Rattle.fax_walk.specs.Pages.{goes_on, ends_as}
 
--- each strip of a page holds some of its rows
-pub strip_begins : (form : PageForm) (number : ℕ) → IsPageForm form → number < form.strips → number * form.rows_per_strip < form.rows
-strip_begins form number limits within =
-    let all_rows : (form.rows ≤ form.strips * form.rows_per_strip)
-    × (form.strips * form.rows_per_strip < form.rows + form.rows_per_strip) =
+-- the strips of a page hold its rows, and each some of them
+pub whole_of : (form : PageForm) → IsPageForm form → IsWholeForm form
+whole_of form limits =
+    let times : (form.rows ≤ form.strips * form.rows_per_strip) × (form.strips * form.rows_per_strip < form.rows + form.rows_per_strip) =
     rw limits.strips (div_ceil_times form.rows form.rows_per_strip limits.some_rows_per_strip) in
-    let more : number + 1 ≤ form.strips = omega (arith, within) in
-    let product = mul-le-mul_right form.rows_per_strip more in
-    omega (arith, product, all_rows, add-mul number 1 form.rows_per_strip)
+    record {
+      some_width = limits.some_width;
+      width = limits.width;
+      some_rows = limits.some_rows;
+      rows = limits.rows;
+      some_in_strip = limits.some_rows_per_strip;
+      enough = times.0;
+      needed = λ s due.
+          let more : (s + 1) * form.rows_per_strip ≤ form.strips * form.rows_per_strip =
+          mul-le-mul_right form.rows_per_strip (omega arith) in
+          omega (arith, more, times, add-mul s 1 form.rows_per_strip);
+    }
 
 -- the place of a row of a page: a strip's first, or one inside its strip
 pub at_first : (form : PageForm) (p r : ℕ) (inner : Inner) → r < form.rows → row_in_strip form r ≡ 0 → place_on form p r inner ≡ first_at
@@ -199,7 +208,7 @@ pub rows_within : (page : PageState) → IsPageForm page.form → page.number < 
 rows_within page limits within form_is within_strip =
     let count : page.strip.form.rows ≡ min page.form.rows_per_strip (page.form.rows - page.number * page.form.rows_per_strip) =
     ap (λ (f : StripForm). f.rows) form_is in
-    let begins = strip_begins page.form page.number limits within in
+    let begins = (whole_of page.form limits).needed page.number within in
     omega (arith, count, begins, within_strip)
 
 -- so few rows are read that they can be counted
@@ -499,7 +508,7 @@ module _ (page : PageState) (limits : IsPageForm page.form) (within : page.numbe
 
   pub long_none : (page.strip.row ≡ 0) ⊎ (page.strip.row ≡ page.strip.form.rows) → None ≡ long_of
   long_none (inl none) =
-      let begins = strip_begins page.form page.number limits within in
+      let begins = (whole_of page.form limits).needed page.number within in
       let numbers = in_strip page.form.rows_per_strip page.number 0 (row_of page) limits.some_rows_per_strip (omega (arith, none)) in
       none_first page.page (row_of page) (at_first page.form page.page (row_of page) _ (omega (arith, begins, none)) numbers.1)
   long_none (inr all) = elim (cases_lt (row_of page) page.form.rows) [

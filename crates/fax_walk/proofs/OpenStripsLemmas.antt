@@ -7,15 +7,14 @@ use Rattle.std.proofs.lemmas.List.FromFn.{map-range_with_len_more}
 use Rattle.std.proofs.lemmas.List.{take-append-le, drop-append-le, drop_all, take_all, length_push}
 use Rattle.std.proofs.Math.Nat.{mul-le-mul_left}
 use Rattle.std.proofs.lemmas.Bool.{cases_lt}
-use Rattle.std.proofs.lemmas.Grind.{div_ceil_times}
 use Rattle.fax_bits.specs.declared.Colour.{Colour}
 use Rattle.fax_page.specs.Strip.{coded_strip}
 use Rattle.fax_page.specs.views.Writer.{WriterState, PutsRow, FinishesAs, writer_beginning}
 use Rattle.fax_page.specs.laws.Writer.{HasPut, WritesRowByRow}
 use Rattle.fax_files.specs.declared.PageForm.{PageForm}
-use Rattle.fax_files.specs.views.Page.{IsPageForm}
 use Rattle.fax_files.specs.Page.{strip_form}
 use Rattle.fax_files.specs.views.Writing.{contents}
+use Rattle.fax_walk.proofs.OpenPageLemmas.{whole_of}
 use Rattle.fax_walk.specs.declared.open_strips.OpenStrips.{OpenStrips}
 use Rattle.fax_walk.specs.code.OpenStrips.{coded_of, with_writer, AreInStrip, BeginsStrip, HasPutRows}
 
@@ -47,14 +46,6 @@ pub contents_count : (strips : List (Vec ℕ Global)) → length (contents strip
 contents_count [] = refl
 contents_count (first ∷ strips) = ap suc (contents_count strips)
 
--- the strips of a page hold its rows
-pub enough : (form : PageForm) → IsPageForm form → form.rows ≤ form.strips * form.rows_per_strip
-enough form limits =
-    let some : 0 < form.rows_per_strip = limits.some_rows_per_strip in
-    let times = div_ceil_times form.rows form.rows_per_strip some in
-    let count = limits.strips in
-    rw count times.0
-
 module _ (writes : WritesRowByRow) (form : PageForm) (k : ℕ) (rows : List (List Colour)) (page : OpenStrips)
     (put : HasPutRows form k rows page)
     (due : length rows < form.rows) where
@@ -84,7 +75,7 @@ module _ (writes : WritesRowByRow) (form : PageForm) (k : ℕ) (rows : List (Lis
     | inl less ↦ less
     | inr not_less ↦
         let far : in_strip * form.strips ≤ in_strip * n = mul-le-mul_left in_strip not_less in
-        absurd (omega (arith, enough form put.limits, places))
+        absurd (omega (arith, (whole_of form put.limits).enough, places))
   ]
 
   -- a strip's writer that the next row can be put to

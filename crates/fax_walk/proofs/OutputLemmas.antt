@@ -4,9 +4,7 @@ use Rattle.std.proofs.Common.{Option, Some}
 use Rattle.std.proofs.Common.{None, Result, Ok, Err, refl, sym, ap, ◌∙◌, subst, arith, append_assoc, append-nil, length-append, length-take}
 use Rattle.std.proofs.Common.{length-drop, Bool, false, replicate}
 use Rattle.std.specs.Prelude.{flat_map, OnOk}
-use Rattle.std.proofs.Math.Nat.{mul-le-mul_left}
 use Rattle.std.proofs.lemmas.Bool.{cases_lt}
-use Rattle.std.proofs.lemmas.Grind.{div_ceil_times}
 use Rattle.std.proofs.lemmas.List.{length_push, flat_map_more, length-map}
 use Rattle.std.proofs.lemmas.List.{map-append}
 use Rattle.std.proofs.lemmas.List.Concat.{flat_map-append}
@@ -34,6 +32,7 @@ use Rattle.fax_walk.specs.declared.options.Target.{Target}
 use Rattle.fax_walk.specs.declared.options.Target.TheVariants.{Pbm, Mh as ToMh, Mr as ToMr, Mmr as ToMmr}
 use Rattle.fax_walk.specs.declared.open_strips.OpenStrips.{OpenStrips}
 use Rattle.fax_walk.specs.declared.sheet.Sheet.{Sheet}
+use Rattle.fax_walk.proofs.OpenPageLemmas.{whole_of}
 use Rattle.fax_walk.specs.Converted.{SourcePage, written_page, target_bytes, IsTooLarge}
 use Rattle.fax_walk.specs.code.OpenStrips.{coded_of, HasPutRows, AreInStrip}
 use Rattle.fax_walk.specs.code.Output.{Progress, Part, no_rows, with_row, page_of, after, nothing_written, sheet_form, coding_of}
@@ -87,9 +86,8 @@ images_split : (pages more : List SourcePage) (page : SourcePage)
     → pbm_of (map (λ page. page.image) ((pages ++ page ∷ []) ++ more))
     ≡ pbm_of (map (λ page. page.image) pages) ++ (image_bytes page.image ++ pbm_of (map (λ page. page.image) more))
 images_split pages more page =
-    ap (λ (l : List SourcePage). pbm_of (map (λ page. page.image) l)) (append_assoc pages (page ∷ []) more)
-    ∙ ap pbm_of (map-append (λ (page : SourcePage). page.image) pages (page ∷ more))
-    ∙ flat_map-append image_bytes (map (λ page. page.image) pages) (map (λ page. page.image) (page ∷ more))
+    rw (append_assoc pages (page ∷ []) more, map-append (λ (page : SourcePage). page.image) pages (page ∷ more))
+    (flat_map-append image_bytes (map (λ page. page.image) pages) (map (λ page. page.image) (page ∷ more)))
 
 -- images are too large in any options
 images_too_large : (target : Target) (options : Options) (pages : List SourcePage) → target ≡ Pbm
@@ -229,16 +227,10 @@ pub all_strips : (form : PageForm) (k : ℕ) (rows : List (List Colour)) (page :
     → length rows ≡ form.rows
     → length page.done.items ≡ form.strips
 all_strips form k rows page put all =
-    let some : 0 < form.rows_per_strip = put.limits.some_rows_per_strip in
-    let times = (div_ceil_times form.rows form.rows_per_strip some).1 in
-    let below : form.strips * form.rows_per_strip < form.rows + form.rows_per_strip = rw put.limits.strips times in
-    let reached : form.rows ≤ length page.done.items * form.rows_per_strip =
-    reached_by form k (length page.done.items) rows page.writer all put.in_strip in
-    elim (cases_lt (length page.done.items) form.strips) [
-      | inl less ↦
-          let far : form.rows_per_strip * (length page.done.items + 1) ≤ form.rows_per_strip * form.strips =
-          mul-le-mul_left form.rows_per_strip (omega arith) in
-          absurd (omega arith)
+    let n = length page.done.items in
+    let reached = reached_by form k n rows page.writer all put.in_strip in
+    elim (cases_lt n form.strips) [
+      | inl less ↦ absurd (omega (arith, reached, (whole_of form put.limits).needed n less))
       | inr not_less ↦ omega (arith, put.strips)
     ]
 
@@ -279,15 +271,16 @@ module _ (part : Part) (coding : Coding) (writer : Writing) (page : OpenStrips) 
   with_source : with_page writer.written writer.total writer.added page.form (contents page.done.items)
       ≡ with_pages empty_file total 0 (map written pages)
   with_source =
-      let before = with_pages empty_file total 0 (map written part.at.pages) in
-      let count = sym (length-map part.at.pages written) in
-      ap (λ (w : Written). with_page w writer.total writer.added page.form (contents page.done.items)) has.0.written
-      ∙ ap (λ (n : ℕ). with_page before n writer.added page.form (contents page.done.items)) has.0.total
-      ∙ ap (λ (n : ℕ). with_page before total n page.form (contents page.done.items)) (has.0.added ∙ count)
-      ∙ ap (λ (f : PageForm). with_page before total (length (map written part.at.pages)) f (contents page.done.items)) form_is
-      ∙ ap (λ (l : List (List ℕ)). with_page before total (length (map written part.at.pages)) (written source).form l) strips_are
-      ∙ sym (pages_next empty_file total (map written part.at.pages) (written source))
-      ∙ ap (with_pages empty_file total 0) (sym (map-append written part.at.pages (source ∷ [])))
+      rw (
+        has.0.written,
+        has.0.total,
+        has.0.added,
+        ← length-map part.at.pages written,
+        form_is,
+        strips_are,
+        map-append written part.at.pages (source ∷ []),
+        pages_next empty_file total (map written part.at.pages) (written source),
+      ) refl
 
   pub page_ended : (new : Writing) → new ≡ with_one_more writer page.form page.done.items
       → length_with writer page.form page.done.items ≤ max_file → HasPages coding new (after part)

@@ -9,7 +9,7 @@ use Rattle.fax_files.specs.declared.Cause.{Cause}
 use Rattle.fax_files.specs.declared.Cause.TheVariants.{File}
 use Rattle.fax_files.specs.declared.PageForm.{PageForm}
 use Rattle.fax_files.specs.Directory.{IsChain, ascend, entries, header}
-use Rattle.fax_files.specs.laws.Files.{IsWholeForm}
+use Rattle.fax_files.specs.views.Page.{IsPageForm}
 use Rattle.fax_files.specs.views.Tiff.{TiffFile, TiffDirectory, directory_of, form_of}
 use Rattle.fax_walk.specs.declared.checking.Note.{Note}
 use Rattle.fax_walk.specs.declared.checking.NoteKind.TheVariants.{EntriesOutOfOrder}
@@ -23,6 +23,7 @@ use Rattle.fax_walk.specs.Items.{first_at, IsRow}
 use Rattle.fax_walk.specs.Report.{IsNoted, note_if, IsReportedEnd, IsReport}
 use Rattle.fax_walk.specs.code.Check.{before_page, before_strip, CheckPlace, EndsThere, HasChecked, IsDirectoryOfPage, IsRestChecked}
 use Rattle.fax_walk.specs.code.Check.{ArePagesChecked}
+use Rattle.fax_walk.proofs.OpenPageLemmas.{whole_of}
 use Rattle.fax_walk.proofs.CheckLemmas.{nothing_checked, checked_on}
 use Rattle.fax_walk.proofs.InOrderLemmas.{ended_at}
 use Rattle.fax_walk.proofs.PageLawLemmas.{page_here}
@@ -46,7 +47,7 @@ refused_page directory p old new fault here same refused = record {
 }
 
 -- the rest of a page after the note on its directory
-module _ (directory : TiffDirectory) (form : PageForm) (p : ℕ) (some : IsWholeForm form) (form_is : form_of directory ≡ Ok form)
+module _ (directory : TiffDirectory) (form : PageForm) (p : ℕ) (limits : IsPageForm form) (form_is : form_of directory ≡ Ok form)
     (here : IsDirectoryOfPage directory p) where
   abbrev on_entries : List Note
   on_entries = note_if (not (ascend (entries directory.endian directory.file directory.offset))) p None EntriesOutOfOrder
@@ -56,15 +57,15 @@ module _ (directory : TiffDirectory) (form : PageForm) (p : ℕ) (some : IsWhole
     | inl less ↦ less
     | inr none ↦
         let zero : form.strips ≡ 0 = omega (arith, none) in
-        let few : form.rows ≤ 0 * form.rows_per_strip = rw zero at some.enough in
-        absurd (omega (arith, some.some_rows, few))
+        let few : form.rows ≤ 0 * form.rows_per_strip = rw zero at (whole_of form limits).enough in
+        absurd (omega (arith, limits.some_rows, few))
   ]
 
   entries_checked : HasChecked directory.file (before_page p) (before_strip form p 0) on_entries 0
   entries_checked =
       let test : (0 == form.strips) ≡ false = grind (arith, nat_tests, some_strip) in
       let zero : min (0 * form.rows_per_strip) form.rows ≡ 0 = omega arith in
-      let inside : nat_lt 0 form.rows ≡ true = grind (arith, nat_tests, some.some_rows) in
+      let inside : nat_lt 0 form.rows ≡ true = grind (arith, nat_tests, limits.some_rows) in
       rw (test, zero, inside) (record {
         found = on_entries ∷ [];
         lead = ((p, Some 0), (Ok _, rw form_is at (here 0), refl), refl);
