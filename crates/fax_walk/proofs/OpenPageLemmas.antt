@@ -2,11 +2,11 @@
 use Rattle.std.proofs.Common.{◌≡◌, ℕ, ◌+◌, ◌-◌, ◌*◌, ◌<◌, ◌≤◌, ◌⊎◌, inl, inr, min, true, false, List, [], ◌∷◌, ◌++◌, length, drop, Option}
 use Rattle.std.proofs.Common.{Some, None}
 use Rattle.std.proofs.Common.{Result, Ok, Err, refl, sym, ap, ◌∙◌, subst, arith, add-mul, length-append, ◌^◌}
-use Rattle.std.proofs.Math.Nat.{mul-le-mul_right, mod-eq-sub-div-mul, div-add-mod, zero-div, zero-mod}
+use Rattle.std.proofs.Math.Nat.{mul-le-mul_right, mod-eq-sub-div-mul, div-add-mod, zero-div}
 use Rattle.std.proofs.lemmas.Bool.{cases_lt}
 use Rattle.std.proofs.lemmas.Bool.Decides.{nat_tests}
 use Rattle.std.proofs.lemmas.Grind.{div_ceil_times}
-use Rattle.std.specs.Prelude.{IfOk, IfErr, nat_lt, ◌==◌}
+use Rattle.std.specs.Prelude.{IfErr, nat_lt, ◌==◌}
 use Rattle.fax_bits.specs.declared.Colour.{Colour}
 use Rattle.fax_bits.specs.declared.Colour.TheVariants.{White}
 use Rattle.fax_bits.specs.Bits.{bits}
@@ -418,22 +418,6 @@ page_first due p is =
 pub due_there : (p : ℕ) (chain : ChainState) (directory : TiffDirectory) (form : PageForm) → IsFilePage p chain directory form
     → HasPage directory.file p
 due_there p chain directory form its = (Ok (page_with directory form), its.here 0, tt)
-
-pub opened_after : (file : List ℕ) (due : PageDue) (p read : ℕ) (result : Result PageState OpenFault) → due.page ≡ p
-    → due.directory.file ≡ file
-    → IfOk result (IsOpenedAt due.directory.file (first_at due.page (strip_at due.form 0 * due.form.rows_per_strip))
-    (row_in_strip due.form 0)
-    read)
-    → IfOk result (IsOpenedAt file (first_at p 0) 0 read)
-opened_after file due p read (Ok page) page_is file_is opened = record {
-  is_open = opened.is_open;
-  file_is = opened.file_is ∙ file_is;
-  row_due = opened.row_due;
-  place_is = opened.place_is ∙ page_first due p page_is;
-  skips = opened.skips ∙ zero-mod due.form.rows_per_strip;
-  read_is = opened.read_is;
-}
-opened_after file due p read (Err fault) page_is file_is opened = opened
 
 pub refused_after : (file : List ℕ) (due : PageDue) (p : ℕ) (result : Result PageState OpenFault) → due.page ≡ p
     → due.directory.file ≡ file → IfErr result (IsRefusal (IsNoStrip due 0))

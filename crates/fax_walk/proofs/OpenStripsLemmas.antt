@@ -1,7 +1,7 @@
 -- Rows that are put on a page, strip by strip.
 use Rattle.std.proofs.Common.{◌≡◌, ◌⊎◌, ℕ, zero, suc, ◌+◌, ◌*◌, ◌<◌, ◌≤◌, inl, inr, min, List, [], ◌∷◌, ◌++◌, length, take, drop, Option, Some}
 use Rattle.std.specs.List.{range_with_len}
-use Rattle.std.proofs.Common.{map, None, Vec, refl, sym, ap, ◌∙◌, subst, arith, length-drop}
+use Rattle.std.proofs.Common.{map, None, Vec, refl, sym, ap, ◌∙◌, arith, length-drop}
 use Rattle.std.specs.declared.alloc.Global.{Global}
 use Rattle.std.proofs.lemmas.List.FromFn.{map-range_with_len_more}
 use Rattle.std.proofs.lemmas.List.{take-append-le, drop-append-le, drop_all, take_all, length_push}
@@ -31,20 +31,18 @@ strips_more form k (suc n) rows more far =
     ∙ ap (coded_strip (strip_form form n) k) (take-append-le form.rows_per_strip (drop place rows) more here) in
     let m : suc n ≡ n + 1 = omega arith in
     ap (λ (i : ℕ). map (coded_of form k (rows ++ more)) (range_with_len 0 i)) m
-    ∙ map-range_with_len_more (coded_of form k (rows ++ more)) 0 n n (omega arith)
-    ∙ ap (λ (l : List (List ℕ)). l ++ coded_of form k (rows ++ more) n ∷ []) (strips_more form k n rows more before)
-    ∙ ap (λ (b : List ℕ). map (coded_of form k rows) (range_with_len 0 n) ++ b ∷ []) last
-    ∙ sym (map-range_with_len_more (coded_of form k rows) 0 n n (omega arith))
+    ∙ rw (
+      map-range_with_len_more (coded_of form k (rows ++ more)) 0 n n (omega arith),
+      map-range_with_len_more (coded_of form k rows) 0 n n (omega arith),
+      strips_more form k n rows more before,
+      last,
+    ) refl
     ∙ ap (λ (i : ℕ). map (coded_of form k rows) (range_with_len 0 i)) (sym m)
 
 contents_next : (strips : List (Vec ℕ Global)) (bytes : Vec ℕ Global)
     → contents (strips ++ bytes ∷ []) ≡ contents strips ++ bytes.items ∷ []
 contents_next [] bytes = refl
 contents_next (first ∷ strips) bytes = ap (λ (l : List (List ℕ)). first.items ∷ l) (contents_next strips bytes)
-
-pub contents_count : (strips : List (Vec ℕ Global)) → length (contents strips) ≡ length strips
-contents_count [] = refl
-contents_count (first ∷ strips) = ap suc (contents_count strips)
 
 module _ (writes : WritesRowByRow) (form : PageForm) (k : ℕ) (rows : List (List Colour)) (page : OpenStrips)
     (put : HasPutRows form k rows page)
@@ -83,19 +81,13 @@ module _ (writes : WritesRowByRow) (form : PageForm) (k : ℕ) (rows : List (Lis
   IsReady writer = HasPut (strip_form form n) k (drop (n * in_strip) rows) writer
 
   pub ready_started : (writer : WriterState) → page.writer ≡ Some writer → IsReady writer
-  ready_started writer is =
-      let started = subst (λ (w : Option WriterState). AreInStrip form k n rows w) is put.in_strip in started.2.has_put
+  ready_started writer is = let started = rw is at put.in_strip in started.2.has_put
 
   pub ready_new : (writer : WriterState) → page.writer ≡ None → writer ≡ writer_beginning (strip_form page.form n) page.k → IsReady writer
   ready_new writer none is =
-      let whole : min (n * in_strip) form.rows ≡ length rows =
-      subst (λ (w : Option WriterState). AreInStrip form k n rows w) none put.in_strip in
+      let whole = rw none at put.in_strip in
       let nothing : drop (n * in_strip) rows ≡ [] = drop_all (n * in_strip) rows (omega arith) in
-      let begun : writer ≡ writer_beginning (strip_form form n) k =
-      is ∙ ap (λ (f : PageForm). writer_beginning (strip_form f n) page.k) put.form_is
-      ∙ ap (writer_beginning (strip_form form n)) put.k_is in
-      subst (λ (l : List (List Colour)). HasPut (strip_form form n) k l writer) (sym nothing)
-      (subst (HasPut (strip_form form n) k []) (sym begun) (writes.begins (strip_form form n) k))
+      rw (nothing, is, put.form_is, put.k_is) (writes.begins (strip_form form n) k)
 
   -- the page once a strip is open
   abbrev pub IsOpened : OpenStrips → Type 0
@@ -123,8 +115,7 @@ module _ (writes : WritesRowByRow) (form : PageForm) (k : ℕ) (rows : List (Lis
     rest_is = drop-append-le (n * in_strip) rows (row ∷ []) places.0
 
     has_put : HasPut (strip_form form n) k (drop (n * in_strip) more) new
-    has_put = subst (λ (l : List (List Colour)). HasPut (strip_form form n) k l new) (sym rest_is)
-        (writes.goes_on (strip_form form n) k (drop (n * in_strip) rows) row old new ready puts)
+    has_put = rw rest_is (writes.goes_on (strip_form form n) k (drop (n * in_strip) rows) row old new ready puts)
 
     same_strips : map (coded_of form k rows) (range_with_len 0 n) ≡ map (coded_of form k more) (range_with_len 0 n)
     same_strips = sym (strips_more form k n rows (row ∷ []) places.0)
@@ -168,11 +159,15 @@ module _ (writes : WritesRowByRow) (form : PageForm) (k : ℕ) (rows : List (Lis
           count = omega (arith, put.count, count);
           within = omega (arith, count);
           strips = omega (arith, strips_are, one_due);
-          done = ap contents done_is ∙ contents_next page.done.items bytes
-              ∙ ap (λ (l : List (List ℕ)). l ++ bytes.items ∷ []) (put.done ∙ same_strips)
-              ∙ ap (λ (b : List ℕ). map (coded_of form k more) (range_with_len 0 n) ++ b ∷ [])
-              (coded ∙ ap (coded_strip (strip_form form n) k) (sym all_rows))
-              ∙ sym (map-range_with_len_more (coded_of form k more) 0 n n (omega arith))
-              ∙ ap (λ (i : ℕ). map (coded_of form k more) (range_with_len 0 i)) (sym strips_are);
+          done = rw (
+            strips_are,
+            done_is,
+            contents_next page.done.items bytes,
+            put.done,
+            same_strips,
+            coded,
+            map-range_with_len_more (coded_of form k more) 0 n n (omega arith),
+            all_rows,
+          ) refl;
           in_strip = rw strips_are (omega (arith, all, count));
         }

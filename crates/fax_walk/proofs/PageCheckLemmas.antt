@@ -1,24 +1,23 @@
 -- The pages of a file that is checked.
-use Rattle.std.proofs.Common.{◌≡◌, ℕ, ◌+◌, ◌*◌, ◌≤◌, List, [], ◌∷◌, ◌++◌, length, Option, Some, None, Ok, Err, refl, sym, ap, ◌∙◌}
+use Rattle.std.proofs.Common.{◌≡◌, ℕ, ◌+◌, ◌*◌, ◌≤◌, List, [], ◌∷◌, ◌++◌, Some, None, Ok, Err, refl, sym, ap, ◌∙◌}
 use Rattle.std.proofs.Common.{arith, subst, append_assoc, append-nil, true, false, inl, inr, ◌<◌}
-use Rattle.std.specs.Prelude.{slice_get, ◌==◌, not, min, nat_lt}
+use Rattle.std.specs.Prelude.{◌==◌, not, min, nat_lt}
 use Rattle.std.proofs.lemmas.Bool.{cases_lt}
 use Rattle.std.proofs.lemmas.Bool.Decides.{nat_tests}
 use Rattle.fax_files.specs.declared.FileFault.{FileFault}
 use Rattle.fax_files.specs.declared.Cause.{Cause}
 use Rattle.fax_files.specs.declared.Cause.TheVariants.{File}
 use Rattle.fax_files.specs.declared.PageForm.{PageForm}
-use Rattle.fax_files.specs.Directory.{IsChain, ascend, entries, header}
+use Rattle.fax_files.specs.Directory.{ascend, entries, header}
 use Rattle.fax_files.specs.views.Page.{IsPageForm}
-use Rattle.fax_files.specs.views.Tiff.{TiffFile, TiffDirectory, directory_of, form_of}
+use Rattle.fax_files.specs.views.Tiff.{TiffDirectory, form_of}
 use Rattle.fax_walk.specs.declared.checking.Note.{Note}
 use Rattle.fax_walk.specs.declared.checking.NoteKind.TheVariants.{EntriesOutOfOrder}
 use Rattle.fax_walk.specs.declared.checking.PageRead.{PageRead}
 use Rattle.fax_walk.specs.declared.checking.Report.{Report}
 use Rattle.fax_walk.specs.declared.end.End.{End}
-use Rattle.fax_walk.specs.declared.end.End.TheVariants.{Proper, Fault}
+use Rattle.fax_walk.specs.declared.end.End.TheVariants.{Fault}
 use Rattle.fax_walk.specs.Pages.{IsPageAt}
-use Rattle.fax_walk.specs.code.Opening.{end_past_chain}
 use Rattle.fax_walk.specs.Items.{first_at, IsRow}
 use Rattle.fax_walk.specs.Report.{IsNoted, note_if, IsReportedEnd, IsReport}
 use Rattle.fax_walk.specs.code.Check.{before_page, before_strip, CheckPlace, EndsThere, HasChecked, IsDirectoryOfPage, IsRestChecked}
@@ -26,7 +25,6 @@ use Rattle.fax_walk.specs.code.Check.{ArePagesChecked}
 use Rattle.fax_walk.proofs.OpenPageLemmas.{whole_of}
 use Rattle.fax_walk.proofs.CheckLemmas.{nothing_checked, checked_on}
 use Rattle.fax_walk.proofs.InOrderLemmas.{ended_at}
-use Rattle.fax_walk.proofs.PageLawLemmas.{page_here}
 
 -- page p of a file ends the chain there
 ends_at_page : (file : List ℕ) (p : ℕ) (end : End) → IsPageAt file (record { page = p; row = 0 }) (Err end)
@@ -142,31 +140,3 @@ header_report file met report bad none pages rows fault_is =
     reported file report [] 0 (before_page 0) (Fault 0 0 (File met)) (nothing_checked file (before_page 0))
     (ends_at_page file 0 (Fault 0 0 (File met)) (rw (bad, IsPageAt) refl))
     none rows (pages, fault_is)
-
--- what a file's chain has at a number
-module _ (tiff : TiffFile) (offsets : List ℕ) (fault : Option FileFault) (good : header tiff.file ≡ Ok tiff.head)
-    (chained : IsChain tiff.head tiff.file offsets fault) (given : ℕ) where
-  -- a directory
-  pub directory_there : (q : ℕ) → slice_get offsets given ≡ Some q → IsDirectoryOfPage (directory_of tiff q) given
-  directory_there q there r =
-      rw there at (page_here tiff.file tiff.head good offsets fault chained (record { page = given; row = r }))
-
-  -- none, after all pages
-  pub none_there : slice_get offsets given ≡ None
-      → IsPageAt tiff.file (record { page = given; row = 0 })
-      (Err (end_past_chain (length offsets) fault (record { page = given; row = 0 })))
-  none_there none = rw none at (page_here tiff.file tiff.head good offsets fault chained (record { page = given; row = 0 }))
-
-  pub proper_there : slice_get offsets given ≡ None → length offsets ≡ given → fault ≡ None
-      → IsPageAt tiff.file (record { page = given; row = 0 }) (Err Proper)
-  proper_there none count proper =
-      let here : (given == given) ≡ true = grind (arith, nat_tests) in
-      let end_is : end_past_chain (length offsets) fault (record { page = given; row = 0 }) ≡ Proper = rw (proper, count, here) refl in
-      rw end_is at (none_there none)
-
-  pub fault_there : (met : FileFault) → slice_get offsets given ≡ None → length offsets ≡ given → fault ≡ Some met
-      → IsPageAt tiff.file (record { page = given; row = 0 }) (Err (Fault given 0 (File met)))
-  fault_there met none count stops =
-      let end_is : end_past_chain (length offsets) fault (record { page = given; row = 0 }) ≡ Fault given 0 (File met) =
-      rw (stops, count) refl in
-      rw end_is at (none_there none)

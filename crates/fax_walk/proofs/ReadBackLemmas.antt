@@ -29,7 +29,7 @@ use Rattle.fax_walk.specs.code.Output.{form_sheet, page_of}
 use Rattle.fax_walk.specs.code.Sources.{ArePaged, AreRowsOn, FilesArePaged, page_of_image, pels_of}
 use Rattle.fax_walk.specs.laws.ReadBack.{AreReadBack, AreReadBackIn, ConversionsAreReadBack, ConversionsKeepItems}
 use Rattle.fax_walk.specs.laws.Tails.{FilesHaveOneItems}
-use Rattle.fax_walk.specs.laws.Written.{CodedFilesAreWalked, IsWritableSource, WalkedRow, numbered, rows_of, walked, written_pages}
+use Rattle.fax_walk.specs.laws.Written.{CodedFilesAreWalked, IsWritableSource, numbered, rows_of, walked, written_pages}
 use Rattle.fax_walk.proofs.FileLemmas.{some_pages}
 use Rattle.fax_walk.proofs.PageLawLemmas.{in_chain}
 use Rattle.fax_walk.proofs.ImageLemmas.{raster_count, raster_widths}
@@ -96,12 +96,7 @@ pages_counted (one ∷ forms) items = ap suc (pages_counted forms (drop one.form
 -- rows of a page with their places
 rows_numbered : (p : ℕ) (form : PageForm) (r : ℕ) (own : List RowItem) → AreRowsOn p form r own → map walked own ≡ numbered p r (pels_of own)
 rows_numbered p form r [] are = refl
-rows_numbered p form r (x ∷ own) are =
-    let first : walked x ≡ record { page = p; row = r; pels = x.pels } =
-    ap (λ (q : ℕ). record { page = q; row = x.row; pels = x.pels }) are.0
-    ∙ ap (λ (n : ℕ). record { page = p; row = n; pels = x.pels }) are.2 in
-    ap (λ (w : WalkedRow). w ∷ map walked own) first
-    ∙ ap (λ (l : List WalkedRow). record { page = p; row = r; pels = x.pels } ∷ l) (rows_numbered p form (r + 1) own are.4)
+rows_numbered p form r (x ∷ own) are = rw (are.0, are.2, rows_numbered p form (r + 1) own are.4) refl
 
 rows_wide : (p : ℕ) (form : PageForm) (r : ℕ) (own : List RowItem) → AreRowsOn p form r own → AreOfWidth form.width (pels_of own)
 rows_wide p form r [] are = tt
@@ -114,10 +109,7 @@ items_kept [] p items paged = sym (ap (map walked) paged.0)
 items_kept (one ∷ forms) p items (own, others, items_are, are, inr stop) = let no = stop.2.3 in absurd cc
 items_kept (one ∷ forms) p items (own, others, items_are, are, inl whole) =
     ap (λ (l : List SourcePage). rows_of p (map (λ source. source.image.rows) l)) (first_page one forms items own others items_are whole.0)
-    ∙ ap (λ (l : List WalkedRow). l ++ rows_of (p + 1) (map (λ source. source.image.rows) (pages_of forms others)))
-    (sym (rows_numbered p one.form 0 own are))
-    ∙ ap (λ (l : List WalkedRow). map walked own ++ l) (items_kept forms (p + 1) others whole.2)
-    ∙ sym (map-append walked own others) ∙ ap (map walked) (sym items_are)
+    ∙ rw (← rows_numbered p one.form 0 own are, items_kept forms (p + 1) others whole.2, items_are, map-append walked own others) refl
 
 module _ (paged : FilesArePaged) (within_limits : FormsAreWithinLimits) where
   page_limits : (file : List ℕ) → All (λ byte. byte < 256) file → (at : Cursor) (here : FilePage) → IsPageAt file at (Ok here)

@@ -1,5 +1,5 @@
 -- The rows of a file, page by page.
-use Rattle.std.proofs.Common.{subst, ◌≡◌, ℕ, zero, suc, ◌+◌, ◌*◌, ◌<◌, ◌⊎◌, inl, inr, List, [], ◌∷◌, ◌++◌, map, length, take, drop}
+use Rattle.std.proofs.Common.{subst, ◌≡◌, ℕ, zero, suc, ◌+◌, ◌*◌, ◌<◌, ◌⊎◌, inl, inr, List, [], ◌∷◌, ◌++◌, map, length}
 use Rattle.std.proofs.Common.{Option, Some, None, Ok, Err, refl, sym, ap, ◌∙◌, arith, append-nil}
 use Rattle.std.proofs.lemmas.Bool.{cond_both}
 use Rattle.std.proofs.lemmas.List.{drop_at, length-map, length-replicate, take_at}
@@ -208,7 +208,4 @@ pub first_page : (one : FormItem) (forms : List FormItem) (items own others : Li
     → length own ≡ one.form.rows
     → pages_of (one ∷ forms) items ≡ page_of (form_sheet one.form) (pels_of own) ∷ pages_of forms others
 first_page one forms items own others items_are count =
-    let first : take one.form.rows items ≡ own = ap (take one.form.rows) items_are ∙ take_at own others one.form.rows count in
-    let second : drop one.form.rows items ≡ others = ap (drop one.form.rows) items_are ∙ drop_at own others one.form.rows count in
-    ap (λ (l : List RowItem). page_of (form_sheet one.form) (pels_of l) ∷ pages_of forms (drop one.form.rows items)) first
-    ∙ ap (λ (l : List RowItem). page_of (form_sheet one.form) (pels_of own) ∷ pages_of forms l) second
+    rw (items_are, take_at own others one.form.rows count, drop_at own others one.form.rows count) refl
