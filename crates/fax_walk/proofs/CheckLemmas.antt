@@ -1,5 +1,5 @@
 -- What is noted in order, and the rows beside it.
-use Rattle.std.proofs.Common.{◌≡◌, ℕ, ◌+◌, List, [], ◌++◌, refl, sym, ap, ◌∙◌, arith, length-append}
+use Rattle.std.proofs.Common.{◌≡◌, ℕ, ◌+◌, List, [], ◌++◌, refl, sym, arith, length-append}
 use Rattle.std.specs.Prelude.{flat_map}
 use Rattle.std.proofs.lemmas.List.Concat.{flat_map-append}
 use Rattle.fax_walk.specs.declared.checking.Note.{Note}
@@ -12,8 +12,7 @@ use Rattle.fax_walk.proofs.InOrderLemmas.{leads_both}
 found_both : (found more : List (List Note)) (notes others : List Note) → notes ≡ flat_map (λ own. own) found
     → others ≡ flat_map (λ own. own) more → notes ++ others ≡ flat_map (λ own. own) (found ++ more)
 found_both found more notes others is others_are =
-    ap (λ (l : List Note). l ++ others) is ∙ ap (λ (l : List Note). flat_map (λ own. own) found ++ l) others_are
-    ∙ sym (flat_map-append (λ (own : List Note). own) found more)
+    rw (is, others_are) (sym (flat_map-append (λ (own : List Note). own) found more))
 
 module _ (file : List ℕ) where
   pub nothing_checked : (at : CheckPlace) → HasChecked file at at [] 0

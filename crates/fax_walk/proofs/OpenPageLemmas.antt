@@ -285,25 +285,15 @@ module _ (old page : PageState) (keeps : KeepsPlace old page) where
     told = (stops.told.0, rw (keeps.same.page, keeps.row) at stops.told.1);
   }
 
--- a fault leaves the reader of a strip at its row
-fault_row : (old new : StripState) (fault : StripFault) → IsAdvance old (Err fault) new → new.row ≡ old.row
-fault_row old new fault (inl again) = ap (λ (s : StripState). s.row) again.unchanged
-fault_row old new fault (inr meets) = ap (λ (s : StripState). s.row) meets.told
-
--- a fault is met
-fault_met : (page : PageState) (strip : StripState) (fault : StripFault) → IsOpen page → IsPageForm page.form
-    → IsStripOf page.form page.directory page.number page.strip → IsFilePage page.page page.chain page.directory page.form
-    → IsAdvance page.strip (Err fault) strip → StopsAtRow page (Fault page.page (row_of page) (Strip fault))
-fault_met page strip fault is_open limits strip_is its (inl again) = absurd (cc (is_open.no_fault, again.told))
-fault_met page strip fault is_open limits strip_is its (inr meets) =
-    record { stop = row_fault page limits strip_is meets.due its fault strip meets; told = (Strip fault, refl) }
-
+-- a fault is met at the row where the reader of the strip stays
 pub fault_stops : (page : PageState) (strip : StripState) (fault : StripFault) → IsOpen page → IsPageForm page.form
     → IsStripOf page.form page.directory page.number page.strip → IsFilePage page.page page.chain page.directory page.form
     → IsAdvance page.strip (Err fault) strip → (row : ℕ) → row ≡ page.number * page.form.rows_per_strip + strip.row
     → StopsAtRow page (Fault page.page row (Strip fault))
-fault_stops page strip fault is_open limits strip_is its answers row due =
-    rw (due, fault_row page.strip strip fault answers) (fault_met page strip fault is_open limits strip_is its answers)
+fault_stops page strip fault is_open limits strip_is its (inl again) row due = absurd (cc (is_open.no_fault, again.told))
+fault_stops page strip fault is_open limits strip_is its (inr meets) row due =
+    rw (due, meets.told)
+    (record { stop = row_fault page limits strip_is meets.due its fault strip meets; told = (Strip fault, refl) })
 
 -- rows that are not handed out
 pub none_skipped : (page : PageState) → HasSkipped page page []

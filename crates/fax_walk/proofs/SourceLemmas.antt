@@ -137,15 +137,10 @@ not_there file k end (Ok here, page, e) = absurd cc
 pub found_page : (file : List ℕ) (p : ℕ) (one : FormItem) (next : ℕ) → IsForm file p (goes_on one next)
     → (here : FilePage) × IsPageAt file (record { page = p; row = 0 }) (Ok here) × (one.form ≡ here.form) × (next ≡ p + 1)
 found_page file p one next (Err end, page, e) = absurd cc
-found_page file p one next (Ok here, page, e) = (here, page, ap form_in e, ap place_in e)
-  where
-    form_in : Step FormItem ℕ → PageForm
-    form_in (goes_on item to) = item.form
-    form_in (ends_as none) = one.form
-
-    place_in : Step FormItem ℕ → ℕ
-    place_in (goes_on item to) = to
-    place_in (ends_as none) = next
+found_page file p one next (Ok here, page, e) =
+    let item : one ≡ record { page = p; form = here.form } = cc in
+    let to : next ≡ p + 1 = cc in
+    (here, page, ap (λ (i : FormItem). i.form) item, to)
 
 -- what is handed out after items that lead to a place
 after_led : {S A : Type 0} (next : S → Step A S → Type 0) → ((at : S) → IsOneAnswer (next at)) → (at to : S)
