@@ -1,5 +1,5 @@
 -- What stands after the last row of a strip.
-use Rattle.std.proofs.Common.{◌≡◌, ◌≢◌, ℕ, zero, suc, ◌+◌, ◌<◌, ◌⊎◌, ◌↔◌, List, [], ◌∷◌, ◌++◌, length, replicate, get_or, Bool, true, false}
+use Rattle.std.proofs.Common.{◌≡◌, ◌≢◌, ℕ, zero, suc, ◌+◌, ◌<◌, ◌⊎◌, ◌↔◌, List, [], ◌∷◌, ◌++◌, length, replicate, get_or, Bool, true, false, ◌-◌}
 use Rattle.std.proofs.Common.{IsTrue, Option, Some, None, MatchOption, not, is_some, refl, ap, sym, ◌∙◌, subst, arith, inl, inr}
 use Rattle.std.specs.List.{Contains}
 use Rattle.std.proofs.lemmas.List.Elements.{Contains-append_right}
@@ -50,49 +50,34 @@ same_return_eol Mr b rest remaining first second =
     let same = same_eol b (true ∷ rest) (true ∷ remaining) first second in cc same
 same_return_eol Mmr b rest remaining first second = absurd first
 
--- six EOLs stand next where none is taken yet
-pub none_taken : (coding : Coding) (b : List Bool) → AreEolsTaken coding b 0 b
-none_taken coding b = record { left = 6; count = refl; onward = λ rest eols. eols; back = λ rest eols. eols }
+-- EOLs that are taken one after another
+module _ (coding : Coding) (b : List Bool) where
+  abbrev Stand : List Bool → ℕ → Type 0
+  Stand rest n = AreReturnEols coding n b rest
 
-next_taken : (coding : Coding) (b ahead rest : List Bool) (i left : ℕ) → i + left ≡ 6 → i < 6
-    → ((after : List Bool) → AreReturnEols coding left ahead after → AreReturnEols coding 6 b after)
-    → ((after : List Bool) → AreReturnEols coding 6 b after → AreReturnEols coding left ahead after)
-    → IsReturnEol coding ahead rest → AreEolsTaken coding b (i + 1) rest
-next_taken coding b ahead rest i zero count due onward back eol = absurd (omega (arith, count, due))
-next_taken coding b ahead rest i (suc left) count due onward back eol = record {
-  left = left;
-  count = omega (arith, count);
-  onward = λ after eols. onward after (rest, eol, eols);
-  back = λ after eols.
-      let found = back after eols in
-      subst (λ c. AreReturnEols coding left c after) (same_return_eol coding ahead found.0 rest found.1 eol) found.2;
-}
+  pub none_taken : AreEolsTaken coding b 0 b
+  none_taken = record {
+    onward = λ n rest eols. subst (Stand rest) (omega arith) eols;
+    back = λ n rest eols. subst (Stand rest) (omega arith) eols;
+  }
 
-pub one_taken : (coding : Coding) (b ahead rest : List Bool) (i : ℕ) → i < 6 → AreEolsTaken coding b i ahead → IsReturnEol coding ahead rest
-    → AreEolsTaken coding b (i + 1) rest
-one_taken coding b ahead rest i due taken eol =
-    next_taken coding b ahead rest i taken.left taken.count due taken.onward taken.back eol
+  module _ (ahead : List Bool) (i : ℕ) (taken : AreEolsTaken coding b i ahead) where
+    pub one_taken : (rest : List Bool) → IsReturnEol coding ahead rest → AreEolsTaken coding b (i + 1) rest
+    one_taken rest eol = record {
+      onward = λ n after eols. subst (Stand after) (omega arith) (taken.onward (suc n) after (rest, eol, eols));
+      back = λ n after eols.
+          let found = taken.back (suc n) after (subst (Stand after) (omega arith) eols) in
+          subst (λ c. AreReturnEols coding n c after) (same_return_eol coding ahead found.0 rest found.1 eol) found.2;
+    }
 
-missing : (coding : Coding) (b ahead : List Bool) (i left : ℕ) → i + left ≡ 6 → i < 6
-    → ((after : List Bool) → AreReturnEols coding 6 b after → AreReturnEols coding left ahead after)
-    → ((after : List Bool) → IsReturnEol coding ahead after → ⊥) → (rest : List Bool) → AreReturnEols coding 6 b rest → ⊥
-missing coding b ahead i zero count due back none rest eols = absurd (omega (arith, count, due))
-missing coding b ahead i (suc left) count due back none rest eols =
-    let found = back rest eols in
-    none found.0 found.1
+    pub one_missing : i < 6 → ((after : List Bool) → IsReturnEol coding ahead after → ⊥) → (rest : List Bool) → Stand rest 6 → ⊥
+    one_missing due none rest eols =
+        let count : 6 ≡ i + suc (5 - i) = omega arith in
+        let found = taken.back (suc (5 - i)) rest (subst (Stand rest) count eols) in
+        none found.0 found.1
 
-pub one_missing : (coding : Coding) (b ahead : List Bool) (i : ℕ) → i < 6 → AreEolsTaken coding b i ahead
-    → ((after : List Bool) → IsReturnEol coding ahead after → ⊥) → (rest : List Bool) → AreReturnEols coding 6 b rest → ⊥
-one_missing coding b ahead i due taken none rest eols =
-    missing coding b ahead i taken.left taken.count due taken.back none rest eols
-
-all_of : (coding : Coding) (b ahead : List Bool) (left : ℕ) → left ≡ 0
-    → ((after : List Bool) → AreReturnEols coding left ahead after → AreReturnEols coding 6 b after) → AreReturnEols coding 6 b ahead
-all_of coding b ahead zero none onward = onward ahead refl
-all_of coding b ahead (suc left) none onward = absurd (omega (arith, none))
-
-pub all_taken : (coding : Coding) (b ahead : List Bool) (i : ℕ) → i ≡ 6 → AreEolsTaken coding b i ahead → AreReturnEols coding 6 b ahead
-all_taken coding b ahead i all taken = all_of coding b ahead taken.left (omega (arith, taken.count, all)) taken.onward
+    pub all_taken : i ≡ 6 → Stand ahead 6
+    all_taken all = let count : i + 0 ≡ 6 = omega (arith, all) in subst (Stand ahead) count (taken.onward 0 ahead refl)
 
 -- an end mark was found or not, and a 1 after it or after the last row
 pub record IsEndFound (coding : Coding) (left : List Bool) (ended more : Bool) : Type 0 where

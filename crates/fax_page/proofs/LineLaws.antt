@@ -1,9 +1,9 @@
 -- A row of a strip is read in one way, where rows are.
-use Rattle.std.proofs.Common.{◌≡◌, ℕ, List, Bool, refl, ap, sym, ◌∙◌, subst, inl, inr, Ok}
+use Rattle.std.proofs.Common.{◌≡◌, ℕ, List, length, Bool, refl, ap, sym, ◌∙◌, subst, inl, inr, Ok}
 use Rattle.std.specs.Prelude.{◌⊎◌}
 use Rattle.fax_bits.specs.declared.Colour.{Colour}
-use Rattle.fax_rows.specs.declared.RowFault.{RowFault}
-use Rattle.fax_rows.specs.laws.Rows.{ReadsRowsOneWay, ReadsRowsOverOneWay}
+use Rattle.fax_bits.specs.laws.Codes.{IsReadInOneWay}
+use Rattle.fax_rows.specs.laws.Rows.{ReadsRowsOneWay, ReadsRowsOverOneWay, RowsHaveTheirWidth}
 use Rattle.fax_page.specs.declared.Dimension.{Dimension}
 use Rattle.fax_page.specs.declared.Dimension.TheVariants.{OneDimensional, TwoDimensional}
 use Rattle.fax_page.specs.declared.StripForm.{StripForm}
@@ -12,6 +12,7 @@ use Rattle.fax_page.specs.Lines.{BeginsBelowEleven, IsStart, IsRowIn, IsRowFault
 use Rattle.fax_page.specs.Lines.{IsStopInCodes, strip_fault, IsLine, IsCause}
 use Rattle.fax_page.specs.code.Starts.{IsFirstCodeFault}
 use Rattle.fax_page.specs.laws.Strips.{ReadsLinesOneWay}
+use Rattle.fax_page.proofs.RestLemmas.{rest_among}
 use Rattle.fax_page.proofs.BegunLemmas.{start_is, fault_is, started, start_fault}
 use Rattle.fax_page.proofs.StartLaws.{one_start, start_or_fault, start_has_no_fault, one_start_fault, first_code_or_fault}
 use Rattle.fax_page.proofs.StartLaws.{first_code_has_no_fault, one_first_code_fault}
@@ -31,37 +32,24 @@ no_first_code : (dimension : Dimension) (width : ℕ) (reference : List Colour) 
 no_first_code dimension width reference b fault (inl marker) = inl marker
 no_first_code dimension width reference b fault (inr short) = inr (inl short)
 
-module _ (rows : (width : ℕ) → ReadsRowsOneWay width) (rows_over : (reference : List Colour) → ReadsRowsOverOneWay reference) where
+module _ (rows : (width : ℕ) → ReadsRowsOneWay width) (rows_over : (reference : List Colour) → ReadsRowsOverOneWay reference)
+    (widths : RowsHaveTheirWidth) where
   -- the codes of a row, by how it is coded
-  one_row : (dimension : Dimension) (width : ℕ) (reference : List Colour) (b : List Bool) (row another : List Colour)
-      (rest remaining : List Bool)
-      → IsRowIn dimension width reference b row rest → IsRowIn dimension width reference b another remaining
-      → (row ≡ another) × (rest ≡ remaining)
-  one_row OneDimensional width reference = (rows width).one_answer
-  one_row TwoDimensional width reference = (rows_over reference).one_answer
+  rows_in : (dimension : Dimension) (width : ℕ) (reference : List Colour)
+      → IsReadInOneWay (IsRowIn dimension width reference) (IsRowFaultIn dimension width reference)
+  rows_in OneDimensional width reference = rows width
+  rows_in TwoDimensional width reference = rows_over reference
 
-  row_or_fault : (dimension : Dimension) (width : ℕ) (reference : List Colour) (b : List Bool)
-      → ((row : List Colour) × (rest : List Bool) × IsRowIn dimension width reference b row rest)
-      ⊎ ((fault : RowFault) × IsRowFaultIn dimension width reference b fault)
-  row_or_fault OneDimensional width reference = (rows width).answer_or_fault
-  row_or_fault TwoDimensional width reference = (rows_over reference).answer_or_fault
-
-  row_has_no_fault : (dimension : Dimension) (width : ℕ) (reference : List Colour) (b : List Bool) (row : List Colour) (rest : List Bool)
-      (fault : RowFault)
-      → IsRowIn dimension width reference b row rest → IsRowFaultIn dimension width reference b fault → ⊥
-  row_has_no_fault OneDimensional width reference = (rows width).answer_has_no_fault
-  row_has_no_fault TwoDimensional width reference = (rows_over reference).answer_has_no_fault
-
-  one_fault : (dimension : Dimension) (width : ℕ) (reference : List Colour) (b : List Bool) (fault another : RowFault)
-      → IsRowFaultIn dimension width reference b fault → IsRowFaultIn dimension width reference b another → fault ≡ another
-  one_fault OneDimensional width reference = (rows width).one_fault
-  one_fault TwoDimensional width reference = (rows_over reference).one_fault
+  row_wide : (dimension : Dimension) (width : ℕ) (reference : List Colour) (b : List Bool) (row : List Colour) (rest : List Bool)
+      → length reference ≡ width → IsRowIn dimension width reference b row rest → length row ≡ width
+  row_wide OneDimensional width reference b row rest wide is = widths.one_dimensional width b row rest is
+  row_wide TwoDimensional width reference b row rest wide is = widths.two_dimensional reference b row rest is ∙ wide
 
   one_line : (form : StripForm) (i : ℕ) (reference : List Colour) (b : List Bool) (row another : List Colour)
       (rest remaining : List Bool) → IsLine form i reference b row rest → IsLine form i reference b another remaining
       → (row ≡ another) × (rest ≡ remaining)
   one_line form i reference b row another rest remaining first second =
-      one_row first.dimension form.width reference first.codes row another rest remaining first.coded
+      (rows_in first.dimension form.width reference).one_answer first.codes row another rest remaining first.coded
       (same_codes form i b first.dimension second.dimension first.codes second.codes first.start second.start
       (λ dimension codes. IsRowIn dimension form.width reference codes another remaining) second.coded)
 
@@ -78,7 +66,7 @@ module _ (rows : (width : ℕ) → ReadsRowsOneWay width) (rows_over : (referenc
                 fault.0,
                 inr (start.0, start.1, begun, no_first_code start.0 form.width reference start.1 fault.0 fault.1),
               )
-              | inl first ↦ elim (row_or_fault start.0 form.width reference start.1) [
+              | inl first ↦ elim ((rows_in start.0 form.width reference).answer_or_fault start.1) [
                 | inl row ↦ inl (
                   row.0,
                   row.1,
@@ -101,7 +89,7 @@ module _ (rows : (width : ℕ) → ReadsRowsOneWay width) (rows_over : (referenc
   row_has_no_stop dimension width reference b row rest fault first coded (inr (inl short)) =
       first_code_has_no_fault b fault first (inr short)
   row_has_no_stop dimension width reference b row rest fault first coded (inr (inr stop)) =
-      row_has_no_fault dimension width reference b row rest stop.1 coded stop.2
+      (rows_in dimension width reference).answer_has_no_fault b row rest stop.1 coded stop.2
 
   line_has_no_cause : (form : StripForm) (i : ℕ) (reference : List Colour) (b : List Bool) (row : List Colour) (rest : List Bool)
       (fault : StripFault) → IsLine form i reference b row rest → IsCause form i reference b fault → ⊥
@@ -133,7 +121,7 @@ module _ (rows : (width : ℕ) → ReadsRowsOneWay width) (rows_over : (referenc
   one_stop dimension width reference b fault another (inr (inr stop)) (inr (inl short)) =
       absurd (first_code_has_no_fault b another stop.0 (inr short))
   one_stop dimension width reference b fault another (inr (inr stop)) (inr (inr other)) =
-      stop.3 ∙ ap strip_fault (one_fault dimension width reference b stop.1 other.1 stop.2 other.2) ∙ sym other.3
+      stop.3 ∙ ap strip_fault ((rows_in dimension width reference).one_fault b stop.1 other.1 stop.2 other.2) ∙ sym other.3
 
   one_cause : (form : StripForm) (i : ℕ) (reference : List Colour) (b : List Bool) (fault another : StripFault)
       → IsCause form i reference b fault → IsCause form i reference b another → fault ≡ another
@@ -153,8 +141,12 @@ module _ (rows : (width : ℕ) → ReadsRowsOneWay width) (rows_over : (referenc
   -- a row of a strip is read in one way
   pub line_reads_one_way : (form : StripForm) (i : ℕ) (reference : List Colour) → ReadsLinesOneWay form i reference
   line_reads_one_way form i reference = record {
-    one_answer = one_line form i reference;
-    answer_or_fault = line_or_cause form i reference;
-    answer_has_no_fault = line_has_no_cause form i reference;
-    one_fault = one_cause form i reference;
+    line = record {
+      one_answer = one_line form i reference;
+      answer_or_fault = line_or_cause form i reference;
+      answer_has_no_fault = line_has_no_cause form i reference;
+      one_fault = one_cause form i reference;
+    };
+    rest = rest_among form i reference;
+    width = λ b row rest wide line. row_wide line.dimension form.width reference line.codes row rest wide line.coded;
   }

@@ -54,7 +54,7 @@ module _ (reads : (form : StripForm) (i : ℕ) (reference : List Colour) → Rea
       → AreLines form i reference b rows None left → AreLines form i reference b rows None other → left ≡ other
   one_left form i reference b [] left other first second = sym first.0 ∙ second.0
   one_left form i reference b (row ∷ rows) left other first second =
-      let line = (reads form i reference).one_answer b row row first.0 second.0 first.2 second.2 in
+      let line = (reads form i reference).line.one_answer b row row first.0 second.0 first.2 second.2 in
       one_left form (i + 1) row first.0 rows left other first.3
       (subst (λ c. AreLines form (i + 1) row c rows None other) (sym line.1) second.3)
 

@@ -1,6 +1,5 @@
 -- A strip that is read for its notes, row by row.
-use Rattle.std.proofs.Common.{◌≡◌, ℕ, ◌+◌, ◌<◌, ◌↔◌, List, [], ◌∷◌, ◌++◌, length, Bool, true, false, not, IsTrue, refl, ap, sym, ◌∙◌, subst}
-use Rattle.std.proofs.Common.{Result, Ok, Err, OnOk, IfErr}
+use Rattle.std.proofs.Common.{◌≡◌, ℕ, ◌+◌, ◌<◌, ◌↔◌, List, [], ◌∷◌, ◌++◌, length, Bool, true, false, IsTrue, refl, ap, sym, ◌∙◌, subst}
 use Rattle.std.proofs.Common.{arith, append_assoc, append-nil, length-append, inl, inr, Option, Some, None}
 use Rattle.fax_bits.specs.declared.Colour.{Colour}
 use Rattle.fax_bits.specs.Bits.{BeginsWith}
@@ -75,7 +74,7 @@ module _ (reads : (form : StripForm) (i : ℕ) (reference : List Colour) → Rea
   same_line form i reference row b rest remaining line other =
       let start = one_start form.coding i b line.dimension other.dimension line.codes other.codes
       (started form.coding i b line.dimension line.codes line.start) (started form.coding i b other.dimension other.codes other.start) in
-      let after = ((reads form i reference).one_answer b row row rest remaining line other).1 in
+      let after = ((reads form i reference).line.one_answer b row row rest remaining line other).1 in
       record {
         same_after = after;
         chosen = λ is.
@@ -141,15 +140,6 @@ pub codes_fault : (form : StripForm) (i : ℕ) (reference : List Colour) (b code
 codes_fault form i reference b codes dimension Memory start is = tt
 codes_fault form i reference b codes dimension (Strip row fault) start (here, cause, in_codes, stop) =
     (here, cause_in_codes form i reference b dimension codes cause fault start stop in_codes)
-
--- what is said of an answer
-pub on_ok : {A E P Q : Type 0} (answer : Result A E) → (P → Q) → OnOk answer P → OnOk answer Q
-on_ok (Ok x) to is = to is
-on_ok (Err e) to is = tt
-
-pub if_err : {A E : Type 0} {P Q : E → Type 0} (answer : Result A E) → ((e : E) → P e → Q e) → IfErr answer P → IfErr answer Q
-if_err (Ok x) to is = tt
-if_err (Err e) to is = to e is
 
 -- the rows so far, and an end after them
 stopped : (form : StripForm) (b left : List Bool) (i : ℕ) (reference : List Colour) (other : Bool) (end : Option StripFault)

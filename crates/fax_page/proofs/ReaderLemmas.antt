@@ -1,22 +1,20 @@
 -- A strip that is read row by row.
-use Rattle.std.proofs.Common.{◌≡◌, ℕ, ◌<◌, List, [], ◌∷◌, ◌++◌, Option, Some, None, Err, refl, sym, ap, ◌∙◌, subst, append_assoc}
+use Rattle.std.proofs.Common.{◌≡◌, ◌<◌, List, [], ◌∷◌, ◌++◌, Option, Some, None, Err, refl, sym, ap, ◌∙◌, subst, append_assoc}
 use Rattle.std.proofs.Common.{append-nil, inl, inr}
 use Rattle.fax_bits.specs.declared.Colour.{Colour}
-use Rattle.fax_bits.specs.Bits.{bits}
 use Rattle.fax_page.specs.declared.StripForm.{StripForm}
 use Rattle.fax_page.specs.declared.StripFault.{StripFault}
 use Rattle.fax_page.specs.Lines.{IsLine, IsCause}
 use Rattle.fax_page.specs.Strip.{AreLines}
-use Rattle.fax_page.specs.views.Strip.{IsStrip}
 use Rattle.fax_page.proofs.StripLaws.{EndsAt, no_rows}
 use Rattle.fax_page.specs.views.Reader.{StripState, bits_left, strip_after, ReadsRow, IsAtEnd, MeetsFault, IsAdvance}
-use Rattle.fax_page.specs.laws.Reader.{HasRead, HasReadFrom}
+use Rattle.fax_page.specs.laws.Reader.{HasReadFrom, ReadsRowByRow, ReadsOn}
 
-pub begins_on : (start : StripState) → HasReadFrom start [] start
+begins_on : (start : StripState) → HasReadFrom start [] start
 begins_on start = record { same_form = refl; same_bytes = refl; followed = λ more end left lines. lines }
 
 -- one row more
-pub row_read_on : (start : StripState) (rows : List (List Colour)) (old new : StripState) → HasReadFrom start rows old → ReadsRow old new
+row_read_on : (start : StripState) (rows : List (List Colour)) (old new : StripState) → HasReadFrom start rows old → ReadsRow old new
     → HasReadFrom start (rows ++ new.reference ∷ []) new
 row_read_on start rows old new so_far reads = record {
   same_form = reads.same_form ∙ so_far.same_form;
@@ -52,13 +50,13 @@ fault_before start rows old new fault so_far meets =
     let cause = subst (λ f. IsCause f old.row old.reference (bits_left old) fault) so_far.same_form meets.cause in
     stopped_on start rows old (Some fault) so_far (due, cause)
 
-pub ended_on : (start : StripState) (rows : List (List Colour)) (old new : StripState) → HasReadFrom start rows old → IsAtEnd old new
+ended_on : (start : StripState) (rows : List (List Colour)) (old new : StripState) → HasReadFrom start rows old → IsAtEnd old new
     → AreLines start.form start.row start.reference (bits_left start) rows None (bits_left new)
 ended_on start rows old new so_far at_end =
     subst (λ state. AreLines start.form start.row start.reference (bits_left start) rows None (bits_left state)) (sym at_end.unchanged)
     (ended_before start rows old new so_far at_end)
 
-pub fault_met_on : (start : StripState) (rows : List (List Colour)) (old new : StripState) (fault : StripFault)
+fault_met_on : (start : StripState) (rows : List (List Colour)) (old new : StripState) (fault : StripFault)
     → HasReadFrom start rows old → MeetsFault old fault new
     → AreLines start.form start.row start.reference (bits_left start) rows (Some fault) (bits_left new)
 fault_met_on start rows old new fault so_far meets =
@@ -66,7 +64,7 @@ fault_met_on start rows old new fault so_far meets =
     (fault_before start rows old new fault so_far meets)
 
 -- a fault leaves the reader where it was
-pub stays_there : (old new : StripState) (fault : StripFault) → IsAdvance old (Err fault) new
+stays_there : (old new : StripState) (fault : StripFault) → IsAdvance old (Err fault) new
     → (new.place ≡ old.place) × (new.row ≡ old.row) × (new.reference ≡ old.reference)
 stays_there old new fault (inl again) = (
   ap (λ (s : StripState). s.place) again.unchanged,
@@ -80,32 +78,16 @@ stays_there old new fault (inr meets) = (
 )
 
 -- from a strip's beginning on
-from_beginning : (form : StripForm) (bytes : List ℕ) (rows : List (List Colour)) (state : StripState) → HasRead form bytes rows state
-    → HasReadFrom (strip_after 0 form bytes) rows state
-from_beginning form bytes rows state so_far =
-    record { same_form = so_far.same_form; same_bytes = so_far.same_bytes; followed = so_far.followed }
-
-pub begins_so : (read : ℕ) (form : StripForm) (bytes : List ℕ) → HasRead form bytes [] (strip_after read form bytes)
-begins_so read form bytes = record { same_form = refl; same_bytes = refl; followed = λ more end left lines. lines }
-
-pub row_read : (form : StripForm) (bytes : List ℕ) (rows : List (List Colour)) (old new : StripState) → HasRead form bytes rows old
-    → ReadsRow old new
-    → HasRead form bytes (rows ++ new.reference ∷ []) new
-row_read form bytes rows old new so_far reads =
-    let on = row_read_on (strip_after 0 form bytes) rows old new (from_beginning form bytes rows old so_far) reads in
-    record { same_form = on.same_form; same_bytes = on.same_bytes; followed = on.followed }
-
-pub ended : (form : StripForm) (bytes : List ℕ) (rows : List (List Colour)) (old new : StripState) → HasRead form bytes rows old
-    → IsAtEnd old new
-    → IsStrip form (bits form.order bytes) rows None
-ended form bytes rows old new so_far at_end = record {
-  left = bits_left old;
-  lines = ended_before (strip_after 0 form bytes) rows old new (from_beginning form bytes rows old so_far) at_end;
+pub read_row_by_row : ReadsRowByRow
+read_row_by_row = record {
+  begins = λ read form bytes. record { same_form = refl; same_bytes = refl; followed = λ more end left lines. lines };
+  goes_on = λ form bytes. row_read_on (strip_after 0 form bytes);
+  ends = λ form bytes rows old new so_far at_end.
+      record { left = bits_left old; lines = ended_before (strip_after 0 form bytes) rows old new so_far at_end };
+  stops = λ form bytes rows old new fault so_far meets.
+      record { left = bits_left old; lines = fault_before (strip_after 0 form bytes) rows old new fault so_far meets };
 }
 
-pub fault_met : (form : StripForm) (bytes : List ℕ) (rows : List (List Colour)) (old new : StripState) (fault : StripFault)
-    → HasRead form bytes rows old → MeetsFault old fault new → IsStrip form (bits form.order bytes) rows (Some fault)
-fault_met form bytes rows old new fault so_far meets = record {
-  left = bits_left old;
-  lines = fault_before (strip_after 0 form bytes) rows old new fault (from_beginning form bytes rows old so_far) meets;
-}
+-- from any place on
+pub read_on : ReadsOn
+read_on = record { begins = begins_on; goes_on = row_read_on; ends = ended_on; stops = fault_met_on; stays = stays_there }

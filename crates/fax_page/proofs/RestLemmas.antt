@@ -1,12 +1,11 @@
 -- After a row of a strip stands a rest of the bits that it began in.
-use Rattle.std.proofs.Common.{◌≡◌, ℕ, ◌+◌, ◌*◌, ◌≤◌, List, [], ◌∷◌, ◌++◌, length, drop, map, replicate, Bool, true, false, refl, ap, sym}
+use Rattle.std.proofs.Common.{◌≡◌, ℕ, ◌+◌, ◌*◌, ◌≤◌, List, [], ◌∷◌, ◌++◌, length, take, drop, map, replicate, Bool, true, false, refl, ap, sym}
 use Rattle.std.proofs.Common.{◌∙◌, subst, arith, append_assoc, length-append, length-drop, inl, inr}
 use Rattle.std.proofs.Math.Seq.{drop-append_seam}
-use Rattle.std.proofs.lemmas.List.{drop-drop}
+use Rattle.std.proofs.lemmas.List.{take-append-drop}
 use Rattle.fax_bits.specs.declared.codes.CodeEntry.{CodeEntry}
 use Rattle.fax_bits.specs.declared.Colour.{Colour}
 use Rattle.fax_bits.specs.declared.Colour.TheVariants.{White}
-use Rattle.fax_bits.specs.declared.FillOrder.{FillOrder}
 use Rattle.fax_bits.specs.declared.modes.ModeCode.{ModeCode}
 use Rattle.fax_bits.specs.declared.modes.ModeCode.TheVariants.{Pass, Horizontal, Vertical, Extension}
 use Rattle.fax_bits.specs.declared.runs.RunCode.TheVariants.{Terminating, MakeUp}
@@ -105,38 +104,14 @@ line_rest form i reference b row rest line =
     (started form.coding i b line.dimension line.codes line.start))
     (row_rest line.dimension form.width reference line.codes row rest line.coded)
 
--- a source that goes on in the bits of some bytes stands there where their rest begins
-source_goes_on : (order : FillOrder) (bytes : List ℕ) (place : ℕ) (old new : Source) → old ≡ source_of order bytes place
-    → EndsWith old.left new.left → new.place + length new.left ≡ old.place + length old.left
-    → new ≡ source_of order bytes new.place
-source_goes_on order bytes place old new here rest same_end =
-    let b = bits order bytes in
-    let old_place : old.place ≡ place = ap (λ (s : Source). s.place) here in
-    let old_left : old.left ≡ drop place b = ap (λ (s : Source). s.left) here in
-    let long : length old.left ≡ length rest.front + length new.left = ap length rest.parts ∙ length-append rest.front new.left in
-    let further : place + length rest.front ≡ new.place = omega arith in
-    let left : drop (length rest.front) old.left ≡ new.left =
-    ap (λ (c : List Bool). drop (length rest.front) c) rest.parts ∙ drop-append_seam rest.front new.left in
-    let is : new.left ≡ drop new.place b =
-    sym left ∙ ap (λ (c : List Bool). drop (length rest.front) c) old_left
-    ∙ drop-drop (length rest.front) place b ∙ ap (λ n. drop n b) further in
-    ap (λ (c : List Bool). record { left = c; place = new.place }) is
-
--- after a row, the source stands in the bits of the bytes where the row's rest begins
-pub row_after : (form : StripForm) (i : ℕ) (reference row : List Colour) (bytes : List ℕ) (place after : ℕ) (old new : Source)
-    → old ≡ source_of form.order bytes place → IsLine form i reference old.left row new.left
-    → new.place + length new.left ≡ old.place + length old.left → after ≡ new.place → new ≡ source_of form.order bytes after
-row_after form i reference row bytes place after old new here line same_end after_is =
-    source_goes_on form.order bytes place old new here (line_rest form i reference old.left row new.left line) same_end
-    ∙ ap (λ n. source_of form.order bytes n) (sym after_is)
-
--- a row between two places of a source
-pub line_between : (form : StripForm) (i : ℕ) (reference row : List Colour) (bytes : List ℕ) (place after : ℕ) (old new : Source)
-    → old ≡ source_of form.order bytes place → new ≡ source_of form.order bytes after → IsLine form i reference old.left row new.left
-    → IsLine form i reference (drop place (bits form.order bytes)) row (drop after (bits form.order bytes))
-line_between form i reference row bytes place after old new here there line =
-    subst (λ (s : Source). IsLine form i reference s.left row (drop after (bits form.order bytes))) here
-    (subst (λ (s : Source). IsLine form i reference old.left row s.left) there line)
+-- so many bits stand before the rest of a row that begins among them
+pub rest_among : (form : StripForm) (i : ℕ) (reference : List Colour) (b : List Bool) (n : ℕ) (row : List Colour) (rest : List Bool)
+    → IsLine form i reference (drop n b) row rest → (after : ℕ) × (after ≤ length b) × (drop after b ≡ rest)
+rest_among form i reference b n row rest line =
+    let from = onwards b (drop n b) rest (record { front = take n b; parts = sym (take-append-drop n b) })
+    (line_rest form i reference (drop n b) row rest line) in
+    let count : length b ≡ length from.front + length rest = ap length from.parts ∙ length-append from.front rest in
+    (length from.front, omega (arith, count), ap (drop (length from.front)) from.parts ∙ drop-append_seam from.front rest)
 
 -- the cause why there is no row at a place of a source
 pub cause_there : (form : StripForm) (i : ℕ) (reference : List Colour) (bytes : List ℕ) (place : ℕ) (old : Source) (fault : StripFault)
@@ -145,11 +120,32 @@ pub cause_there : (form : StripForm) (i : ℕ) (reference : List Colour) (bytes 
 cause_there form i reference bytes place old fault here cause =
     subst (λ (s : Source). IsCause form i reference s.left fault) here cause
 
--- after a row, the place still lies in the bytes
-pub placed_after : (order : FillOrder) (bytes : List ℕ) (place after : ℕ) (old new : Source)
-    → length (bits order bytes) ≡ 8 * length bytes → place ≤ 8 * length bytes → old ≡ source_of order bytes place
-    → new.place + length new.left ≡ old.place + length old.left → after ≡ new.place → after ≤ 8 * length bytes
-placed_after order bytes place after old new count placed here same_end after_is =
-    let ends : old.place + length old.left ≡ place + length (drop place (bits order bytes)) =
-    ap (λ (s : Source). s.place + length s.left) here in
-    omega (arith, length-drop place (bits order bytes))
+-- a row between two places of a source
+module _ (form : StripForm) (i : ℕ) (reference row : List Colour) (bytes : List ℕ) (place after : ℕ) (old new : Source)
+    (count : length (bits form.order bytes) ≡ 8 * length bytes) (placed : place ≤ 8 * length bytes)
+    (here : old ≡ source_of form.order bytes place) (line : IsLine form i reference old.left row new.left)
+    (same_end : new.place + length new.left ≡ old.place + length old.left) (after_is : after ≡ new.place) where
+  abbrev b : List Bool
+  b = bits form.order bytes
+
+  line_here : IsLine form i reference (drop place b) row new.left
+  line_here = rw here at line
+
+  from : (n : ℕ) × (n ≤ length b) × (drop n b ≡ new.left)
+  from = rest_among form i reference b place row new.left line_here
+
+  from_is : from.0 ≡ after
+  from_is =
+      let ends : new.place + length new.left ≡ place + length (drop place b) = rw here at same_end in
+      omega (arith, ends, from.1, ap length from.2, length-drop from.0 b, length-drop place b)
+
+  pub row_after : new ≡ source_of form.order bytes after
+  row_after =
+      let left : new.left ≡ drop after b = sym from.2 ∙ ap (λ n. drop n b) from_is in
+      ap (λ (c : List Bool). record { left = c; place = new.place }) left ∙ ap (λ n. record { left = drop after b; place = n }) (sym after_is)
+
+  pub line_between : IsLine form i reference (drop place b) row (drop after b)
+  line_between = rw (← from_is, from.2) line_here
+
+  pub placed_after : after ≤ 8 * length bytes
+  placed_after = omega (arith, from_is, from.1)

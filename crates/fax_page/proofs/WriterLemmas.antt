@@ -59,11 +59,12 @@ lines_grow form k before i reference row (first ∷ rows) =
     let last = last_of first rows in
     let there : i + 1 + length rows ≡ i + suc (length rows) = omega arith in
     let place : before + length line + length others ≡ before + length (line ++ others) = omega (arith, length-append line others) in
-    ap (λ (b : List Bool). line ++ b)
-    (lines_grow form k (before + length line) (i + 1) first row rows
-    ∙ ap (λ n. others ++ coded_line form k n (i + 1 + length rows) last row) place
-    ∙ ap (λ n. others ++ coded_line form k (before + length (line ++ others)) n last row) there)
-    ∙ sym (append_assoc line others (coded_line form k (before + length (line ++ others)) (i + suc (length rows)) last row))
+    rw (
+      lines_grow form k (before + length line) (i + 1) first row rows,
+      place,
+      there,
+      append_assoc line others (coded_line form k (before + length (line ++ others)) (i + suc (length rows)) last row),
+    ) refl
 
 last_of-append : (reference row : List Colour) (rows : List (List Colour)) → last_of reference (rows ++ row ∷ []) ≡ row
 last_of-append reference row [] = refl
@@ -79,35 +80,10 @@ pub row_added : (form : StripForm) (k : ℕ) (rows : List (List Colour)) (row : 
     → HasPut form k rows old → PutsRow old row new → HasPut form k (rows ++ row ∷ []) new
 row_added form k rows row old new is puts =
     let white = white_row form.width in
-    let lines = coded_lines form k 0 0 white rows in
-    let last = last_of white rows in
     let start : 0 + length rows ≡ length rows = omega arith in
+    let lines = coded_lines form k 0 0 white rows in
     let place : 0 + length lines ≡ length lines = omega arith in
-    let bits_are : lines ++ coded_line form k (length lines) (length rows) last row ≡ coded_lines form k 0 0 white (rows ++ row ∷ []) =
-    ap (λ n. lines ++ coded_line form k n (length rows) last row) (sym place)
-    ∙ ap (λ n. lines ++ coded_line form k (0 + length lines) n last row) (sym start)
-    ∙ sym (lines_grow form k 0 0 white row rows) in
-    let count : length rows + 1 ≡ length (rows ++ row ∷ []) = sym (length-append rows (row ∷ [])) in
-    let last_is : row ≡ last_of white (rows ++ row ∷ []) = sym (last_of-append white row rows) in
-    puts.put
-    ∙ ap (λ (w : WriterState). record w {
-      bits = w.bits ++ coded_line w.form w.k (length w.bits) w.row w.last row;
-      row = w.row + 1;
-      last =
-          row;
-    }) is
-    ∙ ap (λ (b : List Bool). record { form = form; k = k; bits = b; row = length rows + 1; last = row; refused = false }) bits_are
-    ∙ ap (λ n. record { form = form; k = k; bits = coded_lines form k 0 0 white (rows ++ row ∷ []); row = n; last = row; refused = false })
-    count
-    ∙ ap (λ (r : List Colour). record {
-      form = form;
-      k = k;
-      bits = coded_lines form k 0 0 white (rows ++ row ∷ []);
-      row =
-          length (rows ++ row ∷ []);
-      last = r;
-      refused = false;
-    }) last_is
+    rw (puts.put, is, lines_grow form k 0 0 white row rows, place, start, length-append rows (row ∷ []), last_of-append white row rows) refl
 
 -- a writer that is finished
 pub finishes_so : (form : StripForm) (k : ℕ) (rows : List (List Colour)) (writer : WriterState) (bytes : List ℕ)

@@ -7,13 +7,15 @@ ghost use Rattle.fax_page.specs.laws.Reader.{ReadsRowByRow, ReadsOn};
 ghost use Rattle.fax_page.specs.laws.Writer.{WritesRowByRow};
 
 /// Bits are read in one way as a row of a strip, in any coding: they begin with one row and one
-/// rest follows it, or one fault is in its way, never both.
+/// rest follows it, or one fault is in its way, never both. The rest is the end of the bits, and the
+/// row is as wide as its reference.
 pub fn lines_are_read_in_one_way()
     ensures { (form : StripForm) (i : ℕ) (reference : List Colour)
         → Law.ReadsLinesOneWay form i reference }
 {
     fax_rows::laws::rows_are_read_in_one_way();
     fax_rows::laws::rows_over_a_reference_are_read_in_one_way();
+    fax_rows::laws::rows_have_their_width();
 }
 
 /// Bits are read in one way as a strip, in any coding: they have one list of rows and one end.

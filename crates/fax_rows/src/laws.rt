@@ -22,6 +22,12 @@ pub fn rows_over_a_reference_are_read_in_one_way()
     fax_bits::laws::codes_are_read_in_one_way::<fax_bits::Modes>();
 }
 
+/// A row that is read has its width: in two-dimensional coding that of its reference row (T.4,
+/// sections 4.1.1 and 4.2.1.3.3).
+pub fn rows_have_their_width()
+    ensures { Law.RowsHaveTheirWidth }
+{}
+
 /// What `put_1d` appends is read as the row that was put, whatever bits follow it (T.4, section
 /// 4.1.1).
 pub fn one_dimensional_rows_are_read_back()

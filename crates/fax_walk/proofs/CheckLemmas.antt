@@ -1,21 +1,18 @@
 -- What is noted in order, and the rows beside it.
-use Rattle.std.proofs.Common.{◌≡◌, ℕ, ◌+◌, List, [], ◌++◌, refl, sym, ap, ◌∙◌, arith, length-append}
+use Rattle.std.proofs.Common.{◌≡◌, ℕ, ◌+◌, List, [], ◌++◌, refl, sym, arith, length-append}
 use Rattle.std.specs.Prelude.{flat_map}
 use Rattle.std.proofs.lemmas.List.Concat.{flat_map-append}
 use Rattle.fax_walk.specs.declared.checking.Note.{Note}
-use Rattle.fax_walk.specs.declared.end.End.{End}
 use Rattle.fax_walk.specs.Report.{IsNoted}
 use Rattle.fax_walk.specs.Items.{IsRow}
-use Rattle.fax_walk.specs.code.Check.{CheckPlace, HasChecked, IsCheckedTo}
-use Rattle.fax_walk.proofs.InOrderLemmas.{joined, leads_both}
-use Rattle.fax_walk.specs.Pages.{ends_as}
+use Rattle.fax_walk.specs.code.Check.{CheckPlace, HasChecked}
+use Rattle.fax_walk.proofs.InOrderLemmas.{leads_both}
 
 -- the notes on what is found before, and then on what is found after
 found_both : (found more : List (List Note)) (notes others : List Note) → notes ≡ flat_map (λ own. own) found
     → others ≡ flat_map (λ own. own) more → notes ++ others ≡ flat_map (λ own. own) (found ++ more)
 found_both found more notes others is others_are =
-    ap (λ (l : List Note). l ++ others) is ∙ ap (λ (l : List Note). flat_map (λ own. own) found ++ l) others_are
-    ∙ sym (flat_map-append (λ (own : List Note). own) found more)
+    rw (is, others_are) (sym (flat_map-append (λ (own : List Note). own) found more))
 
 module _ (file : List ℕ) where
   pub nothing_checked : (at : CheckPlace) → HasChecked file at at [] 0
@@ -31,21 +28,3 @@ module _ (file : List ℕ) where
     lead_rows = leads_both (IsRow file) from.row middle.row is.items next.items to.row is.lead_rows next.lead_rows;
     count = omega (arith, is.count, next.count, length-append is.items next.items);
   }
-
-  pub checked_to : (from middle : CheckPlace) (notes others : List Note) (rows more : ℕ) (end : End) → HasChecked file from middle notes
-      rows
-      → IsCheckedTo file middle others more end → IsCheckedTo file from (notes ++ others) (rows + more) end
-  checked_to from middle notes others rows more end is next = record {
-    found = is.found ++ next.found;
-    are = joined (IsNoted file) from.next middle.next is.found next.found end is.lead next.are;
-    notes_are = found_both is.found next.found notes others is.notes_are next.notes_are;
-    items = is.items ++ next.items;
-    are_rows = joined (IsRow file) from.row middle.row is.items next.items end is.lead_rows next.are_rows;
-    count = omega (arith, is.count, next.count, length-append is.items next.items);
-  }
-
-  -- nothing is noted and no row is read where both end
-  pub ends_at : (at : CheckPlace) (end : End) → IsNoted file at.next (ends_as end) → IsRow file at.row (ends_as end)
-      → IsCheckedTo file at [] 0 end
-  ends_at at end noted row =
-      record { found = []; are = noted; notes_are = refl; items = []; are_rows = row; count = refl }

@@ -5,12 +5,10 @@ use Rattle.std.specs.Prelude.{All, unwrap_or, IsTrue}
 use Rattle.std.specs.List.{AllZip}
 use Rattle.std.specs.Option.{ForSome}
 use Rattle.std.proofs.lemmas.Bool.Decides.{nat_tests}
-use Rattle.std.proofs.lemmas.Grind.{div_ceil_times}
 use Rattle.std.specs.List.{range_with_len}
 use Rattle.std.proofs.lemmas.List.FromFn.{length-map-range_with_len}
 use Rattle.std.proofs.lemmas.List.{drop-drop, drop_all, take-append-drop, length-map}
 use Rattle.std.proofs.lemmas.List.Elements.{All-take, All-drop, All-nil, All-cons, All-head, All-tail}
-use Rattle.std.proofs.Math.Nat.{mul-le-mul_left}
 use Rattle.fax_bits.specs.declared.Colour.{Colour}
 use Rattle.fax_page.specs.declared.Coding.{Coding}
 use Rattle.fax_page.specs.declared.Coding.TheVariants.{Mmr}
@@ -27,7 +25,7 @@ use Rattle.fax_walk.specs.declared.options.Options.{Options}
 use Rattle.fax_walk.specs.Converted.{SourcePage, written_page}
 use Rattle.fax_walk.specs.code.OpenStrips.{coded_of, rows_of_strip}
 use Rattle.fax_walk.specs.laws.Written.{HoldsRows, IsWritableSource, written_pages, WrittenFilesAreWalked, CodedFilesAreWalked}
-use Rattle.fax_walk.proofs.OpenStripsLemmas.{enough}
+use Rattle.fax_walk.proofs.OpenPageLemmas.{whole_of}
 
 -- strips of enough rows, from strip s on, are all rows that are left
 rows_joined : (form : PageForm) (s n : ℕ) (rows : List (List Colour)) → length rows ≤ (s + n) * form.rows_per_strip
@@ -44,15 +42,6 @@ all_wide : (width : ℕ) (rows : List (List Colour)) → AreOfWidth width rows �
 all_wide width [] are = All-nil (λ row. length row ≡ width)
 all_wide width (row ∷ rows) are = All-cons (λ row. length row ≡ width) row rows are.0 (all_wide width rows are.1)
 
--- each strip begins before the page's end
-begins_before : (form : PageForm) (s : ℕ) → IsPageForm form → s < form.strips → s * form.rows_per_strip < form.rows
-begins_before form s limits due =
-    let some : 0 < form.rows_per_strip = limits.some_rows_per_strip in
-    let times = div_ceil_times form.rows form.rows_per_strip some in
-    let below : form.strips * form.rows_per_strip < form.rows + form.rows_per_strip = rw limits.strips times.1 in
-    let far : form.rows_per_strip * (s + 1) ≤ form.rows_per_strip * form.strips = mul-le-mul_left form.rows_per_strip (omega arith) in
-    omega arith
-
 module _ (law : CodedStripsAreRead) (form : PageForm) (limits : IsPageForm form) (k : ℕ) where
   abbrev in_strip : ℕ
   in_strip = form.rows_per_strip
@@ -63,7 +52,7 @@ module _ (law : CodedStripsAreRead) (form : PageForm) (limits : IsPageForm form)
       → HoldStripRows form s (map (coded_of form k rows) (range_with_len s n)) (map (rows_of_strip form rows) (range_with_len s n))
   holds_from rows count wide s zero strips = tt
   holds_from rows count wide s (suc n) strips =
-      let before : s * in_strip < form.rows = begins_before form s limits (omega arith) in
+      let before : s * in_strip < form.rows = (whole_of form limits).needed s (omega arith) in
       let some = limits.some_rows_per_strip in
       let left = drop (s * in_strip) rows in
       let here : length (take in_strip left) ≡ (strip_form form s).rows =
@@ -127,7 +116,7 @@ module _ (law : CodedStripsAreRead) (options : Options) (coding : Coding) (some_
           map (rows_of_strip form rows) (range_with_len 0 form.strips),
           holds_from law form form_limits options.k rows refl (all_wide source.image.width rows w.image.rows) 0 form.strips (omega arith),
           ap (λ (i : ℕ). drop i rows) none ∙ rows_joined form 0 form.strips rows
-              (subst (λ (n : ℕ). length rows ≤ n * form.rows_per_strip) (omega arith) (enough form form_limits)),
+              (subst (λ (n : ℕ). length rows ≤ n * form.rows_per_strip) (omega arith) (whole_of form form_limits).enough),
         )
 
   all_writable : (pages : List SourcePage) → All IsWritableSource pages → AreWritable (written_pages options coding pages)

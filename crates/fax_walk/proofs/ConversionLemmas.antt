@@ -48,12 +48,7 @@ pub image_is_long : (bytes : List ℕ) (image : Image) (rest : List ℕ) → IsI
 image_is_long bytes image rest is =
     let h = is.head in
     let spelled = ap length h.spelled in
-    let raster = length-append is.raster rest in
-    let digits = length-append h.height_digits (h.space ∷ (is.raster ++ rest)) in
-    let second = length-append h.second_gap (h.height_digits ++ h.space ∷ (is.raster ++ rest)) in
-    let width = length-append h.width_digits (h.second_gap ++ (h.height_digits ++ h.space ∷ (is.raster ++ rest))) in
-    let first = length-append h.first_gap (h.width_digits ++ (h.second_gap ++ (h.height_digits ++ h.space ∷ (is.raster ++ rest)))) in
-    omega (arith, spelled, raster, digits, second, width, first)
+    omega (arith, spelled, length-append {A = ℕ})
 
 -- what the output of all pages of a source is
 module _ (bytes : List ℕ) (at : Progress) (output : Output) (source : IsSource bytes at.pages) (written : IsWrittenTo output at)

@@ -101,7 +101,7 @@ module _ (file : List ℕ) (number : ℕ) (chain : ChainState) (answer : Result 
     pub same_file : directory.file ≡ chain.tiff.file
     same_file = ap (λ (d : TiffDirectory). d.file) there.1
 
-    found : (r : ℕ) → IsPageAt directory.file (record { page = number; row = r })
+    pub found : (r : ℕ) → IsPageAt directory.file (record { page = number; row = r })
         (page_or_end directory.endian directory.offset number (form_of directory))
     found r =
         let some : slice_get one.offsets number ≡ Some directory.offset = rw before.given at there.0 in

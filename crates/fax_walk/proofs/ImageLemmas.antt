@@ -50,8 +50,7 @@ bits_count (byte ∷ bytes) =
 row_width : (width : ℕ) (bytes : List ℕ) → packed_len width ≤ length bytes → length (unpacked_row width bytes) ≡ width
 unfolding unpacked_row
 row_width width bytes enough =
-    let all = bits_count bytes in
-    omega (arith, length-take width (map colour_of_bit (bits MsbFirst bytes)), length-map (bits MsbFirst bytes) colour_of_bit, all)
+    omega (arith, length-take {A = Colour}, length-map (bits MsbFirst bytes) colour_of_bit, bits_count bytes)
 
 -- the rows of a raster are as wide as its image
 pub raster_widths : (width n : ℕ) (bytes : List ℕ) → n * packed_len width ≤ length bytes → AreOfWidth width (raster_rows width n bytes)

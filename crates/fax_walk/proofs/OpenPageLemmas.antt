@@ -2,11 +2,11 @@
 use Rattle.std.proofs.Common.{◌≡◌, ℕ, ◌+◌, ◌-◌, ◌*◌, ◌<◌, ◌≤◌, ◌⊎◌, inl, inr, min, true, false, List, [], ◌∷◌, ◌++◌, length, drop, Option}
 use Rattle.std.proofs.Common.{Some, None}
 use Rattle.std.proofs.Common.{Result, Ok, Err, refl, sym, ap, ◌∙◌, subst, arith, add-mul, length-append, ◌^◌}
-use Rattle.std.proofs.Math.Nat.{mul-le-mul_right, mod-eq-sub-div-mul, div-add-mod, zero-div, zero-mod}
+use Rattle.std.proofs.Math.Nat.{mul-le-mul_right, mod-eq-sub-div-mul, div-add-mod, zero-div}
 use Rattle.std.proofs.lemmas.Bool.{cases_lt}
 use Rattle.std.proofs.lemmas.Bool.Decides.{nat_tests}
 use Rattle.std.proofs.lemmas.Grind.{div_ceil_times}
-use Rattle.std.specs.Prelude.{IfOk, IfErr, nat_lt, ◌==◌}
+use Rattle.std.specs.Prelude.{IfErr, nat_lt, ◌==◌}
 use Rattle.fax_bits.specs.declared.Colour.{Colour}
 use Rattle.fax_bits.specs.declared.Colour.TheVariants.{White}
 use Rattle.fax_bits.specs.Bits.{bits}
@@ -18,6 +18,7 @@ use Rattle.fax_page.specs.views.Reader.{StripState, ReadsRow, MeetsFault, IsAdva
 use Rattle.fax_files.specs.declared.FileFault.TheVariants.{StripOutside}
 use Rattle.fax_files.specs.declared.Cause.TheVariants.{File, Strip}
 use Rattle.fax_files.specs.declared.PageForm.{PageForm}
+use Rattle.fax_files.specs.laws.Files.{IsWholeForm}
 use Rattle.fax_files.specs.views.Page.{IsPageForm}
 use Rattle.fax_files.specs.Page.{most_rows, strip_form}
 use Rattle.fax_files.specs.views.Chain.{ChainState}
@@ -45,15 +46,23 @@ use Rattle.fax_walk.proofs.StripPlaceLemmas.{in_strip}
 use Rattle.fax_walk.proofs.RowLawLemmas.{exchanged_twice}
 use Rattle.fax_walk.specs.Pages.{goes_on, ends_as}
 
--- each strip of a page holds some of its rows
-pub strip_begins : (form : PageForm) (number : ℕ) → IsPageForm form → number < form.strips → number * form.rows_per_strip < form.rows
-strip_begins form number limits within =
-    let all_rows : (form.rows ≤ form.strips * form.rows_per_strip)
-    × (form.strips * form.rows_per_strip < form.rows + form.rows_per_strip) =
+-- the strips of a page hold its rows, and each some of them
+pub whole_of : (form : PageForm) → IsPageForm form → IsWholeForm form
+whole_of form limits =
+    let times : (form.rows ≤ form.strips * form.rows_per_strip) × (form.strips * form.rows_per_strip < form.rows + form.rows_per_strip) =
     rw limits.strips (div_ceil_times form.rows form.rows_per_strip limits.some_rows_per_strip) in
-    let more : number + 1 ≤ form.strips = omega (arith, within) in
-    let product = mul-le-mul_right form.rows_per_strip more in
-    omega (arith, product, all_rows, add-mul number 1 form.rows_per_strip)
+    record {
+      some_width = limits.some_width;
+      width = limits.width;
+      some_rows = limits.some_rows;
+      rows = limits.rows;
+      some_in_strip = limits.some_rows_per_strip;
+      enough = times.0;
+      needed = λ s due.
+          let more : (s + 1) * form.rows_per_strip ≤ form.strips * form.rows_per_strip =
+          mul-le-mul_right form.rows_per_strip (omega arith) in
+          omega (arith, more, times, add-mul s 1 form.rows_per_strip);
+    }
 
 -- the place of a row of a page: a strip's first, or one inside its strip
 pub at_first : (form : PageForm) (p r : ℕ) (inner : Inner) → r < form.rows → row_in_strip form r ≡ 0 → place_on form p r inner ≡ first_at
@@ -199,7 +208,7 @@ pub rows_within : (page : PageState) → IsPageForm page.form → page.number < 
 rows_within page limits within form_is within_strip =
     let count : page.strip.form.rows ≡ min page.form.rows_per_strip (page.form.rows - page.number * page.form.rows_per_strip) =
     ap (λ (f : StripForm). f.rows) form_is in
-    let begins = strip_begins page.form page.number limits within in
+    let begins = (whole_of page.form limits).needed page.number within in
     omega (arith, count, begins, within_strip)
 
 -- so few rows are read that they can be counted
@@ -276,25 +285,15 @@ module _ (old page : PageState) (keeps : KeepsPlace old page) where
     told = (stops.told.0, rw (keeps.same.page, keeps.row) at stops.told.1);
   }
 
--- a fault leaves the reader of a strip at its row
-fault_row : (old new : StripState) (fault : StripFault) → IsAdvance old (Err fault) new → new.row ≡ old.row
-fault_row old new fault (inl again) = ap (λ (s : StripState). s.row) again.unchanged
-fault_row old new fault (inr meets) = ap (λ (s : StripState). s.row) meets.told
-
--- a fault is met
-fault_met : (page : PageState) (strip : StripState) (fault : StripFault) → IsOpen page → IsPageForm page.form
-    → IsStripOf page.form page.directory page.number page.strip → IsFilePage page.page page.chain page.directory page.form
-    → IsAdvance page.strip (Err fault) strip → StopsAtRow page (Fault page.page (row_of page) (Strip fault))
-fault_met page strip fault is_open limits strip_is its (inl again) = absurd (cc (is_open.no_fault, again.told))
-fault_met page strip fault is_open limits strip_is its (inr meets) =
-    record { stop = row_fault page limits strip_is meets.due its fault strip meets; told = (Strip fault, refl) }
-
+-- a fault is met at the row where the reader of the strip stays
 pub fault_stops : (page : PageState) (strip : StripState) (fault : StripFault) → IsOpen page → IsPageForm page.form
     → IsStripOf page.form page.directory page.number page.strip → IsFilePage page.page page.chain page.directory page.form
     → IsAdvance page.strip (Err fault) strip → (row : ℕ) → row ≡ page.number * page.form.rows_per_strip + strip.row
     → StopsAtRow page (Fault page.page row (Strip fault))
-fault_stops page strip fault is_open limits strip_is its answers row due =
-    rw (due, fault_row page.strip strip fault answers) (fault_met page strip fault is_open limits strip_is its answers)
+fault_stops page strip fault is_open limits strip_is its (inl again) row due = absurd (cc (is_open.no_fault, again.told))
+fault_stops page strip fault is_open limits strip_is its (inr meets) row due =
+    rw (due, meets.told)
+    (record { stop = row_fault page limits strip_is meets.due its fault strip meets; told = (Strip fault, refl) })
 
 -- rows that are not handed out
 pub none_skipped : (page : PageState) → HasSkipped page page []
@@ -410,22 +409,6 @@ pub due_there : (p : ℕ) (chain : ChainState) (directory : TiffDirectory) (form
     → HasPage directory.file p
 due_there p chain directory form its = (Ok (page_with directory form), its.here 0, tt)
 
-pub opened_after : (file : List ℕ) (due : PageDue) (p read : ℕ) (result : Result PageState OpenFault) → due.page ≡ p
-    → due.directory.file ≡ file
-    → IfOk result (IsOpenedAt due.directory.file (first_at due.page (strip_at due.form 0 * due.form.rows_per_strip))
-    (row_in_strip due.form 0)
-    read)
-    → IfOk result (IsOpenedAt file (first_at p 0) 0 read)
-opened_after file due p read (Ok page) page_is file_is opened = record {
-  is_open = opened.is_open;
-  file_is = opened.file_is ∙ file_is;
-  row_due = opened.row_due;
-  place_is = opened.place_is ∙ page_first due p page_is;
-  skips = opened.skips ∙ zero-mod due.form.rows_per_strip;
-  read_is = opened.read_is;
-}
-opened_after file due p read (Err fault) page_is file_is opened = opened
-
 pub refused_after : (file : List ℕ) (due : PageDue) (p : ℕ) (result : Result PageState OpenFault) → due.page ≡ p
     → due.directory.file ≡ file → IfErr result (IsRefusal (IsNoStrip due 0))
     → IfErr result (IsRefusal (λ end. IsRow file (first_at p 0) (ends_as end)))
@@ -499,7 +482,7 @@ module _ (page : PageState) (limits : IsPageForm page.form) (within : page.numbe
 
   pub long_none : (page.strip.row ≡ 0) ⊎ (page.strip.row ≡ page.strip.form.rows) → None ≡ long_of
   long_none (inl none) =
-      let begins = strip_begins page.form page.number limits within in
+      let begins = (whole_of page.form limits).needed page.number within in
       let numbers = in_strip page.form.rows_per_strip page.number 0 (row_of page) limits.some_rows_per_strip (omega (arith, none)) in
       none_first page.page (row_of page) (at_first page.form page.page (row_of page) _ (omega (arith, begins, none)) numbers.1)
   long_none (inr all) = elim (cases_lt (row_of page) page.form.rows) [

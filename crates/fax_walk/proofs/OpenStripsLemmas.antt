@@ -1,21 +1,20 @@
 -- Rows that are put on a page, strip by strip.
 use Rattle.std.proofs.Common.{◌≡◌, ◌⊎◌, ℕ, zero, suc, ◌+◌, ◌*◌, ◌<◌, ◌≤◌, inl, inr, min, List, [], ◌∷◌, ◌++◌, length, take, drop, Option, Some}
 use Rattle.std.specs.List.{range_with_len}
-use Rattle.std.proofs.Common.{map, None, Vec, refl, sym, ap, ◌∙◌, subst, arith, length-drop}
+use Rattle.std.proofs.Common.{map, None, Vec, refl, sym, ap, ◌∙◌, arith, length-drop}
 use Rattle.std.specs.declared.alloc.Global.{Global}
 use Rattle.std.proofs.lemmas.List.FromFn.{map-range_with_len_more}
 use Rattle.std.proofs.lemmas.List.{take-append-le, drop-append-le, drop_all, take_all, length_push}
 use Rattle.std.proofs.Math.Nat.{mul-le-mul_left}
 use Rattle.std.proofs.lemmas.Bool.{cases_lt}
-use Rattle.std.proofs.lemmas.Grind.{div_ceil_times}
 use Rattle.fax_bits.specs.declared.Colour.{Colour}
 use Rattle.fax_page.specs.Strip.{coded_strip}
 use Rattle.fax_page.specs.views.Writer.{WriterState, PutsRow, FinishesAs, writer_beginning}
 use Rattle.fax_page.specs.laws.Writer.{HasPut, WritesRowByRow}
 use Rattle.fax_files.specs.declared.PageForm.{PageForm}
-use Rattle.fax_files.specs.views.Page.{IsPageForm}
 use Rattle.fax_files.specs.Page.{strip_form}
 use Rattle.fax_files.specs.views.Writing.{contents}
+use Rattle.fax_walk.proofs.OpenPageLemmas.{whole_of}
 use Rattle.fax_walk.specs.declared.open_strips.OpenStrips.{OpenStrips}
 use Rattle.fax_walk.specs.code.OpenStrips.{coded_of, with_writer, AreInStrip, BeginsStrip, HasPutRows}
 
@@ -32,28 +31,18 @@ strips_more form k (suc n) rows more far =
     ∙ ap (coded_strip (strip_form form n) k) (take-append-le form.rows_per_strip (drop place rows) more here) in
     let m : suc n ≡ n + 1 = omega arith in
     ap (λ (i : ℕ). map (coded_of form k (rows ++ more)) (range_with_len 0 i)) m
-    ∙ map-range_with_len_more (coded_of form k (rows ++ more)) 0 n n (omega arith)
-    ∙ ap (λ (l : List (List ℕ)). l ++ coded_of form k (rows ++ more) n ∷ []) (strips_more form k n rows more before)
-    ∙ ap (λ (b : List ℕ). map (coded_of form k rows) (range_with_len 0 n) ++ b ∷ []) last
-    ∙ sym (map-range_with_len_more (coded_of form k rows) 0 n n (omega arith))
+    ∙ rw (
+      map-range_with_len_more (coded_of form k (rows ++ more)) 0 n n (omega arith),
+      map-range_with_len_more (coded_of form k rows) 0 n n (omega arith),
+      strips_more form k n rows more before,
+      last,
+    ) refl
     ∙ ap (λ (i : ℕ). map (coded_of form k rows) (range_with_len 0 i)) (sym m)
 
 contents_next : (strips : List (Vec ℕ Global)) (bytes : Vec ℕ Global)
     → contents (strips ++ bytes ∷ []) ≡ contents strips ++ bytes.items ∷ []
 contents_next [] bytes = refl
 contents_next (first ∷ strips) bytes = ap (λ (l : List (List ℕ)). first.items ∷ l) (contents_next strips bytes)
-
-pub contents_count : (strips : List (Vec ℕ Global)) → length (contents strips) ≡ length strips
-contents_count [] = refl
-contents_count (first ∷ strips) = ap suc (contents_count strips)
-
--- the strips of a page hold its rows
-pub enough : (form : PageForm) → IsPageForm form → form.rows ≤ form.strips * form.rows_per_strip
-enough form limits =
-    let some : 0 < form.rows_per_strip = limits.some_rows_per_strip in
-    let times = div_ceil_times form.rows form.rows_per_strip some in
-    let count = limits.strips in
-    rw count times.0
 
 module _ (writes : WritesRowByRow) (form : PageForm) (k : ℕ) (rows : List (List Colour)) (page : OpenStrips)
     (put : HasPutRows form k rows page)
@@ -84,7 +73,7 @@ module _ (writes : WritesRowByRow) (form : PageForm) (k : ℕ) (rows : List (Lis
     | inl less ↦ less
     | inr not_less ↦
         let far : in_strip * form.strips ≤ in_strip * n = mul-le-mul_left in_strip not_less in
-        absurd (omega (arith, enough form put.limits, places))
+        absurd (omega (arith, (whole_of form put.limits).enough, places))
   ]
 
   -- a strip's writer that the next row can be put to
@@ -92,19 +81,13 @@ module _ (writes : WritesRowByRow) (form : PageForm) (k : ℕ) (rows : List (Lis
   IsReady writer = HasPut (strip_form form n) k (drop (n * in_strip) rows) writer
 
   pub ready_started : (writer : WriterState) → page.writer ≡ Some writer → IsReady writer
-  ready_started writer is =
-      let started = subst (λ (w : Option WriterState). AreInStrip form k n rows w) is put.in_strip in started.2.has_put
+  ready_started writer is = let started = rw is at put.in_strip in started.2.has_put
 
   pub ready_new : (writer : WriterState) → page.writer ≡ None → writer ≡ writer_beginning (strip_form page.form n) page.k → IsReady writer
   ready_new writer none is =
-      let whole : min (n * in_strip) form.rows ≡ length rows =
-      subst (λ (w : Option WriterState). AreInStrip form k n rows w) none put.in_strip in
+      let whole = rw none at put.in_strip in
       let nothing : drop (n * in_strip) rows ≡ [] = drop_all (n * in_strip) rows (omega arith) in
-      let begun : writer ≡ writer_beginning (strip_form form n) k =
-      is ∙ ap (λ (f : PageForm). writer_beginning (strip_form f n) page.k) put.form_is
-      ∙ ap (writer_beginning (strip_form form n)) put.k_is in
-      subst (λ (l : List (List Colour)). HasPut (strip_form form n) k l writer) (sym nothing)
-      (subst (HasPut (strip_form form n) k []) (sym begun) (writes.begins (strip_form form n) k))
+      rw (nothing, is, put.form_is, put.k_is) (writes.begins (strip_form form n) k)
 
   -- the page once a strip is open
   abbrev pub IsOpened : OpenStrips → Type 0
@@ -132,8 +115,7 @@ module _ (writes : WritesRowByRow) (form : PageForm) (k : ℕ) (rows : List (Lis
     rest_is = drop-append-le (n * in_strip) rows (row ∷ []) places.0
 
     has_put : HasPut (strip_form form n) k (drop (n * in_strip) more) new
-    has_put = subst (λ (l : List (List Colour)). HasPut (strip_form form n) k l new) (sym rest_is)
-        (writes.goes_on (strip_form form n) k (drop (n * in_strip) rows) row old new ready puts)
+    has_put = rw rest_is (writes.goes_on (strip_form form n) k (drop (n * in_strip) rows) row old new ready puts)
 
     same_strips : map (coded_of form k rows) (range_with_len 0 n) ≡ map (coded_of form k more) (range_with_len 0 n)
     same_strips = sym (strips_more form k n rows (row ∷ []) places.0)
@@ -177,11 +159,15 @@ module _ (writes : WritesRowByRow) (form : PageForm) (k : ℕ) (rows : List (Lis
           count = omega (arith, put.count, count);
           within = omega (arith, count);
           strips = omega (arith, strips_are, one_due);
-          done = ap contents done_is ∙ contents_next page.done.items bytes
-              ∙ ap (λ (l : List (List ℕ)). l ++ bytes.items ∷ []) (put.done ∙ same_strips)
-              ∙ ap (λ (b : List ℕ). map (coded_of form k more) (range_with_len 0 n) ++ b ∷ [])
-              (coded ∙ ap (coded_strip (strip_form form n) k) (sym all_rows))
-              ∙ sym (map-range_with_len_more (coded_of form k more) 0 n n (omega arith))
-              ∙ ap (λ (i : ℕ). map (coded_of form k more) (range_with_len 0 i)) (sym strips_are);
+          done = rw (
+            strips_are,
+            done_is,
+            contents_next page.done.items bytes,
+            put.done,
+            same_strips,
+            coded,
+            map-range_with_len_more (coded_of form k more) 0 n n (omega arith),
+            all_rows,
+          ) refl;
           in_strip = rw strips_are (omega (arith, all, count));
         }

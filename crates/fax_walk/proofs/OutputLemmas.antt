@@ -4,13 +4,10 @@ use Rattle.std.proofs.Common.{Option, Some}
 use Rattle.std.proofs.Common.{None, Result, Ok, Err, refl, sym, ap, ◌∙◌, subst, arith, append_assoc, append-nil, length-append, length-take}
 use Rattle.std.proofs.Common.{length-drop, Bool, false, replicate}
 use Rattle.std.specs.Prelude.{flat_map, OnOk}
-use Rattle.std.proofs.Math.Nat.{mul-le-mul_left}
 use Rattle.std.proofs.lemmas.Bool.{cases_lt}
-use Rattle.std.proofs.lemmas.Grind.{div_ceil_times}
 use Rattle.std.proofs.lemmas.List.{length_push, flat_map_more, length-map}
 use Rattle.std.proofs.lemmas.List.{map-append}
 use Rattle.std.proofs.lemmas.List.Concat.{flat_map-append}
-use Rattle.std.specs.List.{range_with_len}
 use Rattle.std.specs.Simd.{first_chunks}
 use Rattle.fax_bits.specs.Bits.{byte_of, packed}
 use Rattle.fax_bits.specs.declared.FillOrder.TheVariants.{MsbFirst}
@@ -25,7 +22,7 @@ use Rattle.fax_files.specs.views.Pbm.{head_bytes}
 use Rattle.fax_files.specs.laws.Pbm.{AreOfWidth}
 use Rattle.fax_files.specs.Layout.{Written, WrittenPage, four}
 use Rattle.fax_files.specs.views.Writing.{empty_file}
-use Rattle.fax_files.specs.Layout.{page_bytes, directory_place, with_page}
+use Rattle.fax_files.specs.Layout.{directory_place, with_page}
 use Rattle.fax_files.specs.Layout.{with_pages, file_of}
 use Rattle.fax_files.specs.Directory.{max_file}
 use Rattle.fax_files.specs.views.Writing.{Writing, with_one_more, length_with, contents}
@@ -34,8 +31,9 @@ use Rattle.fax_walk.specs.declared.options.Target.{Target}
 use Rattle.fax_walk.specs.declared.options.Target.TheVariants.{Pbm, Mh as ToMh, Mr as ToMr, Mmr as ToMmr}
 use Rattle.fax_walk.specs.declared.open_strips.OpenStrips.{OpenStrips}
 use Rattle.fax_walk.specs.declared.sheet.Sheet.{Sheet}
+use Rattle.fax_walk.proofs.OpenPageLemmas.{whole_of}
 use Rattle.fax_walk.specs.Converted.{SourcePage, written_page, target_bytes, IsTooLarge}
-use Rattle.fax_walk.specs.code.OpenStrips.{coded_of, HasPutRows, AreInStrip}
+use Rattle.fax_walk.specs.code.OpenStrips.{HasPutRows, AreInStrip}
 use Rattle.fax_walk.specs.code.Output.{Progress, Part, no_rows, with_row, page_of, after, nothing_written, sheet_form, coding_of}
 use Rattle.fax_walk.specs.code.Output.{StaysTooLarge, HasImages, HasPages, HasRowsOnPage, HasImageRows, BecomesTooLarge}
 
@@ -66,14 +64,10 @@ packed_length row =
 -- how many bytes rows of one width take
 rows_length : (width : ℕ) (rows : List (List Colour)) → AreOfWidth width rows
     → length (flat_map packed_row rows) ≡ length rows * packed_len width
-rows_length width [] are = let none : 0 ≡ 0 * packed_len width = omega arith in none
+rows_length width [] are = omega arith
 rows_length width (row ∷ rows) are =
-    let later = rows_length width rows are.1 in
     let len : length (packed_row row) ≡ packed_len width = packed_length row ∙ ap packed_len are.0 in
-    let n = length rows in
-    let more : packed_len width + n * packed_len width ≡ suc n * packed_len width = omega arith in
-    length-append (packed_row row) (flat_map packed_row rows) ∙ ap (λ (i : ℕ). i + length (flat_map packed_row rows)) len
-    ∙ ap (λ (i : ℕ). packed_len width + i) later ∙ more
+    omega (arith, length-append {A = ℕ}, len, rows_length width rows are.1)
 
 image_of : SourcePage → Image
 image_of page = page.image
@@ -87,9 +81,8 @@ images_split : (pages more : List SourcePage) (page : SourcePage)
     → pbm_of (map (λ page. page.image) ((pages ++ page ∷ []) ++ more))
     ≡ pbm_of (map (λ page. page.image) pages) ++ (image_bytes page.image ++ pbm_of (map (λ page. page.image) more))
 images_split pages more page =
-    ap (λ (l : List SourcePage). pbm_of (map (λ page. page.image) l)) (append_assoc pages (page ∷ []) more)
-    ∙ ap pbm_of (map-append (λ (page : SourcePage). page.image) pages (page ∷ more))
-    ∙ flat_map-append image_bytes (map (λ page. page.image) pages) (map (λ page. page.image) (page ∷ more))
+    rw (append_assoc pages (page ∷ []) more, map-append (λ (page : SourcePage). page.image) pages (page ∷ more))
+    (flat_map-append image_bytes (map (λ page. page.image) pages) (map (λ page. page.image) (page ∷ more)))
 
 -- images are too large in any options
 images_too_large : (target : Target) (options : Options) (pages : List SourcePage) → target ≡ Pbm
@@ -105,15 +98,20 @@ module _ (at : Progress) (sheet : Sheet) (target : at.options.target ≡ Pbm) wh
       → BecomesTooLarge (no_rows at sheet)
   image_too_large large = λ rows count widths more all.
       let page = page_of sheet rows in
-      let whole = images_split at.pages more page in
-      let first = length-append done (image_bytes page.image ++ pbm_of (map (λ page. page.image) more)) in
-      let second = length-append (image_bytes page.image) (pbm_of (map (λ page. page.image) more)) in
-      let third = length-append (head_bytes sheet.width (length rows)) (flat_map packed_row rows) in
       let head = ap (λ (n : ℕ). length (head_bytes sheet.width n)) count in
       let raster : length (flat_map packed_row rows) ≡ sheet.rows * packed_len sheet.width =
       rows_length sheet.width rows widths ∙ ap (λ (n : ℕ). n * packed_len sheet.width) count in
       let long : max_file < length (pbm_of (map (λ page. page.image) ((at.pages ++ page ∷ []) ++ more))) =
-      omega (arith, large, ap length whole, first, second, third, head, raster) in
+      omega (
+        arith,
+        large,
+        ap length (images_split at.pages more page),
+        length-append done (image_bytes page.image ++ pbm_of (map (λ page. page.image) more)),
+        length-append (image_bytes page.image) (pbm_of (map (λ page. page.image) more)),
+        length-append (head_bytes sheet.width (length rows)) (flat_map packed_row rows),
+        head,
+        raster,
+      ) in
       images_too_large at.options.target at.options ((at.pages ++ page ∷ []) ++ more) target long
 
 -- an image is begun
@@ -121,8 +119,7 @@ pub image_begun : (at : Progress) (sheet : Sheet) (old new : List ℕ) → HasIm
     → length new + sheet.rows * packed_len sheet.width ≤ max_file → HasImageRows new (no_rows at sheet)
 image_begun at sheet old new has new_is fits = record {
   target = has.target;
-  bytes_are = new_is ∙ ap (λ (l : List ℕ). l ++ head_bytes sheet.width sheet.rows) has.bytes_are
-      ∙ ap (λ (l : List ℕ). pbm_of (map (λ page. page.image) at.pages) ++ l) (sym (append-nil (head_bytes sheet.width sheet.rows)));
+  bytes_are = rw (new_is, has.bytes_are, append-nil (head_bytes sheet.width sheet.rows)) refl;
   left = sheet.rows;
   left_is = omega arith;
   fits = fits;
@@ -144,8 +141,8 @@ image_row part row old new has due width new_is =
     ap (λ (n : ℕ). n * packed_len part.sheet.width) one ∙ omega arith in
     record {
       target = has.target;
-      bytes_are = new_is ∙ ap (λ (l : List ℕ). l ++ packed_row row) has.bytes_are ∙ append_assoc before (head ++ rows) (packed_row row)
-          ∙ ap (λ (l : List ℕ). before ++ l) (flat_map_more packed_row head part.rows row);
+      bytes_are = rw (new_is, has.bytes_are, append_assoc before (head ++ rows) (packed_row row))
+          (ap (λ (l : List ℕ). before ++ l) (flat_map_more packed_row head part.rows row));
       left = has.left - 1;
       left_is = omega (arith, has.left_is, length_push part.rows row);
       fits = omega (arith, has.fits, size, room);
@@ -178,10 +175,7 @@ page_grows old total k form strips =
     let place = directory_place (length old.bytes) strips in
     let file = take old.link old.bytes ++ four place ++ drop (old.link + 4) old.bytes in
     let four_is : length (four place) ≡ 4 = refl in
-    let all = length-append file (page_bytes (length old.bytes) total k form strips) in
-    let first = length-append (take old.link old.bytes ++ four place) (drop (old.link + 4) old.bytes) in
-    let second = length-append (take old.link old.bytes) (four place) in
-    omega (arith, all, first, second, four_is, length-take old.link old.bytes, length-drop (old.link + 4) old.bytes)
+    omega (arith, length-append {A = ℕ}, length-take {A = ℕ}, length-drop {A = ℕ}, four_is)
 
 pages_grow : (old : Written) (total k : ℕ) (pages : List WrittenPage) → length old.bytes ≤ length (with_pages old total k pages).bytes
 unfolding with_pages
@@ -198,26 +192,15 @@ pub file_begun : (options : Options) (total : ℕ) (coding : Coding) (writer : W
 unfolding with_pages
 file_begun options total coding writer coding_is few is =
     let eight : length (empty_file.bytes) ≡ 8 = refl in
-    let bytes = ap (λ (w : Writing). length w.written.bytes) is in
-    record {
-      coding_is = coding_is;
-      few = few;
-      total = ap (λ (w : Writing). w.total) is;
-      added = ap (λ (w : Writing). w.added) is;
-      written = ap (λ (w : Writing). w.written) is;
-      fits = omega (arith, bytes, eight);
-    }
+    rw is (record { coding_is = coding_is; few = few; total = refl; added = refl; written = refl; fits = omega (arith, eight) })
 
 -- how a TIFF file of pages is written
 target_file : (target : Target) (options : Options) (coding : Coding) (pages : List SourcePage) → coding_of target ≡ Some coding
     → target_bytes target options pages ≡ file_of (map (written_page options coding) pages)
 target_file Pbm options coding pages is = absurd cc
-target_file ToMh options coding pages is =
-    let same : Mh ≡ coding = cc in ap (λ (c : Coding). file_of (map (written_page options c) pages)) same
-target_file ToMr options coding pages is =
-    let same : Mr ≡ coding = cc in ap (λ (c : Coding). file_of (map (written_page options c) pages)) same
-target_file ToMmr options coding pages is =
-    let same : Mmr ≡ coding = cc in ap (λ (c : Coding). file_of (map (written_page options c) pages)) same
+target_file ToMh options coding pages is = let same : coding ≡ Mh = cc in rw same refl
+target_file ToMr options coding pages is = let same : coding ≡ Mr = cc in rw same refl
+target_file ToMmr options coding pages is = let same : coding ≡ Mmr = cc in rw same refl
 
 reached_by : (form : PageForm) (k n : ℕ) (rows : List (List Colour)) (writer : Option WriterState) → length rows ≡ form.rows
     → AreInStrip form k n rows writer → form.rows ≤ n * form.rows_per_strip
@@ -229,16 +212,10 @@ pub all_strips : (form : PageForm) (k : ℕ) (rows : List (List Colour)) (page :
     → length rows ≡ form.rows
     → length page.done.items ≡ form.strips
 all_strips form k rows page put all =
-    let some : 0 < form.rows_per_strip = put.limits.some_rows_per_strip in
-    let times = (div_ceil_times form.rows form.rows_per_strip some).1 in
-    let below : form.strips * form.rows_per_strip < form.rows + form.rows_per_strip = rw put.limits.strips times in
-    let reached : form.rows ≤ length page.done.items * form.rows_per_strip =
-    reached_by form k (length page.done.items) rows page.writer all put.in_strip in
-    elim (cases_lt (length page.done.items) form.strips) [
-      | inl less ↦
-          let far : form.rows_per_strip * (length page.done.items + 1) ≤ form.rows_per_strip * form.strips =
-          mul-le-mul_left form.rows_per_strip (omega arith) in
-          absurd (omega arith)
+    let n = length page.done.items in
+    let reached = reached_by form k n rows page.writer all put.in_strip in
+    elim (cases_lt n form.strips) [
+      | inl less ↦ absurd (omega (arith, reached, (whole_of form put.limits).needed n less))
       | inr not_less ↦ omega (arith, put.strips)
     ]
 
@@ -263,42 +240,36 @@ module _ (part : Part) (coding : Coding) (writer : Writing) (page : OpenStrips) 
   abbrev as_put : PageForm
   as_put = sheet_form options coding part.sheet
 
-  same_form : as_put ≡ (written source).form
-  same_form = ap (λ (n : ℕ). sheet_form options coding (record part.sheet { rows = n })) (sym all)
-
   form_is : page.form ≡ (written source).form
-  form_is = has.2.form_is ∙ same_form
+  form_is = rw (has.2.form_is, ← all) refl
 
   strips_are : contents page.done.items ≡ (written source).strips
-  strips_are =
-      has.2.done
-      ∙ ap (λ (n : ℕ). map (coded_of as_put options.k part.rows) (range_with_len 0 n))
-      (all_strips as_put options.k part.rows page has.2 all)
-      ∙ ap (λ (f : PageForm). map (coded_of f options.k part.rows) (range_with_len 0 f.strips)) same_form
+  strips_are = rw (has.2.done, all_strips as_put options.k part.rows page has.2 all, ← all) refl
 
   with_source : with_page writer.written writer.total writer.added page.form (contents page.done.items)
       ≡ with_pages empty_file total 0 (map written pages)
   with_source =
-      let before = with_pages empty_file total 0 (map written part.at.pages) in
-      let count = sym (length-map part.at.pages written) in
-      ap (λ (w : Written). with_page w writer.total writer.added page.form (contents page.done.items)) has.0.written
-      ∙ ap (λ (n : ℕ). with_page before n writer.added page.form (contents page.done.items)) has.0.total
-      ∙ ap (λ (n : ℕ). with_page before total n page.form (contents page.done.items)) (has.0.added ∙ count)
-      ∙ ap (λ (f : PageForm). with_page before total (length (map written part.at.pages)) f (contents page.done.items)) form_is
-      ∙ ap (λ (l : List (List ℕ)). with_page before total (length (map written part.at.pages)) (written source).form l) strips_are
-      ∙ sym (pages_next empty_file total (map written part.at.pages) (written source))
-      ∙ ap (with_pages empty_file total 0) (sym (map-append written part.at.pages (source ∷ [])))
+      rw (
+        has.0.written,
+        has.0.total,
+        has.0.added,
+        ← length-map part.at.pages written,
+        form_is,
+        strips_are,
+        map-append written part.at.pages (source ∷ []),
+        pages_next empty_file total (map written part.at.pages) (written source),
+      ) refl
 
   pub page_ended : (new : Writing) → new ≡ with_one_more writer page.form page.done.items
       → length_with writer page.form page.done.items ≤ max_file → HasPages coding new (after part)
-  page_ended new new_is fits = record {
+  page_ended new new_is fits = rw new_is (record {
     coding_is = has.0.coding_is;
     few = has.0.few;
-    total = ap (λ (w : Writing). w.total) new_is ∙ has.0.total;
-    added = ap (λ (w : Writing). w.added) new_is ∙ ap (λ (n : ℕ). n + 1) has.0.added ∙ sym (length_push part.at.pages source);
-    written = ap (λ (w : Writing). w.written) new_is ∙ with_source;
-    fits = omega (arith, ap (λ (w : Writing). length w.written.bytes) new_is, fits);
-  }
+    total = has.0.total;
+    added = omega (arith, has.0.added, length_push part.at.pages source);
+    written = with_source;
+    fits = fits;
+  })
 
   pub page_too_large : max_file < length_with writer page.form page.done.items → StaysTooLarge (after part)
   page_too_large large = λ more count.

@@ -1,34 +1,35 @@
 -- The pages of a file that is checked.
-use Rattle.std.proofs.Common.{◌≡◌, ℕ, ◌+◌, ◌*◌, ◌≤◌, List, [], ◌∷◌, ◌++◌, length, Option, Some, None, Ok, Err, refl, sym, ap, ◌∙◌}
-use Rattle.std.proofs.Common.{arith, append_assoc, append-nil, true, false, inl, inr, ◌<◌}
-use Rattle.std.specs.Prelude.{slice_get, ◌==◌, not}
+use Rattle.std.proofs.Common.{◌≡◌, ℕ, ◌+◌, ◌*◌, ◌≤◌, List, [], ◌∷◌, ◌++◌, Some, None, Ok, Err, refl, sym, ap, ◌∙◌}
+use Rattle.std.proofs.Common.{arith, subst, append_assoc, append-nil, true, false, inl, inr, ◌<◌}
+use Rattle.std.specs.Prelude.{◌==◌, not, min, nat_lt}
 use Rattle.std.proofs.lemmas.Bool.{cases_lt}
 use Rattle.std.proofs.lemmas.Bool.Decides.{nat_tests}
 use Rattle.fax_files.specs.declared.FileFault.{FileFault}
 use Rattle.fax_files.specs.declared.Cause.{Cause}
 use Rattle.fax_files.specs.declared.Cause.TheVariants.{File}
 use Rattle.fax_files.specs.declared.PageForm.{PageForm}
-use Rattle.fax_files.specs.Directory.{IsChain, ascend, entries, header}
-use Rattle.fax_files.specs.laws.Files.{IsWholeForm}
-use Rattle.fax_files.specs.views.Tiff.{TiffFile, TiffDirectory, directory_of, form_of}
+use Rattle.fax_files.specs.Directory.{ascend, entries, header}
+use Rattle.fax_files.specs.views.Page.{IsPageForm}
+use Rattle.fax_files.specs.views.Tiff.{TiffDirectory, form_of}
 use Rattle.fax_walk.specs.declared.checking.Note.{Note}
 use Rattle.fax_walk.specs.declared.checking.NoteKind.TheVariants.{EntriesOutOfOrder}
 use Rattle.fax_walk.specs.declared.checking.PageRead.{PageRead}
 use Rattle.fax_walk.specs.declared.checking.Report.{Report}
 use Rattle.fax_walk.specs.declared.end.End.{End}
-use Rattle.fax_walk.specs.declared.end.End.TheVariants.{Proper, Fault}
+use Rattle.fax_walk.specs.declared.end.End.TheVariants.{Fault}
 use Rattle.fax_walk.specs.Pages.{IsPageAt}
-use Rattle.fax_walk.specs.code.Opening.{end_past_chain}
-use Rattle.fax_walk.specs.Report.{note_if, IsReportedEnd, IsReport}
-use Rattle.fax_walk.specs.code.Check.{before_page, before_strip, HasChecked, IsCheckedTo, IsDirectoryOfPage, IsRestChecked, IsReadFrom}
+use Rattle.fax_walk.specs.Items.{first_at, IsRow}
+use Rattle.fax_walk.specs.Report.{IsNoted, note_if, IsReportedEnd, IsReport}
+use Rattle.fax_walk.specs.code.Check.{before_page, before_strip, CheckPlace, EndsThere, HasChecked, IsDirectoryOfPage, IsRestChecked}
 use Rattle.fax_walk.specs.code.Check.{ArePagesChecked}
-use Rattle.fax_walk.proofs.CheckLemmas.{nothing_checked, checked_on, checked_to, ends_at}
-use Rattle.fax_walk.proofs.PageLawLemmas.{page_here}
+use Rattle.fax_walk.proofs.OpenPageLemmas.{whole_of}
+use Rattle.fax_walk.proofs.CheckLemmas.{nothing_checked, checked_on}
+use Rattle.fax_walk.proofs.InOrderLemmas.{ended_at}
 
 -- page p of a file ends the chain there
 ends_at_page : (file : List ℕ) (p : ℕ) (end : End) → IsPageAt file (record { page = p; row = 0 }) (Err end)
-    → IsCheckedTo file (before_page p) [] 0 end
-ends_at_page file p end at = ends_at file (before_page p) end (Err end, at, refl) (Err end, at, refl)
+    → EndsThere file (before_page p) end
+ends_at_page file p end at = ((Err end, at, refl), (Err end, at, refl))
 
 -- a page whose fields are refused
 pub refused_page : (directory : TiffDirectory) (p : ℕ) (old new : List Note) (fault : FileFault) → IsDirectoryOfPage directory p
@@ -38,11 +39,13 @@ refused_page directory p old new fault here same refused = record {
   noted = [];
   notes_are = same ∙ sym (append-nil old);
   few = omega arith;
-  is = ends_at_page directory.file p (Fault p 0 (File fault)) (rw refused at (here 0));
+  to = before_page p;
+  is = nothing_checked directory.file (before_page p);
+  after = ends_at_page directory.file p (Fault p 0 (File fault)) (rw refused at (here 0));
 }
 
 -- the rest of a page after the note on its directory
-module _ (directory : TiffDirectory) (form : PageForm) (p : ℕ) (some : IsWholeForm form) (form_is : form_of directory ≡ Ok form)
+module _ (directory : TiffDirectory) (form : PageForm) (p : ℕ) (limits : IsPageForm form) (form_is : form_of directory ≡ Ok form)
     (here : IsDirectoryOfPage directory p) where
   abbrev on_entries : List Note
   on_entries = note_if (not (ascend (entries directory.endian directory.file directory.offset))) p None EntriesOutOfOrder
@@ -52,15 +55,16 @@ module _ (directory : TiffDirectory) (form : PageForm) (p : ℕ) (some : IsWhole
     | inl less ↦ less
     | inr none ↦
         let zero : form.strips ≡ 0 = omega (arith, none) in
-        let few : form.rows ≤ 0 * form.rows_per_strip = rw zero at some.enough in
-        absurd (omega (arith, some.some_rows, few))
+        let few : form.rows ≤ 0 * form.rows_per_strip = rw zero at (whole_of form limits).enough in
+        absurd (omega (arith, limits.some_rows, few))
   ]
 
   entries_checked : HasChecked directory.file (before_page p) (before_strip form p 0) on_entries 0
   entries_checked =
       let test : (0 == form.strips) ≡ false = grind (arith, nat_tests, some_strip) in
-      let zero : 0 * form.rows_per_strip ≡ 0 = omega arith in
-      rw (test, zero) (record {
+      let zero : min (0 * form.rows_per_strip) form.rows ≡ 0 = omega arith in
+      let inside : nat_lt 0 form.rows ≡ true = grind (arith, nat_tests, limits.some_rows) in
+      rw (test, zero, inside) (record {
         found = on_entries ∷ [];
         lead = ((p, Some 0), (Ok _, rw form_is at (here 0), refl), refl);
         notes_are = sym (append-nil on_entries);
@@ -69,24 +73,16 @@ module _ (directory : TiffDirectory) (form : PageForm) (p : ℕ) (some : IsWhole
         count = refl;
       })
 
-  then_strips : (noted : List Note) (rows : ℕ) (fault : Option Cause) → IsReadFrom directory.file (before_strip form p 0) p noted rows fault
-      → IsReadFrom directory.file (before_page p) p (on_entries ++ noted) rows fault
-  then_strips noted rows None is =
-      let same : 0 + rows ≡ rows = omega arith in
-      rw same at
-      (checked_on directory.file (before_page p) (before_strip form p 0) (before_page (p + 1)) on_entries noted 0 rows entries_checked is)
-  then_strips noted rows (Some cause) is =
-      let same : 0 + rows ≡ rows = omega arith in
-      rw same at
-      (checked_to directory.file (before_page p) (before_strip form p 0) on_entries noted 0 rows (Fault p rows cause) entries_checked is)
-
   pub formed_page : (old middle new : List Note) (read : PageRead) → middle ≡ old ++ on_entries
       → IsRestChecked directory.file (before_strip form p 0) p middle new read → IsRestChecked directory.file (before_page p) p old new read
   formed_page old middle new read middle_is rest = record {
     noted = on_entries ++ rest.noted;
     notes_are = rest.notes_are ∙ ap (λ (l : List Note). l ++ rest.noted) middle_is ∙ append_assoc old on_entries rest.noted;
     few = rest.few;
-    is = then_strips rest.noted read.rows read.fault rest.is;
+    to = rest.to;
+    is = subst (HasChecked directory.file (before_page p) rest.to (on_entries ++ rest.noted)) (omega arith)
+        (checked_on directory.file (before_page p) (before_strip form p 0) rest.to on_entries rest.noted 0 read.rows entries_checked rest.is);
+    after = rest.after;
   }
 
 -- before the first page
@@ -98,78 +94,49 @@ pub page_after : (file : List ℕ) (given rows : ℕ) (old new : List Note) (rea
     → IsRestChecked file (before_page given) given old new read → read.fault ≡ None → ArePagesChecked file (given + 1) (rows + read.rows)
     new
 page_after file given rows old new read so_far page none =
-    let is : HasChecked file (before_page given) (before_page (given + 1)) page.noted read.rows = rw none at page.is in
+    let next : page.to ≡ before_page (given + 1) = rw none at page.after in
     rw page.notes_are (record {
       few = omega (arith, so_far.few, page.few);
-      is = checked_on file (before_page 0) (before_page given) (before_page (given + 1)) old page.noted rows read.rows so_far.is is;
+      is = checked_on file (before_page 0) (before_page given) (before_page (given + 1)) old page.noted rows read.rows so_far.is
+          (rw next at page.is);
     })
 
 -- the report of a file that is checked to its end
-reported : (file : List ℕ) (report : Report) (notes : List Note) (rows : ℕ) (end : End) → IsCheckedTo file (before_page 0) notes rows end
-    → report.notes.items ≡ notes → report.rows ≡ rows → IsReportedEnd file end report.pages report.fault → IsReport file report
-reported file report notes rows end is notes_are rows_are end_is = record {
+reported : (file : List ℕ) (report : Report) (notes : List Note) (rows : ℕ) (to : CheckPlace) (end : End)
+    → HasChecked file (before_page 0) to notes rows → EndsThere file to end → report.notes.items ≡ notes → report.rows ≡ rows
+    → IsReportedEnd file end report.pages report.fault → IsReport file report
+reported file report notes rows to end is ends notes_are rows_are end_is = record {
   items = is.items;
   end = end;
-  read = is.are_rows;
+  read = ended_at (IsRow file) (first_at 0 0) to.row is.items end is.lead_rows ends.1;
   rows_are = rows_are ∙ is.count;
   end_is = end_is;
   notes = is.found;
-  noted = is.are;
+  noted = ended_at (IsNoted file) (0, None) to.next is.found end is.lead ends.0;
   notes_are = notes_are ∙ is.notes_are;
 }
 
 -- after the last page
 pub last_report : (file : List ℕ) (given : ℕ) (end : End) (report : Report) → ArePagesChecked file given report.rows report.notes.items
     → IsPageAt file (record { page = given; row = 0 }) (Err end) → IsReportedEnd file end report.pages report.fault → IsReport file report
-last_report file given end report so_far at end_is =
-    let all =
-    checked_to file (before_page 0) (before_page given) report.notes.items [] report.rows 0 end so_far.is (ends_at_page file given end at)
-    in
-    reported file report (report.notes.items ++ []) (report.rows + 0) end all (sym (append-nil report.notes.items)) (omega arith) end_is
+last_report file given end report so_far at =
+    reported file report _ _ (before_page given) end so_far.is (ends_at_page file given end at) refl refl
 
 -- at a fault of a page
 pub stop_report : (file : List ℕ) (given rows : ℕ) (old : List Note) (read : PageRead) (cause : Cause) (report : Report)
     → ArePagesChecked file given rows old → IsRestChecked file (before_page given) given old report.notes.items read
     → read.fault ≡ Some cause → report.rows ≡ rows + read.rows
     → IsReportedEnd file (Fault given read.rows cause) report.pages report.fault → IsReport file report
-stop_report file given rows old read cause report so_far page some rows_are end_is =
-    let is : IsCheckedTo file (before_page given) page.noted read.rows (Fault given read.rows cause) = rw some at page.is in
-    let all =
-    checked_to file (before_page 0) (before_page given) old page.noted rows read.rows (Fault given read.rows cause) so_far.is is in
-    reported file report (old ++ page.noted) (rows + read.rows) (Fault given read.rows cause) all page.notes_are rows_are end_is
+stop_report file given rows old read cause report so_far page some =
+    reported file report (old ++ page.noted) (rows + read.rows) page.to (Fault given read.rows cause)
+    (checked_on file (before_page 0) (before_page given) page.to old page.noted rows read.rows so_far.is page.is) (rw some at page.after)
+    page.notes_are
 
 -- the report of a file without a good header
 pub header_report : (file : List ℕ) (met : FileFault) (report : Report) → header file ≡ Err met → report.notes.items ≡ []
     → report.pages ≡ 0
     → report.rows ≡ 0 → report.fault ≡ Some (record { page = 0; row = 0 }, File met) → IsReport file report
 header_report file met report bad none pages rows fault_is =
-    reported file report [] 0 (Fault 0 0 (File met)) (ends_at_page file 0 (Fault 0 0 (File met)) (rw (bad, IsPageAt) refl))
+    reported file report [] 0 (before_page 0) (Fault 0 0 (File met)) (nothing_checked file (before_page 0))
+    (ends_at_page file 0 (Fault 0 0 (File met)) (rw (bad, IsPageAt) refl))
     none rows (pages, fault_is)
-
--- what a file's chain has at a number
-module _ (tiff : TiffFile) (offsets : List ℕ) (fault : Option FileFault) (good : header tiff.file ≡ Ok tiff.head)
-    (chained : IsChain tiff.head tiff.file offsets fault) (given : ℕ) where
-  -- a directory
-  pub directory_there : (q : ℕ) → slice_get offsets given ≡ Some q → IsDirectoryOfPage (directory_of tiff q) given
-  directory_there q there r =
-      rw there at (page_here tiff.file tiff.head good offsets fault chained (record { page = given; row = r }))
-
-  -- none, after all pages
-  pub none_there : slice_get offsets given ≡ None
-      → IsPageAt tiff.file (record { page = given; row = 0 })
-      (Err (end_past_chain (length offsets) fault (record { page = given; row = 0 })))
-  none_there none = rw none at (page_here tiff.file tiff.head good offsets fault chained (record { page = given; row = 0 }))
-
-  pub proper_there : slice_get offsets given ≡ None → length offsets ≡ given → fault ≡ None
-      → IsPageAt tiff.file (record { page = given; row = 0 }) (Err Proper)
-  proper_there none count proper =
-      let here : (given == given) ≡ true = grind (arith, nat_tests) in
-      let end_is : end_past_chain (length offsets) fault (record { page = given; row = 0 }) ≡ Proper = rw (proper, count, here) refl in
-      rw end_is at (none_there none)
-
-  pub fault_there : (met : FileFault) → slice_get offsets given ≡ None → length offsets ≡ given → fault ≡ Some met
-      → IsPageAt tiff.file (record { page = given; row = 0 }) (Err (Fault given 0 (File met)))
-  fault_there met none count stops =
-      let end_is : end_past_chain (length offsets) fault (record { page = given; row = 0 }) ≡ Fault given 0 (File met) =
-      rw (stops, count) refl in
-      rw end_is at (none_there none)

@@ -1,7 +1,7 @@
 -- What is converted is read back.
-use Rattle.std.proofs.Common.{◌≡◌, ◌≢◌, ℕ, suc, ◌+◌, ◌<◌, ◌≤◌, inl, inr, Bool, true, List, [], ◌∷◌, ◌++◌, map, drop, length}
-use Rattle.std.proofs.Common.{Option, Some, None, Result, Ok, Err, refl, sym, ap, ◌∙◌, subst, arith}
-use Rattle.std.specs.Prelude.{All, IsTrue, codes, nat_le, ◌&&◌, slice_get}
+use Rattle.std.proofs.Common.{◌≡◌, ◌≢◌, ℕ, suc, ◌+◌, ◌<◌, ◌≤◌, inl, inr, true, List, [], ◌∷◌, ◌++◌, map, drop, length}
+use Rattle.std.proofs.Common.{None, Ok, refl, sym, ap, ◌∙◌, subst, arith}
+use Rattle.std.specs.Prelude.{All, IsTrue, codes}
 use Rattle.std.proofs.lemmas.Bool.{cases_lt}
 use Rattle.std.proofs.lemmas.Bool.Decides.{nat_tests}
 use Rattle.std.proofs.lemmas.List.{length-map, map-append}
@@ -10,11 +10,8 @@ use Rattle.fax_bits.specs.Bits.{BeginsWith}
 use Rattle.fax_bits.specs.declared.Colour.{Colour}
 use Rattle.fax_page.specs.declared.Coding.{Coding}
 use Rattle.fax_page.specs.declared.Coding.TheVariants.{Mh, Mr, Mmr}
-use Rattle.fax_files.specs.declared.Endian.{Endian}
-use Rattle.fax_files.specs.declared.FileFault.{FileFault}
 use Rattle.fax_files.specs.declared.PageForm.{PageForm}
-use Rattle.fax_files.specs.Directory.{Header, header, max_file}
-use Rattle.fax_files.specs.Page.{page}
+use Rattle.fax_files.specs.Directory.{max_file}
 use Rattle.fax_files.specs.Pbm.{AreImages, Image, IsImage, is_within_limits}
 use Rattle.fax_files.specs.Layout.{file_of}
 use Rattle.fax_files.specs.laws.Files.{FormsAreWithinLimits}
@@ -28,36 +25,28 @@ use Rattle.fax_walk.specs.declared.options.Target.TheVariants as To
 use Rattle.fax_walk.specs.Pages.{AreFrom, FilePage, FormItem, IsForm, IsPageAt}
 use Rattle.fax_walk.specs.Items.{AreItems, RowItem}
 use Rattle.fax_walk.specs.Converted.{IsSource, IsTiff, IsTooLarge, SourcePage, pages_of, target_bytes}
-use Rattle.fax_walk.specs.code.Opening.{IsPageUnder, page_or_end, page_over}
 use Rattle.fax_walk.specs.code.Output.{form_sheet, page_of}
 use Rattle.fax_walk.specs.code.Sources.{ArePaged, AreRowsOn, FilesArePaged, page_of_image, pels_of}
 use Rattle.fax_walk.specs.laws.ReadBack.{AreReadBack, AreReadBackIn, ConversionsAreReadBack, ConversionsKeepItems}
 use Rattle.fax_walk.specs.laws.Tails.{FilesHaveOneItems}
-use Rattle.fax_walk.specs.laws.Written.{CodedFilesAreWalked, IsWritableSource, WalkedRow, numbered, rows_of, walked, written_pages}
+use Rattle.fax_walk.specs.laws.Written.{CodedFilesAreWalked, IsWritableSource, numbered, rows_of, walked, written_pages}
 use Rattle.fax_walk.proofs.FileLemmas.{some_pages}
+use Rattle.fax_walk.proofs.PageLawLemmas.{in_chain}
 use Rattle.fax_walk.proofs.ImageLemmas.{raster_count, raster_widths}
 use Rattle.fax_walk.proofs.SourceLemmas.{first_page, found_page}
 
-both_hold : (low high more most : Bool) → low ≡ true → high ≡ true → more ≡ true → most ≡ true → IsTrue ((low && high) && (more && most))
-both_hold low high more most a b c d = rw (a, b, c, d) refl
+limits_hold : (width rows : ℕ) → 1 ≤ width → width ≤ 65535 → 1 ≤ rows → rows ≤ 1000000 → IsTrue (is_within_limits width rows)
+limits_hold width rows some_width few_pels some_rows few_rows = grind (arith, nat_tests)
 
 -- a page of a form within the limits, whose rows have its width, can be written
 page_writable : (form : PageForm) (own : List RowItem) → IsPageForm form → length own ≡ form.rows → AreOfWidth form.width (pels_of own)
     → IsWritableSource (page_of (form_sheet form) (pels_of own))
 page_writable form own limits count wide =
     let rows : length (pels_of own) ≡ form.rows = length-map own (λ (item : RowItem). item.pels) ∙ count in
-    let some_width = limits.some_width in
-    let width = limits.width in
-    let some_rows : 1 ≤ length (pels_of own) = omega (arith, limits.some_rows, rows) in
-    let few_rows : length (pels_of own) ≤ 1000000 = omega (arith, limits.rows, rows) in
-    let low : nat_le 1 form.width ≡ true = grind (arith, nat_tests, some_width) in
-    let high : nat_le form.width 65535 ≡ true = grind (arith, nat_tests, width) in
-    let more : nat_le 1 (length (pels_of own)) ≡ true = grind (arith, nat_tests, some_rows) in
-    let most : nat_le (length (pels_of own)) 1000000 ≡ true = grind (arith, nat_tests, few_rows) in
     record {
       image = record {
-        within = both_hold (nat_le 1 form.width) (nat_le form.width 65535) (nat_le 1 (length (pels_of own)))
-            (nat_le (length (pels_of own)) 1000000) low high more most;
+        within = limits_hold form.width (length (pels_of own)) limits.some_width limits.width (omega (arith, limits.some_rows, rows))
+            (omega (arith, limits.rows, rows));
         rows = wide;
       };
       x = limits.x;
@@ -107,12 +96,7 @@ pages_counted (one ∷ forms) items = ap suc (pages_counted forms (drop one.form
 -- rows of a page with their places
 rows_numbered : (p : ℕ) (form : PageForm) (r : ℕ) (own : List RowItem) → AreRowsOn p form r own → map walked own ≡ numbered p r (pels_of own)
 rows_numbered p form r [] are = refl
-rows_numbered p form r (x ∷ own) are =
-    let first : walked x ≡ record { page = p; row = r; pels = x.pels } =
-    ap (λ (q : ℕ). record { page = q; row = x.row; pels = x.pels }) are.0
-    ∙ ap (λ (n : ℕ). record { page = p; row = n; pels = x.pels }) are.2 in
-    ap (λ (w : WalkedRow). w ∷ map walked own) first
-    ∙ ap (λ (l : List WalkedRow). record { page = p; row = r; pels = x.pels } ∷ l) (rows_numbered p form (r + 1) own are.4)
+rows_numbered p form r (x ∷ own) are = rw (are.0, are.2, rows_numbered p form (r + 1) own are.4) refl
 
 rows_wide : (p : ℕ) (form : PageForm) (r : ℕ) (own : List RowItem) → AreRowsOn p form r own → AreOfWidth form.width (pels_of own)
 rows_wide p form r [] are = tt
@@ -125,34 +109,13 @@ items_kept [] p items paged = sym (ap (map walked) paged.0)
 items_kept (one ∷ forms) p items (own, others, items_are, are, inr stop) = let no = stop.2.3 in absurd cc
 items_kept (one ∷ forms) p items (own, others, items_are, are, inl whole) =
     ap (λ (l : List SourcePage). rows_of p (map (λ source. source.image.rows) l)) (first_page one forms items own others items_are whole.0)
-    ∙ ap (λ (l : List WalkedRow). l ++ rows_of (p + 1) (map (λ source. source.image.rows) (pages_of forms others)))
-    (sym (rows_numbered p one.form 0 own are))
-    ∙ ap (λ (l : List WalkedRow). map walked own ++ l) (items_kept forms (p + 1) others whole.2)
-    ∙ sym (map-append walked own others) ∙ ap (map walked) (sym items_are)
+    ∙ rw (← rows_numbered p one.form 0 own are, items_kept forms (p + 1) others whole.2, items_are, map-append walked own others) refl
 
 module _ (paged : FilesArePaged) (within_limits : FormsAreWithinLimits) where
   page_limits : (file : List ℕ) → All (λ byte. byte < 256) file → (at : Cursor) (here : FilePage) → IsPageAt file at (Ok here)
       → IsPageForm here.form
-  page_limits file bytes at here is = under (header file) is
-    where
-      answered : (endian : Endian) (q : ℕ) (answer : Result PageForm FileFault) → page endian file q ≡ answer
-          → Ok here ≡ page_or_end endian q at.page answer
-          → IsPageForm here.form
-      answered endian q (Err refused) is e = absurd cc
-      answered endian q (Ok form) is e =
-          let this : FilePage = record { endian = endian; offset = q; form = form } in
-          let same : this ≡ here = cc in
-          subst (λ (h : FilePage). IsPageForm h.form) same (within_limits endian file q form bytes is)
-
-      over : (head : Header) (offsets : List ℕ) (fault : Option FileFault) (found : Option ℕ)
-          → Ok here ≡ page_over head.endian file offsets fault at found
-          → IsPageForm here.form
-      over head offsets fault None e = absurd cc
-      over head offsets fault (Some q) e = answered head.endian q (page head.endian file q) refl e
-
-      under : (answer : Result Header FileFault) → IsPageUnder file at answer (Ok here) → IsPageForm here.form
-      under (Err fault) e = absurd cc
-      under (Ok head) (offsets, fault, chain, e) = over head offsets fault (slice_get offsets at.page) e
+  page_limits file bytes at here is =
+      let found = in_chain file at here is in within_limits here.endian file here.offset here.form bytes found.fields
 
   -- the pages of forms and items that end properly can be written
   forms_writable : (file : List ℕ) → All (λ byte. byte < 256) file → (forms : List FormItem) (p : ℕ) (items : List RowItem)
@@ -194,29 +157,22 @@ not_over n limit not_more = elim (cases_lt limit n) [ inl more ↦ absurd (not_m
 
 module _ (written : CodedFilesAreWalked) (images : WrittenImagesAreRead) (options : Options) (pages : List SourcePage)
     (are : All IsWritableSource pages) (some : 1 ≤ length pages) where
-  read_in : (coding : Coding) → (options.aligned ≡ true → coding ≢ Mmr) → (output : List ℕ)
-      → output ≡ file_of (written_pages options coding pages) → length pages ≤ 65535 → length output ≤ max_file
+  read_in : (coding : Coding) (target : Target) → target ≢ To.Pbm → (options.aligned ≡ true → coding ≢ Mmr) → (output : List ℕ)
+      → output ≡ file_of (written_pages options coding pages) → (IsTooLarge target pages output → ⊥)
       → AreReadBackIn coding options pages output
-  read_in coding has_eols output output_is few short =
-      subst (AreReadBackIn coding options pages) (sym output_is)
-      (written options coding pages options.some_strip has_eols some few are
-      (subst (λ (l : List ℕ). length l ≤ max_file) output_is short))
+  read_in coding target other has_eols output output_is fits =
+      let few = not_over (length pages) 65535 (λ many. fits (inr (other, many))) in
+      let short = not_over (length output) max_file (λ long. fits (inl long)) in
+      rw output_is (written options coding pages options.some_strip has_eols some few are (rw output_is at short))
 
   read_back : (target : Target) → options.target ≡ target → (output : List ℕ) → output ≡ target_bytes target options pages
       → (IsTooLarge target pages output → ⊥) → AreReadBack target options pages output
   read_back To.Pbm target_is output output_is fits =
-      subst (λ (l : List ℕ). AreImages l (map (λ source. source.image) pages) None) (sym output_is)
-      (images (map (λ source. source.image) pages) (images_of_pages pages are))
-  read_back To.Mh target_is output output_is fits =
-      read_in Mh (λ aligned is. cc) output output_is (not_over (length pages) 65535 (λ many. fits (inr ((λ is. cc), many))))
-      (not_over (length output) max_file (λ long. fits (inl long)))
-  read_back To.Mr target_is output output_is fits =
-      read_in Mr (λ aligned is. cc) output output_is (not_over (length pages) 65535 (λ many. fits (inr ((λ is. cc), many))))
-      (not_over (length output) max_file (λ long. fits (inl long)))
+      rw output_is (images (map (λ source. source.image) pages) (images_of_pages pages are))
+  read_back To.Mh target_is output output_is fits = read_in Mh To.Mh (λ is. cc) (λ aligned is. cc) output output_is fits
+  read_back To.Mr target_is output output_is fits = read_in Mr To.Mr (λ is. cc) (λ aligned is. cc) output output_is fits
   read_back To.Mmr target_is output output_is fits =
-      read_in Mmr (λ aligned is. options.aligned_is_no_mmr aligned target_is) output output_is
-      (not_over (length pages) 65535 (λ many. fits (inr ((λ is. cc), many))))
-      (not_over (length output) max_file (λ long. fits (inl long)))
+      read_in Mmr To.Mmr (λ is. cc) (λ aligned is. options.aligned_is_no_mmr aligned target_is) output output_is fits
 
 pub conversions_are_read_back : FilesArePaged → FormsAreWithinLimits → CodedFilesAreWalked → WrittenImagesAreRead → ConversionsAreReadBack
 conversions_are_read_back paged within written images bytes options output are_bytes converted =

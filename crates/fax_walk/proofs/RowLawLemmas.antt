@@ -42,7 +42,6 @@ use Rattle.fax_walk.specs.laws.Tails.{BeginningsHaveOneTail}
 use Rattle.fax_bits.specs.laws.Codes.{IsOne}
 use Rattle.fax_walk.proofs.InOrderLemmas.{IsOneAnswer, IsListed, one_list}
 use Rattle.fax_walk.proofs.PageLawLemmas.{one_on_page, no_page, some_page, next_dropped}
-use Rattle.fax_walk.proofs.RestLemmas.{rest_at}
 use Rattle.fax_walk.specs.Pages.{Step, goes_on, ends_as}
 
 abbrev pub LinesAreRead : Type 0
@@ -102,7 +101,7 @@ module _ (by_place : AreBitsByPlace) (lines_read : LinesAreRead) where
     one_item : (item another : RowItem) (to place : RowPlace) → IsItem item to → IsItem another place → another ≡ item
     one_item item another to place is is_too =
         let same =
-        (lines_read strip i reference).one_answer b (exchanged form another.pels) (exchanged form item.pels) _ _ is_too.3 is.3 in
+        (lines_read strip i reference).line.one_answer b (exchanged form another.pels) (exchanged form item.pels) _ _ is_too.3 is.3 in
         let pels : another.pels ≡ item.pels =
         sym (exchanged_twice form another.pels) ∙ ap (exchanged form) same.0 ∙ exchanged_twice form item.pels in
         let place_is : another.bits ≡ item.bits = one_place by_place form.order bytes another.bits item.bits is_too.2 is.2 same.1 in
@@ -112,7 +111,7 @@ module _ (by_place : AreBitsByPlace) (lines_read : LinesAreRead) where
         ⊎ ((fault : StripFault) × IsCause strip i reference b fault)
         → IsOneAnswer (IsInStrip form at (Some bytes))
     by_line (inl (row, rest, line)) =
-        let from = rest_at strip i reference all (before form.width at.inner).bits row rest line in
+        let from = (lines_read strip i reference).rest all (before form.width at.inner).bits row rest line in
         let item : RowItem = record { page = at.page; form = form; row = at.row; pels = exchanged form row; bits = from.0 } in
         let is : IsItem item (place_after item) =
         (refl, refl, omega (arith, from.1, by_place.count form.order bytes), rw (from.2, exchanged_twice form row) line, refl, refl) in
@@ -122,7 +121,7 @@ module _ (by_place : AreBitsByPlace) (lines_read : LinesAreRead) where
             → IsInStrip form at (Some bytes) other
             → other ≡ goes_on item (place_after item)
         only_item item is (ends_as end) (fault, stop, end_is) =
-            absurd ((lines_read strip i reference).answer_has_no_fault b _ _ fault is.3 stop)
+            absurd ((lines_read strip i reference).line.answer_has_no_fault b _ _ fault is.3 stop)
         only_item item is (goes_on another to) is_too =
             let same = one_item item another (place_after item) to is is_too in rw (is_too.4, same) refl
     by_line (inr (fault, stop)) =
@@ -131,13 +130,13 @@ module _ (by_place : AreBitsByPlace) (lines_read : LinesAreRead) where
         only_stop : (other : Step RowItem RowPlace) → IsInStrip form at (Some bytes) other
             → other ≡ ends_as (Fault at.page at.row (Strip fault))
         only_stop (ends_as end) (another, stop_too, end_is) =
-            let same = (lines_read strip i reference).one_fault b another fault stop_too stop in
+            let same = (lines_read strip i reference).line.one_fault b another fault stop_too stop in
             ap (λ (e : End). ends_as e) (end_is ∙ ap (λ (f : StripFault). Fault at.page at.row (Strip f)) same)
         only_stop (goes_on another to) is_too =
-            absurd ((lines_read strip i reference).answer_has_no_fault b _ _ fault is_too.3 stop)
+            absurd ((lines_read strip i reference).line.answer_has_no_fault b _ _ fault is_too.3 stop)
 
     in_bytes : IsOneAnswer (IsInStrip form at (Some bytes))
-    in_bytes = by_line ((lines_read strip i reference).answer_or_fault b)
+    in_bytes = by_line ((lines_read strip i reference).line.answer_or_fault b)
 
   pub one_in_strip : (form : PageForm) (at : RowPlace) (found : Option (List ℕ)) → IsOneAnswer (IsInStrip form at found)
   one_in_strip form at None =

@@ -17,6 +17,7 @@ use Rattle.fax_walk.specs.Items.{exchanged}
 use Rattle.fax_walk.specs.laws.Cursors.{CursorsAreShort, PlacesAreShort}
 use Rattle.fax_walk.proofs.PageLawLemmas.{in_chain}
 use Rattle.fax_walk.proofs.TailLawLemmas.{facts, here_from, inner, long_of, pels_are, read, split_at_number}
+use Rattle.fax_walk.proofs.RowLawLemmas.{LinesAreRead}
 use Rattle.fax_walk.proofs.TailLawLemmas.{this, whole_page}
 
 -- a page's number is below that of the file's bytes
@@ -64,17 +65,17 @@ cursors_are_short forms chains file begun all end n item short reached tail ther
       row = omega (arith, from.row, whole.rows, row.is.1);
     }
 
-pub places_are_short : FormsAreWhole → FilesHaveOneChain → PlacesAreShort
-places_are_short forms chains file begun all end n item place short tail there long =
+pub places_are_short : LinesAreRead → FormsAreWhole → FilesHaveOneChain → PlacesAreShort
+places_are_short lines_read forms chains file begun all end n item place short tail there long =
     let after = drop (n + 1) all in
     let split = split_at_number file begun all end n item tail there in
-    let row = this forms chains file begun item after end split place long in
-    let fact = facts forms chains file begun item after end split place long in
+    let row = this forms chains file lines_read begun item after end split place long in
+    let fact = facts forms chains file lines_read begun item after end split place long in
     let whole = whole_page file forms (record { page = split.at.page; row = split.at.row }) row.here row.page in
     let few = page_few chains file (record { page = split.at.page; row = split.at.row }) row.here row.page in
     let wide : length (exchanged row.here.form item.pels) ≡ row.here.form.width =
-    ap (λ (l : List Colour). length l) (sym (pels_are forms chains file begun item after end split place long))
-    ∙ (inner forms chains file begun item after end split place long).1 in
+    ap (λ (l : List Colour). length l) (sym (pels_are forms chains file lines_read begun item after end split place long))
+    ∙ (inner forms chains file lines_read begun item after end split place long).1 in
     let runs : All (λ run. run < 2 ^ 32) (runs_of (exchanged row.here.form item.pels)) =
     runs_short White 0 (2 ^ 32) (exchanged row.here.form item.pels) (omega (arith, wide, whole.width)) in
     let bits : item.bits < 2 ^ 32 = grind (arith, nat_tests, fact.bits) in

@@ -1,5 +1,5 @@
 -- The rows of a file, page by page.
-use Rattle.std.proofs.Common.{subst, ◌≡◌, ℕ, zero, suc, ◌+◌, ◌*◌, ◌<◌, ◌⊎◌, inl, inr, List, [], ◌∷◌, ◌++◌, map, length, take, drop}
+use Rattle.std.proofs.Common.{subst, ◌≡◌, ℕ, zero, suc, ◌+◌, ◌*◌, ◌<◌, ◌⊎◌, inl, inr, List, [], ◌∷◌, ◌++◌, map, length}
 use Rattle.std.proofs.Common.{Option, Some, None, Ok, Err, refl, sym, ap, ◌∙◌, arith, append-nil}
 use Rattle.std.proofs.lemmas.Bool.{cond_both}
 use Rattle.std.proofs.lemmas.List.{drop_at, length-map, length-replicate, take_at}
@@ -29,7 +29,6 @@ use Rattle.fax_walk.specs.laws.InOrder.{LeadTo}
 use Rattle.fax_walk.proofs.InOrderLemmas.{IsOneAnswer, ended_at, one_from, same_answer, same_step}
 use Rattle.fax_walk.proofs.RowLawLemmas.{LinesAreRead, one_in_strip, one_row, cases_after}
 use Rattle.fax_walk.proofs.TailLawLemmas.{any_row, whole_page}
-use Rattle.fax_walk.proofs.WidthLemmas.{row_in}
 
 exchanged_length : (form : PageForm) (row : List Colour) → length (exchanged form row) ≡ length row
 exchanged_length form row =
@@ -86,7 +85,7 @@ module _ (by_place : AreBitsByPlace) (lines_read : LinesAreRead) (file : List �
   item_wide : (r : ℕ) (inner : Option Inner) (bytes : List ℕ) (item : RowItem) (to : RowPlace) → IsWide inner
       → IsInStrip form (place_at r inner) (Some bytes) (goes_on item to) → length (exchanged form item.pels) ≡ form.width
   item_wide r inner bytes item to wide is =
-      row_in is.3.dimension form.width (before form.width inner).reference is.3.codes (exchanged form item.pels) _ wide is.3.coded
+      (lines_read _ _ (before form.width inner).reference).width _ (exchanged form item.pels) _ wide is.3
 
   -- the rows from row r on, where those after it are known
   module _ (r : ℕ) (due : r < form.rows)
@@ -138,15 +137,10 @@ not_there file k end (Ok here, page, e) = absurd cc
 pub found_page : (file : List ℕ) (p : ℕ) (one : FormItem) (next : ℕ) → IsForm file p (goes_on one next)
     → (here : FilePage) × IsPageAt file (record { page = p; row = 0 }) (Ok here) × (one.form ≡ here.form) × (next ≡ p + 1)
 found_page file p one next (Err end, page, e) = absurd cc
-found_page file p one next (Ok here, page, e) = (here, page, ap form_in e, ap place_in e)
-  where
-    form_in : Step FormItem ℕ → PageForm
-    form_in (goes_on item to) = item.form
-    form_in (ends_as none) = one.form
-
-    place_in : Step FormItem ℕ → ℕ
-    place_in (goes_on item to) = to
-    place_in (ends_as none) = next
+found_page file p one next (Ok here, page, e) =
+    let item : one ≡ record { page = p; form = here.form } = cc in
+    let to : next ≡ p + 1 = cc in
+    (here, page, ap (λ (i : FormItem). i.form) item, to)
 
 -- what is handed out after items that lead to a place
 after_led : {S A : Type 0} (next : S → Step A S → Type 0) → ((at : S) → IsOneAnswer (next at)) → (at to : S)
@@ -209,7 +203,4 @@ pub first_page : (one : FormItem) (forms : List FormItem) (items own others : Li
     → length own ≡ one.form.rows
     → pages_of (one ∷ forms) items ≡ page_of (form_sheet one.form) (pels_of own) ∷ pages_of forms others
 first_page one forms items own others items_are count =
-    let first : take one.form.rows items ≡ own = ap (take one.form.rows) items_are ∙ take_at own others one.form.rows count in
-    let second : drop one.form.rows items ≡ others = ap (drop one.form.rows) items_are ∙ drop_at own others one.form.rows count in
-    ap (λ (l : List RowItem). page_of (form_sheet one.form) (pels_of l) ∷ pages_of forms (drop one.form.rows items)) first
-    ∙ ap (λ (l : List RowItem). page_of (form_sheet one.form) (pels_of own) ∷ pages_of forms l) second
+    rw (items_are, take_at own others one.form.rows count, drop_at own others one.form.rows count) refl

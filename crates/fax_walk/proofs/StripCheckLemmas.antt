@@ -1,8 +1,7 @@
 -- The strips of a page that is checked.
-use Rattle.std.proofs.Common.{◌≡◌, ℕ, ◌+◌, ◌*◌, ◌<◌, ◌≤◌, List, [], ◌∷◌, ◌++◌, length, min, true, false, Some, None, Ok, refl}
+use Rattle.std.proofs.Common.{◌≡◌, ℕ, ◌+◌, ◌*◌, ◌<◌, List, [], ◌∷◌, ◌++◌, length, min, true, false, Some, None, Ok, refl}
 use Rattle.std.proofs.Common.{sym, ap, ◌∙◌}
-use Rattle.std.proofs.Common.{subst, arith, append_assoc, append-nil, inl, inr}
-use Rattle.std.proofs.lemmas.Bool.{cases_lt}
+use Rattle.std.proofs.Common.{subst, arith, append_assoc, append-nil}
 use Rattle.std.proofs.lemmas.Bool.Decides.{nat_tests}
 use Rattle.std.specs.Prelude.{nat_lt, ◌==◌, if◌then◌else◌, Option}
 use Rattle.fax_bits.specs.declared.Colour.{Colour}
@@ -22,6 +21,7 @@ use Rattle.fax_files.specs.declared.PageForm.{PageForm}
 use Rattle.fax_files.specs.laws.Files.{IsWholeForm}
 use Rattle.fax_files.specs.Page.{strip_form}
 use Rattle.fax_files.specs.laws.Files.{shown}
+use Rattle.fax_files.specs.views.Page.{IsPageForm}
 use Rattle.fax_files.specs.views.Tiff.{TiffDirectory, bytes_of, form_of}
 use Rattle.fax_walk.specs.declared.checking.Note.{Note}
 use Rattle.fax_walk.specs.declared.checking.PageRead.{PageRead}
@@ -29,19 +29,36 @@ use Rattle.fax_walk.specs.declared.end.End.{End}
 use Rattle.fax_walk.specs.declared.end.End.TheVariants.{Fault}
 use Rattle.fax_walk.specs.laws.InOrder.{LeadTo}
 use Rattle.fax_walk.specs.Pages.{IsPageAt}
-use Rattle.fax_walk.specs.Items.{RowPlace, first_at, IsRow}
+use Rattle.fax_walk.specs.Items.{RowItem, RowPlace, first_at, IsRow}
 use Rattle.fax_walk.specs.Report.{notes_on_strip, IsStripNoted, IsNoted}
-use Rattle.fax_walk.specs.code.Check.{before_page, before_strip, HasChecked, IsCheckedTo, IsDirectoryOfPage}
+use Rattle.fax_walk.specs.code.Check.{before_page, before_strip, CheckPlace, HasChecked, IsDirectoryOfPage}
 use Rattle.fax_walk.specs.code.Check.{AreStripsChecked, IsRestChecked, IsRowInside, IsReadTo}
-use Rattle.fax_files.specs.Page.{most_rows}
-use Rattle.fax_walk.proofs.CheckLemmas.{nothing_checked, checked_on, checked_to, ends_at}
-use Rattle.fax_walk.proofs.InOrderLemmas.{ended_at}
+use Rattle.fax_walk.proofs.CheckLemmas.{nothing_checked, checked_on}
 use Rattle.fax_walk.proofs.StripPlaceLemmas.{in_strip, shown_length, strip_count}
-use Rattle.fax_walk.proofs.StripRowLemmas.{place_of, row_at, strip_rows, walked_length}
+use Rattle.fax_walk.proofs.RowLawLemmas.{LinesAreRead}
+use Rattle.fax_walk.proofs.OpenPageLemmas.{whole_of}
+use Rattle.fax_walk.proofs.StripRowLemmas.{row_at, strip_rows, walked_length}
 use Rattle.fax_walk.specs.Pages.{Step, ends_as}
 
-module _ (by_place : AreBitsByPlace) (directory : TiffDirectory) (form : PageForm) (p : ℕ) (whole : IsWholeForm form)
-    (form_is : form_of directory ≡ Ok form) (here : IsDirectoryOfPage directory p) where
+-- a page that is checked, and what is known of bits and lines
+pub record IsPageToCheck (directory : TiffDirectory) (form : PageForm) (p : ℕ) : Type 0 where
+  pub by_place : AreBitsByPlace
+  pub lines_read : LinesAreRead
+  pub limits : IsPageForm form
+  pub form_is : form_of directory ≡ Ok form
+  pub here : IsDirectoryOfPage directory p
+
+-- before the page's first strip
+pub none_before : (directory : TiffDirectory) (form : PageForm) (p : ℕ) (notes : List Note)
+    → AreStripsChecked directory form p 0 notes notes
+none_before directory form p notes = record {
+  noted = [];
+  notes_are = sym (append-nil notes);
+  is = subst (HasChecked directory.file (before_strip form p 0) (before_strip form p 0) []) (omega arith)
+      (nothing_checked directory.file (before_strip form p 0));
+}
+
+module _ (directory : TiffDirectory) (form : PageForm) (p : ℕ) (on : IsPageToCheck directory form p) where
   abbrev file : List ℕ
   file = directory.file
 
@@ -51,46 +68,27 @@ module _ (by_place : AreBitsByPlace) (directory : TiffDirectory) (form : PageFor
   page : (r : ℕ)
       → IsPageAt file (record { page = p; row = r })
       (Ok (record { endian = directory.endian; offset = directory.offset; form = form }))
-  page r = rw form_is at (here r)
+  page r = rw on.form_is at (on.here r)
+
+  whole : IsWholeForm form
+  whole = whole_of form on.limits
 
   abbrev Checks : ℕ → List Note → List Note → Type 0
   Checks s old new = AreStripsChecked directory form p s old new
 
   -- before a strip that the page has
   at_strip : (s : ℕ) → s < form.strips → before_strip form p s ≡ record { next = (p, Some s); row = first_at p (s * n) }
-  at_strip s due = let test : (s == form.strips) ≡ false = grind (arith, nat_tests, due) in rw test refl
-
-  -- before the page's first strip
-  pub none_before : (old new : List Note) → new ≡ old → Checks 0 old new
-  none_before old new same = record {
-    noted = [];
-    notes_are = same ∙ sym (append-nil old);
-    is = rw (let none : min (0 * n) form.rows ≡ 0 = omega arith in none) (nothing_checked file (before_strip form p 0));
-  }
+  at_strip s due =
+      let below = whole.needed s due in
+      let test : (s == form.strips) ≡ false = grind (arith, nat_tests, due) in
+      let here : min (s * n) form.rows ≡ s * n = omega (arith, below) in
+      let inside : nat_lt (s * n) form.rows ≡ true = grind (arith, nat_tests, below) in
+      rw (test, here, inside) refl
 
   -- what is found on a strip
   noted_on : (s : ℕ) (answer : Step (List Note) (ℕ × Option ℕ))
       → IsStripNoted form p s (bytes_of directory s) answer → IsNoted file ((p, Some s)) answer
   noted_on s answer is = (Ok _, page 0, is)
-
-  -- the rows of a strip that is whole lead to the next one
-  next_row : (s : ℕ) (count : ℕ) → s < form.strips → count ≡ (strip_form form s).rows
-      → place_of by_place file directory.endian directory.offset form p page whole (s * n + count) ≡ (before_strip form p (s + 1)).row
-  next_row s count due is = elim (cases_lt (s + 1) form.strips) [
-    | inl more ↦
-        let below = whole.needed (s + 1) more in
-        let first : s * n + count ≡ (s + 1) * n = omega (arith, is, below) in
-        let inside : nat_lt ((s + 1) * n) form.rows ≡ true = grind (arith, nat_tests, below) in
-        let test : (s + 1 == form.strips) ≡ false = grind (arith, nat_tests, more) in
-        rw (first, inside, test) refl
-    | inr last ↦
-        let all : s + 1 ≡ form.strips = omega (arith, due, last) in
-        let enough : form.rows ≤ (s + 1) * n = rw (← all) at whole.enough in
-        let full : s * n + count ≡ form.rows = omega (arith, is, enough, whole.needed s due) in
-        let past : nat_lt form.rows form.rows ≡ false = grind (arith, nat_tests) in
-        let test : (s + 1 == form.strips) ≡ true = grind (arith, nat_tests, all) in
-        rw (full, past, test) refl
-  ]
 
   -- one strip is whole
   strip_checked : (s : ℕ) (bytes : List ℕ) (rows : List (List Colour)) (found : StripNotes) → s < form.strips
@@ -99,8 +97,11 @@ module _ (by_place : AreBitsByPlace) (directory : TiffDirectory) (form : PageFor
   strip_checked s bytes rows found due there is =
       let strip : IsStrip (strip_form form s) (bits form.order bytes) rows None = record { left = is.left; lines = is.lines } in
       let read =
-      strip_rows by_place file directory.endian directory.offset form p page whole s (whole.needed s due) bytes there rows None strip in
-      let to = read.there ∙ next_row s (length rows) due (strip_count (strip_form form s) (bits form.order bytes) rows None strip) in
+      strip_rows on.by_place on.lines_read file directory.endian directory.offset form p page whole s (whole.needed s due) bytes there rows None
+      strip in
+      let count = strip_count (strip_form form s) (bits form.order bytes) rows None strip in
+      let total : s * n + length rows ≡ min ((s + 1) * n) form.rows = omega (arith, count, whole.needed s due) in
+      let to = rw total at read.there in
       rw (at_strip s due) (record {
         found = notes_on_strip p s found ∷ [];
         lead = (
@@ -111,7 +112,7 @@ module _ (by_place : AreBitsByPlace) (directory : TiffDirectory) (form : PageFor
         notes_are = sym (append-nil (notes_on_strip p s found));
         items = read.items;
         lead_rows = subst (λ (a : RowPlace). LeadTo (IsRow file) (first_at p (s * n)) read.items a) to read.lead;
-        count = sym (walked_length file (first_at p (s * n)) (s * n) (shown form rows) _ read ∙ shown_length form rows);
+        count = sym (walked_length file p (first_at p (s * n)) (s * n) (shown form rows) _ read ∙ shown_length form rows);
       })
 
   -- one more strip is whole
@@ -128,7 +129,7 @@ module _ (by_place : AreBitsByPlace) (directory : TiffDirectory) (form : PageFor
         notes_are =
             new_is ∙ ap (λ (l : List Note). l ++ notes_on_strip p s found) so_far.notes_are
             ∙ append_assoc old so_far.noted (notes_on_strip p s found);
-        is = rw (← total)
+        is = rw total at
             (checked_on file (before_strip form p 0) (before_strip form p s) (before_strip form p (s + 1)) so_far.noted
             (notes_on_strip p s found) (min (s * n) form.rows) (length rows) so_far.is
             (strip_checked s bytes rows found due there is));
@@ -139,49 +140,57 @@ module _ (by_place : AreBitsByPlace) (directory : TiffDirectory) (form : PageFor
   Rest old new read = IsRestChecked file (before_strip form p 0) p old new read
 
   -- all strips are whole
-  pub all_read : form.rows ≤ most_rows → (s : ℕ) (old new : List Note) → s ≡ form.strips → Checks s old new
+  pub all_read : (s : ℕ) (old new : List Note) → s ≡ form.strips → Checks s old new
       → Rest old new (record { rows = form.rows; fault = None })
-  all_read few s old new all so_far =
+  all_read s old new all so_far =
       let rows : s * n ≡ form.strips * n = ap (λ (k : ℕ). k * n) all in
       let total : min (s * n) form.rows ≡ form.rows = omega (arith, rows, whole.enough) in
       let test : (s == form.strips) ≡ true = grind (arith, nat_tests, all) in
-      let last : before_strip form p s ≡ before_page (p + 1) = rw test refl in
+      let past : nat_lt form.rows form.rows ≡ false = grind (arith, nat_tests) in
+      let last : before_strip form p s ≡ before_page (p + 1) = rw (test, total, past) refl in
       record {
         noted = so_far.noted;
         notes_are = so_far.notes_are;
-        few = few;
-        is = rw (total, last) at so_far.is;
+        few = on.limits.rows;
+        to = before_strip form p s;
+        is = subst (HasChecked file (before_strip form p 0) (before_strip form p s) so_far.noted) total so_far.is;
+        after = last;
       }
 
   -- the page's rows end at a fault, after so many rows of a strip
-  fault_after : form.rows ≤ most_rows → (s rows : ℕ) (cause : Cause) (old new : List Note) → s < form.strips → s * n + rows < form.rows
-      → Checks s old new → IsCheckedTo file (before_strip form p s) [] rows (Fault p (s * n + rows) cause)
+  fault_after : (s rows : ℕ) (cause : Cause) (old new : List Note) → s < form.strips → s * n + rows < form.rows
+      → Checks s old new → (row : RowPlace) (items : List RowItem) → LeadTo (IsRow file) (first_at p (s * n)) items row
+      → rows ≡ length items → IsStripNoted form p s (bytes_of directory s) (ends_as (Fault p (s * n + rows) cause))
+      → IsRow file row (ends_as (Fault p (s * n + rows) cause))
       → Rest old new (record { rows = s * n + rows; fault = Some cause })
-  fault_after few s rows cause old new due inside so_far is =
+  fault_after s rows cause old new due inside so_far row items lead count noted stop =
       let total : min (s * n) form.rows + rows ≡ s * n + rows = omega (arith, inside) in
-      let all =
-      checked_to file (before_strip form p 0) (before_strip form p s) so_far.noted [] (min (s * n) form.rows) rows
-      (Fault p (s * n + rows) cause) so_far.is is in
+      let to : CheckPlace = record { next = (p, Some s); row = row } in
+      let strip : HasChecked file (before_strip form p s) to [] rows =
+      rw (at_strip s due) (record { found = []; lead = refl; notes_are = refl; items = items; lead_rows = lead; count = count }) in
       record {
         noted = so_far.noted;
         notes_are = so_far.notes_are;
-        few = omega (arith, few, inside);
-        is = rw (append-nil so_far.noted, total) at all;
+        few = omega (arith, on.limits.rows, inside);
+        to = to;
+        is = rw (append-nil so_far.noted, total) at
+            (checked_on file (before_strip form p 0) (before_strip form p s) to so_far.noted [] (min (s * n) form.rows) rows so_far.is strip);
+        after = (noted_on s _ noted, stop);
       }
 
   -- a strip does not lie in the file
-  pub strip_outside : form.rows ≤ most_rows → (s : ℕ) (old new : List Note) → s < form.strips → Checks s old new
+  pub strip_outside : (s : ℕ) (old new : List Note) → s < form.strips → Checks s old new
       → bytes_of directory s ≡ None → Rest old new (record { rows = s * n; fault = Some (File StripOutside) })
-  strip_outside few s old new due so_far none =
+  strip_outside s old new due so_far none =
       let number = in_strip n s 0 (s * n) whole.some_in_strip (omega arith) in
       let end : End = Fault p (s * n) (File StripOutside) in
       let zero : s * n + 0 ≡ s * n = omega arith in
-      let row : IsRow file (first_at p (s * n)) (ends_as end) =
-      row_at by_place file directory.endian directory.offset form p page whole (s * n) None None (ends_as end) (rw number.0 none)
-      (rw number.0 refl) in
-      let ends = ends_at file (record { next = (p, Some s); row = first_at p (s * n) }) end (noted_on s (ends_as end) (rw none refl)) row in
       rw zero at
-      (fault_after few s 0 (File StripOutside) old new due (omega (arith, whole.needed s due)) so_far (rw (at_strip s due, zero) ends))
+      (fault_after s 0 (File StripOutside) old new due (omega (arith, whole.needed s due)) so_far (first_at p (s * n)) [] refl refl
+      (rw (none, zero) refl)
+      (rw zero
+      (row_at on.by_place on.lines_read file directory.endian directory.offset form p page whole (s * n) None None (ends_as end)
+      (rw number.0 none) (rw number.0 refl))))
 
   -- the rows of a strip end at a fault inside the page
   inside_page : (s : ℕ) (bytes : List ℕ) (rows : List (List Colour)) (fault : StripFault) → s < form.strips
@@ -190,34 +199,27 @@ module _ (by_place : AreBitsByPlace) (directory : TiffDirectory) (form : PageFor
       omega (arith, whole.needed s due, strip_count (strip_form form s) (bits form.order bytes) rows (Some fault) strip)
 
   -- a row of a strip cannot be read
-  strip_refused : form.rows ≤ most_rows → (s : ℕ) (old new : List Note) (bytes : List ℕ) (rows : List (List Colour)) (fault : StripFault)
+  strip_refused : (s : ℕ) (old new : List Note) (bytes : List ℕ) (rows : List (List Colour)) (fault : StripFault)
       → s < form.strips → Checks s old new → bytes_of directory s ≡ Some bytes
       → IsStrip (strip_form form s) (bits form.order bytes) rows (Some fault)
       → Rest old new (record { rows = s * n + length rows; fault = Some (Strip fault) })
-  strip_refused few s old new bytes rows fault due so_far there strip =
-      let end : End = Fault p (s * n + length rows) (Strip fault) in
+  strip_refused s old new bytes rows fault due so_far there strip =
       let read =
-      strip_rows by_place file directory.endian directory.offset form p page whole s (whole.needed s due) bytes there rows (Some fault)
-      strip in
-      fault_after few s (length rows) (Strip fault) old new due (inside_page s bytes rows fault due strip) so_far
-      (rw (at_strip s due) (record {
-        found = [];
-        are = noted_on s (ends_as end) (rw there (rows, fault, strip.left, strip.lines, refl));
-        notes_are = refl;
-        items = read.items;
-        are_rows = ended_at (IsRow file) (first_at p (s * n)) read.to read.items end read.lead read.there;
-        count = sym (walked_length file (first_at p (s * n)) (s * n) (shown form rows) _ read ∙ shown_length form rows);
-      }))
+      strip_rows on.by_place on.lines_read file directory.endian directory.offset form p page whole s (whole.needed s due) bytes there rows
+      (Some fault) strip in
+      fault_after s (length rows) (Strip fault) old new due (inside_page s bytes rows fault due strip) so_far read.to read.items read.lead
+      (sym (walked_length file p (first_at p (s * n)) (s * n) (shown form rows) _ read ∙ shown_length form rows))
+      (rw there (rows, fault, strip.left, strip.lines, refl)) read.there
 
   -- the same where the strip has no notes
-  pub row_inside : (s : ℕ) (b : List ℕ) (fault : NotesFault) → form.rows ≤ most_rows → s < form.strips
+  pub row_inside : (s : ℕ) (b : List ℕ) (fault : NotesFault) → s < form.strips
       → IsNotesFault (strip_form form s) (bits form.order b) fault → IsRowInside (s * n) fault
-  row_inside s b Memory few due refused = tt
-  row_inside s b (RowOfStrip row fault) few due (rows, row_is, strip) = omega (arith, row_is, few, inside_page s b rows fault due strip)
+  row_inside s b Memory due refused = tt
+  row_inside s b (RowOfStrip row fault) due (rows, row_is, strip) = omega (arith, row_is, on.limits.rows, inside_page s b rows fault due strip)
 
-  pub strip_fault : form.rows ≤ most_rows → (s : ℕ) (old new : List Note) (b : List ℕ) (fault : NotesFault) (read : PageRead)
+  pub strip_fault : (s : ℕ) (old new : List Note) (b : List ℕ) (fault : NotesFault) (read : PageRead)
       → s < form.strips → Checks s old new → bytes_of directory s ≡ Some b
       → IsNotesFault (strip_form form s) (bits form.order b) fault → IsReadTo (s * n) fault read → Rest old new read
-  strip_fault few s old new b Memory read due so_far there refused none = absurd none
-  strip_fault few s old new b (RowOfStrip row fault) read due so_far there (rows, row_is, strip) read_is =
-      rw (read_is, ← row_is) (strip_refused few s old new b rows fault due so_far there strip)
+  strip_fault s old new b Memory read due so_far there refused none = absurd none
+  strip_fault s old new b (RowOfStrip row fault) read due so_far there (rows, row_is, strip) read_is =
+      rw (read_is, ← row_is) (strip_refused s old new b rows fault due so_far there strip)

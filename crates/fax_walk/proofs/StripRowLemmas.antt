@@ -1,11 +1,11 @@
 -- The rows of a strip are rows that a walk hands out, one after another.
-use Rattle.std.proofs.Common.{◌≡◌, ℕ, ◌+◌, ◌*◌, ◌<◌, ◌≤◌, inl, inr, Bool, true, false, List, [], ◌∷◌, map, length, drop, Option, Some, None}
+use Rattle.std.proofs.Common.{◌≡◌, ℕ, zero, suc, ◌+◌, ◌*◌, ◌<◌, ◌≤◌, inl, inr, Bool, true, false, List, [], ◌∷◌, map, length, drop, Option, Some, None}
 use Rattle.std.proofs.Common.{Ok, refl, sym}
 use Rattle.std.proofs.Common.{ap, ◌∙◌, subst, arith}
 use Rattle.std.proofs.lemmas.Bool.{cases_lt}
 use Rattle.std.proofs.lemmas.Bool.Decides.{nat_tests}
 use Rattle.std.proofs.lemmas.List.{length-map}
-use Rattle.std.specs.Prelude.{if◌then◌else◌, nat_lt}
+use Rattle.std.specs.Prelude.{nat_lt}
 use Rattle.fax_bits.specs.declared.Colour.{Colour}
 use Rattle.fax_bits.specs.Bits.{bits}
 use Rattle.fax_bits.specs.laws.Codes.{AreBitsByPlace}
@@ -23,18 +23,18 @@ use Rattle.fax_walk.specs.declared.end.End.TheVariants.{Fault}
 use Rattle.fax_walk.specs.laws.InOrder.{LeadTo}
 use Rattle.fax_walk.specs.Pages.{IsPageAt}
 use Rattle.fax_walk.specs.Items.{RowItem, Inner, RowPlace, first_at, exchanged, before}
-use Rattle.fax_walk.specs.code.Places.{strip_at, row_in_strip}
+use Rattle.fax_walk.specs.code.Places.{first_on, place_on, strip_at, row_in_strip}
 use Rattle.fax_walk.specs.Items.{IsInStrip, IsRow, place_after}
 use Rattle.fax_walk.specs.laws.Written.{WalkedRow, walked, numbered}
-use Rattle.fax_walk.proofs.RestLemmas.{rest_at}
-use Rattle.fax_walk.proofs.RowLawLemmas.{exchanged_twice, cases_after}
+use Rattle.fax_walk.proofs.RowLawLemmas.{LinesAreRead, exchanged_twice}
+use Rattle.fax_walk.proofs.OpenPageLemmas.{at_first, at_inner, at_end}
 use Rattle.fax_walk.proofs.StripPlaceLemmas.{in_strip, shown_none, shown_row}
 use Rattle.fax_walk.specs.Pages.{Step, goes_on, ends_as}
 
--- these rows are read from a place on, the first of them with this number, and what they lead to is so
-pub record AreRead (file : List ℕ) (at : RowPlace) (r : ℕ) (rows : List (List Colour)) (reached : RowPlace → Type 0) : Type 0 where
+-- these rows of page p are read from a place on, the first of them with this number, and what they lead to is so
+pub record AreRead (file : List ℕ) (p : ℕ) (at : RowPlace) (r : ℕ) (rows : List (List Colour)) (reached : RowPlace → Type 0) : Type 0 where
   pub items : List RowItem
-  pub rows_are : map walked items ≡ numbered at.page r rows
+  pub rows_are : map walked items ≡ numbered p r rows
   pub to : RowPlace
   pub lead : LeadTo (IsRow file) at items to
   pub there : reached to
@@ -43,29 +43,18 @@ numbered_length : (p r : ℕ) (rows : List (List Colour)) → length (numbered p
 numbered_length p r [] = refl
 numbered_length p r (row ∷ rows) = omega (arith, numbered_length p (r + 1) rows)
 
-pub walked_length : (file : List ℕ) (at : RowPlace) (r : ℕ) (rows : List (List Colour)) (reached : RowPlace → Type 0)
-    (read : AreRead file at r rows reached) → length read.items ≡ length rows
-walked_length file at r rows reached read =
-    sym (length-map read.items walked) ∙ ap (λ (l : List WalkedRow). length l) read.rows_are ∙ numbered_length at.page r rows
+pub walked_length : (file : List ℕ) (p : ℕ) (at : RowPlace) (r : ℕ) (rows : List (List Colour)) (reached : RowPlace → Type 0)
+    (read : AreRead file p at r rows reached) → length read.items ≡ length rows
+walked_length file p at r rows reached read =
+    sym (length-map read.items walked) ∙ ap (λ (l : List WalkedRow). length l) read.rows_are ∙ numbered_length p r rows
 
--- one more row, before those that are read after it
-pub one_more : (file : List ℕ) (at : RowPlace) (r : ℕ) (rows : List (List Colour)) (reached : RowPlace
-    → Type 0) (item : RowItem) (next : RowPlace)
-    → walked item ≡ record { page = at.page; row = r; pels = item.pels } → next.page ≡ at.page
-    → IsRow file at (goes_on item next)
-    → AreRead file next (r + 1) rows reached → AreRead file at r (item.pels ∷ rows) reached
-one_more file at r rows reached item next item_is same_page step more = record {
-  items = item ∷ more.items;
-  rows_are =
-      ap (λ (w : WalkedRow). w ∷ map walked more.items) item_is
-      ∙ ap (λ (l : List WalkedRow). record { page = at.page; row = r; pels = item.pels } ∷ l)
-      (more.rows_are ∙ ap (λ (p : ℕ). numbered p (r + 1) rows) same_page);
-  to = more.to;
-  lead = (next, step, more.lead);
-  there = more.there;
-}
+-- no rows are read
+pub none_read : (file : List ℕ) (p : ℕ) (form : PageForm) (at : RowPlace) (r : ℕ) (reached : RowPlace → Type 0) → reached at
+    → AreRead file p at r (shown form []) reached
+none_read file p form at r reached here =
+    record { items = []; rows_are = rw (shown_none form) refl; to = at; lead = refl; there = here }
 
-module _ (by_place : AreBitsByPlace) (file : List ℕ) (endian : Endian) (q : ℕ) (form : PageForm) (p : ℕ)
+module _ (by_place : AreBitsByPlace) (lines_read : LinesAreRead) (file : List ℕ) (endian : Endian) (q : ℕ) (form : PageForm) (p : ℕ)
     (page : (r : ℕ) → IsPageAt file (record { page = p; row = r }) (Ok (record { endian = endian; offset = q; form = form })))
     (whole : IsWholeForm form) where
   abbrev n : ℕ
@@ -73,10 +62,6 @@ module _ (by_place : AreBitsByPlace) (file : List ℕ) (endian : Endian) (q : �
 
   abbrev place_at : ℕ → Option Inner → RowPlace
   place_at r inner = record { page = p; row = r; inner = inner }
-
-  -- the place of a strip's first row, or of the next page's
-  abbrev pub place_of : ℕ → RowPlace
-  place_of r = if nat_lt r form.rows then first_at p r else first_at (p + 1) 0
 
   -- what is at a place, by what the file has of its strip
   pub row_at : (r : ℕ) (inner : Option Inner) (found : Option (List ℕ)) (answer : Step RowItem RowPlace)
@@ -86,7 +71,7 @@ module _ (by_place : AreBitsByPlace) (file : List ℕ) (endian : Endian) (q : �
 
   -- the rows of a strip lead to the next one, or to the row that is not there
   abbrev pub Reaches : Option StripFault → ℕ → RowPlace → Type 0
-  Reaches None r to = to ≡ place_of r
+  Reaches None r to = to ≡ first_on form p r
   Reaches (Some fault) r to = IsRow file to (ends_as (Fault p r (Strip fault)))
 
   module _ (s : ℕ) (below : s * n < form.rows) (bytes : List ℕ) (bytes_are : strip_bytes endian file q s ≡ Some bytes) where
@@ -99,99 +84,69 @@ module _ (by_place : AreBitsByPlace) (file : List ℕ) (endian : Endian) (q : �
     numbers : (r i : ℕ) → r ≡ s * n + i → i < strip.rows → (strip_at form r ≡ s) × (row_in_strip form r ≡ i)
     numbers r i r_is within = in_strip n s i r (omega (arith, within)) r_is
 
+    -- before the strip's first row
+    abbrev first : Inner
+    first = before form.width None
+
+    -- the place of a row that is due in the strip
+    due_at : (inner : Inner) (r i : ℕ) → r ≡ s * n + i → i < strip.rows → (i ≡ 0 → inner ≡ first)
+        → (o : Option Inner) × (place_on form p r inner ≡ place_at r o) × (before form.width o ≡ inner)
+    due_at inner r zero r_is within begins =
+        (None, at_first form p r inner (omega arith) (numbers r 0 r_is within).1, sym (begins refl))
+    due_at inner r (suc i) r_is within begins =
+        (Some inner, at_inner form p r inner (omega arith) (omega (arith, (numbers r (suc i) r_is within).1)), refl)
+
     -- after the strip's last row
-    after_strip : (item : RowItem) → item.form ≡ form → item.page ≡ p → item.row + 1 ≡ s * n + strip.rows
-        → place_after item ≡ place_of (item.row + 1)
-    after_strip item same page_is row_is = elim (cases_after form item same) [
-      | inl (last, is) ↦
-          let test : nat_lt (item.row + 1) form.rows ≡ false = grind (arith, nat_tests, last) in
-          is ∙ rw (test, page_is) refl
-      | inr (inl (less, first, is)) ↦
-          let test : nat_lt (item.row + 1) form.rows ≡ true = grind (arith, nat_tests, less) in
-          is ∙ rw (test, page_is) refl
-      | inr (inr (less, inside, is)) ↦
-          let some : 0 < n = whole.some_in_strip in
-          let full : item.row + 1 ≡ (s + 1) * n + 0 = omega (arith, row_is, less, below) in
-          let first = in_strip n (s + 1) 0 (item.row + 1) some full in
-          absurd (omega (arith, first.1, inside))
+    after_strip : (inner : Inner) (r : ℕ) → r ≡ s * n + strip.rows → place_on form p r inner ≡ first_on form p r
+    after_strip inner r r_is = elim (cases_lt r form.rows) [
+      | inl less ↦
+          let test : nat_lt r form.rows ≡ true = grind (arith, nat_tests, less) in
+          let number = in_strip n (s + 1) 0 r whole.some_in_strip (omega arith) in
+          at_first form p r inner less number.1 ∙ rw test refl
+      | inr past ↦
+          let test : nat_lt r form.rows ≡ false = grind (arith, nat_tests, past) in
+          at_end form p r inner (omega arith) ∙ rw test refl
     ]
 
-    ended : (i : ℕ) (row : List Colour) (b : List Bool) (rows : List (List Colour)) (stop : Option StripFault) (left : List Bool)
-        → strip.rows ≤ i → AreLines strip i row b rows stop left → (rows ≡ []) × (stop ≡ None)
-    ended i row b [] None left last lines = (refl, refl)
-    ended i row b [] (Some fault) left last lines = absurd (omega (arith, last, lines.1))
-    ended i row b (next ∷ rows) stop left last lines = absurd (omega (arith, last, lines.1))
-
-    -- no rows are read
-    stays : (at : RowPlace) (r : ℕ) (reached : RowPlace → Type 0) → reached at → AreRead file at r (shown form []) reached
-    stays at r reached here =
-        record { items = []; rows_are = rw (shown_none form) refl; to = at; lead = refl; there = here }
-
-    -- the rows from a place inside the strip on
-    pub lines_from : (inner : Option Inner) (r i : ℕ) (own : List (List Colour)) (stop : Option StripFault) (left : List Bool)
-        → r ≡ s * n + i → i < strip.rows
-        → AreLines strip i (before form.width inner).reference (drop (before form.width inner).bits all) own stop left
-        → AreRead file (place_at r inner) r (shown form own) (Reaches stop (r + length own))
-    lines_from inner r i [] None left r_is within lines = absurd (omega (arith, within, lines.1))
-    lines_from inner r i [] (Some fault) left r_is within lines =
-        let number = numbers r i r_is within in
+    -- the rows from row i of the strip on
+    lines_from : (inner : Inner) (r i : ℕ) (own : List (List Colour)) (stop : Option StripFault) (left : List Bool)
+        → r ≡ s * n + i → i ≤ strip.rows → (i ≡ 0 → inner ≡ first) → AreLines strip i inner.reference (drop inner.bits all) own stop left
+        → AreRead file p (place_on form p r inner) r (shown form own) (Reaches stop (r + length own))
+    lines_from inner r i [] None left r_is within begins lines =
         let none : r + 0 ≡ r = omega arith in
-        let is : IsInStrip form (place_at r inner) (Some bytes) (ends_as (Fault p r (Strip fault))) =
-        (fault, rw number.1 lines.2, refl) in
-        stays (place_at r inner) r (Reaches (Some fault) (r + 0))
-        (subst (λ (k : ℕ). Reaches (Some fault) k (place_at r inner)) (sym none)
-        (row_at r inner (Some bytes) (ends_as (Fault p r (Strip fault))) (rw number.0 bytes_are) is))
-    lines_from inner r i (row ∷ rows) stop left r_is within (rest, due, line, more) =
-        let number = numbers r i r_is within in
-        let from = rest_at strip i (before form.width inner).reference all (before form.width inner).bits row rest line in
+        none_read file p form _ r (Reaches None (r + 0)) (rw none (after_strip inner r (omega (arith, lines.1))))
+    lines_from inner r i [] (Some fault) left r_is within begins lines =
+        let number = numbers r i r_is lines.1 in
+        let at = due_at inner r i r_is lines.1 begins in
+        let none : r + 0 ≡ r = omega arith in
+        none_read file p form _ r (Reaches (Some fault) (r + 0))
+        (rw (none, at.1) (row_at r at.0 (Some bytes) (ends_as (Fault p r (Strip fault))) (rw number.0 bytes_are)
+        (fault, rw (number.1, at.2) lines.2, refl)))
+    lines_from inner r i (row ∷ rows) stop left r_is within begins (rest, due, line, more) =
+        let number = numbers r i r_is due in
+        let at = due_at inner r i r_is due begins in
+        let from = (lines_read strip i inner.reference).rest all inner.bits row rest line in
         let item : RowItem = record { page = p; form = form; row = r; pels = exchanged form row; bits = from.0 } in
-        let is : IsInStrip form (place_at r inner) (Some bytes) (goes_on item (place_after item)) = (
-          refl,
-          refl,
-          omega (arith, from.1, by_place.count form.order bytes),
-          rw (number.0, number.1, from.2, exchanged_twice form row) line,
-          refl,
-          refl,
-        ) in
+        let twice = exchanged_twice form row in
+        let step =
+        row_at r at.0 (Some bytes) (goes_on item (place_after item)) (rw number.0 bytes_are)
+        (refl, refl, omega (arith, from.1, by_place.count form.order bytes), rw (number.0, number.1, at.2, from.2, twice) line, refl, refl) in
+        let later =
+        lines_from (record { bits = from.0; reference = exchanged form item.pels }) (r + 1) (i + 1) rows stop left (omega (arith, r_is))
+        (omega (arith, due)) (λ none. absurd (omega arith)) (rw (twice, from.2) more) in
         let count : r + length (row ∷ rows) ≡ r + 1 + length rows = omega arith in
-        let step : IsRow file (place_at r inner) (goes_on item (place_after item)) =
-        row_at r inner (Some bytes) (goes_on item (place_after item)) (rw number.0 bytes_are) is in
-        elim (cases_lt (i + 1) strip.rows) [
-          | inl less ↦
-              let next = numbers (r + 1) (i + 1) (omega (arith, r_is)) less in
-              let to : place_after item ≡ place_at (r + 1) (Some (record { bits = from.0; reference = row })) =
-              elim (cases_after form item refl) [
-                | inl (last, to_is) ↦ absurd (omega (arith, last, less, r_is))
-                | inr (inl (here, first, to_is)) ↦ absurd (omega (arith, next.1, first))
-                | inr (inr (here, inside, to_is)) ↦
-                    to_is ∙ ap (λ (l : List Colour). place_at (r + 1) (Some (record { bits = from.0; reference = l })))
-                    (exchanged_twice form row)
-              ] in
-              let later =
-              lines_from (Some (record { bits = from.0; reference = row })) (r + 1) (i + 1) rows stop left (omega (arith, r_is)) less
-              (subst (λ (b : List Bool). AreLines strip (i + 1) row b rows stop left) (sym from.2) more) in
-              rw (shown_row form row rows, count)
-              (one_more file (place_at r inner) r (shown form rows) (Reaches stop (r + 1 + length rows)) item
-              (place_at (r + 1) (Some (record { bits = from.0; reference = row }))) refl refl
-              (subst (λ (a : RowPlace). IsRow file (place_at r inner) (goes_on item a)) to step) later)
-          | inr last ↦
-              let none = ended (i + 1) row rest rows stop left last more in
-              let to = after_strip item refl refl (omega (arith, r_is, last, due)) in
-              let here : r + length (row ∷ rows) ≡ r + 1 = ap (λ (l : List (List Colour)). r + length (row ∷ l)) none.0 in
-              let only : shown form (row ∷ rows) ≡ exchanged form row ∷ [] =
-              shown_row form row rows ∙ ap (λ (l : List (List Colour)). exchanged form row ∷ shown form l) none.0
-              ∙ ap (λ (l : List (List Colour)). exchanged form row ∷ l) (shown_none form) in
-              rw (only, none.1, here) (record {
-                items = item ∷ [];
-                rows_are = refl;
-                to = place_of (r + 1);
-                lead = (place_of (r + 1), subst (λ (a : RowPlace). IsRow file (place_at r inner) (goes_on item a)) to step, refl);
-                there = refl;
-              })
-        ]
+        rw (at.1, shown_row form row rows, count) (record {
+          items = item ∷ later.items;
+          rows_are = ap (λ (l : List WalkedRow). walked item ∷ l) later.rows_are;
+          to = later.to;
+          lead = (place_after item, step, later.lead);
+          there = later.there;
+        })
 
     -- all rows of the strip
     pub strip_rows : (rows : List (List Colour)) (stop : Option StripFault) → IsStrip strip all rows stop
-        → AreRead file (first_at p (s * n)) (s * n) (shown form rows) (Reaches stop (s * n + length rows))
+        → AreRead file p (first_at p (s * n)) (s * n) (shown form rows) (Reaches stop (s * n + length rows))
     strip_rows rows stop is =
-        lines_from None (s * n) 0 rows stop is.left (omega arith) (omega (arith, below, whole.some_in_strip)) is.lines
+        let number = numbers (s * n) 0 (omega arith) (omega (arith, whole.some_in_strip)) in
+        rw (at_first form p (s * n) first below number.1) at
+        (lines_from first (s * n) 0 rows stop is.left (omega arith) (omega arith) (λ none. refl) is.lines)

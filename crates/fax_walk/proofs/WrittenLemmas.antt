@@ -1,6 +1,9 @@
 -- A written file has the rows and the forms of its pages.
-use Rattle.std.proofs.Common.{◌≡◌, ℕ, ◌+◌, ◌*◌, List, [], ◌∷◌, ◌++◌, map, length, drop, None, Ok, Err, refl, sym, ap, ◌∙◌}
+use Rattle.std.proofs.Common.{◌≡◌, ℕ, ◌+◌, List, [], ◌∷◌, ◌++◌, map, length, drop, None, Ok, Err, refl, sym, ap, ◌∙◌}
 use Rattle.std.proofs.Common.{subst, arith}
+use Rattle.std.specs.Prelude.{nat_lt}
+use Rattle.std.proofs.Common.{true}
+use Rattle.std.proofs.lemmas.Bool.Decides.{nat_tests}
 use Rattle.std.specs.List.{AllZip}
 use Rattle.fax_bits.specs.declared.Colour.{Colour}
 use Rattle.fax_bits.specs.laws.Codes.{AreBitsByPlace}
@@ -19,6 +22,7 @@ use Rattle.fax_walk.proofs.InOrderLemmas.{joined}
 use Rattle.fax_walk.proofs.PageLawLemmas.{no_page, some_page, next_dropped, proper_end}
 use Rattle.std.proofs.lemmas.List.{map-append}
 use Rattle.fax_walk.proofs.PageRowLemmas.{strips_from}
+use Rattle.fax_walk.proofs.RowLawLemmas.{LinesAreRead}
 use Rattle.fax_walk.proofs.StripRowLemmas.{AreRead}
 
 -- a page of this number ends the chain properly
@@ -36,22 +40,22 @@ pub record AreAllFrom (file : List ℕ) (p : ℕ) (rows : List WalkedRow) : Type
   pub are : AreFrom (IsRow file) (first_at p 0) items Proper
   pub rows_are : map walked items ≡ rows
 
-module _ (by_place : AreBitsByPlace) (wholes : FormsAreWhole) (law : WrittenRowsAreRead) (file : List ℕ) (head : Header)
+module _ (by_place : AreBitsByPlace) (lines_read : LinesAreRead) (wholes : FormsAreWhole) (law : WrittenRowsAreRead) (file : List ℕ) (head : Header)
     (is : header file ≡ Ok head) (little : head.endian ≡ Little) (offsets : List ℕ) (chain : IsChain head file offsets None) where
   -- the rows of a page that is read as it was written
   page_read : (p q : ℕ) (later : List ℕ) (written : WrittenPage) (rows : List (List Colour)) → drop p offsets ≡ q ∷ later
       → IsWritable written → IsReadAt file q written → HoldsRows written rows
-      → AreRead file (first_at p 0) 0 rows (λ to. to ≡ first_at (p + 1) 0)
+      → AreRead file p (first_at p 0) 0 rows (λ to. to ≡ first_at (p + 1) 0)
   page_read p q later written rows e writable read holds =
       let are : ArePageRows Little file q written.form rows None =
       subst (λ (l : List (List Colour)). ArePageRows Little file q written.form l None) (sym holds.2)
       (law file q written holds.0 writable read holds.1) in
-      let zero : 0 * written.form.rows_per_strip ≡ 0 = omega arith in
+      let some : nat_lt 0 written.form.rows ≡ true = grind (arith, nat_tests, writable.limits.some_rows) in
       rw are.rows_are
-      (rw zero at
-      (strips_from by_place file Little q written.form p
+      (rw some at
+      (strips_from by_place lines_read file Little q written.form p
       (λ r. rw (little, read.form) at (some_page file head is offsets None chain (record { page = p; row = r }) q later e))
-      (wholes Little file q written.form read.form) are.strips 0 (omega (arith, writable.limits.some_rows)) are.read))
+      (wholes Little file q written.form read.form) are.strips 0 0 (omega arith) are.read))
 
   pages_read : (later : List ℕ) (p : ℕ) (pages : List WrittenPage) (rows : List (List (List Colour))) → drop p offsets ≡ later
       → p + length later ≡ length offsets → AreWritable pages → AllZip (IsReadAt file) later pages → AllZip HoldsRows pages rows
@@ -90,18 +94,18 @@ module _ (by_place : AreBitsByPlace) (wholes : FormsAreWhole) (law : WrittenRows
       )
 
 -- the law of written files
-pub written_files_are_walked : AreBitsByPlace → FormsAreWhole → WrittenFilesAreRead → WrittenRowsAreRead → WrittenFilesAreWalked
-written_files_are_walked by_place wholes files law pages rows some few writable holds short =
+pub written_files_are_walked : AreBitsByPlace → LinesAreRead → FormsAreWhole → WrittenFilesAreRead → WrittenRowsAreRead → WrittenFilesAreWalked
+written_files_are_walked by_place lines_read wholes files law pages rows some few writable holds short =
     let file = file_of pages in
     let read = files pages some few writable short in
     let all =
-    pages_read by_place wholes law file read.head read.head_is read.little read.offsets read.chain read.offsets 0 pages rows refl
+    pages_read by_place lines_read wholes law file read.head read.head_is read.little read.offsets read.chain read.offsets 0 pages rows refl
     (omega arith) writable read.read holds in
     record {
       items = all.items;
       are = all.are;
       rows_are = all.rows_are;
       forms =
-          forms_read by_place wholes law file read.head read.head_is read.little read.offsets read.chain read.offsets 0 pages refl
+          forms_read by_place lines_read wholes law file read.head read.head_is read.little read.offsets read.chain read.offsets 0 pages refl
           (omega arith) read.read;
     }

@@ -178,7 +178,7 @@ fn check_strips(
         page notes.old.items notes.new.items) }
 {
     fax_bits::laws::bits_stand_by_place();
-    fax_files::laws::forms_are_whole();
+    fax_page::laws::lines_are_read_in_one_way();
     let mut reader = NotesReader::new(alloc, form.width)?;
     for s in 0..form.strips {
         let before = s * form.rows_per_strip;
@@ -213,7 +213,6 @@ fn check_page(
     ensures { IfOk result (Code.IsRestChecked directory.now.file (Code.before_page page) page
         notes.old.items notes.new.items) }
 {
-    fax_files::laws::forms_are_whole();
     let (form, strips) = match directory.page_and_strips() {
         Ok(page) => page,
         Err(fault) => {

@@ -4,7 +4,8 @@ ghost use Rattle.fax_bits.specs.Bits.{BeginsWith};
 ghost use Rattle.fax_walk.specs.Converted as Spec;
 ghost use Rattle.fax_walk.specs.Items.{RowItem};
 ghost use Rattle.fax_walk.specs.code.Conversion as Code;
-ghost use Rattle.fax_walk.specs.code.Output.{IsPageDue, IsPartWritten, Part, Progress};
+ghost use Rattle.fax_walk.specs.code.Output.{IsPageDue, IsPartWritten, IsPutTo, Part, Progress};
+ghost use Rattle.fax_walk.specs.code.Output.{with_row};
 ghost use Rattle.fax_files.specs.views.Page.{IsPageForm};
 ghost use Rattle.fax_walk.specs.code.Sources as Reads;
 
@@ -129,6 +130,27 @@ fn begin_page(
     output.begin(alloc, options, &Sheet::of_form(last.form))
 }
 
+/// Puts a row that is lent on its page.
+#[inline(always)]
+fn put_lent(
+    alloc: Global,
+    last: &LastRow,
+    options: &Options,
+    output: &mut Output,
+) -> Result<(), Memory>
+    requires limits { IsPageForm last.now.form.now }
+    requires due { (part : Part) × Reads.IsLentDue options.now output.old last.now part }
+    ensures { OnOk result ((part : Part) → Reads.IsLentDue options.now output.old last.now part
+        → IsPutTo output.new (with_row part last.now.row.now)) }
+{
+    begin_page(alloc, last, options, output)?;
+    output.put_row(last.row)?;
+    if last.place.row + 1 == last.form.rows {
+        output.end()?;
+    }
+    Ok(())
+}
+
 /// Puts the row that a walk handed out last on its page.
 #[inline(always)]
 fn put_last_row(
@@ -146,12 +168,7 @@ fn put_last_row(
     let Some(last) = walk.last_row() else {
         return Ok(());
     };
-    begin_page(alloc, &last, options, output)?;
-    output.put_row(last.row)?;
-    if last.place.row + 1 == last.form.rows {
-        output.end()?;
-    }
-    Ok(())
+    put_lent(alloc, &last, options, output)
 }
 
 /// Converts a TIFF file.

@@ -22,6 +22,7 @@ pub fn written_files_are_walked()
     ensures { WrittenLaws.WrittenFilesAreWalked }
 {
     fax_bits::laws::bits_stand_by_place();
+    fax_page::laws::lines_are_read_in_one_way();
     fax_files::laws::forms_are_whole();
     fax_files::laws::written_files_are_read();
     fax_files::laws::written_rows_are_read();
@@ -179,6 +180,7 @@ pub fn cursors_are_named()
     ensures places { CursorLaws.PlacesAreShort }
     ensures one { CursorLaws.TextsNameOne }
 {
+    fax_page::laws::lines_are_read_in_one_way();
     fax_files::laws::files_have_one_chain();
     fax_files::laws::forms_are_whole();
 }

@@ -98,14 +98,12 @@ abbrev pub TakesReturnEol : Coding → List Bool → Bool → List Bool → Type
 TakesReturnEol coding b true rest = IsReturnEol coding b rest
 TakesReturnEol coding b false rest = (after : List Bool) → IsReturnEol coding b after → ⊥
 
--- so many of six EOLs were taken, and as many as are left stand next where six stand in all
+-- so many EOLs were taken: as many as stand ahead, and these, stand in the bits
 pub record AreEolsTaken (coding : Coding) (b : List Bool) (i : ℕ) (ahead : List Bool) : Type 0 where
-  pub left : ℕ
-  pub count : i + left ≡ 6
-  pub onward : (rest : List Bool) → AreReturnEols coding left ahead rest
-      → AreReturnEols coding 6 b rest
-  pub back : (rest : List Bool) → AreReturnEols coding 6 b rest
-      → AreReturnEols coding left ahead rest
+  pub onward : (n : ℕ) (rest : List Bool) → AreReturnEols coding n ahead rest
+      → AreReturnEols coding (i + n) b rest
+  pub back : (n : ℕ) (rest : List Bool) → AreReturnEols coding (i + n) b rest
+      → AreReturnEols coding n ahead rest
 
 -- what stands after a mark, or nothing where there is none
 abbrev pub IsAfterMark : (List Bool → Type 0) → Option Source → Type 0

@@ -5,21 +5,24 @@ use Rattle.fax_bits.specs.declared.Colour.{Colour}
 use Rattle.fax_bits.specs.Bits.{bits}
 use Rattle.fax_page.specs.declared.StripForm.{StripForm}
 use Rattle.fax_page.specs.declared.StripFault.{StripFault}
-use Rattle.fax_page.specs.Lines.{white_row}
 use Rattle.fax_page.specs.Strip.{AreLines}
 use Rattle.fax_page.specs.views.Strip.{IsStrip}
 use Rattle.fax_page.specs.views.Reader.{IsAdvance, IsAtEnd, MeetsFault, ReadsRow, StripState}
 use Rattle.fax_page.specs.views.Reader.{bits_left, strip_after}
 
--- these rows of the bytes were read, one after another from the first on, and no more: whatever
--- lines follow, they follow these rows
-pub record HasRead (form : StripForm) (bytes : List ℕ) (rows : List (List Colour))
+-- these rows were read, one after another, from a place of a reader to a later one: whatever lines
+-- follow the later one, they follow these rows from the first place on
+pub record HasReadFrom (start : StripState) (rows : List (List Colour))
     (state : StripState) : Type 0 where
-  pub same_form : state.form ≡ form
-  pub same_bytes : state.bytes ≡ bytes
+  pub same_form : state.form ≡ start.form
+  pub same_bytes : state.bytes ≡ start.bytes
   pub followed : (more : List (List Colour)) (end : Option StripFault) (left : List Bool)
-      → AreLines form state.row state.reference (bits_left state) more end left
-      → AreLines form 0 (white_row form.width) (bits form.order bytes) (rows ++ more) end left
+      → AreLines start.form state.row state.reference (bits_left state) more end left
+      → AreLines start.form start.row start.reference (bits_left start) (rows ++ more) end left
+
+-- these rows of the bytes were read, one after another from the first on, and no more
+abbrev pub HasRead : StripForm → List ℕ → List (List Colour) → StripState → Type 0
+HasRead form bytes = HasReadFrom (strip_after 0 form bytes)
 
 -- a reader that reads rows one after another, from a strip's beginning on, reads the rows of the
 -- strip, up to its end
@@ -37,16 +40,6 @@ pub record ReadsRowByRow : Type 0 where
       (fault : StripFault)
       → HasRead form bytes rows old → MeetsFault old fault new
       → IsStrip form (bits form.order bytes) rows (Some fault)
-
--- these rows were read, one after another, from a place of a reader to a later one: whatever lines
--- follow the later one, they follow these rows from the first place on
-pub record HasReadFrom (start : StripState) (rows : List (List Colour))
-    (state : StripState) : Type 0 where
-  pub same_form : state.form ≡ start.form
-  pub same_bytes : state.bytes ≡ start.bytes
-  pub followed : (more : List (List Colour)) (end : Option StripFault) (left : List Bool)
-      → AreLines start.form state.row state.reference (bits_left state) more end left
-      → AreLines start.form start.row start.reference (bits_left start) (rows ++ more) end left
 
 -- a reader that reads rows one after another, from any place on, reads the lines from there, up to
 -- their end; a fault leaves it before the row that could not be read, over the same reference

@@ -1,7 +1,7 @@
 -- Laws of strips, which the functions of the module `laws` prove.
 -- A definition without a citation is this project's profile.
-use Rattle.std.specs.Prelude.{◌≡◌, ℕ, ◌+◌, ◌<◌, ◌%◌, Bool, true, List, ◌++◌, length, Option, None}
-use Rattle.std.specs.Prelude.{All}
+use Rattle.std.specs.Prelude.{◌≡◌, ℕ, ◌+◌, ◌<◌, ◌≤◌, ◌%◌, Bool, true, List, ◌++◌, length}
+use Rattle.std.specs.Prelude.{drop, Option, None, All}
 use Rattle.fax_bits.specs.declared.Colour.{Colour}
 use Rattle.fax_page.specs.declared.StripForm.{StripForm}
 use Rattle.fax_page.specs.Lines.{IsLine, IsCause}
@@ -20,10 +20,16 @@ pub record AreRowsOf (form : StripForm) (rows : List (List Colour)) : Type 0 whe
   pub widths : All (λ row. length row ≡ form.width) rows
 
 -- bits are read in one way as row i of a strip over a reference row: one row and one rest, or one
--- cause
-abbrev pub ReadsLinesOneWay : StripForm → ℕ → List Colour → Type 0
-ReadsLinesOneWay form i reference =
-    IsReadInOneWay (IsLine form i reference) (IsCause form i reference)
+-- cause. The rest after a row that begins among some bits is the end of them, and a row over one
+-- of the width has it too
+pub record ReadsLinesOneWay (form : StripForm) (i : ℕ) (reference : List Colour) : Type 0 where
+  pub line : IsReadInOneWay (IsLine form i reference) (IsCause form i reference)
+  pub rest : (b : List Bool) (n : ℕ) (row : List Colour) (rest : List Bool)
+      → IsLine form i reference (drop n b) row rest
+      → (after : ℕ) × (after ≤ length b) × (drop after b ≡ rest)
+  pub width : (b : List Bool) (row : List Colour) (rest : List Bool)
+      → length reference ≡ form.width → IsLine form i reference b row rest
+      → length row ≡ form.width
 
 -- bits are read in one way as a strip of the form: one list of rows and one end
 abbrev pub ReadsStripsOneWay : StripForm → Type 0

@@ -53,3 +53,12 @@ TwoDimensionalBitsAreOneRow =
 abbrev pub ReadsRowsOverOneWay : List Colour → Type 0
 ReadsRowsOverOneWay reference =
     IsReadInOneWay (IsTwoDimensionalRow reference) (IsTwoDimensionalFault reference)
+
+-- a row that is read has its width: that of its reference in two-dimensional coding
+-- (T.4, sections 4.1.1 and 4.2.1.3.3)
+pub record RowsHaveTheirWidth : Type 0 where
+  pub one_dimensional : (width : ℕ) (b : List Bool) (row : List Colour) (rest : List Bool)
+      → IsOneDimensionalRow width b row rest → length row ≡ width
+  pub two_dimensional : (reference : List Colour) (b : List Bool) (row : List Colour)
+      (rest : List Bool)
+      → IsTwoDimensionalRow reference b row rest → length row ≡ length reference

@@ -11,8 +11,9 @@ use Rattle.fax_walk.specs.declared.checking.Note.{Note}
 use Rattle.fax_walk.specs.declared.checking.PageRead.{PageRead}
 use Rattle.fax_walk.specs.declared.end.End.{End}
 use Rattle.fax_walk.specs.declared.end.End.TheVariants.{Fault}
-use Rattle.fax_walk.specs.Pages.{AreFrom, IsPageAt}
+use Rattle.fax_walk.specs.Pages.{IsPageAt, ends_as}
 use Rattle.fax_walk.specs.code.Opening.{page_or_end}
+use Rattle.fax_walk.specs.code.Places.{first_on}
 use Rattle.fax_walk.specs.laws.InOrder.{LeadTo}
 use Rattle.fax_walk.specs.Items.{RowItem, RowPlace, first_at, IsRow}
 use Rattle.fax_walk.specs.Report.{IsNoted}
@@ -31,7 +32,7 @@ before_page p = record { next = (p, None); row = first_at p 0 }
 abbrev pub before_strip : PageForm → ℕ → ℕ → CheckPlace
 before_strip form p s = record {
   next = if s == form.strips then (p + 1, None) else (p, Some s);
-  row = if s == form.strips then first_at (p + 1) 0 else first_at p (s * form.rows_per_strip);
+  row = first_on form p (min (s * form.rows_per_strip) form.rows);
 }
 
 -- from one place to another a file has these notes and so many rows
@@ -44,15 +45,9 @@ pub record HasChecked (file : List ℕ) (from to : CheckPlace) (notes : List Not
   pub lead_rows : LeadTo (IsRow file) from.row items to.row
   pub count : rows ≡ length items
 
--- from a place on a file has these notes and so many rows, and then this end
-pub record IsCheckedTo (file : List ℕ) (from : CheckPlace) (notes : List Note) (rows : ℕ)
-    (end : End) : Type 0 where
-  pub found : List (List Note)
-  pub are : AreFrom (IsNoted file) from.next found end
-  pub notes_are : notes ≡ flat_map (λ own. own) found
-  pub items : List RowItem
-  pub are_rows : AreFrom (IsRow file) from.row items end
-  pub count : rows ≡ length items
+-- what stands at a place is this end
+abbrev pub EndsThere : List ℕ → CheckPlace → End → Type 0
+EndsThere file at end = IsNoted file at.next (ends_as end) × IsRow file at.row (ends_as end)
 
 -- a directory is that of page p of its file
 abbrev pub IsDirectoryOfPage : TiffDirectory → ℕ → Type 0
@@ -68,19 +63,21 @@ pub record AreStripsChecked (directory : TiffDirectory) (form : PageForm) (p s :
   pub is : HasChecked directory.file (before_strip form p 0) (before_strip form p s) noted
       (min (s * form.rows_per_strip) form.rows)
 
--- from a place on the rest of page p has these notes, and was read wholly, or up to a fault
-abbrev pub IsReadFrom : List ℕ → CheckPlace → ℕ → List Note → ℕ → Option Cause → Type 0
-IsReadFrom file from p notes rows None = HasChecked file from (before_page (p + 1)) notes rows
-IsReadFrom file from p notes rows (Some cause) =
-    IsCheckedTo file from notes rows (Fault p rows cause)
+-- after so many rows of page p the next page is due, or there is this fault
+abbrev pub IsAfterRows : List ℕ → ℕ → ℕ → Option Cause → CheckPlace → Type 0
+IsAfterRows file p rows None at = at ≡ before_page (p + 1)
+IsAfterRows file p rows (Some cause) at = EndsThere file at (Fault p rows cause)
 
--- the rest of page p was read from a place on, and the notes on it were added
+-- the rest of page p was read from a place on, wholly or up to a fault, and the notes on it were
+-- added
 pub record IsRestChecked (file : List ℕ) (from : CheckPlace) (p : ℕ) (old new : List Note)
     (read : PageRead) : Type 0 where
   pub noted : List Note
   pub notes_are : new ≡ old ++ noted
   pub few : read.rows ≤ most_rows
-  pub is : IsReadFrom file from p noted read.rows read.fault
+  pub to : CheckPlace
+  pub is : HasChecked file from to noted read.rows
+  pub after : IsAfterRows file p read.rows read.fault to
 
 -- the row that cannot be read stands after so many rows of the page. Of want of memory nothing is
 -- said

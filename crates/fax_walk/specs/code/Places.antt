@@ -29,6 +29,10 @@ place_on form p r inner =
     else record { page = p; row = r; inner = Some inner })
     else first_at (p + 1) 0
 
+-- the place of the first row r of a strip, or on the page after
+abbrev pub first_on : PageForm → ℕ → ℕ → RowPlace
+first_on form p r = if nat_lt r form.rows then first_at p r else first_at (p + 1) 0
+
 -- a place inside a strip has the longest runs of a row of the width, as coded, and its bits
 abbrev pub IsInner : ℕ → List ℕ → LongPlace → Type 0
 IsInner width bytes place =

@@ -1,4 +1,4 @@
-use Rattle.std.proofs.Common.{◌≡◌, arith, sym, subst}
+use Rattle.std.proofs.Common.{arith, sym, subst}
 use Rattle.fax_bits.specs.views.Source.{Source}
 use Rattle.fax_page.specs.code.Notes.{AreEolsTaken}
 use Rattle.fax_page.proofs.EndLemmas.{none_taken, one_taken, one_missing, all_taken}
@@ -11,12 +11,10 @@ loop-eol-init c =
 
 pub returns-then-not-take_return_eol : goal.returns-then-not-take_return_eol
 returns-then-not-take_return_eol c =
-    one_missing _ _ _ _ c.loop-eol-test.true c.loop-eol.invariant c.if-not-take_return_eol.ensures
+    one_missing _ _ _ _ c.loop-eol.invariant c.loop-eol-test.true c.if-not-take_return_eol.ensures
 
 pub loop-eol-preserved : goal.loop-eol-preserved
-loop-eol-preserved c = one_taken _ _ _ _ _ c.loop-eol-test.true c.loop-eol.invariant c.if-not-take_return_eol.ensures
+loop-eol-preserved c = one_taken _ _ _ _ c.loop-eol.invariant _ c.if-not-take_return_eol.ensures
 
 pub returns : goal.returns
-returns c =
-    let all : c.loop-eol._eol ≡ 6 = omega arith in
-    all_taken _ _ _ _ all c.loop-eol.invariant
+returns c = all_taken _ _ _ _ c.loop-eol.invariant (omega arith)

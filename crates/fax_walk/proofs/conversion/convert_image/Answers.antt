@@ -18,9 +18,6 @@ returns-in-TooLarge c = λ at due.
     rw c.in-TooLarge.is
     (large (raster_rows width height raster) (raster_count width height raster) (raster_widths width height raster enough))
 
-pub loop-i-init : goal.loop-i-init
-loop-i-init c = record { put = λ at begun. begun; width = c.in_ok-row.ensures.same_width }
-
 pub put_row-requires : goal.put_row-requires
 put_row-requires c =
     let count = raster_count c.args.image.now.width c.loop-i.i c.args.image.now.raster.now in
@@ -33,9 +30,6 @@ put_row-requires c =
       due = omega (arith, count, c.loop-i-test.true);
       width = c.set_packed.ensures.same_width ∙ c.loop-i.invariant.width;
     }
-
-pub set_packed-requires : goal.set_packed-requires
-set_packed-requires c = c.row.ensures.len ∙ ap packed_len (sym c.loop-i.invariant.width)
 
 pub loop-i-preserved : goal.loop-i-preserved
 loop-i-preserved c =

@@ -1,17 +1,7 @@
 use Rattle.std.proofs.Common.{Err, subst}
 use Rattle.fax_walk.specs.views.Pages.{IsNextPage, PagesView}
-use Rattle.fax_walk.proofs.FileLemmas.{counted_at_end, counted_at_fault}
+use Rattle.fax_walk.proofs.FileLemmas.{counted_at_fault}
 use Rattle.fax_walk.proofs.conversion.count_pages.Goals as goal
-
-pub loop-count-preserved : goal.loop-count-preserved
-loop-count-preserved c =
-    let next = rw (c.in-Ok-Some.field-0-is, c.loop-count.invariant.pages_are) at c.in-Ok-Some.ensures in
-    record { pages_are = next.0.new_is; few = next.0.few }
-
-pub returns-in-Ok-None : goal.returns-in-Ok-None
-returns-in-Ok-None c =
-    counted_at_end c.form_tails_are_one.ensures.start _ _ c.next_page.new.self _
-    (rw (c.in-Ok-None.field-0-is, c.loop-count.invariant.pages_are) at c.in-Ok-None.ensures)
 
 pub returns-in-Err : goal.returns-in-Err
 returns-in-Err c =

@@ -1,6 +1,7 @@
 use Rattle.std.proofs.Common.{refl, subst}
 use Rattle.fax_page.specs.Lines.{IsRowIn}
-use Rattle.fax_page.proofs.NotesLemmas.{line_noted, codes_fault, codes_seen, on_ok, if_err}
+use Rattle.fax_page.proofs.NotesLemmas.{line_noted, codes_fault, codes_seen}
+use Rattle.std.proofs.lemmas.Result.{on_ok_weaker, IfErr-weaker}
 use Rattle.fax_page.proofs.notes.NotedStrip.read_row.Goals as goal
 
 pub returns-then-take_white-clause-ok : goal.returns-then-take_white-clause-ok
@@ -21,7 +22,7 @@ returns-clause-ok c =
     let form = c.args.self.now.form in
     let reference = c.args.rows.now.reference in
     let b = c.args.self.now.source.left in
-    on_ok c.note_codes.result
+    on_ok_weaker c.note_codes.result
     (λ read. line_noted form c.args.i reference c.note_codes.new.rows.reference b c.read_start.new.source.left
     c.note_codes.new.self.source.left c.in-Ok.dimension _ _ c.requires.limits.some_pels c.in-Ok.ensures.ok read)
     (rw (c.if-take_white.ensures.unchanged refl) at c.note_codes.ensures.ok)
@@ -29,7 +30,7 @@ returns-clause-ok c =
 pub returns-clause-err : goal.returns-clause-err
 returns-clause-err c =
     let form = c.args.self.now.form in
-    if_err c.note_codes.result
+    IfErr-weaker c.note_codes.result _ _
     (λ fault is. codes_fault form c.args.i c.args.rows.now.reference c.args.self.now.source.left c.read_start.new.source.left
     c.in-Ok.dimension fault c.in-Ok.ensures.ok is)
     (rw (c.if-take_white.ensures.unchanged refl) at c.note_codes.ensures.err)

@@ -4,39 +4,38 @@ use Rattle.fax_page.proofs.LineFaultLemmas.{bits_again}
 use Rattle.fax_page.proofs.reader.StripReader.advance.Goals as goal
 
 pub invariant_of-self : goal.invariant_of-self
-invariant_of-self c = record {
-  limits = c.self.invariant.limits;
-  width = search rules;
-  count = search rules;
-  begun_before = search rules;
-  within = search rules;
-  placed =
-      placed_after c.self.inside.form.order c.self.inside.bytes.now c.self.inside.place _ _ _
-      (c.bits_stand_by_place.ensures.count c.self.inside.form.order c.self.inside.bytes.now) c.self.invariant.placed
-      (c.self.invariant.at_row c.in_default.is) c.in-Ok.ensures.same_end c.place-self-inside.ensures;
-  at_row = λ none.
-      row_after _ _ _ _ _ _ _ _ _ (c.self.invariant.at_row none) c.in-Ok.ensures.ok c.in-Ok.ensures.same_end c.place-self-inside.ensures;
-}
+invariant_of-self c =
+    let count = c.bits_stand_by_place.ensures.count c.self.inside.form.order c.self.inside.bytes.now in
+    record {
+      limits = c.self.invariant.limits;
+      width = search rules;
+      count = search rules;
+      begun_before = search rules;
+      within = search rules;
+      placed =
+          placed_after _ _ _ _ _ _ _ _ _ count c.self.invariant.placed (c.self.invariant.at_row c.in_default.is) c.in-Ok.ensures.ok
+          c.in-Ok.ensures.same_end c.place-self-inside.ensures;
+      at_row = λ none.
+          row_after _ _ _ _ _ _ _ _ _ count c.self.invariant.placed (c.self.invariant.at_row none) c.in-Ok.ensures.ok
+          c.in-Ok.ensures.same_end c.place-self-inside.ensures;
+    }
 
 pub returns-in-Ok : goal.returns-in-Ok
 returns-in-Ok c =
-    rw (← c.self.view_is)
-    (let here = c.self.invariant.at_row c.in_default.is in
-    let there =
-    row_after _ _ _ _ _ _ _ _ _ here c.in-Ok.ensures.ok c.in-Ok.ensures.same_end c.place-self-inside.ensures in
-    record {
+    let count = c.bits_stand_by_place.ensures.count c.self.inside.form.order c.self.inside.bytes.now in
+    let here = c.self.invariant.at_row c.in_default.is in
+    let ok = c.in-Ok.ensures.ok in
+    let same_end = c.in-Ok.ensures.same_end in
+    rw (← c.self.view_is) (record {
       no_fault = search rules;
       due = search rules;
-      line = search (rules, line_between _ _ _ _ _ _ _ _ _ here there c.in-Ok.ensures.ok);
+      line = line_between _ _ _ _ _ _ _ _ _ count c.self.invariant.placed here ok same_end c.place-self-inside.ensures;
       next_row = search rules;
       read = search rules;
       same_form = search rules;
       same_bytes = search rules;
       still_no_fault = search rules;
-      within =
-          placed_after c.self.inside.form.order c.self.inside.bytes.now c.self.inside.place _ _ _
-          (c.bits_stand_by_place.ensures.count c.self.inside.form.order c.self.inside.bytes.now) c.self.invariant.placed
-          here c.in-Ok.ensures.same_end c.place-self-inside.ensures;
+      within = placed_after _ _ _ _ _ _ _ _ _ count c.self.invariant.placed here ok same_end c.place-self-inside.ensures;
     })
 
 pub returns-in-Err : goal.returns-in-Err

@@ -1,6 +1,5 @@
-use Rattle.std.proofs.Common.{◌≡◌, ℕ, ◌+◌, ◌*◌, inl, inr, min, [], ◌∷◌, ◌++◌, length, refl, sym, ap, subst, ◌∙◌, arith}
+use Rattle.std.proofs.Common.{◌≡◌, inl, inr, [], ◌∷◌, ◌++◌, length, refl, sym, ap, subst, ◌∙◌, arith}
 use Rattle.fax_page.specs.declared.StripForm.{StripForm}
-use Rattle.fax_files.specs.declared.PageForm.{PageForm}
 use Rattle.fax_files.specs.Page.{strip_form}
 use Rattle.fax_walk.specs.declared.open_strips.OpenStrips.{OpenStrips}
 use Rattle.fax_walk.specs.code.OpenStrips.{BeginsStrip}
@@ -21,12 +20,8 @@ returns-in_ok-end_strip c = λ form k rows put due.
       | in_default w ↦ inl w.self-is
     ] in
     let ready = ready_opened writes form k rows old put due opened c.in-Some.writer is_opened c.in-Some.is in
-    let rows_are : opened.rows ≡ length rows = ap (λ (p : OpenStrips). p.rows) ready.1 ∙ put.count in
-    let form_is : opened.form ≡ form = ap (λ (p : OpenStrips). p.form) ready.1 ∙ put.form_is in
-    let end_is = c.min-end.ensures
-    ∙ ap (λ (n : ℕ). min ((n + 1) * opened.form.rows_per_strip) opened.form.rows) n_is
-    ∙ ap (λ (f : PageForm). min ((length old.done.items + 1) * f.rows_per_strip) f.rows) form_is in
-    let all = sym (ap (λ n. n + 1) rows_are) ∙ c.if-self-end.true ∙ end_is in
+    let end_is = rw (n_is, ready.1, put.form_is) at c.min-end.ensures in
+    let all = (rw (ready.1, put.count) at c.if-self-end.true) ∙ end_is in
     let ends = c.in_ok-end_strip.ensures in
     rw (ends.same, ready.1)
     (whole writes form k rows old put due c.args.row.now c.in-Some.writer c.put_row.new.self ready.0 c.in_ok-put_row.ensures
@@ -46,11 +41,7 @@ returns-else-self-end c = λ form k rows put due.
       | in_default w ↦ inl w.self-is
     ] in
     let ready = ready_opened writes form k rows old put due opened c.in-Some.writer is_opened c.in-Some.is in
-    let rows_are : opened.rows ≡ length rows = ap (λ (p : OpenStrips). p.rows) ready.1 ∙ put.count in
-    let form_is : opened.form ≡ form = ap (λ (p : OpenStrips). p.form) ready.1 ∙ put.form_is in
-    let end_is = c.min-end.ensures
-    ∙ ap (λ (n : ℕ). min ((n + 1) * opened.form.rows_per_strip) opened.form.rows) n_is
-    ∙ ap (λ (f : PageForm). min ((length old.done.items + 1) * f.rows_per_strip) f.rows) form_is in
+    let end_is = rw (n_is, ready.1, put.form_is) at c.min-end.ensures in
     rw ready.1
     (kept writes form k rows old put due c.args.row.now c.in-Some.writer c.put_row.new.self ready.0 c.in_ok-put_row.ensures
-    (λ all. c.if-self-end.false (ap (λ n. n + 1) rows_are ∙ all ∙ sym end_is)))
+    (λ all. c.if-self-end.false (rw (ready.1, put.count) (all ∙ sym end_is))))

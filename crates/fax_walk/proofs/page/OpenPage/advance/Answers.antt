@@ -19,8 +19,6 @@ pub returns-in-Err-clause-err : goal.returns-in-Err-clause-err
 returns-in-Err-clause-err c =
     let keeps = rw (sym c.self.view_is) at c.strips.invariant.keeps in
     let is_open = rw (sym c.self.view_is) at c.strips.invariant.is_open in
-    let p = c.self.inside in
-    let page = state p.page p.chain p.strips.directory p.form p.first p.number p.strip (row_shown p.strip p.exchanged) (p.before + p.strip.read) in
-    stops_kept _ page keeps _
-    (fault_stops page c.advance.new.self c.in-Err.fault is_open c.self.invariant.limits c.self.invariant.strip_is
+    stops_kept _ _ keeps _
+    (fault_stops _ c.advance.new.self c.in-Err.fault is_open c.self.invariant.limits c.self.invariant.strip_is
     c.self.invariant.its c.in-Err.ensures _ c.due-in-Err.ensures.due)
