@@ -57,8 +57,8 @@ cursors_are_short forms chains file begun all end n item short reached tail ther
     let split = split_at_number file begun all end n item tail there in
     let row = read forms chains file begun reached item (drop (n + 1) all) end split in
     let from = here_from forms chains file begun reached item (drop (n + 1) all) end split row.here row.page in
-    let whole = whole_page file forms (record { page = split.at.page; row = split.at.row }) row.here row.page in
-    let few = page_few chains file (record { page = split.at.page; row = split.at.row }) row.here row.page in
+    let whole = whole_page file forms (record { page = split.row.at.page; row = split.row.at.row }) row.here row.page in
+    let few = page_few chains file (record { page = split.row.at.page; row = split.row.at.row }) row.here row.page in
     record {
       page = omega (arith, few, short, row.is.0);
       row = omega (arith, from.row, whole.rows, row.is.1);
@@ -70,8 +70,8 @@ places_are_short forms chains file begun all end n item place short tail there l
     let split = split_at_number file begun all end n item tail there in
     let row = this forms chains file begun item after end split place long in
     let fact = facts forms chains file begun item after end split place long in
-    let whole = whole_page file forms (record { page = split.at.page; row = split.at.row }) row.here row.page in
-    let few = page_few chains file (record { page = split.at.page; row = split.at.row }) row.here row.page in
+    let whole = whole_page file forms (record { page = split.row.at.page; row = split.row.at.row }) row.here row.page in
+    let few = page_few chains file (record { page = split.row.at.page; row = split.row.at.row }) row.here row.page in
     let wide : length (exchanged row.here.form item.pels) ≡ row.here.form.width =
     ap (λ (l : List Colour). length l) (sym (pels_are forms chains file begun item after end split place long))
     ∙ (inner forms chains file begun item after end split place long).1 in
