@@ -93,8 +93,7 @@ module _ (chains : FilesHaveOneChain) (file : List ℕ) where
   never_outside items are = ends_there (first_at 0 0) items Outside (on_due 0 (inl refl)) are refl
 
 pub items_end_in_the_file : FilesHaveOneChain → ItemsEndInTheFile
-items_end_in_the_file chains file items end are outside =
-    never_outside chains file items (subst (AreItems file items) outside are)
+items_end_in_the_file chains file items end are outside = grind (arith, never_outside)
 
 not_before : (item : RowItem) (to : RowPlace) (end : End) → item.page ≤ to.page → (to.page ≡ item.page → to.row ≡ item.row + 1)
     → EndsFrom to end → EndsBefore end (cursor_after item) → ⊥

@@ -25,9 +25,7 @@ outside_past : (pages : ℕ) (at : Cursor) → pages < at.page → end_past_chai
 outside_past pages at past = let e : (at.page == pages) ≡ false = grind (arith, nat_tests, past) in rw e refl
 
 outside_row : (pages : ℕ) (at : Cursor) → 0 < at.row → end_past_chain pages None at ≡ Outside
-outside_row pages at some =
-    let e : (at.row == 0) ≡ false = grind (arith, nat_tests, some) in
-    elim (at.page == pages) as (λ same. (if same && (at.row == 0) then Proper else Outside) ≡ Outside) [ true ↦ rw e refl | false ↦ refl ]
+outside_row pages at some = grind (arith, nat_tests)
 
 -- a directory stands there
 pub goes_on : (file : List ℕ) (number : ℕ) (chain new : ChainState) (answer : Result (Option TiffDirectory) FileFault)
@@ -64,10 +62,7 @@ module _ (file : List ℕ) (number : ℕ) (chain : ChainState) (answer : Result 
       rw there at (page_here file chain.tiff.head before.head one.offsets one.end one.is at)
 
   count_is : slice_get one.offsets chain.given ≡ None → length one.offsets ≡ number
-  count_is none =
-      let few = none_past one.offsets chain.given none in
-      let within = before.within one.offsets one.end is_one in
-      omega (arith, few, within, before.given)
+  count_is none = grind (arith, none_past, is_one)
 
   -- where the chain ends properly, and where it ends with a fault
   ended_at : (at : Cursor) → answer ≡ Ok None → number ≤ at.page → IsPageAt file at (Err (end_past_chain number None at))
@@ -103,10 +98,7 @@ module _ (file : List ℕ) (number : ℕ) (chain : ChainState) (answer : Result 
 
     found : (r : ℕ) → IsPageAt directory.file (record { page = number; row = r })
         (page_or_end directory.endian directory.offset number (form_of directory))
-    found r =
-        let some : slice_get one.offsets number ≡ Some directory.offset = rw before.given at there.0 in
-        rw (there.1, before.file_is)
-        (rw some at (page_here file chain.tiff.head before.head one.offsets one.end one.is (record { page = number; row = r })))
+    found r = grind (arith, there, page_here)
 
     pub fields_refused : (refused : FileFault) → form_of directory ≡ Err refused → IsNoPage directory.file number
         (Fault number 0 (File refused))

@@ -23,16 +23,7 @@ use Rattle.fax_walk.proofs.TailLemmas.{begins_in, begins_after, begins_past}
 
 -- a walk that begins at no place of the file
 no_beginning : (file : List ℕ) (begun : Begun) (end : End) → Begins file begun (Err end) → HasNoRows file begun end
-no_beginning file begun end begins = record {
-  tail = (Err end, begins, (refl, refl));
-  read = record {
-    before = 0;
-    are_before = (Err end, begins, refl);
-    most = omega arith;
-    all = λ some. omega arith;
-    told = λ told is. inl refl;
-  };
-}
+no_beginning file begun end begins = grind arith
 
 -- a walk whose first place has no row
 no_row : (file : List ℕ) (begun : Begun) (end : End) (at : RowPlace) (n : ℕ) → Begins file begun (Ok (at, n)) → IsRow file at (ends_as end)

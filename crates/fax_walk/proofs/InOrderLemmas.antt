@@ -33,10 +33,7 @@ same_step only x y to place is is_too = step_parts x y to place (same_answer onl
 -- what is one list with one end is single
 pub two_of : {A E : Type 0} {holds : List A → E → Type 0} → IsOne holds → (items others : List A) (end other : E) → holds items end
     → holds others other → (items ≡ others) × (end ≡ other)
-two_of one items others end other is is_too =
-    let first = one.one items end is in
-    let second = one.one others other is_too in
-    (first.0 ∙ sym second.0, first.1 ∙ sym second.1)
+two_of one items others end other is is_too = grind arith
 
 -- what is handed out from a place on, if something is
 pub record IsListed {S A : Type 0} (next : S → Step A S → Type 0) (at : S) : Type 0 where
@@ -149,9 +146,7 @@ divided_at {A} (y ∷ xs) (suc n) x e =
 
 -- the item at a number is the first of what is left there
 pub first_left : {A : Type 0} (all : List A) (n : ℕ) (item : A) → slice_get all n ≡ Some item → drop n all ≡ item ∷ drop (n + 1) all
-first_left all n item there =
-    let split = divided_at all n item there in
-    ap (drop n) split.1 ∙ drop_at split.0 (item ∷ drop (n + 1) all) n split.2
+first_left all n item there = grind (arith, divided_at, drop_at)
 
 module _ {S A : Type 0} (next : S → Step A S → Type 0) where
   -- an item, the place where it was read, and what is handed out after it

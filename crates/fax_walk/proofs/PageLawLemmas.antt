@@ -317,9 +317,7 @@ module _ (file : List ℕ) where
       omega (arith, later, here.1)
 
 pub forms_stand_by_number : FormsStandByNumber
-forms_stand_by_number file forms end n item are there =
-    let none : 0 + n ≡ n = omega arith in
-    stand_by_number file forms 0 n item end are there ∙ none
+forms_stand_by_number file forms end n item are there = grind (arith, stand_by_number)
 
 pub form_tail_of_start : FormTailOfStart
 form_tail_of_start file forms end = (to_forms file 0 forms end, of_forms file 0 forms end)

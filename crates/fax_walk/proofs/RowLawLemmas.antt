@@ -65,11 +65,7 @@ exchanged_twice form row = by_exchange form.exchanged row
 same_items : (item another : RowItem) → item.page ≡ another.page → item.form ≡ another.form → item.row ≡ another.row → item.pels ≡ another.pels
     → item.bits ≡ another.bits
     → item ≡ another
-same_items item another pages forms rows pels bits =
-    ap (λ (p : ℕ). record item { page = p }) pages ∙ ap (λ (f : PageForm). record item { page = another.page; form = f }) forms
-    ∙ ap (λ (r : ℕ). record item { page = another.page; form = another.form; row = r }) rows
-    ∙ ap (λ (l : List Colour). record item { page = another.page; form = another.form; row = another.row; pels = l }) pels
-    ∙ ap (λ (n : ℕ). record another { bits = n }) bits
+same_items item another pages forms rows pels bits = grind arith
 
 -- as many bits stand before one rest
 one_place : AreBitsByPlace → (order : FillOrder) (bytes : List ℕ) (n m : ℕ) → n ≤ 8 * length bytes → m ≤ 8 * length bytes
@@ -177,22 +173,7 @@ IsAfter form item to =
     ⊎ ((item.row + 1 < form.rows) × (0 < row_in_strip form (item.row + 1)) × (to ≡ inner_after form item))
 
 pub cases_after : (form : PageForm) (item : RowItem) → item.form ≡ form → IsAfter form item (place_after item)
-cases_after form item same = subst (λ (f : PageForm). IsAfter f item (place_after item)) same (elim (cases_lt (item.row + 1) item.form.rows) [
-  | inl less ↦
-      let test : nat_lt (item.row + 1) item.form.rows ≡ true = grind (arith, nat_tests, less) in
-      elim (cases_lt 0 (row_in_strip item.form (item.row + 1))) [
-        | inl some ↦
-            let first : (row_in_strip item.form (item.row + 1) == 0) ≡ false = grind (arith, nat_tests, some) in
-            inr (inr (less, some, rw (test, first) refl))
-        | inr none ↦
-            let zero_is : row_in_strip item.form (item.row + 1) ≡ 0 = omega (arith, none) in
-            let first : (row_in_strip item.form (item.row + 1) == 0) ≡ true = grind (arith, nat_tests, zero_is) in
-            inr (inl (less, zero_is, rw (test, first) refl))
-      ]
-  | inr more ↦
-      let test : nat_lt (item.row + 1) item.form.rows ≡ false = grind (arith, nat_tests, more) in
-      inl (more, rw test refl)
-])
+cases_after form item same = grind (arith, cases_lt, nat_tests)
 
 module _ (by_place : AreBitsByPlace) (lines_read : LinesAreRead) (file : List ℕ) (head : Header) (is_head : header file ≡ Ok head)
     (offsets : List ℕ) (fault : Option FileFault) (chain : IsChain head file offsets fault) where
@@ -207,13 +188,7 @@ module _ (by_place : AreBitsByPlace) (lines_read : LinesAreRead) (file : List �
     row_after : (item : RowItem) → item.page ≡ at.page → item.row ≡ at.row → item.form ≡ form
         → ((inner : Option Inner) → at.row + 1 < form.rows → Listed (record { page = at.page; row = at.row + 1; inner = inner }))
         → Listed (first_at (at.page + 1) 0) → Listed (place_after item)
-    row_after item same_page same_row same_form next more = elim (cases_after form item same_form) [
-      | inl (last, is) ↦ rw (is, same_page) more
-      | inr (inl (less, first, is)) ↦ rw (is, same_page, same_row) (next None (omega (arith, less, same_row)))
-      | inr (inr (less, inside, is)) ↦
-          rw (is, same_page, same_row) (next (Some (record { bits = item.bits; reference = exchanged form item.pels }))
-          (omega (arith, less, same_row)))
-    ]
+    row_after item same_page same_row same_form next more = grind (arith, cases_after)
 
     listed_row : (answer : Step RowItem RowPlace) → in_strip q form at answer
         → ((inner : Option Inner) → at.row + 1 < form.rows → Listed (record { page = at.page; row = at.row + 1; inner = inner }))

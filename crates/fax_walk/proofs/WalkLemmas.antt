@@ -103,15 +103,7 @@ module _ (file : List ℕ) (begun : Begun) (given : ℕ) (cursor : Cursor) where
   -- memory was refused for it
   at_page_end : (old : PageState) (last : IsAfterItem file begun given cursor (place_of old)) → row_of old ≡ old.form.rows
       → (last.item.row + 1 ≡ last.item.form.rows) × (old.page + 1 ≡ last.item.page + 1)
-  at_page_end old last all =
-      let within = last.within in
-      let next : first_at (old.page + 1) 0 ≡ place_after last.item =
-      sym (at_end old.form old.page (row_of old) _ all) ∙ last.to_is in
-      elim (cases_after last.item.form last.item refl) [
-        | inl (past, is) ↦ (omega (arith, past, within), ap (λ (t : RowPlace). t.page) (next ∙ is))
-        | inr (inl (less, first, is)) ↦ let rows = ap (λ (t : RowPlace). t.row) (next ∙ is) in absurd (omega (arith, rows))
-        | inr (inr (less, inside, is)) ↦ let rows = ap (λ (t : RowPlace). t.row) (next ∙ is) in absurd (omega (arith, rows))
-      ]
+  at_page_end old last all = grind (arith, at_end, cases_after)
 
   pub enters : (old new : Option PageState) → IsEntered file begun old (Err Memory) new → GoesOnFrom file begun given cursor old
       → EntersPage file begun given
@@ -156,8 +148,7 @@ module _ (by_place : AreBitsByPlace) (lines_read : LinesAreRead) (chains : Files
     all = come.items ++ gives.items
 
     lead : LeadTo (IsRow file) come.first all (place_of new)
-    lead = leads_both (IsRow file) come.first (place_of old) come.items gives.items (place_of new) come.lead
-        (subst (λ (f : List ℕ). LeadTo (IsRow f) (place_of old) gives.items (place_of new)) reads.file_is gives.lead)
+    lead = grind (arith, leads_both)
 
     front_count : length (come.items ++ gives.front) ≡ come.dropped + given
     front_count = length-append come.items gives.front ∙ omega (arith, come.count, come.total, gives.count)
@@ -184,9 +175,7 @@ module _ (by_place : AreBitsByPlace) (lines_read : LinesAreRead) (chains : Files
     none_left = omega (arith, gives.next_row, gives.same.first)
 
     all_count : length all ≡ new.read
-    all_count =
-        let one = ap (λ (l : List RowItem). length l) gives.items_are ∙ length-append gives.front (gives.item ∷ []) in
-        length-append come.items gives.items ∙ omega (arith, come.count, one, gives.count, gives.read)
+    all_count = grind (arith, length-append)
 
     last : IsAfterItem file begun (given + 1) (cursor_on new) (place_of new)
     last = record {
@@ -247,8 +236,7 @@ module _ (file : List ℕ) (begun : Begun) (given : ℕ) (cursor : Cursor) (old 
   left = omega (arith, none.skips.rows, none.skips.few, none.skips.same.first)
 
   ended_lead : LeadTo (IsRow file) come_so_far.first (come_so_far.items ++ items) (place_of new)
-  ended_lead = leads_both (IsRow file) come_so_far.first (place_of old) come_so_far.items items (place_of new) come_so_far.lead
-      (subst (λ (f : List ℕ). LeadTo (IsRow f) (place_of old) items (place_of new)) reads.file_is none.skips.lead)
+  ended_lead = grind (arith, leads_both)
 
   no_items : (is : List RowItem) → length is ≡ 0 → LeadTo (IsRow old.directory.file) (place_of old) is (place_of new) → place_of new ≡
       place_of old
@@ -263,9 +251,7 @@ module _ (file : List ℕ) (begun : Begun) (given : ℕ) (cursor : Cursor) (old 
       inr (subst (λ (t : RowPlace). IsAfterItem file begun given cursor t) (sym same) last)
 
   named_on : 0 < skipped new → (new.page ≡ (begun_cursor begun).page) × (new.first ≡ (begun_cursor begun).row)
-  named_on some =
-      let named = reads.named (omega (arith, some, left)) in
-      (none.skips.same.page ∙ named.0, none.skips.same.first ∙ named.1)
+  named_on some = grind (arith, left)
 
   pub ended_on : HasEndedOn file begun given cursor (Some new) end
   ended_on = (
@@ -338,34 +324,15 @@ module _ (walk : WalkView) (cursor : Cursor) (page : Option PageState) where
   stands_on (Some at) (Some end) sound = elim sound.0.stands [ inl first ↦ inl first | inr last ↦ inr (at, refl, last) ]
 
   pub cursor_is : Sound walk.told → IsCursorOf walk cursor
-  cursor_is sound = elim (stands_on page walk.told sound) [
-    | inl first ↦ inl first
-    | inr (at, is, last) ↦ inr (last.before, last.item, last.count, last.number, last.cursor_is)
-  ]
+  cursor_is sound = grind (arith, stands_on)
 
   -- the place inside a strip
   long_at_after : (item : RowItem) → long_at (cursor_at (place_after item)) (place_after item).inner ≡ long_after item
-  long_at_after item = elim (cases_after item.form item refl) [
-    | inl (last, is) ↦ rw is refl
-    | inr (inl (within, first, is)) ↦ rw is refl
-    | inr (inr (within, inside, is)) ↦ rw is refl
-  ]
+  long_at_after item = grind (arith, cases_after)
 
   pub long_is : Sound walk.told → 0 < walk.given → (at : PageState) → page ≡ Some at → (place : Option LongPlace)
       → place ≡ (let to = place_of at in long_at (cursor_at to) to.inner) → IsLongOf walk place
-  long_is sound some at page_is place place_is = elim (stands_on page walk.told sound) [
-    | inl first ↦ absurd (omega (arith, some, first.0))
-    | inr (on, is, last) ↦
-        let same : on ≡ at = cc in
-        let to : place_of at ≡ place_after last.item = ap place_of (sym same) ∙ last.to_is in
-        inr (
-          last.before,
-          last.item,
-          last.count,
-          last.number,
-          place_is ∙ ap (λ (t : RowPlace). long_at (cursor_at t) t.inner) to ∙ long_at_after last.item,
-        )
-  ]
+  long_is sound some at page_is place place_is = grind (arith, stands_on, long_at_after)
 
   -- how many rows were read
   read_on : (at : PageState) (told : Option End) → IsSound file begun walk.given cursor (Some at) told
@@ -456,8 +423,7 @@ ends_again walk cursor page end told sound = has_ended walk cursor page end (rw 
 pub ends_now : (walk : WalkView) (cursor : Cursor) (old new : Option PageState) (end : End) → walk.told ≡ None
     → IsSound walk.file walk.begun walk.given cursor old walk.told → IsReadNext walk.file walk.begun old (Err (Ended end)) new
     → HasEndedAs IsTailFrom walk end (record walk { told = Some end })
-ends_now walk cursor old new end untold sound next =
-    has_ended walk cursor new end (next walk.given cursor (rw untold at sound).0) (rw untold tt)
+ends_now walk cursor old new end untold sound next = grind (arith, has_ended)
 
 -- the row that a walk went to is lent with its place
 pub lent : (old walk : WalkView) (cursor : Cursor) (page : Option PageState) → IsAdvance old (Ok true) walk → (at : PageState)
