@@ -1,17 +1,15 @@
 -- What is converted has one output or one fault, and what is checked has one report.
-use Rattle.std.proofs.Common.{◌≡◌, ℕ, ◌+◌, ◌*◌, List, length, Option, Some, None, Result, Ok, Err, Bool, true, false}
-use Rattle.std.proofs.Common.{refl, ap, sym, ◌∙◌, subst, arith, inl, inr, codes}
-use Rattle.std.specs.Prelude.{◌==◌, ◌&&◌, flat_map, slice_get, map, if◌then◌else◌, not}
-use Rattle.std.proofs.lemmas.Bool.Decides.{nat_tests}
+use Rattle.std.proofs.Common.{◌≡◌, ℕ, ◌+◌, ◌*◌, List, length, Option, Some, None, Err, Bool}
+use Rattle.std.proofs.Common.{refl, ap, sym, ◌∙◌, subst, inl, inr, codes}
+use Rattle.std.specs.Prelude.{flat_map, map, not}
 use Rattle.fax_bits.specs.Bits.{bits, BeginsWith}
 use Rattle.fax_bits.specs.declared.Colour.{Colour}
-use Rattle.fax_files.specs.declared.FileFault.{FileFault}
 use Rattle.fax_files.specs.declared.Cause.{Cause}
 use Rattle.fax_files.specs.declared.Cause.TheVariants.{Strip}
 use Rattle.fax_files.specs.declared.PageForm.{PageForm}
 use Rattle.fax_files.specs.declared.pbm.PbmFault.{PbmFault}
-use Rattle.fax_files.specs.Directory.{Header, header, entries, ascend}
-use Rattle.fax_files.specs.Page.{page, strip_bytes, strip_form, usual_resolution}
+use Rattle.fax_files.specs.Directory.{entries, ascend}
+use Rattle.fax_files.specs.Page.{strip_bytes, strip_form, usual_resolution}
 use Rattle.fax_files.specs.Pbm.{AreImages, Image}
 use Rattle.fax_files.specs.laws.Files.{FilesHaveOneChain}
 use Rattle.fax_files.specs.laws.Pbm.{ImagesAreReadInOneWay}
@@ -28,14 +26,14 @@ use Rattle.fax_walk.specs.declared.options.ConvertFault.TheVariants as Refused
 use Rattle.fax_walk.specs.declared.options.Options.{Options}
 use Rattle.fax_walk.specs.declared.walk.Place.{Place}
 use Rattle.fax_walk.specs.Converted.{IsConverted, IsNotConverted, IsSource, IsTiff, IsTooLarge, SourcePage, pages_of, target_bytes}
-use Rattle.fax_walk.specs.Pages.{AreFrom, FilePage}
+use Rattle.fax_walk.specs.Pages.{AreFrom}
 use Rattle.fax_walk.specs.Report.{IsNoted, IsReportedEnd, IsStripNoted, notes_on_strip, note_if}
 use Rattle.fax_walk.specs.Items.{AreItems, RowItem}
-use Rattle.fax_walk.specs.code.Opening.{IsPageUnder, page_or_end, page_over}
 use Rattle.fax_walk.specs.laws.Answers.{BytesAreConvertedInOneWay, FilesHaveOneReport}
 use Rattle.fax_walk.specs.laws.Tails.{FilesHaveOneForms, FilesHaveOneItems}
 use Rattle.fax_walk.proofs.InOrderLemmas.{IsSingle, single_from, two_of}
-use Rattle.fax_walk.proofs.PageLawLemmas.{single_on_page}
+use Rattle.fax_walk.proofs.PageLawLemmas.{one_chain, proper_after, single_on_page}
+use Rattle.fax_walk.specs.Pages.{IsPageAt}
 use Rattle.fax_walk.proofs.ReadBackLemmas.{not_both}
 use Rattle.fax_walk.specs.Pages.{goes_on, ends_as}
 use Rattle.fax_walk.specs.declared.checking.NoteKind.TheVariants.{EntriesOutOfOrder}
@@ -140,39 +138,18 @@ module _ (images_once : ImagesAreReadInOneWay) (one_forms : FilesHaveOneForms) (
     one_fault = one_fault bytes options;
   }
 
--- where a chain ends properly
-proper_there : (head : Header) (file : List ℕ) (offsets : List ℕ) (fault : Option FileFault) (n : ℕ) (found : Option ℕ)
-    → slice_get offsets n ≡ found
-    → ◌≡◌ {A = Result FilePage End} (Err Proper) (page_over head.endian file offsets fault (record { page = n; row = 0 }) found)
-    → n ≡ length offsets
-proper_there head file offsets fault n (Some q) at e = by_form (page head.endian file q) e
-  where
-    by_form : (answer : Result PageForm FileFault) → ◌≡◌ {A = Result FilePage End} (Err Proper) (page_or_end head.endian q n answer)
-        → n ≡ length offsets
-    by_form (Err refused) e = absurd cc
-    by_form (Ok form) e = absurd cc
-proper_there head file offsets (Some fault) n None at e = absurd cc
-proper_there head file offsets None n None at e = by_test (n == length offsets) refl e
-  where
-    by_test : (test : Bool) → (n == length offsets) ≡ test
-        → ◌≡◌ {A = Result FilePage End} (Err Proper) (Err (if test && (0 == 0) then Proper else Outside)) → n ≡ length offsets
-    by_test true is e = grind (arith, nat_tests, is)
-    by_test false is e = absurd cc
-
 module _ (chains : FilesHaveOneChain) (file : List ℕ) where
-  proper_under : (answer : Result Header FileFault) (n m : ℕ) → IsPageUnder file (record { page = n; row = 0 }) answer (Err Proper)
-      → IsPageUnder file (record { page = m; row = 0 }) answer (Err Proper) → n ≡ m
-  proper_under (Err fault) n m first second = absurd cc
-  proper_under (Ok head) n m (offsets, fault, chain, e) (offsets', fault', chain', e') =
-      let one = chains head file in
-      let same : offsets ≡ offsets' = (one.one offsets fault chain).0 ∙ sym (one.one offsets' fault' chain').0 in
-      proper_there head file offsets fault n (slice_get offsets n) refl e ∙ ap (λ (l : List ℕ). length l) same
-      ∙ sym (proper_there head file offsets' fault' m (slice_get offsets' m) refl e')
+  proper_once : (n m : ℕ) → IsPageAt file (record { page = n; row = 0 }) (Err Proper)
+      → IsPageAt file (record { page = m; row = 0 }) (Err Proper) → n ≡ m
+  proper_once n m first second =
+      let (its, none, count) = proper_after file n first in
+      let (others, none', count') = proper_after file m second in
+      count ∙ ap (λ (l : List ℕ). length l) (one_chain chains file its others) ∙ sym count'
 
   one_end : (end : End) (pages others : ℕ) (fault other : Option (Place × Cause)) → IsReportedEnd file end pages fault
       → IsReportedEnd file end others other → (pages ≡ others) × (fault ≡ other)
   one_end Proper pages others fault other first second =
-      (proper_under (header file) pages others first.0 second.0, first.1 ∙ sym second.1)
+      (proper_once pages others first.0 second.0, first.1 ∙ sym second.1)
   one_end (Fault p r cause) pages others fault other first second = (first.0 ∙ sym second.0, first.1 ∙ sym second.1)
   one_end Outside pages others fault other first second = absurd first
 

@@ -24,9 +24,9 @@ module _ (chains : FilesHaveOneChain) (file : List ℕ) where
   page_few : (at : Cursor) (here : FilePage) → IsPageAt file at (Ok here) → at.page < length file
   page_few at here is =
       let found = in_chain file at here is in
-      let one = chains found.head file in
-      let counts = ap (λ (l : List ℕ). length l) (one.one found.offsets found.fault found.chain).0 in
-      omega (arith, slice_get_within found.offsets at.page here.offset found.there, counts, one.few)
+      let one = chains found.its.head file in
+      let counts = ap (λ (l : List ℕ). length l) (one.one found.its.offsets found.its.fault found.its.chain).0 in
+      omega (arith, slice_get_within found.its.offsets at.page here.offset found.there, counts, one.few)
 
 -- the longest runs of pels are no longer than all of them
 runs_short : (colour : Colour) (n most : ℕ) (pels : List Colour) → n + length pels < most
