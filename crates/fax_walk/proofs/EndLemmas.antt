@@ -18,8 +18,8 @@ use Rattle.fax_walk.specs.laws.Printed.{ItemsEndInTheFile}
 use Rattle.fax_walk.specs.laws.Tails.{TailsEndAfter}
 use Rattle.fax_walk.proofs.InOrderLemmas.{same_answer}
 use Rattle.fax_walk.proofs.PageLawLemmas.{IsDue, end_due, one_page}
-use Rattle.fax_walk.proofs.RowLawLemmas.{inner_after}
-use Rattle.fax_walk.proofs.TailLawLemmas.{IsRead, after_read, its_page, read_at, same_strip, split_at_number, strip_begin}
+use Rattle.fax_walk.proofs.RowLawLemmas.{IsRead, after_read, its_page, read_at, inner_after}
+use Rattle.fax_walk.proofs.TailLawLemmas.{same_strip, split_at_number, strip_begin}
 
 -- the rows end properly, or at a place or after it
 abbrev pub EndsFrom : RowPlace → End → Type 0
@@ -39,12 +39,7 @@ in_strip form at (Some bytes) end (fault, stop, is) first = inr (at.page, at.row
 -- the place after an item is below it, or on a page after
 pub follows : (file : List ℕ) (at : RowPlace) (item : RowItem) (to : RowPlace) → IsRow file at (goes_on item to)
     → (item.page ≡ at.page) × (item.row ≡ at.row) × (item.page ≤ to.page) × (to.page ≡ item.page → to.row ≡ item.row + 1)
-follows file at item to step =
-    let read = read_at file at item to step in
-    let later = after_read file (λ t. (item.page ≤ t.page) × (t.page ≡ item.page → t.row ≡ item.row + 1)) at item to read
-    (λ last. (omega arith, λ same. omega (arith, same))) (λ within first. (omega arith, λ same. refl))
-    (λ within some. (omega arith, λ same. refl)) in
-    (read.is.0, read.is.1, later.0, later.1)
+follows file at item to step = grind (arith, read_at, after_read)
 
 module _ (chains : FilesHaveOneChain) (file : List ℕ) where
   -- on a page that is due
@@ -55,8 +50,7 @@ module _ (chains : FilesHaveOneChain) (file : List ℕ) where
         | inl proper ↦ inl proper
         | inr (cause, fault) ↦ inr (p, 0, cause, fault, omega arith, λ same. omega arith)
       ]
-  on_due p due end (Ok here, page, is) =
-      in_strip here.form (first_at p 0) (strip_bytes here.endian file here.offset (strip_at here.form 0)) end is (λ none. omega arith)
+  on_due p due end (Ok here, page, is) = grind (arith, in_strip)
 
   -- at a row of a page
   on_page : (at : RowPlace) (here : FilePage) → IsPageAt file (cursor_at at) (Ok here)
@@ -98,10 +92,7 @@ items_end_in_the_file chains file items end are outside = grind (arith, never_ou
 not_before : (item : RowItem) (to : RowPlace) (end : End) → item.page ≤ to.page → (to.page ≡ item.page → to.row ≡ item.row + 1)
     → EndsFrom to end → EndsBefore end (cursor_after item) → ⊥
 not_before item to end later below (inl proper) before = rw proper at before
-not_before item to end later below (inr (p, r, cause, fault, page, row)) before =
-    let there = rw fault at before in
-    let same : to.page ≡ item.page = omega (arith, later, page, there.0) in
-    omega (arith, below same, row (omega (arith, same, there.0)), there.1)
+not_before item to end later below (inr (p, r, cause, fault, page, row)) before = grind arith
 
 pub tails_end_after : FilesHaveOneChain → TailsEndAfter
 tails_end_after chains file begun all end n item tail there last before =

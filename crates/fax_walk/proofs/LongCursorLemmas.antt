@@ -34,15 +34,11 @@ after_first (run ∷ runs) last =
 
 pub runs_text-push : (runs : List ℕ) (last : ℕ) → runs_text (runs ++ last ∷ []) ≡ flat_map run_and runs ++ decimal last
 runs_text-push [] last = append-nil (decimal last)
-runs_text-push (run ∷ runs) last =
-    ap (λ more. decimal run ++ more) (after_first runs last)
-    ∙ sym (append_assoc (decimal run) (44 ∷ []) (flat_map run_and runs ++ decimal last))
-    ∙ sym (append_assoc (run_and run) (flat_map run_and runs) (decimal last))
+runs_text-push (run ∷ runs) last = grind (arith, after_first, append_assoc)
 
 more_cut : (runs : List ℕ) (run : ℕ) (rest : List ℕ)
     → flat_map run_and (runs ++ run ∷ []) ++ rest ≡ flat_map run_and runs ++ (decimal run ++ 44 ∷ rest)
-more_cut [] run rest =
-    ap (λ front. front ++ rest) (append-nil (run_and run)) ∙ append_assoc (decimal run) (44 ∷ []) rest
+more_cut [] run rest = grind (arith, append-nil, append_assoc)
 more_cut (first ∷ runs) run rest =
     append_assoc (run_and first) (flat_map run_and (runs ++ run ∷ [])) rest
     ∙ ap (λ more. run_and first ++ more) (more_cut runs run rest)

@@ -63,8 +63,7 @@ cursors at other is is_too e = grind (arith, append_assoc, before_colon, one_cur
 first_and_others : (n m : ℕ) (runs others : List ℕ) → n < 2 ^ 32 → m < 2 ^ 32 → All (λ run. run < 2 ^ 32) runs
     → All (λ run. run < 2 ^ 32) others
     → decimal n ++ flat_map and_run runs ≡ decimal m ++ flat_map and_run others → (n ≡ m) × (runs ≡ others)
-first_and_others n m [] [] small short all all' e =
-    (one_number n m small short (sym (append-nil (decimal n)) ∙ e ∙ append-nil (decimal m)), refl)
+first_and_others n m [] [] small short all all' e = grind (arith, one_number, append-nil)
 first_and_others n m [] (r ∷ others) small short all all' e =
     absurd (not_cut 44 (decimal n) (decimal m) (decimal r ++ flat_map and_run others) (no_comma n small) (sym (append-nil (decimal n)) ∙ e))
 first_and_others n m (r ∷ runs) [] small short all all' e =

@@ -1,5 +1,5 @@
 -- What is asked of a file's pages has one answer, and so have its forms.
-use Rattle.std.proofs.Common.{◌≤◌, ◌⊎◌, inl, inr, ◌≡◌, ℕ, zero, suc, ◌+◌, List, [], ◌∷◌, length, drop, Option, Some, None, Result, Ok, Err, refl, sym}
+use Rattle.std.proofs.Common.{◌-◌, ◌<◌, ◌≤◌, ◌⊎◌, inl, inr, ◌≡◌, ℕ, zero, suc, ◌+◌, List, [], ◌∷◌, length, drop, Option, Some, None, Result, Ok, Err, refl, sym}
 use Rattle.std.proofs.Common.{ap, ◌∙◌}
 use Rattle.std.proofs.Common.{subst, arith, Bool, true, false}
 use Rattle.std.proofs.lemmas.List.{drop-drop}
@@ -25,7 +25,7 @@ use Rattle.fax_walk.specs.code.Opening.{end_past_chain, page_or_end}
 use Rattle.fax_walk.specs.laws.Tails.{FilesHaveOneForms, CursorsHaveOneFormTail, FormTailOfPage, FormTailOfStart, FormsStandByNumber}
 use Rattle.fax_walk.specs.laws.Tails.{FormTailsGoOn}
 use Rattle.fax_bits.specs.laws.Codes.{IsOne}
-use Rattle.fax_walk.proofs.InOrderLemmas.{get_dropped, IsOneAnswer, IsSingle, IsListed, one_list, same_answer, split_at_number, step_parts}
+use Rattle.fax_walk.proofs.InOrderLemmas.{get_dropped, IsOneAnswer, IsSingle, IsListed, listed_by, one_list, same_answer, split_at_number, step_parts}
 use Rattle.fax_walk.specs.Pages.{Step, goes_on, ends_as}
 
 -- an equation has one answer
@@ -44,10 +44,7 @@ proper_end pages = let test : (pages == pages) ≡ true = grind (arith, nat_test
 
 -- past the end of a list there is no element
 pub none_past : (offsets : List ℕ) (i : ℕ) → slice_get offsets i ≡ None → length offsets ≤ i
-none_past offsets i none = elim (slice_get_cases offsets i).1 [
-  | inl (q, within, some, same) ↦ absurd (cc (none, some))
-  | inr past ↦ past.0
-]
+none_past offsets i none = grind (arith, slice_get_cases)
 
 -- what a cursor names, by the chain of its file's directories
 pub record IsChained (file : List ℕ) (at : Cursor) (found : Result FilePage End) : Type 0 where
@@ -245,36 +242,27 @@ module _ (file : List ℕ) (head : Header) (is_head : header file ≡ Ok head) (
       → IsPageAt file at (page_or_end head.endian q at.page (page head.endian file q))
   some_page at q later e = rw (first_dropped at.page offsets, e) at (page_here at)
 
-  form_first : (p q : ℕ) → IsPageAt file (record { page = p; row = 0 }) (page_or_end head.endian q p (page head.endian file q))
-      → IsListed (IsForm file) (p + 1) → (answer : Result PageForm FileFault) → page head.endian file q ≡ answer → IsListed (IsForm file) p
-  form_first p q here more (Err refused) is =
-      record { items = []; end = Fault p 0 (File refused); is = (Err (Fault p 0 (File refused)), rw is at here, refl) }
-  form_first p q here more (Ok form) is = record {
-    items = record { page = p; form = form } ∷ more.items;
-    end = more.end;
-    is = (p + 1, (Ok (record { endian = head.endian; offset = q; form = form }), rw is at here, refl), more.is);
-  }
-
-  -- from each page on there are forms, up to the chain's end
-  forms_after : (later : List ℕ) (p : ℕ) → drop p offsets ≡ later → IsListed (IsForm file) p
-  forms_after [] p e =
-      let at : Cursor = record { page = p; row = 0 } in
-      let none = end_past_chain (length offsets) fault at in
-      record { items = []; end = none; is = (Err none, no_page at e, refl) }
-  forms_after (q ∷ later) p e =
-      form_first p q (some_page (record { page = p; row = 0 }) q later e) (forms_after later (p + 1) (next_dropped p offsets q later e))
-      (page head.endian file q) refl
-
 module _ (chains : FilesHaveOneChain) (file : List ℕ) where
-  forms_listed : (p : ℕ) (answer : Result Header FileFault) → header file ≡ answer → IsListed (IsForm file) p
-  forms_listed p (Err fault) e =
-      record { items = []; end = Fault 0 0 (File fault); is = (Err (Fault 0 0 (File fault)), rw (e, IsPageAt) refl, refl) }
-  forms_listed p (Ok head) e =
-      let chain = chains head file in
-      forms_after file head e chain.offsets chain.end chain.is (drop p chain.offsets) p refl
+  -- a page's number is below that of the file's bytes
+  pub page_few : (at : Cursor) (here : FilePage) → IsPageAt file at (Ok here) → at.page < length file
+  page_few at here is =
+      let found = in_chain file at here is in
+      let one = chains found.its.head file in
+      let counts = ap (λ (l : List ℕ). length l) (one.one found.its.offsets found.its.fault found.its.chain).0 in
+      omega (arith, slice_get_within found.its.offsets at.page here.offset found.there, counts, one.few)
+
+  form_falls : (p : ℕ) (item : FormItem) (to : ℕ) → IsForm file p (goes_on item to) → length file - to < length file - p
+  form_falls p item to (Err none, page, e) = absurd cc
+  form_falls p item to (Ok here, page, e) =
+      let few = page_few (record { page = p; row = 0 }) here page in
+      let same = (step_parts item _ to (p + 1) e).1 in
+      omega (arith, few, same)
+
+  forms_listed : (p : ℕ) → IsListed (IsForm file) p
+  forms_listed = listed_by (IsForm file) (one_form chains file) (λ p. length file - p) form_falls
 
 pub one_forms : FilesHaveOneChain → FilesHaveOneForms
-one_forms chains file = one_list (IsForm file) (one_form chains file) 0 (forms_listed chains file 0 (header file) refl)
+one_forms chains file = one_list (IsForm file) (one_form chains file) 0 (forms_listed chains file 0)
 
 -- the page that a reader of pages begins with
 abbrev first_form : Cursor → PageForm → Result ℕ End
@@ -299,7 +287,7 @@ one_form_tail chains file at =
       one = λ others other tail. rw (only tail.0 tail.1) at tail.2;
     }
     by_begin (Ok p) is only =
-        let all = one_list (IsForm file) (one_form chains file) p (forms_listed chains file p (header file) refl) in
+        let all = one_list (IsForm file) (one_form chains file) p (forms_listed chains file p) in
         record {
           items = all.items;
           end = all.end;
@@ -329,10 +317,7 @@ module _ (file : List ℕ) where
       → slice_get forms n ≡ Some item
       → item.page ≡ p + n
   stand_by_number [] p n item end are there = absurd cc
-  stand_by_number (x ∷ forms) p zero item end (to, step, rest) there =
-      let same : x ≡ item = cc in
-      let none : p ≡ p + 0 = omega arith in
-      ap (λ (i : FormItem). i.page) (sym same) ∙ (form_page p x to step).0 ∙ none
+  stand_by_number (x ∷ forms) p zero item end (to, step, rest) there = grind (arith, form_page)
   stand_by_number (x ∷ forms) p (suc n) item end (to, step, rest) there =
       let here = form_page p x to step in
       let later = stand_by_number forms to n item end rest there in

@@ -5,8 +5,7 @@ use Rattle.std.proofs.lemmas.Bool.{cases_lt}
 use Rattle.std.specs.Prelude.{slice_get}
 use Rattle.fax_bits.specs.declared.Colour.{Colour}
 use Rattle.fax_bits.specs.laws.Codes.{AreBitsByPlace}
-use Rattle.fax_files.specs.Directory.{header}
-use Rattle.fax_files.specs.laws.Files.{FilesHaveOneChain}
+use Rattle.fax_files.specs.laws.Files.{FilesHaveOneChain, FormsAreWhole}
 use Rattle.fax_files.specs.declared.PageForm.{PageForm}
 use Rattle.fax_files.specs.views.Tiff.{TiffDirectory}
 use Rattle.fax_walk.specs.declared.begun.Begun.{Begun}
@@ -33,31 +32,12 @@ use Rattle.fax_walk.proofs.LeftLemmas.{left_after, left_ended}
 use Rattle.fax_walk.proofs.InOrderLemmas.{IsListed, joined, leads_both, number_dropped}
 use Rattle.fax_walk.proofs.OpenPageLemmas.{at_end}
 use Rattle.fax_walk.proofs.RowLawLemmas.{LinesAreRead, cases_after, rows_listed}
-use Rattle.fax_walk.specs.Pages.{ends_as}
 
 module _ (file : List ℕ) (begun : Begun) (given : ℕ) (cursor : Cursor) where
   -- the first page is open
   pub goes_first : (page : PageState) → (given ≡ 0) × (cursor ≡ begun_cursor begun) → IsOpenedFirst file begun page
       → GoesOnFrom file begun given cursor (Some page)
-  goes_first page (none, at_is) first =
-      let opened = first.from.opened in (
-        opened.is_open,
-        record {
-          file_is = opened.file_is;
-          come = record {
-            first = first.first;
-            dropped = first.dropped;
-            begins = first.begins;
-            items = [];
-            lead = opened.place_is;
-            count = sym opened.read_is;
-            total = omega (arith, opened.read_is, opened.skips, none);
-            none_left = λ some. absurd (omega (arith, some, none));
-          };
-          stands = inl (none, at_is);
-          named = λ some. first.from.named (omega (arith, some, opened.skips));
-        },
-      )
+  goes_first page (none, at_is) first = grind arith
 
   -- nothing is skipped on a page that is read to its end
   none_skipped : (old : PageState) → IsOpen old → row_of old ≡ old.form.rows → skipped old ≡ 0
@@ -66,26 +46,7 @@ module _ (file : List ℕ) (begun : Begun) (given : ℕ) (cursor : Cursor) where
   -- the next page is open
   pub goes_next : (old page : PageState) → GoesOnFrom file begun given cursor (Some old) → row_of old ≡ old.form.rows
       → IsOpenedAt old.directory.file (place_of old) 0 old.read page → GoesOnFrom file begun given cursor (Some page)
-  goes_next old page (is_open, reads) all opened =
-      let none = none_skipped old is_open all in
-      let come = reads.come in (
-        opened.is_open,
-        record {
-          file_is = opened.file_is ∙ reads.file_is;
-          come = record {
-            first = come.first;
-            dropped = come.dropped;
-            begins = come.begins;
-            items = come.items;
-            lead = subst (λ (t : RowPlace). LeadTo (IsRow file) come.first come.items t) (sym opened.place_is) come.lead;
-            count = come.count ∙ sym opened.read_is;
-            total = omega (arith, come.total, none, opened.read_is, opened.skips);
-            none_left = λ some. opened.skips;
-          };
-          stands = subst (λ (t : RowPlace). StandsAt file begun given cursor t) (sym opened.place_is) reads.stands;
-          named = λ some. absurd (omega (arith, some, opened.skips));
-        },
-      )
+  goes_next old page (is_open, reads) all opened = grind (arith, none_skipped)
 
   -- the page of the row that is due is open
   pub entered : (old : Option PageState) (page : PageState) → IsEntered file begun old (Ok tt) (Some page)
@@ -97,8 +58,7 @@ module _ (file : List ℕ) (begun : Begun) (given : ℕ) (cursor : Cursor) where
   pub refused : (old new : Option PageState) (end : End) → IsEntered file begun old (Err (Ended end)) new
       → GoesOnFrom file begun given cursor old → HasEndedOn file begun given cursor new end
   refused None new end (none, new_is) from = rw new_is (from.0, from.1, none)
-  refused (Some old) new end (all, stop, there, new_is) (is_open, reads) =
-      rw new_is (reads, rw (reads.file_is) at stop, inl (none_skipped old is_open all))
+  refused (Some old) new end (all, stop, there, new_is) (is_open, reads) = grind (arith, none_skipped)
 
   -- memory was refused for it
   at_page_end : (old : PageState) (last : IsAfterItem file begun given cursor (place_of old)) → row_of old ≡ old.form.rows
@@ -108,12 +68,7 @@ module _ (file : List ℕ) (begun : Begun) (given : ℕ) (cursor : Cursor) where
   pub enters : (old new : Option PageState) → IsEntered file begun old (Err Memory) new → GoesOnFrom file begun given cursor old
       → EntersPage file begun given
   enters None new refused from = inl from.0
-  enters (Some old) new (all, refused, there, same) (is_open, reads) = elim reads.stands [
-    | inl none ↦ inl none.0
-    | inr last ↦
-        let (row, page) = at_page_end old last all in
-        inr (last.before, last.item, last.count, last.number, row, rw (reads.file_is, page) at there refl)
-  ]
+  enters (Some old) new (all, refused, there, same) (is_open, reads) = grind (arith, at_page_end)
 
   pub same_page : (old new : Option PageState) → IsEntered file begun old (Err Memory) new → new ≡ old
   same_page None new refused = refused.1
@@ -122,22 +77,20 @@ module _ (file : List ℕ) (begun : Begun) (given : ℕ) (cursor : Cursor) where
 -- no page was entered
 pub refused_next : (file : List ℕ) (begun : Begun) (old new : Option PageState) (fault : OpenFault)
     → IsEntered file begun old (Err fault) new → IsReadNext file begun old (Err fault) new
-refused_next file begun old new Memory is =
-    (same_page file begun 0 (begun_cursor begun) old new is, λ given cursor from. enters file begun given cursor old new is from)
+refused_next file begun old new Memory is = grind arith
 refused_next file begun old new (Ended end) is = λ given cursor from. refused file begun given cursor old new end is from
 
 -- the same, where the walk goes on from a page that it had open at first, or that has a row which is due
 pub refused_later : (file : List ℕ) (begun : Begun) (first on new : Option PageState) (fault : OpenFault)
     → IsEntered file begun on (Err fault) new → (on ≡ first) ⊎ IsDueOn on → IsReadNext file begun first (Err fault) new
-refused_later file begun first on new fault is (inl same) =
-    subst (λ (p : Option PageState). IsReadNext file begun p (Err fault) new) same (refused_next file begun on new fault is)
+refused_later file begun first on new fault is (inl same) = grind (arith, refused_next)
 refused_later file begun first None new fault is (inr due) = absurd due
 refused_later file begun first (Some on) new fault is (inr due) = absurd (omega (arith, is.0, due))
 
-module _ (by_place : AreBitsByPlace) (lines_read : LinesAreRead) (chains : FilesHaveOneChain) (file : List ℕ) (begun : Begun) (given : ℕ)
-    (cursor : Cursor) where
+module _ (by_place : AreBitsByPlace) (lines_read : LinesAreRead) (chains : FilesHaveOneChain) (forms : FormsAreWhole) (file : List ℕ)
+    (begun : Begun) (given : ℕ) (cursor : Cursor) where
   listed : (at : RowPlace) → IsListed (IsRow file) at
-  listed at = rows_listed by_place lines_read chains file at (header file) refl
+  listed at = rows_listed by_place lines_read chains forms file at
 
   -- the next row that is handed out is read
   module _ (old new : PageState) (reads : HasReadTo file begun given cursor old) (gives : GivesRow old new) where
@@ -245,39 +198,13 @@ module _ (file : List ℕ) (begun : Begun) (given : ℕ) (cursor : Cursor) (old 
 
   still_stands : StandsAt file begun given cursor (place_of old) → StandsAt file begun given cursor (place_of new)
   still_stands (inl first) = inl first
-  still_stands (inr last) =
-      let nothing = come_so_far.none_left (omega (arith, last.count)) in
-      let same = no_items items (omega (arith, left, nothing)) none.skips.lead in
-      inr (subst (λ (t : RowPlace). IsAfterItem file begun given cursor t) (sym same) last)
+  still_stands (inr last) = grind (arith, no_items, left)
 
   named_on : 0 < skipped new → (new.page ≡ (begun_cursor begun).page) × (new.first ≡ (begun_cursor begun).row)
   named_on some = grind (arith, left)
 
   pub ended_on : HasEndedOn file begun given cursor (Some new) end
-  ended_on = (
-    record {
-      file_is = ap (λ (d : TiffDirectory). d.file) none.skips.same.directory ∙ reads.file_is;
-      come = record {
-        first = come_so_far.first;
-        dropped = come_so_far.dropped;
-        begins = come_so_far.begins;
-        items = come_so_far.items ++ items;
-        lead = ended_lead;
-        count = length-append come_so_far.items items ∙ omega (arith, come_so_far.count, none.skips.read);
-        total = omega (arith, come_so_far.total, none.skips.read, left);
-        none_left = λ some. let nothing = come_so_far.none_left some in omega (arith, left, nothing);
-      };
-      stands = still_stands reads.stands;
-      named = named_on;
-    },
-    subst (λ (f : List ℕ). IsRow f (place_of new) (ends_as end)) reads.file_is none.stop,
-    elim (cases_lt 0 (skipped new)) [
-      | inl some ↦
-          let named = named_on some in
-          inr (rw (none.told.1) (named.0, omega (arith, some, named.1)))
-      | inr nothing ↦ inl (omega (arith, nothing))
-    ],
-  )
+  ended_on = grind (arith, ended_lead, length-append, left, still_stands, named_on, cases_lt)
 
 -- what a walk that has ended tells
 module _ (file : List ℕ) (begun : Begun) (given : ℕ) (cursor : Cursor) where
@@ -339,12 +266,7 @@ module _ (walk : WalkView) (cursor : Cursor) (page : Option PageState) where
       → HasReadTo file begun walk.given cursor at
       × ((end : End) → told ≡ Some end → (skipped at ≡ 0) ⊎ EndsBefore end (begun_cursor begun))
   read_on at None sound = (sound.0.1, λ end is. absurd cc)
-  read_on at (Some told) sound = (
-    sound.0,
-    λ end is.
-        let same : told ≡ end = cc in
-        subst (λ (e : End). (skipped at ≡ 0) ⊎ EndsBefore e (begun_cursor begun)) same sound.2,
-  )
+  read_on at (Some told) sound = grind arith
 
   pub are_read : (at : PageState) → page ≡ Some at → Sound walk.told → AreRead walk at.read
   are_read at page_is sound =
@@ -372,18 +294,7 @@ module _ (walk : WalkView) (cursor : Cursor) (page : Option PageState) where
         all = λ some. absurd (omega (arith, some, sound.0.0));
         told = λ end ends. absurd cc;
       }
-  none_read tails (Some told) is sound =
-      let none = sound.2.read in
-      record {
-        before = none.before;
-        are_before = none.are_before;
-        most = omega arith;
-        all = λ some. absurd (omega (arith, some, sound.0));
-        told = λ end ends. elim (none.told end (let same : told ≡ end = cc in ap (λ (e : End). Some e) same)) [
-          | inl nothing ↦ inl (omega (arith, nothing, sound.0))
-          | inr before ↦ inr before
-        ];
-      }
+  none_read tails (Some told) is sound = grind arith
 
   pub none_are_read : BeginningsHaveOneTail → page ≡ None → Sound walk.told → AreRead walk 0
   none_are_read tails page_is sound = none_read tails walk.told refl (rw page_is at sound)
@@ -430,16 +341,4 @@ pub lent : (old walk : WalkView) (cursor : Cursor) (page : Option PageState) →
     → page ≡ Some at → IsSound walk.file walk.begun walk.given cursor page walk.told → (row : List Colour) → row ≡ at.shown
     → (item : RowItem) × HandsOut IsTailFrom row_limit old item walk
     × ((item.page ≡ cursor.page) × (item.row ≡ cursor.row - 1) × (item.pels ≡ row))
-lent old walk cursor page (untold, few, new_is) at page_is sound row row_is =
-    let none : walk.told ≡ None = ap (λ (w : WalkView). w.told) new_is ∙ untold in
-    let given : walk.given ≡ old.given + 1 = ap (λ (w : WalkView). w.given) new_is in
-    let shown = (rw (none, page_is) at sound).1 in
-    let last = shown.last in
-    let before : last.before ≡ old.given = omega (arith, given, last.count) in
-    let files : walk.file ≡ old.file = ap (λ (w : WalkView). w.file) new_is in
-    let begins : walk.begun ≡ old.begun = ap (λ (w : WalkView). w.begun) new_is in
-    let rows : cursor.row ≡ last.item.row + 1 = ap (λ (c : Cursor). c.row) last.cursor_is in (
-      last.item,
-      record { untold = untold; number = rw (files, begins, before) at last.number; few = few; new_is = new_is },
-      (sym (ap (λ (c : Cursor). c.page) last.cursor_is), omega (arith, rows), shown.pels ∙ sym row_is),
-    )
+lent old walk cursor page (untold, few, new_is) at page_is sound row row_is = grind arith
