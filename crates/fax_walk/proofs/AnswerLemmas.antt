@@ -1,17 +1,16 @@
 -- What is converted has one output or one fault, and what is checked has one report.
-use Rattle.std.proofs.Common.{◌≡◌, ℕ, ◌+◌, ◌*◌, List, length, Option, Some, None, Result, Ok, Err, Bool, true, false}
-use Rattle.std.proofs.Common.{refl, ap, sym, ◌∙◌, subst, arith, inl, inr, codes}
-use Rattle.std.specs.Prelude.{◌==◌, ◌&&◌, flat_map, slice_get, map, if◌then◌else◌, not}
-use Rattle.std.proofs.lemmas.Bool.Decides.{nat_tests}
+use Rattle.std.proofs.Common.{arith}
+use Rattle.std.proofs.Common.{◌≡◌, ℕ, ◌+◌, ◌*◌, List, length, Option, Some, None, Err, Bool}
+use Rattle.std.proofs.Common.{refl, ap, sym, ◌∙◌, subst, inl, inr, codes}
+use Rattle.std.specs.Prelude.{flat_map, not}
 use Rattle.fax_bits.specs.Bits.{bits, BeginsWith}
 use Rattle.fax_bits.specs.declared.Colour.{Colour}
-use Rattle.fax_files.specs.declared.FileFault.{FileFault}
 use Rattle.fax_files.specs.declared.Cause.{Cause}
 use Rattle.fax_files.specs.declared.Cause.TheVariants.{Strip}
 use Rattle.fax_files.specs.declared.PageForm.{PageForm}
 use Rattle.fax_files.specs.declared.pbm.PbmFault.{PbmFault}
-use Rattle.fax_files.specs.Directory.{Header, header, entries, ascend}
-use Rattle.fax_files.specs.Page.{page, strip_bytes, strip_form, usual_resolution}
+use Rattle.fax_files.specs.Directory.{entries, ascend}
+use Rattle.fax_files.specs.Page.{strip_bytes, strip_form}
 use Rattle.fax_files.specs.Pbm.{AreImages, Image}
 use Rattle.fax_files.specs.laws.Files.{FilesHaveOneChain}
 use Rattle.fax_files.specs.laws.Pbm.{ImagesAreReadInOneWay}
@@ -28,14 +27,14 @@ use Rattle.fax_walk.specs.declared.options.ConvertFault.TheVariants as Refused
 use Rattle.fax_walk.specs.declared.options.Options.{Options}
 use Rattle.fax_walk.specs.declared.walk.Place.{Place}
 use Rattle.fax_walk.specs.Converted.{IsConverted, IsNotConverted, IsSource, IsTiff, IsTooLarge, SourcePage, pages_of, target_bytes}
-use Rattle.fax_walk.specs.Pages.{AreFrom, FilePage}
+use Rattle.fax_walk.specs.Pages.{AreFrom}
 use Rattle.fax_walk.specs.Report.{IsNoted, IsReportedEnd, IsStripNoted, notes_on_strip, note_if}
 use Rattle.fax_walk.specs.Items.{AreItems, RowItem}
-use Rattle.fax_walk.specs.code.Opening.{IsPageUnder, page_or_end, page_over}
 use Rattle.fax_walk.specs.laws.Answers.{BytesAreConvertedInOneWay, FilesHaveOneReport}
 use Rattle.fax_walk.specs.laws.Tails.{FilesHaveOneForms, FilesHaveOneItems}
 use Rattle.fax_walk.proofs.InOrderLemmas.{IsSingle, single_from, two_of}
-use Rattle.fax_walk.proofs.PageLawLemmas.{single_on_page}
+use Rattle.fax_walk.proofs.PageLawLemmas.{one_chain, proper_after, single_on_page}
+use Rattle.fax_walk.specs.Pages.{IsPageAt}
 use Rattle.fax_walk.proofs.ReadBackLemmas.{not_both}
 use Rattle.fax_walk.specs.Pages.{goes_on, ends_as}
 use Rattle.fax_walk.specs.declared.checking.NoteKind.TheVariants.{EntriesOutOfOrder}
@@ -49,9 +48,7 @@ source_fault Outside = Refused.UnknownInput
 module _ (images_once : ImagesAreReadInOneWay) (one_forms : FilesHaveOneForms) (one_items : FilesHaveOneItems) where
   -- a source has one list of pages
   one_source : (bytes : List ℕ) (pages others : List SourcePage) → IsSource bytes pages → IsSource bytes others → pages ≡ others
-  one_source bytes pages others (inl (begins, images, are, is)) (inl (begins', images', are', is')) =
-      let same = images_once bytes images images' None None are are' in
-      is ∙ ap (λ l. map (λ image. record { image = image; resolution = usual_resolution }) l) same.0 ∙ sym is'
+  one_source bytes pages others (inl (begins, images, are, is)) (inl (begins', images', are', is')) = grind arith
   one_source bytes pages others (inl (begins, images, are, is)) (inr (tiff, forms, items, forms_are, items_are, is')) = absurd (not_both bytes begins tiff)
   one_source bytes pages others (inr (tiff, forms, items, forms_are, items_are, is')) (inl (begins, images, are, is)) = absurd (not_both bytes begins tiff)
   one_source bytes pages others (inr (tiff, forms, items, forms_are, items_are, is))
@@ -63,8 +60,7 @@ module _ (images_once : ImagesAreReadInOneWay) (one_forms : FilesHaveOneForms) (
   -- bytes with a fault are no source
   no_pbm_source : (bytes : List ℕ) (images : List Image) (fault : PbmFault) (pages : List SourcePage) → BeginsWith bytes (codes "P4")
       → AreImages bytes images (Some fault) → IsSource bytes pages → ⊥
-  no_pbm_source bytes images fault pages begins are (inl (begins', images', are', is')) =
-      let same = images_once bytes images images' (Some fault) None are are' in cc (same.1)
+  no_pbm_source bytes images fault pages begins are (inl (begins', images', are', is')) = grind arith
   no_pbm_source bytes images fault pages begins are (inr (tiff, forms, items, forms_are, items_are, is)) = not_both bytes begins tiff
 
   no_tiff_source : (bytes : List ℕ) (items : List RowItem) (p r : ℕ) (cause : Cause) (pages : List SourcePage) → IsTiff bytes
@@ -88,8 +84,7 @@ module _ (images_once : ImagesAreReadInOneWay) (one_forms : FilesHaveOneForms) (
   output_has_no_fault : (bytes : List ℕ) (options : Options) (output : List ℕ) (fault : ConvertFault) → IsConverted bytes options output
       → IsNotConverted bytes options fault → ⊥
   output_has_no_fault bytes options output Refused.UnknownInput is none = no_source bytes is.pages none.0 none.1 is.source
-  output_has_no_fault bytes options output (Refused.Pbm image fault) is none =
-      no_pbm_source bytes none.1 fault is.pages none.0 none.2 is.source
+  output_has_no_fault bytes options output (Refused.Pbm image fault) is none = grind (arith, no_pbm_source)
   output_has_no_fault bytes options output (Refused.Source p r cause) is none =
       no_tiff_source bytes none.1 p r cause is.pages none.0 none.2 is.source
   output_has_no_fault bytes options output Refused.OutputTooLarge is none =
@@ -105,28 +100,19 @@ module _ (images_once : ImagesAreReadInOneWay) (one_forms : FilesHaveOneForms) (
   one_fault bytes options Refused.UnknownInput Refused.UnknownInput first second = refl
   one_fault bytes options Refused.UnknownInput (Refused.Pbm image fault) first second = absurd (first.0 second.0)
   one_fault bytes options Refused.UnknownInput (Refused.Source p r cause) first second = absurd (first.1 second.0)
-  one_fault bytes options Refused.UnknownInput Refused.OutputTooLarge first second =
-      absurd (no_source bytes second.0 first.0 first.1 second.1)
+  one_fault bytes options Refused.UnknownInput Refused.OutputTooLarge first second = grind (arith, no_source)
   one_fault bytes options (Refused.Pbm image fault) Refused.UnknownInput first second = absurd (second.0 first.0)
-  one_fault bytes options (Refused.Pbm image fault) (Refused.Pbm image' fault') first second =
-      let same = images_once bytes first.1 second.1 (Some fault) (Some fault') first.2 second.2 in
-      let images : image ≡ image' = first.3 ∙ ap (λ l. length l) same.0 ∙ sym second.3 in
-      let faults : fault ≡ fault' = cc (same.1) in
-      ap (λ n. Refused.Pbm n fault) images ∙ ap (λ f. Refused.Pbm image' f) faults
-  one_fault bytes options (Refused.Pbm image fault) (Refused.Source p r cause) first second =
-      absurd (not_both bytes first.0 second.0)
-  one_fault bytes options (Refused.Pbm image fault) Refused.OutputTooLarge first second =
-      absurd (no_pbm_source bytes first.1 fault second.0 first.0 first.2 second.1)
+  one_fault bytes options (Refused.Pbm image fault) (Refused.Pbm image' fault') first second = grind arith
+  one_fault bytes options (Refused.Pbm image fault) (Refused.Source p r cause) first second = grind (arith, not_both)
+  one_fault bytes options (Refused.Pbm image fault) Refused.OutputTooLarge first second = grind (arith, no_pbm_source)
   one_fault bytes options (Refused.Source p r cause) Refused.UnknownInput first second = absurd (second.1 first.0)
-  one_fault bytes options (Refused.Source p r cause) (Refused.Pbm image fault) first second =
-      absurd (not_both bytes second.0 first.0)
+  one_fault bytes options (Refused.Source p r cause) (Refused.Pbm image fault) first second = grind (arith, not_both)
   one_fault bytes options (Refused.Source p r cause) (Refused.Source p' r' cause') first second =
       let same = (two_of (one_items bytes) first.1 second.1 (Fault p r cause) (Fault p' r' cause') first.2 second.2).1 in
       ap source_fault same
   one_fault bytes options (Refused.Source p r cause) Refused.OutputTooLarge first second =
       absurd (no_tiff_source bytes first.1 p r cause second.0 first.0 first.2 second.1)
-  one_fault bytes options Refused.OutputTooLarge Refused.UnknownInput first second =
-      absurd (no_source bytes first.0 second.0 second.1 first.1)
+  one_fault bytes options Refused.OutputTooLarge Refused.UnknownInput first second = grind (arith, no_source)
   one_fault bytes options Refused.OutputTooLarge (Refused.Pbm image fault) first second =
       absurd (no_pbm_source bytes second.1 fault first.0 second.0 second.2 first.1)
   one_fault bytes options Refused.OutputTooLarge (Refused.Source p r cause) first second =
@@ -140,39 +126,18 @@ module _ (images_once : ImagesAreReadInOneWay) (one_forms : FilesHaveOneForms) (
     one_fault = one_fault bytes options;
   }
 
--- where a chain ends properly
-proper_there : (head : Header) (file : List ℕ) (offsets : List ℕ) (fault : Option FileFault) (n : ℕ) (found : Option ℕ)
-    → slice_get offsets n ≡ found
-    → ◌≡◌ {A = Result FilePage End} (Err Proper) (page_over head.endian file offsets fault (record { page = n; row = 0 }) found)
-    → n ≡ length offsets
-proper_there head file offsets fault n (Some q) at e = by_form (page head.endian file q) e
-  where
-    by_form : (answer : Result PageForm FileFault) → ◌≡◌ {A = Result FilePage End} (Err Proper) (page_or_end head.endian q n answer)
-        → n ≡ length offsets
-    by_form (Err refused) e = absurd cc
-    by_form (Ok form) e = absurd cc
-proper_there head file offsets (Some fault) n None at e = absurd cc
-proper_there head file offsets None n None at e = by_test (n == length offsets) refl e
-  where
-    by_test : (test : Bool) → (n == length offsets) ≡ test
-        → ◌≡◌ {A = Result FilePage End} (Err Proper) (Err (if test && (0 == 0) then Proper else Outside)) → n ≡ length offsets
-    by_test true is e = grind (arith, nat_tests, is)
-    by_test false is e = absurd cc
-
 module _ (chains : FilesHaveOneChain) (file : List ℕ) where
-  proper_under : (answer : Result Header FileFault) (n m : ℕ) → IsPageUnder file (record { page = n; row = 0 }) answer (Err Proper)
-      → IsPageUnder file (record { page = m; row = 0 }) answer (Err Proper) → n ≡ m
-  proper_under (Err fault) n m first second = absurd cc
-  proper_under (Ok head) n m (offsets, fault, chain, e) (offsets', fault', chain', e') =
-      let one = chains head file in
-      let same : offsets ≡ offsets' = (one.one offsets fault chain).0 ∙ sym (one.one offsets' fault' chain').0 in
-      proper_there head file offsets fault n (slice_get offsets n) refl e ∙ ap (λ (l : List ℕ). length l) same
-      ∙ sym (proper_there head file offsets' fault' m (slice_get offsets' m) refl e')
+  proper_once : (n m : ℕ) → IsPageAt file (record { page = n; row = 0 }) (Err Proper)
+      → IsPageAt file (record { page = m; row = 0 }) (Err Proper) → n ≡ m
+  proper_once n m first second =
+      let (its, none, count) = proper_after file n first in
+      let (others, none', count') = proper_after file m second in
+      count ∙ ap (λ (l : List ℕ). length l) (one_chain chains file its others) ∙ sym count'
 
   one_end : (end : End) (pages others : ℕ) (fault other : Option (Place × Cause)) → IsReportedEnd file end pages fault
       → IsReportedEnd file end others other → (pages ≡ others) × (fault ≡ other)
   one_end Proper pages others fault other first second =
-      (proper_under (header file) pages others first.0 second.0, first.1 ∙ sym second.1)
+      (proper_once pages others first.0 second.0, first.1 ∙ sym second.1)
   one_end (Fault p r cause) pages others fault other first second = (first.0 ∙ sym second.0, first.1 ∙ sym second.1)
   one_end Outside pages others fault other first second = absurd first
 

@@ -1,8 +1,8 @@
 -- What a chain's next directory is, and where it ends.
-use Rattle.std.proofs.Common.{◌≡◌, ℕ, ◌+◌, ◌<◌, ◌≤◌, true, false, List, length, Option, Some, None, Result, Ok, Err, inl, inr, refl}
+use Rattle.std.proofs.Common.{◌≡◌, ℕ, ◌+◌, ◌<◌, ◌≤◌, false, List, length, Option, Some, None, Result, Ok, Err, inl, inr, refl}
 use Rattle.std.proofs.Common.{ap, ◌∙◌, arith}
 use Rattle.std.proofs.lemmas.Bool.Decides.{nat_tests}
-use Rattle.std.specs.Prelude.{slice_get, ◌==◌, ◌&&◌, if◌then◌else◌}
+use Rattle.std.specs.Prelude.{slice_get, ◌==◌}
 use Rattle.std.proofs.lemmas.Option.{slice_get_past, slice_get_within}
 use Rattle.fax_files.specs.declared.FileFault.{FileFault}
 use Rattle.fax_files.specs.declared.Cause.TheVariants.{File}
@@ -25,26 +25,14 @@ outside_past : (pages : ℕ) (at : Cursor) → pages < at.page → end_past_chai
 outside_past pages at past = let e : (at.page == pages) ≡ false = grind (arith, nat_tests, past) in rw e refl
 
 outside_row : (pages : ℕ) (at : Cursor) → 0 < at.row → end_past_chain pages None at ≡ Outside
-outside_row pages at some =
-    let e : (at.row == 0) ≡ false = grind (arith, nat_tests, some) in
-    elim (at.page == pages) as (λ same. (if same && (at.row == 0) then Proper else Outside) ≡ Outside) [ true ↦ rw e refl | false ↦ refl ]
+outside_row pages at some = grind (arith, nat_tests)
 
 -- a directory stands there
 pub goes_on : (file : List ℕ) (number : ℕ) (chain new : ChainState) (answer : Result (Option TiffDirectory) FileFault)
     (directory : TiffDirectory)
     → IsChainBefore file number chain → IsDueAnswer chain answer → answer ≡ Ok (Some directory) → new ≡ after_answer chain answer
     → IsChainBefore file (number + 1) new
-goes_on file number chain new answer directory before due is counted =
-    let counted : new ≡ record chain { given = chain.given + 1 } = rw is at counted in
-    rw counted (record {
-      head = before.head;
-      file_is = before.file_is;
-      given = omega (arith, before.given);
-      within = λ offsets fault chained.
-          let there = due_some chain answer due directory is offsets fault chained in
-          let inside = slice_get_within offsets chain.given directory.offset there.0 in
-          omega (arith, inside, before.given);
-    })
+goes_on file number chain new answer directory before due is counted = grind (arith, due_some, slice_get_within)
 
 -- a file's chain before a directory, and what it answers for it
 module _ (file : List ℕ) (number : ℕ) (chain : ChainState) (answer : Result (Option TiffDirectory) FileFault)
@@ -58,16 +46,10 @@ module _ (file : List ℕ) (number : ℕ) (chain : ChainState) (answer : Result 
   -- the chain has no page of a later number
   past_chain : (at : Cursor) → slice_get one.offsets chain.given ≡ None → number ≤ at.page
       → IsPageAt file at (Err (end_past_chain (length one.offsets) one.end at))
-  past_chain at none past =
-      let few = none_past one.offsets chain.given none in
-      let there : slice_get one.offsets at.page ≡ None = slice_get_past one.offsets at.page (omega (arith, few, past, before.given)) in
-      rw there at (page_here file chain.tiff.head before.head one.offsets one.end one.is at)
+  past_chain at none past = grind (arith, none_past, slice_get_past, page_here)
 
   count_is : slice_get one.offsets chain.given ≡ None → length one.offsets ≡ number
-  count_is none =
-      let few = none_past one.offsets chain.given none in
-      let within = before.within one.offsets one.end is_one in
-      omega (arith, few, within, before.given)
+  count_is none = grind (arith, none_past, is_one)
 
   -- where the chain ends properly, and where it ends with a fault
   ended_at : (at : Cursor) → answer ≡ Ok None → number ≤ at.page → IsPageAt file at (Err (end_past_chain number None at))
@@ -103,10 +85,7 @@ module _ (file : List ℕ) (number : ℕ) (chain : ChainState) (answer : Result 
 
     pub found : (r : ℕ) → IsPageAt directory.file (record { page = number; row = r })
         (page_or_end directory.endian directory.offset number (form_of directory))
-    found r =
-        let some : slice_get one.offsets number ≡ Some directory.offset = rw before.given at there.0 in
-        rw (there.1, before.file_is)
-        (rw some at (page_here file chain.tiff.head before.head one.offsets one.end one.is (record { page = number; row = r })))
+    found r = grind (arith, there, page_here)
 
     pub fields_refused : (refused : FileFault) → form_of directory ≡ Err refused → IsNoPage directory.file number
         (Fault number 0 (File refused))

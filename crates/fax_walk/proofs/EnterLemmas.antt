@@ -23,16 +23,7 @@ use Rattle.fax_walk.proofs.TailLemmas.{begins_in, begins_after, begins_past}
 
 -- a walk that begins at no place of the file
 no_beginning : (file : List ℕ) (begun : Begun) (end : End) → Begins file begun (Err end) → HasNoRows file begun end
-no_beginning file begun end begins = record {
-  tail = (Err end, begins, (refl, refl));
-  read = record {
-    before = 0;
-    are_before = (Err end, begins, refl);
-    most = omega arith;
-    all = λ some. omega arith;
-    told = λ told is. inl refl;
-  };
-}
+no_beginning file begun end begins = grind arith
 
 -- a walk whose first place has no row
 no_row : (file : List ℕ) (begun : Begun) (end : End) (at : RowPlace) (n : ℕ) → Begins file begun (Ok (at, n)) → IsRow file at (ends_as end)
@@ -70,12 +61,7 @@ module _ (file : List ℕ) (at : Cursor) where
         → IfOk result (IsOpenedAt due.directory.file (here at.row) (row_in_strip due.form at.row) 0)
         → IfOk result (λ page. page.page ≡ due.page) → IfOk result (λ page. page.first ≡ at.row)
         → IfOk result (IsOpenedFirst file (At at))
-    opened_on below (Ok page) opened page_is first_is = record {
-      first = here at.row;
-      dropped = row_in_strip due.form at.row;
-      begins = begins_on below;
-      from = record { opened = rw (named.0) at opened; named = λ some. (page_is ∙ named.1, first_is) };
-    }
+    opened_on below (Ok page) opened page_is first_is = grind (arith, begins_on)
     opened_on below (Err fault) opened page_is first_is = opened
 
     pub refused_on : at.row < due.form.rows → (result : Result PageState OpenFault) → IfErr result (IsRefusal (IsNoStrip due at.row))
@@ -106,17 +92,11 @@ module _ (file : List ℕ) (at : Cursor) where
           → IfErr result (IsRefusal (HasNoRows file (At at)))
       refused_next past (Ok page) refused = refused
       refused_next past (Err Memory) refused = tt
-      refused_next past (Err (Ended end)) refused =
-          no_row file (At at) end (first_at due.chain.given 0) 0 (begins_next past) (rw its_file at refused) (inl refl)
+      refused_next past (Err (Ended end)) refused = grind (arith, no_row, begins_next, its_file)
 
       pub opened_next : due.form.rows ≤ at.row → (result : Result PageState OpenFault)
           → IfOk result (IsOpenedAt due.chain.tiff.file (first_at due.chain.given 0) 0 0) → IfOk result (IsOpenedFirst file (At at))
-      opened_next past (Ok page) opened = record {
-        first = first_at due.chain.given 0;
-        dropped = 0;
-        begins = begins_next past;
-        from = record { opened = rw its_file at opened; named = λ some. absurd (omega (arith, some)) };
-      }
+      opened_next past (Ok page) opened = grind (arith, begins_next, its_file)
       opened_next past (Err fault) opened = opened
 
 module _ (file : List ℕ) (place : LongPlace) where
@@ -136,20 +116,14 @@ module _ (file : List ℕ) (place : LongPlace) where
     pub opened_inside : (result : Result PageState OpenFault) → IfOk result (IsOpenedAt due.directory.file (inner_at place) 0 0)
         → OnOk result (IsInnerOn due.directory.file (page_with due.directory due.form) place) → IfOk result
         (IsOpenedFirst file (Inside place))
-    opened_inside (Ok page) opened inner = record {
-      first = inner_at place;
-      dropped = 0;
-      begins = begun_place inner;
-      from = record { opened = rw (named.0) at opened; named = λ some. absurd (omega (arith, some)) };
-    }
+    opened_inside (Ok page) opened inner = grind (arith, begun_place)
     opened_inside (Err fault) opened inner = opened
 
     pub refused_inside : (result : Result PageState OpenFault) → IfErr result (IsRefusal (IsNoInner due place))
         → IfErr result (IsRefusal (HasNoRows file (Inside place)))
     refused_inside (Ok page) refused = refused
     refused_inside (Err Memory) refused = tt
-    refused_inside (Err (Ended end)) (inl (inner, stop)) =
-        no_row file (Inside place) end (inner_at place) 0 (begun_place inner) (rw (named.0) at stop) (inl refl)
+    refused_inside (Err (Ended end)) (inl (inner, stop)) = grind (arith, no_row, begun_place)
     refused_inside (Err (Ended end)) (inr (not, end_is)) =
         no_beginning file (Inside place) end
         (Ok (page_with due.directory due.form), named.3, inr (λ inner. not (rw (sym named.0) at inner), rw end_is refl))

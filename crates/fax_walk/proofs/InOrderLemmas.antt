@@ -1,5 +1,5 @@
 -- What is handed out in order: one answer at each place makes one list, and what follows an item begins after it.
-use Rattle.std.proofs.Common.{◌≡◌, ℕ, zero, suc, ◌+◌, List, [], ◌∷◌, ◌++◌, length, take, drop, Some, refl, sym, ap, ◌∙◌}
+use Rattle.std.proofs.Common.{◌≡◌, ℕ, zero, suc, ◌+◌, ◌<◌, ◌≤◌, List, [], ◌∷◌, ◌++◌, length, take, drop, Some, refl, sym, ap, ◌∙◌}
 use Rattle.std.proofs.Common.{subst, arith, append_assoc}
 use Rattle.std.proofs.lemmas.List.{drop_at, take-append-drop}
 use Rattle.std.specs.Prelude.{slice_get}
@@ -33,10 +33,7 @@ same_step only x y to place is is_too = step_parts x y to place (same_answer onl
 -- what is one list with one end is single
 pub two_of : {A E : Type 0} {holds : List A → E → Type 0} → IsOne holds → (items others : List A) (end other : E) → holds items end
     → holds others other → (items ≡ others) × (end ≡ other)
-two_of one items others end other is is_too =
-    let first = one.one items end is in
-    let second = one.one others other is_too in
-    (first.0 ∙ sym second.0, first.1 ∙ sym second.1)
+two_of one items others end other is is_too = grind arith
 
 -- what is handed out from a place on, if something is
 pub record IsListed {S A : Type 0} (next : S → Step A S → Type 0) (at : S) : Type 0 where
@@ -47,12 +44,9 @@ pub record IsListed {S A : Type 0} (next : S → Step A S → Type 0) (at : S) :
 -- where each place has at most one answer, two lists from a place on are one
 pub single_from : {S A : Type 0} (next : S → Step A S → Type 0) → ((at : S) → IsSingle (next at)) → (at : S) (items others : List A)
     (end other : End) → AreFrom next at items end → AreFrom next at others other → (items ≡ others) × (end ≡ other)
-single_from next single at [] [] end other first second =
-    let same = single at (ends_as end) (ends_as other) first second in (refl, cc)
-single_from next single at [] (y ∷ others) end other first (to, second, rest) =
-    let same = single at (ends_as end) (goes_on y to) first second in absurd cc
-single_from next single at (x ∷ items) [] end other (to, first, rest) second =
-    let same = single at (goes_on x to) (ends_as other) first second in absurd cc
+single_from next single at [] [] end other first second = grind arith
+single_from next single at [] (y ∷ others) end other first (to, second, rest) = grind arith
+single_from next single at (x ∷ items) [] end other (to, first, rest) second = grind arith
 single_from {S} {A} next single at (x ∷ items) (y ∷ others) end other (to, first, rest) (to', second, rest') =
     let same = step_parts x y to to' (single at (goes_on x to) (goes_on y to') first second) in
     let later = single_from next single to' items others end other (subst (λ (p : S). AreFrom next p items end) same.1 rest) rest' in
@@ -62,6 +56,23 @@ module _ {S A : Type 0} (next : S → Step A S → Type 0) (answers : (at : S) �
   pub one_from : (at : S) (items others : List A) (end other : End) → AreFrom next at items end → AreFrom next at others other
       → (items ≡ others) × (end ≡ other)
   one_from = single_from next (λ at. same_answer (answers at))
+
+  listed_step : (at : S) (answer : Step A S) → next at answer → ((item : A) (to : S) → next at (goes_on item to) → IsListed next to) → IsListed next at
+  listed_step at (ends_as end) is on = record { items = []; end = end; is = is }
+  listed_step at (goes_on item to) is on =
+      let rest = on item to is in record { items = item ∷ rest.items; end = rest.end; is = (to, is, rest.is) }
+
+  -- where each step lowers a measure, something is handed out from each place on
+  pub listed_by : (measure : S → ℕ) → ((at : S) (item : A) (to : S) → next at (goes_on item to) → measure to < measure at) → (at : S)
+      → IsListed next at
+  listed_by measure falls at = by_fuel (measure at) at (omega arith)
+    where
+      by_fuel : (fuel : ℕ) (at : S) → measure at ≤ fuel → IsListed next at
+      by_fuel zero at few =
+          listed_step at (answers at).it (answers at).is (λ item to step. let less = falls at item to step in absurd (omega (arith, less, few)))
+      by_fuel (suc fuel) at few =
+          listed_step at (answers at).it (answers at).is
+          (λ item to step. let less = falls at item to step in by_fuel fuel to (omega (arith, less, few)))
 
   -- as many items lead to one place
   pub one_led : (at : S) (items others : List A) (to another : S) → length items ≡ length others → LeadTo next at items to
@@ -139,9 +150,7 @@ number_dropped k n front x more count = get_dropped k n (front ++ x ∷ more) �
 pub divided_at : {A : Type 0} (xs : List A) (n : ℕ) (x : A) → slice_get xs n ≡ Some x
     → (before : List A) × (xs ≡ before ++ x ∷ drop (n + 1) xs) × (length before ≡ n)
 divided_at {A} [] n x e = absurd cc
-divided_at {A} (y ∷ xs) zero x e =
-    let same : y ≡ x = cc in
-    ([], ap (λ (i : A). i ∷ xs) same, refl)
+divided_at {A} (y ∷ xs) zero x e = grind arith
 divided_at {A} (y ∷ xs) (suc n) x e =
     let later = divided_at xs n x e in
     let m : suc n + 1 ≡ suc (n + 1) = omega arith in
@@ -149,9 +158,7 @@ divided_at {A} (y ∷ xs) (suc n) x e =
 
 -- the item at a number is the first of what is left there
 pub first_left : {A : Type 0} (all : List A) (n : ℕ) (item : A) → slice_get all n ≡ Some item → drop n all ≡ item ∷ drop (n + 1) all
-first_left all n item there =
-    let split = divided_at all n item there in
-    ap (drop n) split.1 ∙ drop_at split.0 (item ∷ drop (n + 1) all) n split.2
+first_left all n item there = grind (arith, divided_at, drop_at)
 
 module _ {S A : Type 0} (next : S → Step A S → Type 0) where
   -- an item, the place where it was read, and what is handed out after it

@@ -34,15 +34,11 @@ after_first (run ∷ runs) last =
 
 pub runs_text-push : (runs : List ℕ) (last : ℕ) → runs_text (runs ++ last ∷ []) ≡ flat_map run_and runs ++ decimal last
 runs_text-push [] last = append-nil (decimal last)
-runs_text-push (run ∷ runs) last =
-    ap (λ more. decimal run ++ more) (after_first runs last)
-    ∙ sym (append_assoc (decimal run) (44 ∷ []) (flat_map run_and runs ++ decimal last))
-    ∙ sym (append_assoc (run_and run) (flat_map run_and runs) (decimal last))
+runs_text-push (run ∷ runs) last = grind (arith, after_first, append_assoc)
 
 more_cut : (runs : List ℕ) (run : ℕ) (rest : List ℕ)
     → flat_map run_and (runs ++ run ∷ []) ++ rest ≡ flat_map run_and runs ++ (decimal run ++ 44 ∷ rest)
-more_cut [] run rest =
-    ap (λ front. front ++ rest) (append-nil (run_and run)) ∙ append_assoc (decimal run) (44 ∷ []) rest
+more_cut [] run rest = grind (arith, append-nil, append_assoc)
 more_cut (first ∷ runs) run rest =
     append_assoc (run_and first) (flat_map run_and (runs ++ run ∷ [])) rest
     ∙ ap (λ more. run_and first ++ more) (more_cut runs run rest)
@@ -128,8 +124,7 @@ run_cut text runs rest run after n so_far cut is = record {
 
 -- the last run is read
 pub all_cut : (text runs rest : List ℕ) (n : ℕ) → AreRunsCut text runs rest → rest ≡ decimal n → text ≡ runs_text (runs ++ n ∷ [])
-all_cut text runs rest n so_far is =
-    so_far.parts ∙ ap (λ more. flat_map run_and runs ++ more) is ∙ sym (runs_text-push runs n)
+all_cut text runs rest n so_far is = grind (arith, runs_text-push)
 
 -- a text without a colon begins with no number and a colon
 pub none_before_colon : (text : List ℕ) → IsSplitOnceResult 58 text None → IsNumberCut text None
@@ -174,10 +169,7 @@ pub is_long_text : (text after_version after_page after_row after_bits : List �
     → text ≡ number_and version after_version → version ≡ 2 → after_version ≡ number_and place.at.page after_page
     → after_page ≡ number_and place.at.row after_row → after_row ≡ number_and place.bits after_bits
     → after_bits ≡ runs_text place.runs → text ≡ long_cursor_text place
-is_long_text text after_version after_page after_row after_bits version place whole two page row bits runs =
-    whole ∙ ap (λ n. number_and n after_version) two ∙ ap (number_and 2) (page ∙ ap (number_and place.at.page)
-    (row ∙ ap (number_and place.at.row) (bits ∙ ap (number_and place.bits) runs)))
-    ∙ sym (text_by_numbers place)
+is_long_text text after_version after_page after_row after_bits version place whole two page row bits runs = grind (arith, text_by_numbers)
 
 -- the parts of a long cursor's text, put one after another
 pub put_one_after_another : {E : Type 0} (answer : Result ⊤ E) (old t₁ t₂ t₃ t₄ t₅ t₆ t₇ t₈ new : List ℕ) (place : LongPlace)

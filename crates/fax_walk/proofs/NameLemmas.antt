@@ -1,6 +1,6 @@
 -- Each text is that of one cursor, or of one long cursor.
 use Rattle.std.proofs.Common.{◌≡◌, ◌≢◌, ℕ, suc, ◌-◌, ◌^◌, ◌<◌, List, [], ◌∷◌, ◌++◌, length, get_or, refl, ap, sym, ◌∙◌}
-use Rattle.std.proofs.Common.{append_assoc, drop, length-append, arith}
+use Rattle.std.proofs.Common.{append_assoc, length-append, arith}
 use Rattle.std.specs.Prelude.{decimal, flat_map}
 use Rattle.std.specs.List.{All}
 use Rattle.std.proofs.lemmas.Fmt.{decimal_injective}
@@ -50,31 +50,20 @@ one_number n m small short e = decimal_injective n m (omega arith) (omega arith)
 
 -- a number before a colon
 before_colon : (n m : ℕ) (us vs : List ℕ) → n < 2 ^ 32 → m < 2 ^ 32 → number_and n us ≡ number_and m vs → (n ≡ m) × (us ≡ vs)
-before_colon n m us vs small short e =
-    let parts = cut_at 58 (decimal n) (decimal m) us vs (no_colon n small) (no_colon m short) e in
-    (one_number n m small short parts.0, parts.1)
+before_colon n m us vs small short e = grind (arith, cut_at, no_colon, one_number)
 
 one_cursor : (at other : Cursor) → at.page ≡ other.page → at.row ≡ other.row → at ≡ other
-one_cursor at other pages rows =
-    ap (λ (p : ℕ). record at { page = p }) pages ∙ ap (λ (r : ℕ). record other { row = r }) rows
+one_cursor at other pages rows = grind arith
 
 -- the texts of cursors differ
 cursors : (at other : Cursor) → IsCursor at → IsCursor other → cursor_text at ≡ cursor_text other → at ≡ other
-cursors at other is is_too e =
-    let after : (decimal at.page ++ 58 ∷ []) ++ decimal at.row ≡ (decimal other.page ++ 58 ∷ []) ++ decimal other.row =
-    ap (λ (l : List ℕ). drop 2 l) e in
-    let numbers : number_and at.page (decimal at.row) ≡ number_and other.page (decimal other.row) =
-    sym (append_assoc (decimal at.page) (58 ∷ []) (decimal at.row)) ∙ after
-    ∙ append_assoc (decimal other.page) (58 ∷ []) (decimal other.row) in
-    let parts = before_colon at.page other.page (decimal at.row) (decimal other.row) is.page is_too.page numbers in
-    one_cursor at other parts.0 (one_number at.row other.row is.row is_too.row parts.1)
+cursors at other is is_too e = grind (arith, append_assoc, before_colon, one_cursor, one_number)
 
 -- a run before others
 first_and_others : (n m : ℕ) (runs others : List ℕ) → n < 2 ^ 32 → m < 2 ^ 32 → All (λ run. run < 2 ^ 32) runs
     → All (λ run. run < 2 ^ 32) others
     → decimal n ++ flat_map and_run runs ≡ decimal m ++ flat_map and_run others → (n ≡ m) × (runs ≡ others)
-first_and_others n m [] [] small short all all' e =
-    (one_number n m small short (sym (append-nil (decimal n)) ∙ e ∙ append-nil (decimal m)), refl)
+first_and_others n m [] [] small short all all' e = grind (arith, one_number, append-nil)
 first_and_others n m [] (r ∷ others) small short all all' e =
     absurd (not_cut 44 (decimal n) (decimal m) (decimal r ++ flat_map and_run others) (no_comma n small) (sym (append-nil (decimal n)) ∙ e))
 first_and_others n m (r ∷ runs) [] small short all all' e =
@@ -97,21 +86,12 @@ one_runs (n ∷ runs) (m ∷ others) some some' all all' e =
     ap (λ (i : ℕ). i ∷ runs) parts.0 ∙ ap (λ (l : List ℕ). m ∷ l) parts.1
 
 one_place : (place other : LongPlace) → place.at ≡ other.at → place.bits ≡ other.bits → place.runs ≡ other.runs → place ≡ other
-one_place place other ats bits runs =
-    ap (λ (a : Cursor). record place { at = a }) ats ∙ ap (λ (b : ℕ). record place { at = other.at; bits = b }) bits
-    ∙ ap (λ (l : List ℕ). record other { runs = l }) runs
+one_place place other ats bits runs = grind arith
 
 -- the texts of long cursors differ
 places : (place other : LongPlace) → IsLongCursor place → IsLongCursor other → long_cursor_text place ≡ long_cursor_text other
     → place ≡ other
-places place other is is_too e =
-    let numbers = sym (text_by_numbers place) ∙ e ∙ text_by_numbers other in
-    let version = before_colon 2 2 _ _ (omega arith) (omega arith) numbers in
-    let page = before_colon place.at.page other.at.page _ _ is.cursor.page is_too.cursor.page version.1 in
-    let row = before_colon place.at.row other.at.row _ _ is.cursor.row is_too.cursor.row page.1 in
-    let bits = before_colon place.bits other.bits _ _ is.bits is_too.bits row.1 in
-    one_place place other (one_cursor place.at other.at page.0 row.0) bits.0
-    (one_runs place.runs other.runs is.some is_too.some is.runs is_too.runs bits.1)
+places place other is is_too e = grind (arith, text_by_numbers, before_colon, one_place, one_cursor, one_runs)
 
 apart : (at : Cursor) (place : LongPlace) → cursor_text at ≡ long_cursor_text place → ⊥
 apart at place e = let first : ◌≡◌ {A = ℕ} 49 50 = ap (λ (l : List ℕ). get_or l 0 0) e in omega arith

@@ -1,4 +1,5 @@
 -- Pages as a chain hands them out.
+use Rattle.std.proofs.Common.{arith}
 use Rattle.std.proofs.Common.{◌≡◌, ℕ, List, Option, Some, None, Result, Ok, Err, refl, sym, ◌∙◌}
 use Rattle.std.specs.Prelude.{slice_get}
 use Rattle.fax_files.specs.declared.FileFault.{FileFault}
@@ -9,9 +10,7 @@ use Rattle.fax_files.specs.views.Tiff.{TiffFile, TiffDirectory, directory_of}
 -- a directory that is answered stands at the place that is asked for
 answered : (tiff : TiffFile) (place : Option ℕ) (end : Option FileFault) (directory : TiffDirectory)
     → Ok (Some directory) ≡ answer_at tiff place end → (place ≡ Some directory.offset) × (directory ≡ directory_of tiff directory.offset)
-answered tiff (Some q) end directory is =
-    let same : directory ≡ directory_of tiff q = cc is in
-    (cc same, rw same refl)
+answered tiff (Some q) end directory is = grind arith
 answered tiff None None directory is = absurd (cc is)
 answered tiff None (Some fault) directory is = absurd (cc is)
 

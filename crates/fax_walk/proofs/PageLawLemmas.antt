@@ -1,10 +1,10 @@
 -- What is asked of a file's pages has one answer, and so have its forms.
-use Rattle.std.proofs.Common.{◌≤◌, ◌⊎◌, inl, inr, ◌≡◌, ℕ, zero, suc, ◌+◌, List, [], ◌∷◌, length, drop, Option, Some, None, Result, Ok, Err, refl, sym}
+use Rattle.std.proofs.Common.{◌-◌, ◌<◌, ◌≤◌, ◌⊎◌, inl, inr, ◌≡◌, ℕ, zero, suc, ◌+◌, List, [], ◌∷◌, length, drop, Option, Some, None, Result, Ok, Err, refl, sym}
 use Rattle.std.proofs.Common.{ap, ◌∙◌}
-use Rattle.std.proofs.Common.{subst, arith, true}
+use Rattle.std.proofs.Common.{subst, arith, Bool, true, false}
 use Rattle.std.proofs.lemmas.List.{drop-drop}
 use Rattle.std.proofs.lemmas.Option.{slice_get_cases, slice_get_within}
-use Rattle.std.specs.Prelude.{MatchResult, slice_get, ◌==◌, nat_le, if◌then◌else◌}
+use Rattle.std.specs.Prelude.{MatchResult, slice_get, ◌==◌, ◌&&◌, nat_le, if◌then◌else◌}
 use Rattle.std.proofs.lemmas.Bool.Decides.{nat_tests}
 use Rattle.fax_files.specs.declared.FileFault.{FileFault}
 use Rattle.fax_files.specs.declared.Cause.{Cause}
@@ -25,7 +25,7 @@ use Rattle.fax_walk.specs.code.Opening.{end_past_chain, page_or_end}
 use Rattle.fax_walk.specs.laws.Tails.{FilesHaveOneForms, CursorsHaveOneFormTail, FormTailOfPage, FormTailOfStart, FormsStandByNumber}
 use Rattle.fax_walk.specs.laws.Tails.{FormTailsGoOn}
 use Rattle.fax_bits.specs.laws.Codes.{IsOne}
-use Rattle.fax_walk.proofs.InOrderLemmas.{get_dropped, IsOneAnswer, IsSingle, IsListed, one_list, same_answer, split_at_number, step_parts}
+use Rattle.fax_walk.proofs.InOrderLemmas.{get_dropped, IsOneAnswer, IsSingle, IsListed, listed_by, one_list, same_answer, split_at_number, step_parts}
 use Rattle.fax_walk.specs.Pages.{Step, goes_on, ends_as}
 
 -- an equation has one answer
@@ -44,54 +44,95 @@ proper_end pages = let test : (pages == pages) ≡ true = grind (arith, nat_test
 
 -- past the end of a list there is no element
 pub none_past : (offsets : List ℕ) (i : ℕ) → slice_get offsets i ≡ None → length offsets ≤ i
-none_past offsets i none = elim (slice_get_cases offsets i).1 [
-  | inl (q, within, some, same) ↦ absurd (cc (none, some))
-  | inr past ↦ past.0
-]
+none_past offsets i none = grind (arith, slice_get_cases)
 
--- page p of a file, in the chain of its directories
-pub record IsInChain (file : List ℕ) (p : ℕ) (here : FilePage) : Type 0 where
+-- what a cursor names, by the chain of its file's directories
+pub record IsChained (file : List ℕ) (at : Cursor) (found : Result FilePage End) : Type 0 where
   pub head : Header
   pub is_head : header file ≡ Ok head
   pub offsets : List ℕ
   pub fault : Option FileFault
   pub chain : IsChain head file offsets fault
-  pub there : slice_get offsets p ≡ Some here.offset
-  pub endian : head.endian ≡ here.endian
+  pub found_is : found ≡ page_over head.endian file offsets fault at (slice_get offsets at.page)
+
+chained : (file : List ℕ) (at : Cursor) (found : Result FilePage End) → IsPageAt file at found
+    → ((fault : FileFault) × (header file ≡ Err fault) × (found ≡ Err (Fault 0 0 (File fault)))) ⊎ IsChained file at found
+chained file at found = under (header file) refl
+  where
+    under : (answer : Result Header FileFault) → header file ≡ answer → IsPageUnder file at answer found
+        → ((fault : FileFault) × (header file ≡ Err fault) × (found ≡ Err (Fault 0 0 (File fault)))) ⊎ IsChained file at found
+    under (Err fault) is_head e = inl (fault, is_head, e)
+    under (Ok head) is_head (offsets, fault, chain, e) =
+        inr (record { head = head; is_head = is_head; offsets = offsets; fault = fault; chain = chain; found_is = e })
+
+-- a page stands in its chain, and an end past it, or for a fault of the page's fields
+module _ (endian : Endian) (file offsets : List ℕ) (fault : Option FileFault) (at : Cursor) where
+  over_page : (here : FilePage) (found : Option ℕ) → Ok here ≡ page_over endian file offsets fault at found
+      → (found ≡ Some here.offset) × (endian ≡ here.endian) × (page here.endian file here.offset ≡ Ok here.form)
+  over_page here None e = absurd cc
+  over_page here (Some q) e = by_fields (page endian file q) refl e
+    where
+      by_fields : (answer : Result PageForm FileFault) → page endian file q ≡ answer → Ok here ≡ page_or_end endian q at.page answer
+          → (Some q ≡ Some here.offset) × (endian ≡ here.endian) × (page here.endian file here.offset ≡ Ok here.form)
+      by_fields (Err refused) is e = absurd cc
+      by_fields (Ok form) is e =
+          let same : record { endian = endian; offset = q; form = form } ≡ here = cc in rw (← same) (refl, refl, is)
+
+  over_end : (end : End) (found : Option ℕ) → ◌≡◌ {A = Result FilePage End} (Err end) (page_over endian file offsets fault at found)
+      → ((refused : FileFault) × (end ≡ Fault at.page 0 (File refused))) ⊎ ((found ≡ None) × (end ≡ end_past_chain (length offsets) fault at))
+  over_end end None e = inr (refl, cc)
+  over_end end (Some q) e = by_fields (page endian file q) e
+    where
+      by_fields : (answer : Result PageForm FileFault) → ◌≡◌ {A = Result FilePage End} (Err end) (page_or_end endian q at.page answer)
+          → ((refused : FileFault) × (end ≡ Fault at.page 0 (File refused)))
+          ⊎ ((Some q ≡ None) × (end ≡ end_past_chain (length offsets) fault at))
+      by_fields (Err refused) e = inl (refused, cc)
+      by_fields (Ok form) e = absurd cc
+
+-- the page that a cursor names, in the chain of its file's directories
+pub record IsInChain (file : List ℕ) (at : Cursor) (here : FilePage) : Type 0 where
+  pub its : IsChained file at (Ok here)
+  pub there : slice_get its.offsets at.page ≡ Some here.offset
+  pub endian : its.head.endian ≡ here.endian
   pub fields : page here.endian file here.offset ≡ Ok here.form
 
-pub in_chain : (file : List ℕ) (at : Cursor) (here : FilePage) → IsPageAt file at (Ok here) → IsInChain file at.page here
-in_chain file at here is = under (header file) refl is
+pub in_chain : (file : List ℕ) (at : Cursor) (here : FilePage) → IsPageAt file at (Ok here) → IsInChain file at here
+in_chain file at here is = elim (chained file at (Ok here) is) [
+  | inl (fault, is_head, e) ↦ absurd cc
+  | inr its ↦
+      let (there, endian, fields) = over_page its.head.endian file its.offsets its.fault at here (slice_get its.offsets at.page) its.found_is in
+      record { its = its; there = there; endian = endian; fields = fields }
+]
+
+proper_past : (n pages : ℕ) (fault : Option FileFault) → Proper ≡ end_past_chain pages fault (record { page = n; row = 0 })
+    → (fault ≡ None) × (n ≡ pages)
+proper_past n pages (Some met) e = absurd cc
+proper_past n pages None e = (refl, by_test (n == pages) refl e)
   where
-    of_form : (head : Header) → header file ≡ Ok head → (offsets : List ℕ) (fault : Option FileFault) → IsChain head file offsets fault
-        → (q : ℕ) → slice_get offsets at.page ≡ Some q → (answer : Result PageForm FileFault) → page head.endian file q ≡ answer
-        → Ok here ≡ page_or_end head.endian q at.page answer → IsInChain file at.page here
-    of_form head is_head offsets fault chain q there (Err refused) fields e = absurd cc
-    of_form head is_head offsets fault chain q there (Ok form) fields e =
-        let this : FilePage = record { endian = head.endian; offset = q; form = form } in
-        let same : this ≡ here = cc in
-        subst (IsInChain file at.page) same (record {
-          head = head;
-          is_head = is_head;
-          offsets = offsets;
-          fault = fault;
-          chain = chain;
-          there = there;
-          endian = refl;
-          fields = fields;
-        })
+    by_test : (test : Bool) → (n == pages) ≡ test → Proper ≡ (if test && (0 == 0) then Proper else Outside) → n ≡ pages
+    by_test true is e = grind (arith, nat_tests, is)
+    by_test false is e = absurd cc
 
-    over : (head : Header) → header file ≡ Ok head → (offsets : List ℕ) (fault : Option FileFault) → IsChain head file offsets fault
-        → (found : Option ℕ) → slice_get offsets at.page ≡ found → Ok here ≡ page_over head.endian file offsets fault at found
-        → IsInChain file at.page here
-    over head is_head offsets fault chain None there e = absurd cc
-    over head is_head offsets fault chain (Some q) there e =
-        of_form head is_head offsets fault chain q there (page head.endian file q) refl e
+-- the proper end is after the last page of the chain, which has no fault
+pub proper_after : (file : List ℕ) (n : ℕ) → IsPageAt file (record { page = n; row = 0 }) (Err Proper)
+    → (its : IsChained file (record { page = n; row = 0 }) (Err Proper)) × (its.fault ≡ None) × (n ≡ length its.offsets)
+proper_after file n there = elim (chained file (record { page = n; row = 0 }) (Err Proper) there) [
+  | inl (fault, is_head, e) ↦ absurd cc
+  | inr its ↦ elim (over_end its.head.endian file its.offsets its.fault (record { page = n; row = 0 }) Proper (slice_get its.offsets n) its.found_is) [
+    | inl (refused, is) ↦ absurd cc
+    | inr (none, is) ↦ let past = proper_past n (length its.offsets) its.fault is in (its, past.0, past.1)
+  ]
+]
 
-    under : (answer : Result Header FileFault) → header file ≡ answer → IsPageUnder file at answer (Ok here)
-        → IsInChain file at.page here
-    under (Err fault) is_head e = absurd cc
-    under (Ok head) is_head (offsets, fault, chain, e) = over head is_head offsets fault chain (slice_get offsets at.page) refl e
+-- a file has one chain
+pub one_chain : FilesHaveOneChain → (file : List ℕ) {at other : Cursor} {found there : Result FilePage End} → (its : IsChained file at found)
+    → (others : IsChained file other there) → its.offsets ≡ others.offsets
+one_chain chains file its others =
+    let both : ◌≡◌ {A = Result Header FileFault} (Ok others.head) (Ok its.head) = sym others.is_head ∙ its.is_head in
+    let heads : others.head ≡ its.head = cc in
+    let one = chains its.head file in
+    (one.one its.offsets its.fault its.chain).0
+    ∙ sym (one.one others.offsets others.fault (rw heads at others.chain)).0
 
 module _ (chains : FilesHaveOneChain) (file : List ℕ) where
   page_under : (at : Cursor) (answer : Result Header FileFault) → IsOneAnswer (IsPageUnder file at answer)
@@ -161,54 +202,32 @@ abbrev pub EndsDue : ℕ → End → Type 0
 EndsDue p end = (end ≡ Proper) ⊎ ((cause : Cause) × (end ≡ Fault p 0 cause))
 
 module _ (chains : FilesHaveOneChain) (file : List ℕ) (p : ℕ) (due : IsDue file p) (end : End) where
-  in_due : (head : Header) → header file ≡ Ok head → (offsets : List ℕ) (fault : Option FileFault) → IsChain head file offsets fault
-      → p ≤ length offsets
-  in_due head is_head offsets fault chain = elim due [
+  in_due : (its : IsChained file (record { page = p; row = 0 }) (Err end)) → p ≤ length its.offsets
+  in_due its = elim due [
     | inl none ↦ omega (arith, none)
     | inr (at, here, page, next) ↦
         let found = in_chain file at here page in
-        let both : ◌≡◌ {A = Result Header FileFault} (Ok found.head) (Ok head) = sym found.is_head ∙ is_head in
-        let heads : found.head ≡ head = cc in
-        let one = chains head file in
-        let same : found.offsets ≡ offsets =
-        (one.one found.offsets found.fault (subst (λ (h : Header). IsChain h file found.offsets found.fault) heads found.chain)).0
-        ∙ sym (one.one offsets fault chain).0 in
-        omega (arith, next, slice_get_within found.offsets at.page here.offset found.there, ap (λ (l : List ℕ). length l) same)
+        let within = slice_get_within found.its.offsets at.page here.offset found.there in
+        omega (arith, next, within, ap (λ (l : List ℕ). length l) (one_chain chains file found.its its))
   ]
-
-  no_fields : (endian : Endian) (q : ℕ) (answer : Result PageForm FileFault) → ◌≡◌ {A = Result FilePage End} (Err end)
-      (page_or_end endian q p answer) → EndsDue p end
-  no_fields endian q (Ok form) e = absurd cc
-  no_fields endian q (Err refused) e = inr (File refused, cc)
 
   past : (pages : ℕ) → pages ≡ p → (fault : Option FileFault) → end ≡ end_past_chain pages fault (record { page = p; row = 0 })
       → EndsDue p end
   past pages all (Some met) e = inr (File met, e ∙ ap (λ (n : ℕ). Fault n 0 (File met)) all)
   past pages all None e = let test : (p == pages) ≡ true = grind (arith, nat_tests, all) in inl (rw test at e)
 
-  over : (head : Header) (offsets : List ℕ) (fault : Option FileFault) → p ≤ length offsets → (found : Option ℕ)
-      → slice_get offsets p ≡ found → ◌≡◌ {A = Result FilePage End} (Err end) (page_over head.endian file offsets fault (record { page = p; row = 0 }) found)
-      → EndsDue p end
-  over head offsets fault within (Some q) there e = no_fields head.endian q (page head.endian file q) e
-  over head offsets fault within None there e =
-      let few = none_past offsets p there in
-      let end_is : end ≡ end_past_chain (length offsets) fault (record { page = p; row = 0 }) = cc in
-      past (length offsets) (omega (arith, few, within)) fault end_is
-
-  under : (answer : Result Header FileFault) → header file ≡ answer → IsPageUnder file (record { page = p; row = 0 }) answer (Err end)
-      → EndsDue p end
-  under (Err met) is_head e = elim due [
-    | inl none ↦ let end_is : end ≡ Fault 0 0 (File met) = cc in inr (File met, rw none end_is)
-    | inr (at, here, page, next) ↦
-        let found = in_chain file at here page in
-        let both : ◌≡◌ {A = Result Header FileFault} (Err met) (Ok found.head) = sym is_head ∙ found.is_head in
-        absurd cc
-  ]
-  under (Ok head) is_head (offsets, fault, chain, e) =
-      over head offsets fault (in_due head is_head offsets fault chain) (slice_get offsets p) refl e
-
   pub end_due : IsPageAt file (record { page = p; row = 0 }) (Err end) → EndsDue p end
-  end_due there = under (header file) refl there
+  end_due there = elim (chained file (record { page = p; row = 0 }) (Err end) there) [
+    | inl (met, is_head, e) ↦ elim due [
+      | inl none ↦ let end_is : end ≡ Fault 0 0 (File met) = cc in inr (File met, rw none end_is)
+      | inr (at, here, stands, next) ↦ let found = in_chain file at here stands in absurd (cc (found.its.is_head, is_head))
+    ]
+    | inr its ↦ elim (over_end its.head.endian file its.offsets its.fault (record { page = p; row = 0 }) end (slice_get its.offsets p)
+        its.found_is) [
+          | inl (refused, is) ↦ inr (File refused, is)
+          | inr (none, is) ↦ past (length its.offsets) (omega (arith, none_past its.offsets p none, in_due its)) its.fault is
+        ]
+  ]
 
 -- the pages after a directory that stands in the chain
 module _ (file : List ℕ) (head : Header) (is_head : header file ≡ Ok head) (offsets : List ℕ) (fault : Option FileFault)
@@ -223,36 +242,27 @@ module _ (file : List ℕ) (head : Header) (is_head : header file ≡ Ok head) (
       → IsPageAt file at (page_or_end head.endian q at.page (page head.endian file q))
   some_page at q later e = rw (first_dropped at.page offsets, e) at (page_here at)
 
-  form_first : (p q : ℕ) → IsPageAt file (record { page = p; row = 0 }) (page_or_end head.endian q p (page head.endian file q))
-      → IsListed (IsForm file) (p + 1) → (answer : Result PageForm FileFault) → page head.endian file q ≡ answer → IsListed (IsForm file) p
-  form_first p q here more (Err refused) is =
-      record { items = []; end = Fault p 0 (File refused); is = (Err (Fault p 0 (File refused)), rw is at here, refl) }
-  form_first p q here more (Ok form) is = record {
-    items = record { page = p; form = form } ∷ more.items;
-    end = more.end;
-    is = (p + 1, (Ok (record { endian = head.endian; offset = q; form = form }), rw is at here, refl), more.is);
-  }
-
-  -- from each page on there are forms, up to the chain's end
-  forms_after : (later : List ℕ) (p : ℕ) → drop p offsets ≡ later → IsListed (IsForm file) p
-  forms_after [] p e =
-      let at : Cursor = record { page = p; row = 0 } in
-      let none = end_past_chain (length offsets) fault at in
-      record { items = []; end = none; is = (Err none, no_page at e, refl) }
-  forms_after (q ∷ later) p e =
-      form_first p q (some_page (record { page = p; row = 0 }) q later e) (forms_after later (p + 1) (next_dropped p offsets q later e))
-      (page head.endian file q) refl
-
 module _ (chains : FilesHaveOneChain) (file : List ℕ) where
-  forms_listed : (p : ℕ) (answer : Result Header FileFault) → header file ≡ answer → IsListed (IsForm file) p
-  forms_listed p (Err fault) e =
-      record { items = []; end = Fault 0 0 (File fault); is = (Err (Fault 0 0 (File fault)), rw (e, IsPageAt) refl, refl) }
-  forms_listed p (Ok head) e =
-      let chain = chains head file in
-      forms_after file head e chain.offsets chain.end chain.is (drop p chain.offsets) p refl
+  -- a page's number is below that of the file's bytes
+  pub page_few : (at : Cursor) (here : FilePage) → IsPageAt file at (Ok here) → at.page < length file
+  page_few at here is =
+      let found = in_chain file at here is in
+      let one = chains found.its.head file in
+      let counts = ap (λ (l : List ℕ). length l) (one.one found.its.offsets found.its.fault found.its.chain).0 in
+      omega (arith, slice_get_within found.its.offsets at.page here.offset found.there, counts, one.few)
+
+  form_falls : (p : ℕ) (item : FormItem) (to : ℕ) → IsForm file p (goes_on item to) → length file - to < length file - p
+  form_falls p item to (Err none, page, e) = absurd cc
+  form_falls p item to (Ok here, page, e) =
+      let few = page_few (record { page = p; row = 0 }) here page in
+      let same = (step_parts item _ to (p + 1) e).1 in
+      omega (arith, few, same)
+
+  forms_listed : (p : ℕ) → IsListed (IsForm file) p
+  forms_listed = listed_by (IsForm file) (one_form chains file) (λ p. length file - p) form_falls
 
 pub one_forms : FilesHaveOneChain → FilesHaveOneForms
-one_forms chains file = one_list (IsForm file) (one_form chains file) 0 (forms_listed chains file 0 (header file) refl)
+one_forms chains file = one_list (IsForm file) (one_form chains file) 0 (forms_listed chains file 0)
 
 -- the page that a reader of pages begins with
 abbrev first_form : Cursor → PageForm → Result ℕ End
@@ -277,7 +287,7 @@ one_form_tail chains file at =
       one = λ others other tail. rw (only tail.0 tail.1) at tail.2;
     }
     by_begin (Ok p) is only =
-        let all = one_list (IsForm file) (one_form chains file) p (forms_listed chains file p (header file) refl) in
+        let all = one_list (IsForm file) (one_form chains file) p (forms_listed chains file p) in
         record {
           items = all.items;
           end = all.end;
@@ -307,19 +317,14 @@ module _ (file : List ℕ) where
       → slice_get forms n ≡ Some item
       → item.page ≡ p + n
   stand_by_number [] p n item end are there = absurd cc
-  stand_by_number (x ∷ forms) p zero item end (to, step, rest) there =
-      let same : x ≡ item = cc in
-      let none : p ≡ p + 0 = omega arith in
-      ap (λ (i : FormItem). i.page) (sym same) ∙ (form_page p x to step).0 ∙ none
+  stand_by_number (x ∷ forms) p zero item end (to, step, rest) there = grind (arith, form_page)
   stand_by_number (x ∷ forms) p (suc n) item end (to, step, rest) there =
       let here = form_page p x to step in
       let later = stand_by_number forms to n item end rest there in
       omega (arith, later, here.1)
 
 pub forms_stand_by_number : FormsStandByNumber
-forms_stand_by_number file forms end n item are there =
-    let none : 0 + n ≡ n = omega arith in
-    stand_by_number file forms 0 n item end are there ∙ none
+forms_stand_by_number file forms end n item are there = grind (arith, stand_by_number)
 
 pub form_tail_of_start : FormTailOfStart
 form_tail_of_start file forms end = (to_forms file 0 forms end, of_forms file 0 forms end)

@@ -16,7 +16,7 @@ use Rattle.fax_walk.specs.code.Pages.{EndsNow}
 use Rattle.fax_walk.specs.views.InOrder.{EndsAfter, HasEndedAs, HasToldNoOther}
 use Rattle.fax_walk.specs.declared.end.End.TheVariants.{Fault, Outside, Proper}
 use Rattle.fax_walk.specs.declared.end.WalkFault.{WalkFault}
-use Rattle.fax_walk.specs.declared.end.WalkFault.TheVariants.{AtRow, CursorOutside}
+use Rattle.fax_walk.specs.declared.end.WalkFault.TheVariants.{CursorOutside}
 use Rattle.fax_walk.specs.code.Walk.{answer_of}
 use Rattle.fax_walk.specs.views.Pages.{IsCursorOf, PagesView, HandsOutPage, IsNextPage}
 use Rattle.fax_walk.specs.laws.Forms.{AreFormsLeft}
@@ -190,6 +190,5 @@ ended_properly old new Outside more ended is = absurd cc
 pub ended_so : (old new : PagesView) (end : End) (fault : WalkFault) → HasEndedAs IsFormTail old end new → Err fault ≡ answer_of end
     → IsNextPage old (Err fault) new
 ended_so old new Proper fault ended is = absurd cc
-ended_so old new (Fault page row cause) fault ended is =
-    let same : fault ≡ AtRow page row cause = cc in rw same ended
+ended_so old new (Fault page row cause) fault ended is = grind arith
 ended_so old new Outside fault ended is = let same : fault ≡ CursorOutside = cc in rw same ended

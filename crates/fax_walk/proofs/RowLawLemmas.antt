@@ -1,12 +1,12 @@
 -- What a walk begins with has one tail and one end.
-use Rattle.std.proofs.Common.{◌≡◌, ℕ, zero, suc, ◌+◌, ◌*◌, ◌<◌, ◌≤◌, ◌⊎◌, inl, inr, Bool, true, false, List, [], ◌∷◌, map, length, drop}
-use Rattle.std.proofs.Common.{subst, Option, Some, None, Result, Ok, Err, refl, sym, ap, ◌∙◌, arith, length-drop}
+use Rattle.std.proofs.Common.{◌≡◌, ℕ, ◌+◌, ◌*◌, ◌<◌, ◌≤◌, ◌⊎◌, inl, inr, Bool, true, false, List, [], ◌∷◌, map, length, drop}
+use Rattle.std.proofs.Common.{Option, Some, None, Result, Ok, Err, refl, sym, ap, ◌∙◌, arith, length-drop}
 use Rattle.std.proofs.lemmas.Bool.{cases_eq, cases_lt}
 use Rattle.std.proofs.lemmas.Slice.Eq.{bytes_eq-Decides}
 use Rattle.std.specs.Bool.{Decides}
 use Rattle.std.specs.Str.{bytes_eq}
 use Rattle.std.proofs.lemmas.Bool.Decides.{nat_tests}
-use Rattle.std.specs.Prelude.{if◌then◌else◌, nat_lt, ◌==◌}
+use Rattle.std.specs.Prelude.{if◌then◌else◌}
 use Rattle.fax_bits.specs.declared.Colour.{Colour}
 use Rattle.fax_bits.specs.declared.Colour.TheVariants.{White, Black}
 use Rattle.fax_bits.specs.Bits.{bits}
@@ -17,20 +17,18 @@ use Rattle.fax_page.specs.declared.StripForm.{StripForm}
 use Rattle.fax_page.specs.declared.StripFault.{StripFault}
 use Rattle.fax_page.specs.Lines.{IsLine, IsCause}
 use Rattle.fax_page.specs.laws.Strips.{ReadsLinesOneWay}
-use Rattle.fax_files.specs.declared.FileFault.{FileFault}
-use Rattle.fax_files.specs.declared.FileFault.TheVariants.{StripOutside}
-use Rattle.fax_files.specs.declared.Cause.TheVariants.{File, Strip}
+use Rattle.fax_files.specs.declared.Cause.TheVariants.{Strip}
 use Rattle.fax_files.specs.declared.PageForm.{PageForm}
-use Rattle.fax_files.specs.Directory.{Header, header, IsChain}
 use Rattle.fax_files.specs.Page.{page, strip_form, strip_bytes}
-use Rattle.fax_files.specs.laws.Files.{FilesHaveOneChain}
+use Rattle.fax_files.specs.laws.Files.{FilesHaveOneChain, FormsAreWhole, IsWholeForm}
+use Rattle.std.proofs.Common.{◌-◌}
 use Rattle.fax_walk.specs.declared.begun.Begun.{Begun}
 use Rattle.fax_walk.specs.declared.begun.Begun.TheVariants.{At, Inside}
 use Rattle.fax_walk.specs.declared.end.End.{End}
 use Rattle.fax_walk.specs.declared.end.End.TheVariants.{Fault, Outside}
 use Rattle.fax_walk.specs.Pages.{LongPlace}
-use Rattle.fax_walk.specs.Pages.{FilePage, IsPageAt}
-use Rattle.fax_walk.specs.Items.{RowItem, Inner, RowPlace, first_at, exchanged}
+use Rattle.fax_walk.specs.Pages.{Cursor, FilePage, IsPageAt}
+use Rattle.fax_walk.specs.Items.{RowItem, RowPlace, first_at, exchanged}
 use Rattle.fax_walk.specs.code.Places.{strip_at, row_in_strip}
 use Rattle.fax_walk.specs.Items.{before, IsInStrip, IsRow}
 use Rattle.fax_walk.specs.Items.{place_after}
@@ -40,8 +38,8 @@ use Rattle.fax_walk.specs.code.Places.{FitsStrip}
 use Rattle.fax_walk.specs.code.Places.{cursor_at}
 use Rattle.fax_walk.specs.laws.Tails.{BeginningsHaveOneTail}
 use Rattle.fax_bits.specs.laws.Codes.{IsOne}
-use Rattle.fax_walk.proofs.InOrderLemmas.{IsOneAnswer, IsListed, one_list}
-use Rattle.fax_walk.proofs.PageLawLemmas.{one_on_page, no_page, some_page, next_dropped}
+use Rattle.fax_walk.proofs.InOrderLemmas.{IsOneAnswer, IsListed, listed_by, one_list, same_answer}
+use Rattle.fax_walk.proofs.PageLawLemmas.{in_chain, one_on_page, one_page, page_few}
 use Rattle.fax_walk.specs.Pages.{Step, goes_on, ends_as}
 
 abbrev pub LinesAreRead : Type 0
@@ -64,11 +62,7 @@ exchanged_twice form row = by_exchange form.exchanged row
 same_items : (item another : RowItem) → item.page ≡ another.page → item.form ≡ another.form → item.row ≡ another.row → item.pels ≡ another.pels
     → item.bits ≡ another.bits
     → item ≡ another
-same_items item another pages forms rows pels bits =
-    ap (λ (p : ℕ). record item { page = p }) pages ∙ ap (λ (f : PageForm). record item { page = another.page; form = f }) forms
-    ∙ ap (λ (r : ℕ). record item { page = another.page; form = another.form; row = r }) rows
-    ∙ ap (λ (l : List Colour). record item { page = another.page; form = another.form; row = another.row; pels = l }) pels
-    ∙ ap (λ (n : ℕ). record another { bits = n }) bits
+same_items item another pages forms rows pels bits = grind arith
 
 -- as many bits stand before one rest
 one_place : AreBitsByPlace → (order : FillOrder) (bytes : List ℕ) (n m : ℕ) → n ≤ 8 * length bytes → m ≤ 8 * length bytes
@@ -139,13 +133,7 @@ module _ (by_place : AreBitsByPlace) (lines_read : LinesAreRead) where
     in_bytes = by_line ((lines_read strip i reference).line.answer_or_fault b)
 
   pub one_in_strip : (form : PageForm) (at : RowPlace) (found : Option (List ℕ)) → IsOneAnswer (IsInStrip form at found)
-  one_in_strip form at None =
-      record {
-        it = ends_as (Fault at.page (strip_at form at.row * form.rows_per_strip) (File StripOutside));
-        is = refl;
-        one =
-            λ other same. same;
-      }
+  one_in_strip form at None = grind arith
   one_in_strip form at (Some bytes) = let only = in_bytes form at bytes in record { it = only.it; is = only.is; one = only.one }
 
   module _ (chains : FilesHaveOneChain) (file : List ℕ) where
@@ -155,13 +143,6 @@ module _ (by_place : AreBitsByPlace) (lines_read : LinesAreRead) where
         (λ here. IsInStrip here.form at (strip_bytes here.endian file here.offset (strip_at here.form at.row))) ends_as
         (λ here. one_in_strip here.form at (strip_bytes here.endian file here.offset (strip_at here.form at.row))) in
         record { it = only.it; is = only.is; one = only.one }
-
--- what the row at a place is, and what is after it
-pub step_of : (form : PageForm) (at : RowPlace) (found : Option (List ℕ)) (item : RowItem) (to : RowPlace)
-    → IsInStrip form at found (goes_on item to)
-    → (item.page ≡ at.page) × (item.row ≡ at.row) × (to ≡ place_after item) × (item.form ≡ form)
-step_of form at None item to is = absurd cc
-step_of form at (Some bytes) item to is = (is.0, is.1, is.4, is.5)
 
 -- the place inside its strip after an item
 abbrev pub inner_after : PageForm → RowItem → RowPlace
@@ -176,81 +157,69 @@ IsAfter form item to =
     ⊎ ((item.row + 1 < form.rows) × (0 < row_in_strip form (item.row + 1)) × (to ≡ inner_after form item))
 
 pub cases_after : (form : PageForm) (item : RowItem) → item.form ≡ form → IsAfter form item (place_after item)
-cases_after form item same = subst (λ (f : PageForm). IsAfter f item (place_after item)) same (elim (cases_lt (item.row + 1) item.form.rows) [
-  | inl less ↦
-      let test : nat_lt (item.row + 1) item.form.rows ≡ true = grind (arith, nat_tests, less) in
-      elim (cases_lt 0 (row_in_strip item.form (item.row + 1))) [
-        | inl some ↦
-            let first : (row_in_strip item.form (item.row + 1) == 0) ≡ false = grind (arith, nat_tests, some) in
-            inr (inr (less, some, rw (test, first) refl))
-        | inr none ↦
-            let zero_is : row_in_strip item.form (item.row + 1) ≡ 0 = omega (arith, none) in
-            let first : (row_in_strip item.form (item.row + 1) == 0) ≡ true = grind (arith, nat_tests, zero_is) in
-            inr (inl (less, zero_is, rw (test, first) refl))
-      ]
-  | inr more ↦
-      let test : nat_lt (item.row + 1) item.form.rows ≡ false = grind (arith, nat_tests, more) in
-      inl (more, rw test refl)
-])
+cases_after form item same = grind (arith, cases_lt, nat_tests)
 
-module _ (by_place : AreBitsByPlace) (lines_read : LinesAreRead) (file : List ℕ) (head : Header) (is_head : header file ≡ Ok head)
-    (offsets : List ℕ) (fault : Option FileFault) (chain : IsChain head file offsets fault) where
-  abbrev Listed : RowPlace → Type 0
-  Listed at = IsListed (IsRow file) at
+module _ (file : List ℕ) where
+  -- the row that was read, on its page and in its strip
+  pub record IsRead (at : RowPlace) (item : RowItem) (to : RowPlace) : Type 0 where
+    pub here : FilePage
+    pub page : IsPageAt file (cursor_at at) (Ok here)
+    pub bytes : List ℕ
+    pub bytes_are : strip_bytes here.endian file here.offset (strip_at here.form at.row) ≡ Some bytes
+    pub is : IsInStrip here.form at (Some bytes) (goes_on item to)
 
-  abbrev in_strip : ℕ → PageForm → RowPlace → Step RowItem RowPlace → Type 0
-  in_strip q form at = IsInStrip form at (strip_bytes head.endian file q (strip_at form at.row))
+  in_its_strip : (at : RowPlace) (item : RowItem) (to : RowPlace) (here : FilePage) → IsPageAt file (cursor_at at) (Ok here)
+      → (found : Option (List ℕ))
+      → strip_bytes here.endian file here.offset (strip_at here.form at.row) ≡ found → IsInStrip here.form at found (goes_on item to)
+      → IsRead at item to
+  in_its_strip at item to here page None e is = absurd cc
+  in_its_strip at item to here page (Some bytes) e is = grind arith
 
-  module _ (q : ℕ) (form : PageForm) (at : RowPlace) (here : IsPageAt file (cursor_at at)
-      (Ok (record { endian = head.endian; offset = q; form = form }))) where
-    row_after : (item : RowItem) → item.page ≡ at.page → item.row ≡ at.row → item.form ≡ form
-        → ((inner : Option Inner) → at.row + 1 < form.rows → Listed (record { page = at.page; row = at.row + 1; inner = inner }))
-        → Listed (first_at (at.page + 1) 0) → Listed (place_after item)
-    row_after item same_page same_row same_form next more = elim (cases_after form item same_form) [
-      | inl (last, is) ↦ rw (is, same_page) more
-      | inr (inl (less, first, is)) ↦ rw (is, same_page, same_row) (next None (omega (arith, less, same_row)))
-      | inr (inr (less, inside, is)) ↦
-          rw (is, same_page, same_row) (next (Some (record { bits = item.bits; reference = exchanged form item.pels }))
-          (omega (arith, less, same_row)))
-    ]
+  pub read_at : (at : RowPlace) (item : RowItem) (to : RowPlace) → IsRow file at (goes_on item to) → IsRead at item to
+  read_at at item to (Err end, page, e) = absurd cc
+  read_at at item to (Ok here, page, is) = grind (arith, in_its_strip)
 
-    listed_row : (answer : Step RowItem RowPlace) → in_strip q form at answer
-        → ((inner : Option Inner) → at.row + 1 < form.rows → Listed (record { page = at.page; row = at.row + 1; inner = inner }))
-        → Listed (first_at (at.page + 1) 0) → Listed at
-    listed_row (ends_as end) is next more = record { items = []; end = end; is = (Ok _, here, is) }
-    listed_row (goes_on item to) is next more =
-        let step = step_of form at _ item to is in
-        let rest : Listed to = rw step.2 (row_after item step.0 step.1 step.3 next more) in
-        record { items = item ∷ rest.items; end = rest.end; is = (to, (Ok _, here, is), rest.is) }
+  -- a page is the same for each of its rows
+  pub any_row : (at : Cursor) (r : ℕ) (here : FilePage) → IsPageAt file at (Ok here)
+      → IsPageAt file (record { page = at.page; row = r }) (Ok here)
+  any_row at r here is = grind (arith, in_chain)
 
-  rows_on : (fuel q : ℕ) (form : PageForm) (later : List ℕ) (at : RowPlace) → drop at.page offsets ≡ q ∷ later
-      → page head.endian file q ≡ Ok form
-      → form.rows ≤ at.row + fuel → Listed (first_at (at.page + 1) 0) → Listed at
-  rows_on zero q form later at e is enough more =
-      let only = one_in_strip by_place lines_read form at (strip_bytes head.endian file q (strip_at form at.row)) in
-      let here = rw is at (some_page file head is_head offsets fault chain (cursor_at at) q later e) in
-      listed_row q form at here only.it only.is (λ inner less. absurd (omega (arith, less, enough))) more
-  rows_on (suc fuel) q form later at e is enough more =
-      let only = one_in_strip by_place lines_read form at (strip_bytes head.endian file q (strip_at form at.row)) in
-      let here = rw is at (some_page file head is_head offsets fault chain (cursor_at at) q later e) in
-      listed_row q form at here only.it only.is
-      (λ inner less. rows_on fuel q form later (record { page = at.page; row = at.row + 1; inner = inner }) e is (omega (arith, enough))
-      more) more
+  pub whole_page : FormsAreWhole → (at : Cursor) (here : FilePage) → IsPageAt file at (Ok here) → IsWholeForm here.form
+  whole_page forms at here is = forms here.endian file here.offset here.form (in_chain file at here is).fields
 
-  on_page : (q : ℕ) (later : List ℕ) (at : RowPlace) → drop at.page offsets ≡ q ∷ later → (answer : Result PageForm FileFault)
-      → page head.endian file q ≡ answer
-      → Listed (first_at (at.page + 1) 0) → Listed at
-  on_page q later at e (Err refused) is more =
-      let here = rw is at (some_page file head is_head offsets fault chain (cursor_at at) q later e) in
-      record { items = []; end = Fault at.page 0 (File refused); is = (Err _, here, refl) }
-  on_page q later at e (Ok form) is more = rows_on form.rows q form later at e is (omega arith) more
+  -- so is that of a row that was read
+  pub its_page : (at : RowPlace) (item : RowItem) (to : RowPlace) (read : IsRead at item to) (r : ℕ)
+      → IsPageAt file (record { page = item.page; row = r }) (Ok read.here)
+  its_page at item to read r = rw read.is.0 (any_row (cursor_at at) r read.here read.page)
 
-  -- from each place on there are items, up to an end
-  pub rows_from : (later : List ℕ) (at : RowPlace) → drop at.page offsets ≡ later → Listed at
-  rows_from [] at e = record { items = []; end = _; is = (Err _, no_page file head is_head offsets fault chain (cursor_at at) e, refl) }
-  rows_from (q ∷ later) at e =
-      on_page q later at e (page head.endian file q) refl (rows_from later (first_at (at.page + 1) 0)
-      (next_dropped at.page offsets q later e))
+  pub same_page : FilesHaveOneChain → (at : Cursor) (here there : FilePage) → IsPageAt file at (Ok here) → IsPageAt file at (Ok there)
+      → here ≡ there
+  same_page chains at here there is is_too = let same = same_answer (one_page chains file at) (Ok here) (Ok there) is is_too in cc
+
+  -- what holds of the place after a row that was read: on the page after, at the next strip, or inside the strip
+  pub after_read : (holds : RowPlace → Type 0) (at : RowPlace) (item : RowItem) (to : RowPlace) (read : IsRead at item to)
+      → (read.here.form.rows ≤ item.row + 1 → holds (first_at (item.page + 1) 0))
+      → (item.row + 1 < read.here.form.rows → row_in_strip read.here.form (item.row + 1) ≡ 0 → holds (first_at item.page (item.row + 1)))
+      → (item.row + 1 < read.here.form.rows → 0 < row_in_strip read.here.form (item.row + 1) → holds (inner_after read.here.form item))
+      → holds to
+  after_read holds at item to read past first inside = grind (arith, cases_after)
+
+-- from each place on there are items, up to an end
+module _ (by_place : AreBitsByPlace) (lines_read : LinesAreRead) (chains : FilesHaveOneChain) (forms : FormsAreWhole) (file : List ℕ) where
+  -- more than the rows that are left
+  abbrev measure : RowPlace → ℕ
+  measure at = (length file - at.page) * 1000001 + (1000000 - at.row)
+
+  row_falls : (at : RowPlace) (item : RowItem) (to : RowPlace) → IsRow file at (goes_on item to) → measure to < measure at
+  row_falls at item to step =
+      let read = read_at file at item to step in
+      let few = page_few chains file (cursor_at at) read.here read.page in
+      let rows = (whole_page file forms (cursor_at at) read.here read.page).rows in
+      after_read file (λ t. measure t < measure at) at item to read (λ last. omega (arith, few, read.is.0))
+      (λ within first. omega (arith, within, rows, read.is.0, read.is.1)) (λ within some. omega (arith, within, rows, read.is.0, read.is.1))
+
+  pub rows_listed : (at : RowPlace) → IsListed (IsRow file) at
+  rows_listed = listed_by (IsRow file) (one_row by_place lines_read chains file) measure row_falls
 
 same_list : (xs ys : List ℕ) → (xs ≡ ys) ⊎ (xs ≡ ys → ⊥)
 same_list xs ys = by_test (bytes_eq xs ys) (bytes_eq-Decides xs ys)
@@ -302,22 +271,14 @@ module _ (file : List ℕ) (here : FilePage) where
   one_on (At at) = record { it = _; is = refl; one = λ other same. same }
   one_on (Inside place) = let only = by_inner place (inner_or_not place) in record { it = only.it; is = only.is; one = only.one }
 
-module _ (by_place : AreBitsByPlace) (lines_read : LinesAreRead) (chains : FilesHaveOneChain) (file : List ℕ) where
-  pub rows_listed : (at : RowPlace) (answer : Result Header FileFault) → header file ≡ answer → IsListed (IsRow file) at
-  rows_listed at (Err fault) e =
-      record { items = []; end = Fault 0 0 (File fault); is = (Err (Fault 0 0 (File fault)), rw (e, IsPageAt) refl, refl) }
-  rows_listed at (Ok head) e =
-      let chain = chains head file in
-      rows_from by_place lines_read file head e chain.offsets chain.end chain.is (drop at.page chain.offsets) at refl
-
 -- a walk begins in one way
 pub one_beginning : FilesHaveOneChain → (file : List ℕ) (begun : Begun) → IsOneAnswer (Begins file begun)
 one_beginning chains file begun =
     let only = one_on_page chains file (begun_cursor begun) (IsBegunOn file begun) Err (λ here. one_on file here begun) in
     record { it = only.it; is = only.is; one = only.one }
 
-pub one_tail_from : AreBitsByPlace → LinesAreRead → FilesHaveOneChain → BeginningsHaveOneTail
-one_tail_from by_place lines_read chains file begun =
+pub one_tail_from : AreBitsByPlace → LinesAreRead → FilesHaveOneChain → FormsAreWhole → BeginningsHaveOneTail
+one_tail_from by_place lines_read chains forms file begun =
     let only = one_beginning chains file begun in by_begin only.it only.is only.one
   where
     by_begin : (begin : Result (RowPlace × ℕ) End) → Begins file begun begin
@@ -329,7 +290,7 @@ one_tail_from by_place lines_read chains file begun =
       one = λ others other tail. rw (only tail.0 tail.1) at tail.2;
     }
     by_begin (Ok (at, n)) is only =
-        let listed = rows_listed by_place lines_read chains file at (header file) refl in
+        let listed = rows_listed by_place lines_read chains forms file at in
         let all = one_list (IsRow file) (one_row by_place lines_read chains file) at listed in
         record {
           items = drop n all.items;

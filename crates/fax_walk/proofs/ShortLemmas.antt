@@ -1,33 +1,22 @@
 -- Cursors after items have numbers of 32 bits.
-use Rattle.std.proofs.Common.{◌≡◌, ℕ, ◌+◌, ◌^◌, ◌<◌, true, false, List, [], ◌∷◌, length, drop, Ok}
+use Rattle.std.proofs.Common.{◌≡◌, ℕ, ◌+◌, ◌^◌, ◌<◌, true, false, List, [], ◌∷◌, length, drop}
 use Rattle.std.proofs.Common.{sym, ap, ◌∙◌, subst, arith}
 use Rattle.std.specs.Prelude.{if◌then◌else◌}
 use Rattle.std.specs.List.{All}
 use Rattle.std.proofs.lemmas.Bool.Decides.{nat_tests}
 use Rattle.std.proofs.lemmas.List.Elements.{All-cons, All-nil}
-use Rattle.std.proofs.lemmas.Option.{slice_get_within}
 use Rattle.fax_bits.specs.declared.Colour.{Colour}
 use Rattle.fax_bits.specs.declared.Colour.TheVariants.{White}
 use Rattle.fax_rows.specs.Rows.{other, runs_after, runs_of, same_colour}
 use Rattle.fax_files.specs.laws.Files.{FilesHaveOneChain, FormsAreWhole}
-use Rattle.fax_walk.specs.declared.cursor.Cursor.{Cursor}
 use Rattle.fax_walk.specs.Pages.{IsLongCursor}
-use Rattle.fax_walk.specs.Pages.{FilePage, IsPageAt}
 use Rattle.fax_walk.specs.Items.{exchanged}
 use Rattle.fax_walk.specs.laws.Cursors.{CursorsAreShort, PlacesAreShort}
-use Rattle.fax_walk.proofs.PageLawLemmas.{in_chain}
+use Rattle.fax_walk.proofs.PageLawLemmas.{page_few}
+use Rattle.fax_walk.proofs.RowLawLemmas.{whole_page}
 use Rattle.fax_walk.proofs.TailLawLemmas.{facts, here_from, inner, long_of, pels_are, read, split_at_number}
 use Rattle.fax_walk.proofs.RowLawLemmas.{LinesAreRead}
-use Rattle.fax_walk.proofs.TailLawLemmas.{this, whole_page}
-
--- a page's number is below that of the file's bytes
-module _ (chains : FilesHaveOneChain) (file : List ℕ) where
-  page_few : (at : Cursor) (here : FilePage) → IsPageAt file at (Ok here) → at.page < length file
-  page_few at here is =
-      let found = in_chain file at here is in
-      let one = chains found.head file in
-      let counts = ap (λ (l : List ℕ). length l) (one.one found.offsets found.fault found.chain).0 in
-      omega (arith, slice_get_within found.offsets at.page here.offset found.there, counts, one.few)
+use Rattle.fax_walk.proofs.TailLawLemmas.{this}
 
 -- the longest runs of pels are no longer than all of them
 runs_short : (colour : Colour) (n most : ℕ) (pels : List Colour) → n + length pels < most
@@ -58,8 +47,8 @@ cursors_are_short forms chains file begun all end n item short reached tail ther
     let split = split_at_number file begun all end n item tail there in
     let row = read forms chains file begun reached item (drop (n + 1) all) end split in
     let from = here_from forms chains file begun reached item (drop (n + 1) all) end split row.here row.page in
-    let whole = whole_page file forms (record { page = split.at.page; row = split.at.row }) row.here row.page in
-    let few = page_few chains file (record { page = split.at.page; row = split.at.row }) row.here row.page in
+    let whole = whole_page file forms (record { page = split.row.at.page; row = split.row.at.row }) row.here row.page in
+    let few = page_few chains file (record { page = split.row.at.page; row = split.row.at.row }) row.here row.page in
     record {
       page = omega (arith, few, short, row.is.0);
       row = omega (arith, from.row, whole.rows, row.is.1);
@@ -71,8 +60,8 @@ places_are_short lines_read forms chains file begun all end n item place short t
     let split = split_at_number file begun all end n item tail there in
     let row = this forms chains file lines_read begun item after end split place long in
     let fact = facts forms chains file lines_read begun item after end split place long in
-    let whole = whole_page file forms (record { page = split.at.page; row = split.at.row }) row.here row.page in
-    let few = page_few chains file (record { page = split.at.page; row = split.at.row }) row.here row.page in
+    let whole = whole_page file forms (record { page = split.row.at.page; row = split.row.at.row }) row.here row.page in
+    let few = page_few chains file (record { page = split.row.at.page; row = split.row.at.row }) row.here row.page in
     let wide : length (exchanged row.here.form item.pels) ≡ row.here.form.width =
     ap (λ (l : List Colour). length l) (sym (pels_are forms chains file lines_read begun item after end split place long))
     ∙ (inner forms chains file lines_read begun item after end split place long).1 in

@@ -27,8 +27,7 @@ use Rattle.fax_walk.specs.code.Places.{strip_at}
 use Rattle.fax_walk.specs.code.Sources.{ArePaged, AreRowsOn, pels_of}
 use Rattle.fax_walk.specs.laws.InOrder.{LeadTo}
 use Rattle.fax_walk.proofs.InOrderLemmas.{IsOneAnswer, ended_at, one_from, same_answer, same_step}
-use Rattle.fax_walk.proofs.RowLawLemmas.{LinesAreRead, one_in_strip, one_row, cases_after}
-use Rattle.fax_walk.proofs.TailLawLemmas.{any_row, whole_page}
+use Rattle.fax_walk.proofs.RowLawLemmas.{any_row, whole_page, LinesAreRead, one_in_strip, one_row, cases_after}
 
 exchanged_length : (form : PageForm) (row : List Colour) → length (exchanged form row) ≡ length row
 exchanged_length form row =

@@ -58,6 +58,4 @@ counted form i reference b (row ∷ rows) end left lines =
 -- how many rows a strip has
 pub strip_count : (form : StripForm) (b : List Bool) (rows : List (List Colour)) (end : Option StripFault) → IsStrip form b rows end
     → IsCount end (length rows) form.rows
-strip_count form b rows end strip =
-    let n : 0 + length rows ≡ length rows = omega arith in
-    subst (λ (k : ℕ). IsCount end k form.rows) n (counted form 0 _ b rows end strip.left strip.lines)
+strip_count form b rows end strip = grind (arith, counted)

@@ -5,8 +5,7 @@ use Rattle.std.proofs.lemmas.Bool.{cases_lt}
 use Rattle.std.specs.Prelude.{slice_get}
 use Rattle.fax_bits.specs.declared.Colour.{Colour}
 use Rattle.fax_bits.specs.laws.Codes.{AreBitsByPlace}
-use Rattle.fax_files.specs.Directory.{header}
-use Rattle.fax_files.specs.laws.Files.{FilesHaveOneChain}
+use Rattle.fax_files.specs.laws.Files.{FilesHaveOneChain, FormsAreWhole}
 use Rattle.fax_files.specs.declared.PageForm.{PageForm}
 use Rattle.fax_files.specs.views.Tiff.{TiffDirectory}
 use Rattle.fax_walk.specs.declared.begun.Begun.{Begun}
@@ -22,7 +21,7 @@ use Rattle.fax_walk.specs.Pages.{LongPlace}
 use Rattle.fax_walk.specs.views.Walk.{AreRead, dropped, EndsBefore, EntersPage, IsCursorOf, IsItemNumber, IsLongOf, row_limit}
 use Rattle.fax_walk.specs.laws.Left.{IsLeft}
 use Rattle.fax_walk.specs.views.Walk.{WalkView}
-use Rattle.fax_walk.specs.Items.{IsRow, IsTailFrom, RowItem, RowPlace, begun_cursor, cursor_after, first_at, long_after, long_at, place_after}
+use Rattle.fax_walk.specs.Items.{IsRow, IsTailFrom, RowItem, RowPlace, begun_cursor, cursor_after, long_after, long_at, place_after}
 use Rattle.fax_walk.specs.code.Places.{cursor_at}
 use Rattle.fax_walk.specs.laws.Tails.{BeginningsHaveOneTail}
 use Rattle.fax_walk.specs.code.Stages.{GivesNone, GivesRow, IsOpen, IsOpenedAt, PageState, place_of, row_of, skipped}
@@ -33,31 +32,12 @@ use Rattle.fax_walk.proofs.LeftLemmas.{left_after, left_ended}
 use Rattle.fax_walk.proofs.InOrderLemmas.{IsListed, joined, leads_both, number_dropped}
 use Rattle.fax_walk.proofs.OpenPageLemmas.{at_end}
 use Rattle.fax_walk.proofs.RowLawLemmas.{LinesAreRead, cases_after, rows_listed}
-use Rattle.fax_walk.specs.Pages.{ends_as}
 
 module _ (file : List ℕ) (begun : Begun) (given : ℕ) (cursor : Cursor) where
   -- the first page is open
   pub goes_first : (page : PageState) → (given ≡ 0) × (cursor ≡ begun_cursor begun) → IsOpenedFirst file begun page
       → GoesOnFrom file begun given cursor (Some page)
-  goes_first page (none, at_is) first =
-      let opened = first.from.opened in (
-        opened.is_open,
-        record {
-          file_is = opened.file_is;
-          come = record {
-            first = first.first;
-            dropped = first.dropped;
-            begins = first.begins;
-            items = [];
-            lead = opened.place_is;
-            count = sym opened.read_is;
-            total = omega (arith, opened.read_is, opened.skips, none);
-            none_left = λ some. absurd (omega (arith, some, none));
-          };
-          stands = inl (none, at_is);
-          named = λ some. first.from.named (omega (arith, some, opened.skips));
-        },
-      )
+  goes_first page (none, at_is) first = grind arith
 
   -- nothing is skipped on a page that is read to its end
   none_skipped : (old : PageState) → IsOpen old → row_of old ≡ old.form.rows → skipped old ≡ 0
@@ -66,26 +46,7 @@ module _ (file : List ℕ) (begun : Begun) (given : ℕ) (cursor : Cursor) where
   -- the next page is open
   pub goes_next : (old page : PageState) → GoesOnFrom file begun given cursor (Some old) → row_of old ≡ old.form.rows
       → IsOpenedAt old.directory.file (place_of old) 0 old.read page → GoesOnFrom file begun given cursor (Some page)
-  goes_next old page (is_open, reads) all opened =
-      let none = none_skipped old is_open all in
-      let come = reads.come in (
-        opened.is_open,
-        record {
-          file_is = opened.file_is ∙ reads.file_is;
-          come = record {
-            first = come.first;
-            dropped = come.dropped;
-            begins = come.begins;
-            items = come.items;
-            lead = subst (λ (t : RowPlace). LeadTo (IsRow file) come.first come.items t) (sym opened.place_is) come.lead;
-            count = come.count ∙ sym opened.read_is;
-            total = omega (arith, come.total, none, opened.read_is, opened.skips);
-            none_left = λ some. opened.skips;
-          };
-          stands = subst (λ (t : RowPlace). StandsAt file begun given cursor t) (sym opened.place_is) reads.stands;
-          named = λ some. absurd (omega (arith, some, opened.skips));
-        },
-      )
+  goes_next old page (is_open, reads) all opened = grind (arith, none_skipped)
 
   -- the page of the row that is due is open
   pub entered : (old : Option PageState) (page : PageState) → IsEntered file begun old (Ok tt) (Some page)
@@ -97,31 +58,17 @@ module _ (file : List ℕ) (begun : Begun) (given : ℕ) (cursor : Cursor) where
   pub refused : (old new : Option PageState) (end : End) → IsEntered file begun old (Err (Ended end)) new
       → GoesOnFrom file begun given cursor old → HasEndedOn file begun given cursor new end
   refused None new end (none, new_is) from = rw new_is (from.0, from.1, none)
-  refused (Some old) new end (all, stop, there, new_is) (is_open, reads) =
-      rw new_is (reads, rw (reads.file_is) at stop, inl (none_skipped old is_open all))
+  refused (Some old) new end (all, stop, there, new_is) (is_open, reads) = grind (arith, none_skipped)
 
   -- memory was refused for it
   at_page_end : (old : PageState) (last : IsAfterItem file begun given cursor (place_of old)) → row_of old ≡ old.form.rows
       → (last.item.row + 1 ≡ last.item.form.rows) × (old.page + 1 ≡ last.item.page + 1)
-  at_page_end old last all =
-      let within = last.within in
-      let next : first_at (old.page + 1) 0 ≡ place_after last.item =
-      sym (at_end old.form old.page (row_of old) _ all) ∙ last.to_is in
-      elim (cases_after last.item.form last.item refl) [
-        | inl (past, is) ↦ (omega (arith, past, within), ap (λ (t : RowPlace). t.page) (next ∙ is))
-        | inr (inl (less, first, is)) ↦ let rows = ap (λ (t : RowPlace). t.row) (next ∙ is) in absurd (omega (arith, rows))
-        | inr (inr (less, inside, is)) ↦ let rows = ap (λ (t : RowPlace). t.row) (next ∙ is) in absurd (omega (arith, rows))
-      ]
+  at_page_end old last all = grind (arith, at_end, cases_after)
 
   pub enters : (old new : Option PageState) → IsEntered file begun old (Err Memory) new → GoesOnFrom file begun given cursor old
       → EntersPage file begun given
   enters None new refused from = inl from.0
-  enters (Some old) new (all, refused, there, same) (is_open, reads) = elim reads.stands [
-    | inl none ↦ inl none.0
-    | inr last ↦
-        let (row, page) = at_page_end old last all in
-        inr (last.before, last.item, last.count, last.number, row, rw (reads.file_is, page) at there refl)
-  ]
+  enters (Some old) new (all, refused, there, same) (is_open, reads) = grind (arith, at_page_end)
 
   pub same_page : (old new : Option PageState) → IsEntered file begun old (Err Memory) new → new ≡ old
   same_page None new refused = refused.1
@@ -130,22 +77,20 @@ module _ (file : List ℕ) (begun : Begun) (given : ℕ) (cursor : Cursor) where
 -- no page was entered
 pub refused_next : (file : List ℕ) (begun : Begun) (old new : Option PageState) (fault : OpenFault)
     → IsEntered file begun old (Err fault) new → IsReadNext file begun old (Err fault) new
-refused_next file begun old new Memory is =
-    (same_page file begun 0 (begun_cursor begun) old new is, λ given cursor from. enters file begun given cursor old new is from)
+refused_next file begun old new Memory is = grind arith
 refused_next file begun old new (Ended end) is = λ given cursor from. refused file begun given cursor old new end is from
 
 -- the same, where the walk goes on from a page that it had open at first, or that has a row which is due
 pub refused_later : (file : List ℕ) (begun : Begun) (first on new : Option PageState) (fault : OpenFault)
     → IsEntered file begun on (Err fault) new → (on ≡ first) ⊎ IsDueOn on → IsReadNext file begun first (Err fault) new
-refused_later file begun first on new fault is (inl same) =
-    subst (λ (p : Option PageState). IsReadNext file begun p (Err fault) new) same (refused_next file begun on new fault is)
+refused_later file begun first on new fault is (inl same) = grind (arith, refused_next)
 refused_later file begun first None new fault is (inr due) = absurd due
 refused_later file begun first (Some on) new fault is (inr due) = absurd (omega (arith, is.0, due))
 
-module _ (by_place : AreBitsByPlace) (lines_read : LinesAreRead) (chains : FilesHaveOneChain) (file : List ℕ) (begun : Begun) (given : ℕ)
-    (cursor : Cursor) where
+module _ (by_place : AreBitsByPlace) (lines_read : LinesAreRead) (chains : FilesHaveOneChain) (forms : FormsAreWhole) (file : List ℕ)
+    (begun : Begun) (given : ℕ) (cursor : Cursor) where
   listed : (at : RowPlace) → IsListed (IsRow file) at
-  listed at = rows_listed by_place lines_read chains file at (header file) refl
+  listed at = rows_listed by_place lines_read chains forms file at
 
   -- the next row that is handed out is read
   module _ (old new : PageState) (reads : HasReadTo file begun given cursor old) (gives : GivesRow old new) where
@@ -156,8 +101,7 @@ module _ (by_place : AreBitsByPlace) (lines_read : LinesAreRead) (chains : Files
     all = come.items ++ gives.items
 
     lead : LeadTo (IsRow file) come.first all (place_of new)
-    lead = leads_both (IsRow file) come.first (place_of old) come.items gives.items (place_of new) come.lead
-        (subst (λ (f : List ℕ). LeadTo (IsRow f) (place_of old) gives.items (place_of new)) reads.file_is gives.lead)
+    lead = grind (arith, leads_both)
 
     front_count : length (come.items ++ gives.front) ≡ come.dropped + given
     front_count = length-append come.items gives.front ∙ omega (arith, come.count, come.total, gives.count)
@@ -184,9 +128,7 @@ module _ (by_place : AreBitsByPlace) (lines_read : LinesAreRead) (chains : Files
     none_left = omega (arith, gives.next_row, gives.same.first)
 
     all_count : length all ≡ new.read
-    all_count =
-        let one = ap (λ (l : List RowItem). length l) gives.items_are ∙ length-append gives.front (gives.item ∷ []) in
-        length-append come.items gives.items ∙ omega (arith, come.count, one, gives.count, gives.read)
+    all_count = grind (arith, length-append)
 
     last : IsAfterItem file begun (given + 1) (cursor_on new) (place_of new)
     last = record {
@@ -247,8 +189,7 @@ module _ (file : List ℕ) (begun : Begun) (given : ℕ) (cursor : Cursor) (old 
   left = omega (arith, none.skips.rows, none.skips.few, none.skips.same.first)
 
   ended_lead : LeadTo (IsRow file) come_so_far.first (come_so_far.items ++ items) (place_of new)
-  ended_lead = leads_both (IsRow file) come_so_far.first (place_of old) come_so_far.items items (place_of new) come_so_far.lead
-      (subst (λ (f : List ℕ). LeadTo (IsRow f) (place_of old) items (place_of new)) reads.file_is none.skips.lead)
+  ended_lead = grind (arith, leads_both)
 
   no_items : (is : List RowItem) → length is ≡ 0 → LeadTo (IsRow old.directory.file) (place_of old) is (place_of new) → place_of new ≡
       place_of old
@@ -257,41 +198,13 @@ module _ (file : List ℕ) (begun : Begun) (given : ℕ) (cursor : Cursor) (old 
 
   still_stands : StandsAt file begun given cursor (place_of old) → StandsAt file begun given cursor (place_of new)
   still_stands (inl first) = inl first
-  still_stands (inr last) =
-      let nothing = come_so_far.none_left (omega (arith, last.count)) in
-      let same = no_items items (omega (arith, left, nothing)) none.skips.lead in
-      inr (subst (λ (t : RowPlace). IsAfterItem file begun given cursor t) (sym same) last)
+  still_stands (inr last) = grind (arith, no_items, left)
 
   named_on : 0 < skipped new → (new.page ≡ (begun_cursor begun).page) × (new.first ≡ (begun_cursor begun).row)
-  named_on some =
-      let named = reads.named (omega (arith, some, left)) in
-      (none.skips.same.page ∙ named.0, none.skips.same.first ∙ named.1)
+  named_on some = grind (arith, left)
 
   pub ended_on : HasEndedOn file begun given cursor (Some new) end
-  ended_on = (
-    record {
-      file_is = ap (λ (d : TiffDirectory). d.file) none.skips.same.directory ∙ reads.file_is;
-      come = record {
-        first = come_so_far.first;
-        dropped = come_so_far.dropped;
-        begins = come_so_far.begins;
-        items = come_so_far.items ++ items;
-        lead = ended_lead;
-        count = length-append come_so_far.items items ∙ omega (arith, come_so_far.count, none.skips.read);
-        total = omega (arith, come_so_far.total, none.skips.read, left);
-        none_left = λ some. let nothing = come_so_far.none_left some in omega (arith, left, nothing);
-      };
-      stands = still_stands reads.stands;
-      named = named_on;
-    },
-    subst (λ (f : List ℕ). IsRow f (place_of new) (ends_as end)) reads.file_is none.stop,
-    elim (cases_lt 0 (skipped new)) [
-      | inl some ↦
-          let named = named_on some in
-          inr (rw (none.told.1) (named.0, omega (arith, some, named.1)))
-      | inr nothing ↦ inl (omega (arith, nothing))
-    ],
-  )
+  ended_on = grind (arith, ended_lead, length-append, left, still_stands, named_on, cases_lt)
 
 -- what a walk that has ended tells
 module _ (file : List ℕ) (begun : Begun) (given : ℕ) (cursor : Cursor) where
@@ -338,46 +251,22 @@ module _ (walk : WalkView) (cursor : Cursor) (page : Option PageState) where
   stands_on (Some at) (Some end) sound = elim sound.0.stands [ inl first ↦ inl first | inr last ↦ inr (at, refl, last) ]
 
   pub cursor_is : Sound walk.told → IsCursorOf walk cursor
-  cursor_is sound = elim (stands_on page walk.told sound) [
-    | inl first ↦ inl first
-    | inr (at, is, last) ↦ inr (last.before, last.item, last.count, last.number, last.cursor_is)
-  ]
+  cursor_is sound = grind (arith, stands_on)
 
   -- the place inside a strip
   long_at_after : (item : RowItem) → long_at (cursor_at (place_after item)) (place_after item).inner ≡ long_after item
-  long_at_after item = elim (cases_after item.form item refl) [
-    | inl (last, is) ↦ rw is refl
-    | inr (inl (within, first, is)) ↦ rw is refl
-    | inr (inr (within, inside, is)) ↦ rw is refl
-  ]
+  long_at_after item = grind (arith, cases_after)
 
   pub long_is : Sound walk.told → 0 < walk.given → (at : PageState) → page ≡ Some at → (place : Option LongPlace)
       → place ≡ (let to = place_of at in long_at (cursor_at to) to.inner) → IsLongOf walk place
-  long_is sound some at page_is place place_is = elim (stands_on page walk.told sound) [
-    | inl first ↦ absurd (omega (arith, some, first.0))
-    | inr (on, is, last) ↦
-        let same : on ≡ at = cc in
-        let to : place_of at ≡ place_after last.item = ap place_of (sym same) ∙ last.to_is in
-        inr (
-          last.before,
-          last.item,
-          last.count,
-          last.number,
-          place_is ∙ ap (λ (t : RowPlace). long_at (cursor_at t) t.inner) to ∙ long_at_after last.item,
-        )
-  ]
+  long_is sound some at page_is place place_is = grind (arith, stands_on, long_at_after)
 
   -- how many rows were read
   read_on : (at : PageState) (told : Option End) → IsSound file begun walk.given cursor (Some at) told
       → HasReadTo file begun walk.given cursor at
       × ((end : End) → told ≡ Some end → (skipped at ≡ 0) ⊎ EndsBefore end (begun_cursor begun))
   read_on at None sound = (sound.0.1, λ end is. absurd cc)
-  read_on at (Some told) sound = (
-    sound.0,
-    λ end is.
-        let same : told ≡ end = cc in
-        subst (λ (e : End). (skipped at ≡ 0) ⊎ EndsBefore e (begun_cursor begun)) same sound.2,
-  )
+  read_on at (Some told) sound = grind arith
 
   pub are_read : (at : PageState) → page ≡ Some at → Sound walk.told → AreRead walk at.read
   are_read at page_is sound =
@@ -405,18 +294,7 @@ module _ (walk : WalkView) (cursor : Cursor) (page : Option PageState) where
         all = λ some. absurd (omega (arith, some, sound.0.0));
         told = λ end ends. absurd cc;
       }
-  none_read tails (Some told) is sound =
-      let none = sound.2.read in
-      record {
-        before = none.before;
-        are_before = none.are_before;
-        most = omega arith;
-        all = λ some. absurd (omega (arith, some, sound.0));
-        told = λ end ends. elim (none.told end (let same : told ≡ end = cc in ap (λ (e : End). Some e) same)) [
-          | inl nothing ↦ inl (omega (arith, nothing, sound.0))
-          | inr before ↦ inr before
-        ];
-      }
+  none_read tails (Some told) is sound = grind arith
 
   pub none_are_read : BeginningsHaveOneTail → page ≡ None → Sound walk.told → AreRead walk 0
   none_are_read tails page_is sound = none_read tails walk.told refl (rw page_is at sound)
@@ -456,24 +334,11 @@ ends_again walk cursor page end told sound = has_ended walk cursor page end (rw 
 pub ends_now : (walk : WalkView) (cursor : Cursor) (old new : Option PageState) (end : End) → walk.told ≡ None
     → IsSound walk.file walk.begun walk.given cursor old walk.told → IsReadNext walk.file walk.begun old (Err (Ended end)) new
     → HasEndedAs IsTailFrom walk end (record walk { told = Some end })
-ends_now walk cursor old new end untold sound next =
-    has_ended walk cursor new end (next walk.given cursor (rw untold at sound).0) (rw untold tt)
+ends_now walk cursor old new end untold sound next = grind (arith, has_ended)
 
 -- the row that a walk went to is lent with its place
 pub lent : (old walk : WalkView) (cursor : Cursor) (page : Option PageState) → IsAdvance old (Ok true) walk → (at : PageState)
     → page ≡ Some at → IsSound walk.file walk.begun walk.given cursor page walk.told → (row : List Colour) → row ≡ at.shown
     → (item : RowItem) × HandsOut IsTailFrom row_limit old item walk
     × ((item.page ≡ cursor.page) × (item.row ≡ cursor.row - 1) × (item.pels ≡ row))
-lent old walk cursor page (untold, few, new_is) at page_is sound row row_is =
-    let none : walk.told ≡ None = ap (λ (w : WalkView). w.told) new_is ∙ untold in
-    let given : walk.given ≡ old.given + 1 = ap (λ (w : WalkView). w.given) new_is in
-    let shown = (rw (none, page_is) at sound).1 in
-    let last = shown.last in
-    let before : last.before ≡ old.given = omega (arith, given, last.count) in
-    let files : walk.file ≡ old.file = ap (λ (w : WalkView). w.file) new_is in
-    let begins : walk.begun ≡ old.begun = ap (λ (w : WalkView). w.begun) new_is in
-    let rows : cursor.row ≡ last.item.row + 1 = ap (λ (c : Cursor). c.row) last.cursor_is in (
-      last.item,
-      record { untold = untold; number = rw (files, begins, before) at last.number; few = few; new_is = new_is },
-      (sym (ap (λ (c : Cursor). c.page) last.cursor_is), omega (arith, rows), shown.pels ∙ sym row_is),
-    )
+lent old walk cursor page (untold, few, new_is) at page_is sound row row_is = grind arith

@@ -140,6 +140,7 @@ fn go_on<'a>(
     fax_bits::laws::bits_stand_by_place();
     fax_page::laws::lines_are_read_in_one_way();
     fax_files::laws::files_have_one_chain();
+    fax_files::laws::forms_are_whole();
     'pages: loop {
         if let Some(open) = page {
             if open.next()? {

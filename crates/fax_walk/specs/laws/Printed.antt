@@ -59,12 +59,13 @@ ends_in (Err (AtRow page row cause) ∷ answers) = Fault page row cause ∷ ends
 ends_in (Err CursorOutside ∷ answers) = Outside ∷ ends_in answers
 ends_in (Err Memory ∷ answers) = ends_in answers
 
--- answers hand out these items, the first of them first: their rows are the first of the items, in
--- order; and each end among them is this one, told only where all the items are handed out
-pub record HandOut (answers : List Answer) (items : List RowItem) (end : End) : Type 0 where
-  pub rows : AllZip IsLent (rows_in answers) (take (length (rows_in answers)) items)
-  pub ends : All (λ told. told ≡ end) (ends_in answers)
-  pub all : 0 < length (ends_in answers) → length (rows_in answers) ≡ length items
+-- answers with these rows and ends hand out these items: the rows are the first of the items, in
+-- order; and each of the ends is this one, told only where all the items are handed out
+pub record HandOut (rows : List (Place × Bor (List Colour))) (ends : List End)
+    (items : List RowItem) (end : End) : Type 0 where
+  pub rows_are : AllZip IsLent rows (take (length rows) items)
+  pub ends_are : All (λ told. told ≡ end) ends
+  pub all : 0 < length ends → length rows ≡ length items
 
 -- a walk stands after the first n of these items: it began with what was printed after some of
 -- them, and handed out the others; and it has told this end, after all of them, or none
@@ -125,7 +126,8 @@ WalksHandOutTheRest =
     (answers : List Answer) (new : WalkView)
     → AreItems file items end → IsPrinted items n begun
     → AreAnswers (walk_from file begun) answers new
-    → HandOut answers (drop n items) end × StandsAfter items end (n + length (rows_in answers)) new
+    → HandOut (rows_in answers) (ends_in answers) (drop n items) end
+    × StandsAfter items end (n + length (rows_in answers)) new
 
 -- a walk that begins with what was printed after n items stands after them
 abbrev pub WalksBeginThere : Type 0
