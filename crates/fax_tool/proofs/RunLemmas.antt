@@ -16,7 +16,7 @@ use Rattle.fax_walk.specs.laws.Cursors.{CursorsAreShort, PlacesAreShort, TextsNa
 use Rattle.fax_walk.specs.laws.Tails.{BeginningsHaveOneTail, IsReached, LongTailsGoOn, PlacesAreReached, TailsGoOn}
 use Rattle.fax_walk.specs.Items.{RowItem as Item, IsTailFrom, begun_text, cursor_after, long_after}
 use Rattle.fax_tool.specs.Run.{AreRowLines}
-use Rattle.fax_tool.proofs.BeginLemmas.{begun_at}
+use Rattle.fax_tool.proofs.BeginLemmas.{begun_at, one_begun}
 use Rattle.fax_tool.specs.Text.{Line, Printed, named, next_after, next_line, text_of, end_text}
 use Rattle.fax_tool.specs.Text.{is_cut, line_of_row, texts_of, up_to}
 use Rattle.fax_tool.specs.laws.Runs.{AreAsOneRun, AreRunsOfRows, CutRunsAreReadOn, IsBegun, IsReadAfter, IsRunOfRows, MayBegin, RunsGoOn}
@@ -105,13 +105,6 @@ as_one_after long begun xs ys end first others rows last cut first_is all =
       error = λ no. all.error no ∙ ap (λ (b : Begun). (end_text (Some end) b).error) next;
       status = λ no. all.status no ∙ ap (λ (b : Begun). (end_text (Some end) b).status) next;
     }
-
--- what a run begins with has one text
-one_begun : TextsNameOne → (begun other : Begun) → IsBegun begun → IsBegun other → begun_text begun ≡ begun_text other → begun ≡ other
-one_begun names (At at) (At other) is is_too e = ap At (names.cursors at other is is_too e)
-one_begun names (At at) (Inside place) is is_too e = absurd (names.apart at place e)
-one_begun names (Inside place) (At at) is is_too e = absurd (names.apart at place (sym e))
-one_begun names (Inside place) (Inside other) is is_too e = ap Inside (names.places place other is is_too e)
 
 -- the text of `next` tells the text that stands in it
 same_text : (rows : List ℕ) (begun next : Begun) → rows ++ next_line begun ≡ rows ++ next_line next → begun_text begun ≡ begun_text next
