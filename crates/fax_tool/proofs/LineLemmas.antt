@@ -32,14 +32,14 @@ take_at [] n x e = absurd cc
 take_at (y ∷ xs) zero x e = let same : y ≡ x = cc in ap (λ i. i ∷ []) same
 take_at (y ∷ xs) (suc n) x e = let m : suc n + 1 ≡ suc (n + 1) = omega arith in rw m (ap (λ l. y ∷ l) (take_at xs n x e))
 
-next_after-push : (begun : Begun) (lines : List Line) (line : Line) → next_after begun (lines ++ line ∷ []) ≡ line.next
-next_after-push begun [] line = refl
-next_after-push begun (first ∷ lines) line = next_after-push first.next lines line
+pub next_after-append : (begun : Begun) (xs ys : List Line) → next_after begun (xs ++ ys) ≡ next_after (next_after begun xs) ys
+next_after-append begun [] ys = refl
+next_after-append begun (x ∷ xs) ys = next_after-append x.next xs ys
 
 -- what goes on after a line of some
 pub next_at : (begun : Begun) (lines : List Line) (n : ℕ) (line : Line) → slice_get lines n ≡ Some line
     → next_after begun (take (n + 1) lines) ≡ line.next
-next_at begun lines n line there = ap (next_after begun) (take_at lines n line there) ∙ next_after-push begun (take n lines) line
+next_at begun lines n line there = ap (next_after begun) (take_at lines n line there) ∙ next_after-append begun (take n lines) (line ∷ [])
 
 begins_if : (test : Bool) (place : LongPlace) (at : Cursor) → place.at ≡ at
     → begun_cursor (begun_at (if test then Some place else None) at) ≡ at

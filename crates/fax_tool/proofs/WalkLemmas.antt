@@ -248,48 +248,35 @@ module _ (name : Text) (items : List Item) (first : arg_by_index (rules_of items
       ∙ rw (no_end, no_long, form, none) (plain_idle word words idles (says_is items) p rows filed is at)
 
   -- a word of an option, where another one waits
-  unsettled_long : (item : Item) (rows : List Row) (o : Option Rule) (v : Option Text) (r : Option (List Row)) → IsOf items item
-      → is_option item ≡ true
-      → guard (long_fault (rules_of items) false o v (holding rows (Some (name_of item, [])))) r ≡ None
-  unsettled_long item rows None v r is takes = refl
-  unsettled_long item rows (Some a) v r is takes = go (takes_values a) v
-    where
-      none : (r : Option (List Row)) → guard (settle_fault (rules_of items) false (holding rows (Some (name_of item, [])))) r ≡ None
-      none r = unsettled name items item rows r is takes
+  module _ (item : Item) (rows : List Row) (is : IsOf items item) (takes : is_option item ≡ true) where
+    abbrev unfilled : Held
+    unfilled = holding rows (Some (name_of item, []))
 
-      react : (values : List Text) → guard (react_fault (rules_of items) false a values (holding rows (Some (name_of item, [])))) r ≡ None
-      react values = guard_twice (settle_fault (rules_of items) false (holding rows (Some (name_of item, [])))) _ r ∙ none _
+    reacts : (a : Rule) (values : List Text) (r : Option (List Row)) → guard (react_fault (rules_of items) false a values unfilled) r ≡ None
+    reacts a values r = guard_twice (settle_fault (rules_of items) false unfilled) _ r ∙ unsettled name items item rows _ is takes
 
-      go : (b : Bool) (v : Option Text)
-          → guard (cond b (option_fault (rules_of items) false a v (holding rows (Some (name_of item, []))))
-          (cond (is_some v) (TooManyValues ∷ []) (react_fault (rules_of items) false a [] (holding rows (Some (name_of item, [])))))) r
-          ≡ None
-      go true (Some v) = react (v ∷ [])
-      go true None = none r
-      go false (Some v) = refl
-      go false None = react []
+    unsettled_long : (o : Option Rule) (v : Option Text) (r : Option (List Row))
+        → guard (long_fault (rules_of items) false o v unfilled) r ≡ None
+    unsettled_long None v r = refl
+    unsettled_long (Some a) v r = go (takes_values a) v
+      where
+        go : (b : Bool) (v : Option Text) → guard (cond b (option_fault (rules_of items) false a v unfilled)
+            (cond (is_some v) (TooManyValues ∷ []) (react_fault (rules_of items) false a [] unfilled))) r ≡ None
+        go true (Some v) = reacts a (v ∷ []) r
+        go true None = unsettled name items item rows r is takes
+        go false (Some v) = refl
+        go false None = reacts a [] r
 
-  unsettled_short : (item : Item) (rows : List Row) (o : Option Rule) (rest : Text) (next : Held → Kinds) (r : Option (List Row))
-      → IsOf items item
-      → is_option item ≡ true
-      → guard (short_fault (rules_of items) false o rest (holding rows (Some (name_of item, []))) next) r ≡ None
-  unsettled_short item rows None rest next r is takes = refl
-  unsettled_short item rows (Some a) rest next r is takes = go (takes_values a) (attached_value rest)
-    where
-      none : (r : Option (List Row)) → guard (settle_fault (rules_of items) false (holding rows (Some (name_of item, [])))) r ≡ None
-      none r = unsettled name items item rows r is takes
-
-      react : (values : List Text) (r : Option (List Row))
-          → guard (react_fault (rules_of items) false a values (holding rows (Some (name_of item, [])))) r ≡ None
-      react values r = guard_twice (settle_fault (rules_of items) false (holding rows (Some (name_of item, [])))) _ r ∙ none _
-
-      go : (b : Bool) (v : Option Text)
-          → guard (cond b (option_fault (rules_of items) false a v (holding rows (Some (name_of item, []))))
-          (or_else (react_fault (rules_of items) false a [] (holding rows (Some (name_of item, []))))
-          (next (reacted (rules_of items) a [] (holding rows (Some (name_of item, []))))))) r ≡ None
-      go true (Some v) = react (v ∷ []) r
-      go true None = none r
-      go false v = guard_twice (react_fault (rules_of items) false a [] (holding rows (Some (name_of item, [])))) _ r ∙ react [] _
+    unsettled_short : (o : Option Rule) (rest : Text) (next : Held → Kinds) (r : Option (List Row))
+        → guard (short_fault (rules_of items) false o rest unfilled next) r ≡ None
+    unsettled_short None rest next r = refl
+    unsettled_short (Some a) rest next r = go (takes_values a) (attached_value rest)
+      where
+        go : (b : Bool) (v : Option Text) → guard (cond b (option_fault (rules_of items) false a v unfilled)
+            (or_else (react_fault (rules_of items) false a [] unfilled) (next (reacted (rules_of items) a [] unfilled)))) r ≡ None
+        go true (Some v) = reacts a (v ∷ []) r
+        go true None = unsettled name items item rows r is takes
+        go false v = guard_twice (react_fault (rules_of items) false a [] unfilled) _ r ∙ reacts a [] _
 
   -- `--`, where an option waits
   unsettled_trail : (item : Item) (rows : List Row) (waiting : Waiting) (filed : Bool) (words : List Text) → IsOf items item
@@ -330,11 +317,11 @@ module _ (name : Text) (items : List Item) (first : arg_by_index (rules_of items
   waits_step word words (as_long own v no_end form says_is not_plain) idles item rows filed is takes at =
       turn name items (stand rows (Some (name_of item, [])) (option (name_of item)) (place_of filed) false) word words
       ∙ guard_twice (word_fault (leaf name items) [] false (option (name_of item)) word (holding rows (Some (name_of item, [])))) _ _
-      ∙ rw (no_end, form, not_plain) (unsettled_long item rows (arg_by_long (rules_of items) own) v _ is takes)
+      ∙ rw (no_end, form, not_plain) (unsettled_long item rows is takes (arg_by_long (rules_of items) own) v _)
   waits_step word words (as_short b bs x no_end no_long form char says_is not_plain) idles item rows filed is takes at =
       turn name items (stand rows (Some (name_of item, [])) (option (name_of item)) (place_of filed) false) word words
       ∙ guard_twice (word_fault (leaf name items) [] false (option (name_of item)) word (holding rows (Some (name_of item, [])))) _ _
-      ∙ rw (no_end, no_long, form, char, not_plain) (unsettled_short item rows (arg_by_short (rules_of items) x) _ _ _ is takes)
+      ∙ rw (no_end, no_long, form, char, not_plain) (unsettled_short item rows is takes (arg_by_short (rules_of items) x) _ _ _)
   waits_step word words (as_plain no_end no_long (inl none) says_is plain) idles item rows filed is takes at =
       turn name items (stand rows (Some (name_of item, [])) (option (name_of item)) (place_of filed) false) word words
       ∙ rw (no_end, no_long, none, plain) (value_run item rows word words filed is takes
