@@ -1,11 +1,14 @@
 -- What a part begins with, as the text of a cursor or of a long cursor names it.
-use Rattle.std.proofs.Common.{◌≡◌, ◌⊎◌, inl, inr, refl, ap, Option, Some, None}
+use Rattle.std.proofs.Common.{◌≡◌, ◌⊎◌, inl, inr, refl, ap, sym, Option, Some, None}
 use Rattle.std.specs.Prelude.{MatchOption}
 use Rattle.std.specs.Option.{option_map_or}
 use Rattle.fax_walk.specs.Items.{begun_cursor, begun_text}
 use Rattle.fax_walk.specs.Pages.{LongPlace, cursor_text, long_cursor_text, start}
 use Rattle.fax_tool.specs.Grammar.{Text}
 use Rattle.fax_tool.specs.Text.{At, Begun, Cursor, Inside}
+use Rattle.fax_walk.specs.views.Walk.{begun_place}
+use Rattle.fax_walk.specs.laws.Cursors.{TextsNameOne}
+use Rattle.fax_tool.specs.laws.Runs.{IsBegun}
 
 -- what a run begins with: the place inside a strip, where there is one, else the cursor
 abbrev pub begun_at : Option LongPlace → Cursor → Begun
@@ -35,19 +38,14 @@ begins_by (Some text) at from (inl (is, none)) = rw none (is, refl)
 begins_by None at from (inr inside) = absurd inside
 begins_by (Some text) at from (inr (place, is, at_is, from_is)) = rw from_is (is, at_is)
 
-pub named_by : (o : Option Text) (at : Cursor) (from : Option LongPlace) → Begins o at from → BeginsAt o at from ⊎ BeginsInside o at from
-named_by None at None (is, same) = inl (cc, refl)
-named_by None at (Some place) (is, same) = absurd cc
-named_by (Some text) at None (is, same) = inl (is, refl)
-named_by (Some text) at (Some place) (is, same) = inr (place, is, same, refl)
+-- the place inside a strip of what is begun so
+pub inside_of : (place : Option LongPlace) (at : Cursor) → begun_place (begun_at place at) ≡ place
+inside_of None at = refl
+inside_of (Some place) at = refl
 
-no_place : (o : Option Text) (at : Cursor) (from : Option LongPlace) → from ≡ None → BeginsInside o at from → ⊥
-no_place None at from none inside = inside
-no_place (Some text) at from none (place, is, at_is, from_is) = cc
-
--- a part with no place inside a strip
-pub at_cursor : (o : Option Text) (at : Cursor) (from : Option LongPlace) → from ≡ None → Begins o at from → BeginsAt o at from
-at_cursor o at from none begins = elim (named_by o at from begins) [
-  | inl named ↦ named
-  | inr inside ↦ absurd (no_place o at from none inside)
-]
+-- what a run begins with has one text
+pub one_begun : TextsNameOne → (begun other : Begun) → IsBegun begun → IsBegun other → begun_text begun ≡ begun_text other → begun ≡ other
+one_begun names (At at) (At other) is is_too e = ap At (names.cursors at other is is_too e)
+one_begun names (At at) (Inside place) is is_too e = absurd (names.apart at place e)
+one_begun names (Inside place) (At at) is is_too e = absurd (names.apart at place (sym e))
+one_begun names (Inside place) (Inside other) is is_too e = ap Inside (names.places place other is is_too e)

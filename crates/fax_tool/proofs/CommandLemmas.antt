@@ -1,6 +1,7 @@
 -- How commands end, by what was read and what was written.
 use Rattle.std.proofs.Common.{◌≡◌, ◌≢◌, ℕ, ◌≤◌, List, [], inl, refl, arith, ◌∙◌, sym}
 use Rattle.std.specs.Prelude.{Option, Some, None, IfSome, IfOk, IfErr, OnOk, Result, Ok, Err}
+use Rattle.std.specs.Io.KnownBytes.{Appends}
 use Rattle.std.proofs.KnownBytes.{Appends-nil}
 use Rattle.fax_walk.specs.declared.begun.Begun.{Begun}
 use Rattle.fax_walk.specs.declared.begun.Begun.TheVariants.{At}
@@ -12,14 +13,14 @@ use Rattle.fax_tool.specs.declared.refusal.Refusal.TheVariants.{Memory, Read, Wr
 use Rattle.fax_tool.specs.declared.words.Command.{Command}
 use Rattle.fax_tool.specs.declared.words.Command.TheVariants.{List as Forms, Rows}
 use Rattle.fax_tool.specs.declared.words.Part.{Part}
-use Rattle.fax_tool.specs.Run.{Counts, Input, Output, AreRowLines, HasReason, HasWorked, IsRead}
+use Rattle.fax_tool.specs.Run.{Counts, Input, Output, HasReason, HasWorked, IsRead}
 use Rattle.fax_tool.specs.Run.{IsTextAfterMemory, IsTextOf, IsTextOfFirst, begun_of}
 use Rattle.fax_tool.specs.Streams.{input_after, output_after}
 use Rattle.fax_tool.specs.Text.{Line, Printed, next_line}
 use Rattle.fax_tool.specs.code.Outcome.{HasPrintReason, HasReadReason, IsDone, IsStopped, StopsAtBeginning, StopsPrinting, StopsWith}
-use Rattle.fax_tool.specs.code.Outcome.{WritesOutput}
+use Rattle.fax_tool.specs.code.Outcome.{WritesOutput, error_of, status_of}
 use Rattle.fax_tool.specs.code.Transfers.{IsGivenInPart}
-use Rattle.fax_tool.proofs.LineLemmas.{one_pages, row_lines}
+use Rattle.fax_tool.proofs.LineLemmas.{one_pages, one_rows}
 use Rattle.fax_tool.proofs.StopLemmas.{NoText, leaves_more, of_some_file, stops_in_part}
 use Rattle.fax_tool.proofs.TextLemmas.{first_text}
 
@@ -94,9 +95,8 @@ pub rows_unread : BeginningsHaveOneTail → (part : Part) (refusal : Refusal) (b
     → IsStopped (Rows part) refusal (input_after bytes taken counts) output
 rows_unread tails part refusal bytes taken counts output stops =
     stopped_first (Rows part) bytes taken counts output (next_line (At (begun_cursor (begun_of part)))) refusal (λ file text is.
-    let one = tails file (begun_of part) in
-    let lines = row_lines file (begun_of part) one.items one.end one.is in
-    of_none (AreRowLines file (begun_of part)) part.max (begun_of part) (lines.0, one.end, lines.1) text is) stops
+    let one = one_rows file tails (begun_of part) in
+    of_none _ part.max (begun_of part) (one.items, one.end, one.is) text is) stops
 
 -- the part's beginning was refused
 pub rows_unbegun : BeginningsHaveOneTail → (part : Part) (refusal : Refusal) (bytes : Option (List ℕ)) (taken : ℕ) (counts : Counts)
@@ -141,3 +141,14 @@ text_stopped command bytes taken counts file old new given printed refusal same 
     command_stops command bytes taken counts (output_after old new given) file same read refusal
     (stops_in_part (IsTextOf command file) (IsTextAfterMemory command file) old new printed.output given refusal (inl
     (printed, is, refl)) part)
+
+-- a text was given whole
+pub text_done : (command : Command) (bytes : Option (List ℕ)) (taken : ℕ) (counts : Counts) (file : List ℕ) (old new : Option (List ℕ))
+    (given : Counts) (printed : Printed) (line : Option (List ℕ)) → IfSome bytes (λ b. file ≡ b) → IsRead (input_after bytes taken counts)
+    → IsTextOf command file printed → Appends old new printed.output → HasWorked given → printed.error ≡ error_of line
+    → printed.status ≡ status_of line → IsDone command (input_after bytes taken counts) (output_after old new given) line
+text_done command bytes taken counts file old new given printed line same read is moved worked error status = record {
+  read = read;
+  written = worked;
+  writes = (file, same, record { printed = printed; is = is; output_is = moved; error_is = error; status_is = status });
+}

@@ -14,10 +14,10 @@ use Rattle.clap.specs.Values.{read_as}
 use Rattle.clap.specs.Walk.{Row, first_of, has_row, reading_by, row_text, with_default}
 use Rattle.clap.proofs.OnLiterals.{clap_on_literals}
 use Rattle.fax_files.specs.Page.{most_rows}
-use Rattle.fax_tool.specs.Grammar.{AreSpelled, IsNumberText, IsSpelled, Item, Text, Use, commands, file, flag, letter, most_lines}
-use Rattle.fax_tool.specs.Grammar.{name_of, number, text}
+use Rattle.clap.proofs.WalkLemmas.{both}
+use Rattle.fax_tool.specs.Grammar.{AreSpelled, IsNumberText, IsSpelled, Item, Text, Use, commands, flag, most_lines}
+use Rattle.fax_tool.specs.Grammar.{name_of, number}
 use Rattle.fax_tool.specs.code.Entries.{HasEntries, HasFlag, HasNumber}
-use Rattle.fax_tool.proofs.GrammarLemmas.{both_parts}
 use Rattle.fax_tool.proofs.RuleLemmas.{items_at, rule_of, rules_of}
 use Rattle.fax_tool.proofs.UseLemmas.{row_of}
 use Rattle.fax_tool.proofs.RowLemmas.{default_row, filled_rows, flag_default, is_flag, same_either}
@@ -40,11 +40,8 @@ number_as_it_is most (x ∷ xs) is = go (x == 45) refl
 -- the text of a use is read as it is written
 read_as_written : (item : Item) (value : Text) (words : List Text) → IsSpelled item value words
     → read_as (reading_by (rule_of item)) value ≡ value
-read_as_written (text own) value words is = refl
 read_as_written (number own most) value words is = number_as_it_is most value is.1
-read_as_written (letter x) value words is = refl
-read_as_written (flag own) value words is = refl
-read_as_written file value words is = refl
+read_as_written item value words is = refl
 
 as_it_is : (f : Text → Text) (o : Option Text) → ((t : Text) → o ≡ Some t → f t ≡ t) → option_map f o ≡ o
 as_it_is f None same = refl
@@ -93,15 +90,12 @@ module _ (name : Text) (holds : Text → Type 0) where
 
   -- and those of what was left out
   good_default : (item : Item) → Fits item → (rows : List Row) → AreGood rows → AreGood (with_default rows (rule_of item))
-  good_default (text own) fits rows all = subst AreGood (sym (same_either (has_row own rows) rows)) all
-  good_default (number own most) fits rows all = subst AreGood (sym (same_either (has_row own rows) rows)) all
-  good_default (letter x) fits rows all = subst AreGood (sym (same_either (has_row (x ∷ []) rows) rows)) all
-  good_default file fits rows all = subst AreGood (sym (same_either (has_row (codes "FILE") rows) rows)) all
   good_default (flag own) fits rows all = subst AreGood (sym (flag_default own rows)) (go (has_row own rows))
     where
       go : (b : Bool) → AreGood (cond b rows (rows ++ default_row own ∷ []))
       go true = all
       go false = good_more rows (default_row own) all (good (default_row own) (codes "false") refl refl (λ named. (fits named).1 named))
+  good_default item fits rows all = subst AreGood (sym (same_either (has_row (name_of item) rows) rows)) all
 
   good_defaults : (items : List Item) → All Fits items → (rows : List Row) → AreGood rows → AreGood (fold with_default rows (rules_of items))
   good_defaults [] fits rows all = all
@@ -129,7 +123,7 @@ module _ (name : Text) (holds : Text → Type 0) where
       → list_all (λ item. is_kind item || not (bytes_eq (name_of item) name)) items ≡ true → All Fits items
   fitting is_kind fits [] all = All-nil Fits
   fitting is_kind fits (item ∷ items) all =
-      let parts = both_parts (is_kind item || not (bytes_eq (name_of item) name)) _ all in
+      let parts = both (is_kind item || not (bytes_eq (name_of item) name)) _ all in
       All-cons Fits item items (go (is_kind item) (bytes_eq (name_of item) name) refl refl parts.0) (fitting is_kind fits items parts.1)
     where
       go : (kind named : Bool) → is_kind item ≡ kind → bytes_eq (name_of item) name ≡ named → (kind || not named) ≡ true → Fits item
@@ -162,10 +156,7 @@ number_entry items name most kinds no_file uses words are =
     fits (number own m) kind = λ named.
         let same : m ≡ most = grind (arith, nat_tests) in
         (λ value words spelled. subst (λ m. IsNumberText m value) same spelled.1, λ flag. cc)
-    fits (text own) kind = cc
-    fits (letter x) kind = cc
-    fits (flag own) kind = cc
-    fits file kind = cc
+    fits item kind = cc
 
 abbrev is_any_flag : Item → Bool
 is_any_flag (flag own) = true
@@ -184,10 +175,7 @@ flag_entry items name kinds no_file uses words are =
 
     fits : (item : Item) → is_any_flag item ≡ true → Fits name IsFlagText item
     fits (flag own) kind = λ named. (λ value words spelled. inl spelled.1, λ flag. inr refl)
-    fits (text own) kind = cc
-    fits (number own m) kind = cc
-    fits (letter x) kind = cc
-    fits file kind = cc
+    fits item kind = cc
 
     go : (o : Option Text) → ForSome o IsFlagText → (o ≡ None) ⊎ (o ≡ Some (codes "true")) ⊎ (o ≡ Some (codes "false"))
     go None is = inl refl

@@ -7,11 +7,11 @@ use Rattle.std.proofs.lemmas.List.Elements.{All-cons, All-nil}
 use Rattle.std.proofs.lemmas.Bool.Decides.{nat_tests}
 use Rattle.std.proofs.lemmas.Str.{IsUtf8-from_ascii}
 use Rattle.std.proofs.lemmas.Str.Ascii.{IsAscii-from_all}
+use Rattle.clap.proofs.WalkLemmas.{both}
 use Rattle.fax_tool.specs.Grammar.{Text, Use, text_in}
 use Rattle.fax_tool.specs.Job.{Given}
 use Rattle.fax_tool.specs.code.Scan.{read}
 use Rattle.fax_tool.specs.laws.Examples.{AreNotTaken, AreRead, Gives, GivesNothing, words_of}
-use Rattle.fax_tool.proofs.GrammarLemmas.{both_parts}
 use Rattle.fax_tool.proofs.ShapeLemmas.{read_is_of_command}
 use Rattle.fax_tool.proofs.SpellLemmas.{unread_is_no_command}
 
@@ -22,14 +22,14 @@ is_ascii = list_all (λ b. nat_lt b 128)
 ascii_bytes : (word : Text) → is_ascii word ≡ true → All (λ b. b < 128) word
 ascii_bytes [] ascii = All-nil (λ b. b < 128)
 ascii_bytes (b ∷ bs) ascii =
-    let of = both_parts (nat_lt b 128) (is_ascii bs) ascii in
+    let of = both (nat_lt b 128) (is_ascii bs) ascii in
     let test = of.0 in
     All-cons (λ b. b < 128) b bs (grind (arith, nat_tests)) (ascii_bytes bs of.1)
 
 all_utf8 : (words : List Text) → list_all is_ascii words ≡ true → All IsUtf8 words
 all_utf8 [] ascii = All-nil IsUtf8
 all_utf8 (word ∷ words) ascii =
-    let of = both_parts (is_ascii word) (list_all is_ascii words) ascii in
+    let of = both (is_ascii word) (list_all is_ascii words) ascii in
     All-cons IsUtf8 word words (IsUtf8-from_ascii word (IsAscii-from_all word (ascii_bytes word of.0))) (all_utf8 words of.1)
 
 -- what is read of a line is what it gives

@@ -1,13 +1,12 @@
 -- What a getter of texts reads of the entries.
-use Rattle.std.proofs.Common.{◌≡◌, ◌∙◌, ap, codes, refl, sym, Bool, true, false, Option, Some, None, Result, Ok, Err}
+use Rattle.std.proofs.Common.{◌≡◌, ◌∙◌, ap, codes, refl, sym, Option, Some, None, Result, Ok, Err}
 use Rattle.std.specs.Prelude.{◌≢◌, IfErr, OnErr, option_map}
 use Rattle.std.specs.Result.{IsErrAnd}
 use Rattle.fax_walk.specs.declared.long_cursor.LongFault.{LongFault}
 use Rattle.fax_walk.specs.declared.long_cursor.LongFault.TheVariants.{NotACursor as NoLongCursor}
 use Rattle.fax_tool.specs.declared.words.WordsFault.{WordsFault}
 use Rattle.fax_tool.specs.declared.words.WordsFault.TheVariants.{NotACursor, Usage}
-use Rattle.std.specs.Str.{bytes_eq}
-use Rattle.std.proofs.lemmas.Slice.Eq.{bytes_eq-Decides}
+use Rattle.fax_tool.proofs.GrammarLemmas.{names_differ}
 use Rattle.fax_tool.specs.Job.{target_of}
 use Rattle.std.specs.Borrow.{Bor}
 use Rattle.clap.specs.Walk.{Text, first_of, rows_of}
@@ -24,18 +23,11 @@ pub none_given : (f : Found) (name : Text) (r : Option (Bor Text)) → option_ma
     → first_of name (rows_of f) ≡ None
 none_given f name r e is = sym (first_value-rows f name) ∙ (sym e ∙ ap (option_map (λ s. s.now)) is)
 
-other_text : (t u : Text) → (t ≡ u → ⊥) → bytes_eq t u ≡ false
-other_text t u other = go (bytes_eq t u) refl
-  where
-    go : (b : Bool) → bytes_eq t u ≡ b → bytes_eq t u ≡ false
-    go true same = absurd (other ((bytes_eq-Decides t u).0 same))
-    go false differs = differs
-
 -- a text that is none of the four words names no target
 pub no_target : (t : Text) → (t ≡ codes "pbm" → ⊥) → (t ≡ codes "mh" → ⊥) → (t ≡ codes "mr" → ⊥) → (t ≡ codes "mmr" → ⊥)
     → target_of t ≡ None
 no_target t pbm mh mr mmr =
-    rw (other_text t (codes "pbm") pbm, other_text t (codes "mh") mh, other_text t (codes "mr") mr, other_text t (codes "mmr") mmr) refl
+    rw (names_differ t (codes "pbm") pbm, names_differ t (codes "mh") mh, names_differ t (codes "mr") mr, names_differ t (codes "mmr") mmr) refl
 
 pub on_err : {T E P : Type 0} (r : Result T E) → P → OnErr r P
 on_err (Ok x) p = tt

@@ -9,6 +9,9 @@ use Rattle.std.specs.Str.Parse.{AllDigits, digits_value, without_leading_plus}
 use Rattle.std.proofs.lemmas.Bool.Decides.{nat_tests}
 use Rattle.std.proofs.lemmas.List.Elements.{All-cons, All-head, All-nil, All-tail}
 use Rattle.std.proofs.lemmas.List.Folds.{list_any-append}
+use Rattle.std.proofs.Math.Bool.{or-false}
+use Rattle.std.proofs.lemmas.Bool.{le-leb, leb-true, lt-ltb, ltb-true}
+use Rattle.clap.proofs.WalkLemmas.{both}
 use Rattle.std.proofs.lemmas.Slice.Eq.{bytes_eq-Decides}
 use Rattle.std.proofs.lemmas.Str.{IsUtf8-past_char, encode_ascii, encodes-chars}
 use Rattle.fax_tool.specs.Grammar.{IsNumberText, IsPlain, Text, Use, name_of}
@@ -73,52 +76,32 @@ other_first b bs other is =
     let same : b ≡ 61 = cc in
     grind (arith, nat_tests)
 
--- ---- both of two tests
-
-pub both_parts : (a b : Bool) → (a && b) ≡ true → (a ≡ true) × (b ≡ true)
-both_parts true b is = (refl, is)
-both_parts false b is = cc
-
 -- ---- numbers
 
 digits_scanned : (ds : Text) → AllDigits 10 ds → list_all (λ d. nat_lt (digit_value d) 10) ds ≡ true
 digits_scanned [] all = refl
-digits_scanned (d ∷ ds) all =
-    let low = all.0 in
-    let test : nat_lt (digit_value d) 10 ≡ true = grind (arith, nat_tests) in
-    rw (test, digits_scanned ds all.1) refl
+digits_scanned (d ∷ ds) all = rw (lt-ltb (digit_value d) 10 all.0) (digits_scanned ds all.1)
 
 scanned_digits : (ds : Text) → list_all (λ d. nat_lt (digit_value d) 10) ds ≡ true → AllDigits 10 ds
 scanned_digits [] all = tt
 scanned_digits (d ∷ ds) all =
-    let of = both_parts (nat_lt (digit_value d) 10) (list_all (λ d. nat_lt (digit_value d) 10) ds) all in
-    let test = of.0 in
-    let low : digit_value d < 10 = grind (arith, nat_tests) in
-    (low, scanned_digits ds of.1)
+    let of = both (nat_lt (digit_value d) 10) (list_all (λ d. nat_lt (digit_value d) 10) ds) all in
+    (ltb-true (digit_value d) 10 of.0, scanned_digits ds of.1)
 
 pub number_scanned : (most : ℕ) (value : Text) → IsNumberText most value → is_number most value ≡ true
 number_scanned most value is =
-    let some = is.digits.0 in
-    let low = is.some in
-    let high = is.within in
-    let one : nat_lt 0 (length (without_leading_plus value)) ≡ true = grind (arith, nat_tests) in
-    let above : nat_le 1 (digits_value 10 (without_leading_plus value)) ≡ true = grind (arith, nat_tests) in
-    let below : nat_le (digits_value 10 (without_leading_plus value)) most ≡ true = grind (arith, nat_tests) in
-    rw (one, digits_scanned (without_leading_plus value) is.digits.1, above, below) refl
+    rw (lt-ltb _ _ is.digits.0, digits_scanned (without_leading_plus value) is.digits.1, le-leb _ _ is.some, le-leb _ _ is.within) refl
 
 pub scanned_number : (most : ℕ) (value : Text) → is_number most value ≡ true → IsNumberText most value
 scanned_number most value is =
     let digits = without_leading_plus value in
-    let of = both_parts (nat_lt 0 (length digits) && list_all (λ d. nat_lt (digit_value d) 10) digits) _ is in
-    let left = both_parts (nat_lt 0 (length digits)) _ of.0 in
-    let right = both_parts (nat_le 1 (digits_value 10 digits)) _ of.1 in
-    let one = left.0 in
-    let above = right.0 in
-    let below = right.1 in
+    let of = both (nat_lt 0 (length digits) && list_all (λ d. nat_lt (digit_value d) 10) digits) _ is in
+    let left = both (nat_lt 0 (length digits)) _ of.0 in
+    let right = both (nat_le 1 (digits_value 10 digits)) _ of.1 in
     record {
-      digits = (grind (arith, nat_tests), scanned_digits digits left.1);
-      some = grind (arith, nat_tests);
-      within = grind (arith, nat_tests);
+      digits = (ltb-true _ _ left.0, scanned_digits digits left.1);
+      some = leb-true _ _ right.0;
+      within = leb-true _ _ right.1;
     }
 
 -- ---- uses of names that differ
@@ -133,13 +116,9 @@ IsNew before u = is_used (name_of u.item) before ≡ false
 used_more : (name : Text) (before : List Use) (u : Use)
     → is_used name (before ++ u ∷ []) ≡ (is_used name before || bytes_eq (name_of u.item) name)
 used_more name before u = list_any-append (λ given. bytes_eq (name_of given.item) name) before (u ∷ [])
-    ∙ ap (λ b. is_used name before || b) (last (bytes_eq (name_of u.item) name))
-  where
-    last : (b : Bool) → (b || false) ≡ b
-    last true = refl
-    last false = refl
+    ∙ ap (λ b. is_used name before || b) (or-false (bytes_eq (name_of u.item) name))
 
-names_differ : (a b : Text) → a ≢ b → bytes_eq a b ≡ false
+pub names_differ : (a b : Text) → a ≢ b → bytes_eq a b ≡ false
 names_differ a b differ = go (bytes_eq a b) refl
   where
     go : (t : Bool) → bytes_eq a b ≡ t → bytes_eq a b ≡ false
@@ -185,7 +164,7 @@ apart_cons u us differ apart (suc i) (suc j) d low high = apart i j d (omega ari
 from_apart : (before uses : List Use) → are_apart before uses ≡ true → All (IsNew before) uses × AreApart uses
 from_apart before [] is = (All-nil (IsNew before), λ i j d low high. omega arith)
 from_apart before (u ∷ us) is =
-    let of = both_parts (not (is_used (name_of u.item) before)) _ is in
+    let of = both (not (is_used (name_of u.item) before)) _ is in
     let others = from_apart (before ++ u ∷ []) us of.1 in
     let each = λ (k : ℕ) (d : Use) (low : k < length us). new_and_other before u (slice_index_or us k d) (others.0 k d low) in (
       All-cons (IsNew before) u us (new (is_used (name_of u.item) before) of.0) (λ k d low. (each k d low).0),

@@ -25,10 +25,7 @@ use Rattle.fax_tool.proofs.TextLemmas.{first_text}
 
 -- the limit is so much above what is left of it, where there is one
 abbrev pub IsLeftOf : Option ℕ → Option ℕ → ℕ → Type 0
-IsLeftOf None None count = Unit {0}
-IsLeftOf (Some limit) (Some left) count = left + count ≡ limit
-IsLeftOf None (Some left) count = ⊥
-IsLeftOf (Some limit) None count = ⊥
+IsLeftOf max left count = max ≡ option_map (λ n. n + count) left
 
 -- so many of the lines are printed, the last part of their text is collected only, and so much of the limit is left
 pub record PrintsSome (tail now : List Line → End → Type 0) (given : ℕ) (max left : Option ℕ) (output written : Option (List ℕ))
@@ -44,8 +41,8 @@ pub record PrintsSome (tail now : List Line → End → Type 0) (given : ℕ) (m
   pub collected : texts_of (take given lines) ≡ sent ++ text
 
 all_left : (max : Option ℕ) → IsLeftOf max max 0
-all_left None = tt
-all_left (Some limit) = omega arith
+all_left None = refl
+all_left (Some limit) = let same : limit ≡ limit + 0 = omega arith in ap Some same
 
 pub none_printed : (tail : List Line → End → Type 0) (given : ℕ) (max : Option ℕ) (output : Option (List ℕ)) → IsOne tail → given ≡ 0
     → PrintsSome tail tail given max max output output []
@@ -68,23 +65,20 @@ texts_of-push (first ∷ lines) line =
 
 one_less_left : (max left : Option ℕ) (count : ℕ) → IsLeftOf max left count → IfSome left (λ n. 0 < n)
     → IsLeftOf max (option_map (λ n. n - 1) left) (count + 1)
-one_less_left None None count is some = tt
-one_less_left None (Some left) count is some = absurd is
-one_less_left (Some limit) None count is some = absurd is
-one_less_left (Some limit) (Some left) count is some = omega arith
+one_less_left max None count is some = is
+one_less_left max (Some left) count is some =
+    let same : left + count ≡ (left - 1) + (count + 1) = omega arith in is ∙ ap Some same
 
 below_limit : (max left : Option ℕ) (count : ℕ) → IsLeftOf max left count → IfSome left (λ n. 0 < n) → IfSome max (λ limit. count < limit)
-below_limit None left count is above = tt
-below_limit (Some limit) None count is above = absurd is
-below_limit (Some limit) (Some left) count is above = omega arith
+below_limit max None count is above = rw is tt
+below_limit max (Some left) count is above = rw is (omega arith)
 
 within_limit : (max left : Option ℕ) (count : ℕ) → IsLeftOf max left count → IfSome max (λ limit. count ≤ limit)
-within_limit None left count is = tt
-within_limit (Some limit) None count is = absurd is
-within_limit (Some limit) (Some left) count is = omega arith
+within_limit max None count is = rw is tt
+within_limit max (Some left) count is = rw is (omega arith)
 
-module _ (tail now : List Line → End → Type 0) (one : IsOne tail) (given : ℕ) (max left : Option ℕ)
-    (output written : Option (List ℕ)) (text : List ℕ) (some : PrintsSome tail now given max left output written text) where
+module _ {tail now : List Line → End → Type 0} (one : IsOne tail) {given : ℕ} {max left : Option ℕ}
+    {output written : Option (List ℕ)} {text : List ℕ} (some : PrintsSome tail now given max left output written text) where
   -- these are the lines
   lines_are : (all : List Line) (end : End) → now all end → (all ≡ some.lines) × (end ≡ some.end)
   lines_are all end is =

@@ -1,84 +1,37 @@
 -- Where clap takes the words, they are read, and the entries are as they say.
-use Rattle.std.proofs.Common.{◌≡◌, ◌∙◌, ◌⊎◌, ◌||◌, ◌++◌, ap, ap₂, append_assoc, cond, codes, inl, inr, lit<, refl, sym, subst, Bool}
-use Rattle.std.proofs.Common.{true, false, ℕ}
-use Rattle.std.proofs.Common.{List, [], ◌∷◌, Option, Some, None, is_some}
+use Rattle.std.proofs.Common.{◌≡◌, ◌∙◌, ◌⊎◌, ◌||◌, ◌++◌, ap, ap₂, append-nil, append_assoc, cond, codes, inl, inr, lit<, refl, sym, subst, Bool}
+use Rattle.std.proofs.Common.{true, false}
+use Rattle.std.proofs.Common.{List, [], ◌∷◌, Option, Some, None, is_some, map}
 use Rattle.std.specs.Prelude.{find, not, option_and_then, option_map}
-use Rattle.std.specs.List.{fold, slice_index_or}
+use Rattle.std.specs.List.{All, AllByRecursion, fold}
+use Rattle.std.proofs.lemmas.List.Elements.{All-contains, All-from_recursion}
+use Rattle.std.proofs.Math.Bool.{and-false}
 use Rattle.std.specs.Option.{option_map_or}
 use Rattle.std.specs.Str.{bytes_eq}
 use Rattle.std.proofs.lemmas.Slice.Eq.{bytes_eq-Decides}
 use Rattle.clap.specs.Takes.{is_given}
 use Rattle.clap.specs.Kinds.{Kinds, or_else}
-use Rattle.clap.specs.Walk.{Names, Row, Rule, Text, Walk, bundle_met, answers_to, first_of, idle, nothing_held, rows_after, finished}
+use Rattle.clap.specs.Walk.{Names, Row, Rule, Text, Walk, arg_by_index, bundle_met, answers_to, first_of, idle, nothing_held, rows_after, finished}
 use Rattle.clap.specs.Walk.{settled, subcommand_met, walk_from, walked}
 use Rattle.clap.specs.Simple.{App, Shape, built, entered, label_of, names_of, subcommand_of}
 use Rattle.clap.specs.Faults.{check_fault, defaults_fault, entered_fault, fault_of, flags_fault, level_fault, settle_fault, walk_fault}
 use Rattle.clap.proofs.FaultLemmas.{stopped_fault}
 use Rattle.clap.proofs.OnLiterals.{clap_on_literals}
 use Rattle.fax_tool.specs.code.CommandLine.{faxpages_app}
-use Rattle.fax_tool.specs.Grammar.{Item, Use, commands, name_of, text_in}
-use Rattle.fax_tool.specs.code.Scan.{is_used, read, uses_of}
-use Rattle.fax_tool.proofs.RuleLemmas.{rules_of}
+use Rattle.fax_tool.specs.Grammar.{Item, Use, commands, file, text_in}
+use Rattle.fax_tool.specs.code.Scan.{read, uses_of}
+use Rattle.fax_tool.proofs.RuleLemmas.{found as found_in, items_at, rule_of, rules_of}
 use Rattle.fax_tool.proofs.UseLemmas.{guard}
 use Rattle.fax_tool.proofs.ViewLemmas.{View, as_end, as_long, as_plain, as_short, view}
-use Rattle.fax_tool.proofs.TurnLemmas.{IsOf, and_false, leaf}
+use Rattle.fax_tool.proofs.TurnLemmas.{IsOf, leaf}
 use Rattle.fax_tool.proofs.RowLemmas.{IsLevel, filled_rows, flag_filled, given_filled, is_no_flag, is_true, lacks, level, text_filled}
 
--- each item of a command is known
-abbrev AreOf : List Item → List Item → Type 0
-AreOf all [] = Unit {0}
-AreOf all (item ∷ items) = IsOf all item × AreOf all items
-
-abbrev IsFoundOf : List Item → Option Item → Type 0
-IsFoundOf all None = Unit {0}
-IsFoundOf all (Some item) = IsOf all item
-
-found_of : (all items : List Item) (test : Item → Bool) → AreOf all items → IsFoundOf all (find test items)
-found_of all [] test are = tt
-found_of all (item ∷ items) test are = go (test item) (found_of all items test are.1)
-  where
-    go : (b : Bool) → IsFoundOf all (find test items) → IsFoundOf all (cond b (Some item) (find test items))
-    go true later = are.0
-    go false later = later
-
-each_of : (all : List Item) → AreOf all all → (test : Item → Bool) (item : Item) → find test all ≡ Some item → IsOf all item
-each_of all are test item is = subst (IsFoundOf all) is (found_of all all test are)
-
-abbrev items_at : ℕ → List Item
-items_at i = (slice_index_or commands i ([], [])).1
-
-abbrev name_at : ℕ → Text
-name_at i = (slice_index_or commands i ([], [])).0
-
-list_level : IsLevel (name_at 0) (items_at 0)
-unfolding clap_on_literals
-list_level = level (name_at 0) (items_at 0) refl refl (refl, tt)
-    (each_of (items_at 0) ((refl, tt), ((refl, lit< tt), ((refl, tt), tt))))
-
-rows_level : IsLevel (name_at 1) (items_at 1)
-unfolding clap_on_literals
-rows_level = level (name_at 1) (items_at 1) refl refl (refl, tt)
-    (each_of (items_at 1) ((refl, tt), ((refl, lit< tt), ((refl, tt), ((refl, tt), tt)))))
-
-convert_level : IsLevel (name_at 2) (items_at 2)
-unfolding clap_on_literals
-convert_level = level (name_at 2) (items_at 2) refl refl (refl, tt)
-    (each_of (items_at 2) ((refl, refl), ((refl, lit< tt), ((refl, lit< tt), ((refl, lit< tt), ((refl, tt), ((refl, tt), tt)))))))
-
-check_level : IsLevel (name_at 3) (items_at 3)
-unfolding clap_on_literals
-check_level = level (name_at 3) (items_at 3) refl refl (refl, tt) (each_of (items_at 3) ((refl, tt), tt))
-
 -- ---- the command's name
-
-no_more : (words : List Text) → words ++ [] ≡ words
-no_more [] = refl
-no_more (word ∷ words) = ap (λ ws. word ∷ ws) (no_more words)
 
 stopped_walk : (c : List Rule) (names : Names) (w : Walk) (name : Text) (before words : List Text)
     → fold (walked c names) (record w { stopped = Some (name, before) }) words ≡ record w { stopped = Some (name, before ++ words) }
 unfolding walked
-stopped_walk c names w name before [] = ap (λ after. record w { stopped = Some (name, after) }) (sym (no_more before))
+stopped_walk c names w name before [] = ap (λ after. record w { stopped = Some (name, after) }) (sym (append-nil before))
 stopped_walk c names w name before (word ∷ words) =
     stopped_walk c names w name (before ++ word ∷ []) words
     ∙ ap (λ after. record w { stopped = Some (name, after) }) (append_assoc before (word ∷ []) words)
@@ -98,7 +51,7 @@ level_body turns w =
 named_fault : (name : Text) (rest : List Text) → subcommand_met (names_of program) idle name ≡ Some name
     → walk_fault program.top (names_of program) stand_at (name ∷ rest) ≡ []
 unfolding walk_fault walked
-named_fault name rest met = rw (met, and_false (bytes_eq name (codes "help")))
+named_fault name rest met = rw (met, and-false (bytes_eq name (codes "help")))
     (stopped_fault program.top (names_of program) stand_at (name, []) rest)
 
 named_walk : (name : Text) (rest : List Text) → subcommand_met (names_of program) idle name ≡ Some name
@@ -221,11 +174,11 @@ pub record Agrees (entries : List Row) (uses : List Use) : Type 0 where
   pub long : is_true (first_of (codes "long") entries) ≡ is_true (text_in uses (codes "long"))
   pub align : is_true (first_of (codes "align") entries) ≡ is_true (text_in uses (codes "align"))
 
-agree_by : (items : List Item) (uses : List Use)
+agree_by : (items : List Item)
     → is_no_flag (codes "cursor") items ≡ true → is_no_flag (codes "max") items ≡ true → is_no_flag (codes "o") items ≡ true
     → is_no_flag (codes "order") items ≡ true → is_no_flag (codes "k") items ≡ true → is_no_flag (codes "strip") items ≡ true
-    → is_no_flag (codes "FILE") items ≡ true → Agrees (filled_rows items uses) uses
-agree_by items uses cursor max target order k strip name = record {
+    → is_no_flag (codes "FILE") items ≡ true → (uses : List Use) → Agrees (filled_rows items uses) uses
+agree_by items cursor max target order k strip name uses = record {
   cursor = text_filled (codes "cursor") items uses cursor;
   max = text_filled (codes "max") items uses max;
   target = text_filled (codes "o") items uses target;
@@ -246,143 +199,146 @@ abbrev pub IsReadAs : List Text → Text → List Row → Type 0
 IsReadAs words name entries = (uses : List Use) × (read words ≡ Some (name, uses)) × Agrees entries uses
     × (entries ≡ filled_rows (items_of name) uses)
 
-abbrev pub IsUnread : List Text → Type 0
-IsUnread words = (read words ≡ None) ⊎ ((uses : List Use) × (read words ≡ Some (codes "convert", uses)) × (text_in uses (codes "o") ≡ None))
+-- what is required and lacks is the target of `convert`
+abbrev pub LacksTarget : Text → List Use → Type 0
+LacksTarget name uses = (name ≡ codes "convert") × (text_in uses (codes "o") ≡ None)
 
+abbrev pub IsUnread : List Text → Type 0
+IsUnread words = (read words ≡ None) ⊎ ((name : Text) × (uses : List Use) × (read words ≡ Some (name, uses)) × LacksTarget name uses)
+
+-- words that clap takes are read, and those that it does not take are not read, or lack what is to be written
 abbrev pub ReadsTaken : List Text → Type 0
 ReadsTaken words = (name : Text) (entries : List Row) → AreTaken words → command_of words ≡ Some (name, entries)
     → IsReadAs words name entries
 
-reads_taken : (name : Text) (items : List Item) (met : subcommand_met (names_of program) idle name ≡ Some name)
-    (found : find (λ s. answers_to name (label_of s)) program.subs ≡ Some (leaf name items)) → IsLevel name items
-    → items_of name ≡ items → ((uses : List Use) → Agrees (filled_rows items uses) uses) → (own : Text) (rest : List Text)
-    → read (own ∷ name ∷ rest) ≡ option_map {U = Text × List Use} (λ uses. (name, uses)) (uses_of items rest)
-    → ReadsTaken (own ∷ name ∷ rest)
-reads_taken name items met found is_level items_are agrees own rest reads given entries taken named =
-    let of = taken_at name items met found is_level own rest given entries taken named in (
-      of.0,
-      reads ∙ ap (option_map {U = Text × List Use} (λ uses. (name, uses))) of.1 ∙ ap (λ name. Some (name, of.0)) (sym of.2),
-      subst (λ entries. Agrees entries of.0) (sym of.3) (agrees of.0),
-      of.3 ∙ ap (λ items. filled_rows items of.0) (sym items_are) ∙ ap (λ name. filled_rows (items_of name) of.0) (sym of.2),
-    )
-
-taken_list : (own : Text) (rest : List Text) → ReadsTaken (own ∷ codes "list" ∷ rest)
-unfolding clap_on_literals
-taken_list own rest = reads_taken (name_at 0) (items_at 0) refl refl list_level refl
-    (λ uses. agree_by (items_at 0) uses refl refl refl refl refl refl refl) own rest refl
-
-taken_rows : (own : Text) (rest : List Text) → ReadsTaken (own ∷ codes "rows" ∷ rest)
-unfolding clap_on_literals
-taken_rows own rest = reads_taken (name_at 1) (items_at 1) refl refl rows_level refl
-    (λ uses. agree_by (items_at 1) uses refl refl refl refl refl refl refl) own rest refl
-
-taken_convert : (own : Text) (rest : List Text) → ReadsTaken (own ∷ codes "convert" ∷ rest)
-unfolding clap_on_literals
-taken_convert own rest = reads_taken (name_at 2) (items_at 2) refl refl convert_level refl
-    (λ uses. agree_by (items_at 2) uses refl refl refl refl refl refl refl) own rest refl
-
-taken_check : (own : Text) (rest : List Text) → ReadsTaken (own ∷ codes "check" ∷ rest)
-unfolding clap_on_literals
-taken_check own rest = reads_taken (name_at 3) (items_at 3) refl refl check_level refl
-    (λ uses. agree_by (items_at 3) uses refl refl refl refl refl refl refl) own rest refl
-
--- where nothing is required, nothing lacks
-unread_from : (name : Text) (items : List Item) (rest : List Text)
-    → ((uses : List Use) → lacks items (filled_rows items uses) ≡ false)
-    → (uses_of items rest ≡ None) ⊎ ((uses : List Use) × (uses_of items rest ≡ Some uses) × (lacks items (filled_rows items uses) ≡ true))
-    → option_map {U = Text × List Use} (λ uses. (name, uses)) (uses_of items rest) ≡ None
-unread_from name items rest whole (inl none) = rw none refl
-unread_from name items rest whole (inr (uses, is, lacking)) = let no = sym (whole uses) ∙ lacking in cc
-
-unread_list : (own : Text) (rest : List Text) → (AreTaken (own ∷ codes "list" ∷ rest) → ⊥) → IsUnread (own ∷ codes "list" ∷ rest)
-unfolding clap_on_literals
-unread_list own rest untaken =
-    inl (unread_from (name_at 0) (items_at 0) rest (λ uses. refl)
-    (untaken_at (name_at 0) (items_at 0) refl refl list_level own rest untaken))
-
-unread_rows : (own : Text) (rest : List Text) → (AreTaken (own ∷ codes "rows" ∷ rest) → ⊥) → IsUnread (own ∷ codes "rows" ∷ rest)
-unfolding clap_on_literals
-unread_rows own rest untaken =
-    inl (unread_from (name_at 1) (items_at 1) rest (λ uses. refl)
-    (untaken_at (name_at 1) (items_at 1) refl refl rows_level own rest untaken))
-
-unread_check : (own : Text) (rest : List Text) → (AreTaken (own ∷ codes "check" ∷ rest) → ⊥) → IsUnread (own ∷ codes "check" ∷ rest)
-unfolding clap_on_literals
-unread_check own rest untaken =
-    inl (unread_from (name_at 3) (items_at 3) rest (λ uses. refl)
-    (untaken_at (name_at 3) (items_at 3) refl refl check_level own rest untaken))
-
-not_used : (name : Text) (uses : List Use) → is_used name uses ≡ false → text_in uses name ≡ None
-not_used name [] none = refl
-not_used name (u ∷ us) none = go (bytes_eq (name_of u.item) name) none (not_used name us)
-  where
-    go : (b : Bool) → (b || is_used name us) ≡ false → (is_used name us ≡ false → text_in us name ≡ None)
-        → option_map (λ given. given.value) (cond b (Some u) (find (λ given. bytes_eq (name_of given.item) name) us)) ≡ None
-    go true none later = cc
-    go false none later = later none
-
-unread_convert : (own : Text) (rest : List Text) → (AreTaken (own ∷ codes "convert" ∷ rest) → ⊥) → IsUnread (own ∷ codes "convert" ∷ rest)
-unfolding clap_on_literals
-unread_convert own rest untaken = go (untaken_at (name_at 2) (items_at 2) refl refl convert_level own rest untaken)
-  where
-    lacks_target : (uses : List Use) (b : Bool) → is_given (codes "o") (filled_rows (items_at 2) uses) ≡ b → (not b || false) ≡ true
-        → text_in uses (codes "o") ≡ None
-    lacks_target uses true given lacking = cc
-    lacks_target uses false given lacking =
-        not_used (codes "o") uses (sym (given_filled (codes "o") (items_at 2) uses refl) ∙ given)
-
-    go : (uses_of (items_at 2) rest ≡ None)
-        ⊎ ((uses : List Use) × (uses_of (items_at 2) rest ≡ Some uses) × (lacks (items_at 2) (filled_rows (items_at 2) uses) ≡ true))
-        → IsUnread (own ∷ codes "convert" ∷ rest)
-    go (inl none) = inl (rw none refl)
-    go (inr (uses, is, lacking)) = inr (
-      uses,
-      rw is refl,
-      lacks_target uses (is_given (codes "o") (filled_rows (items_at 2) uses)) refl lacking,
-    )
-
--- the text is this one
-named_as : (own word : Text) → bytes_eq own word ≡ true → own ≡ word
-named_as own word is = (bytes_eq-Decides own word).0 is
-
--- a word that is none of the four names
-unnamed_met : (word : Text) → bytes_eq (codes "list") word ≡ false → bytes_eq (codes "rows") word ≡ false
-    → bytes_eq (codes "convert") word ≡ false → bytes_eq (codes "check") word ≡ false
-    → subcommand_met (names_of program) idle word ≡ None
-unnamed_met word list rows convert check = rw (list, rows, convert, check) refl
-
-unnamed_taken : (own word : Text) (rest : List Text) → bytes_eq (codes "list") word ≡ false → bytes_eq (codes "rows") word ≡ false
-    → bytes_eq (codes "convert") word ≡ false → bytes_eq (codes "check") word ≡ false → AreTaken (own ∷ word ∷ rest) → ⊥
-unnamed_taken own word rest list rows convert check taken =
-    unnamed word rest (view word) (unnamed_met word list rows convert check) taken
-
 abbrev pub ReadsUntaken : List Text → Type 0
 ReadsUntaken words = (AreTaken words → ⊥) → IsUnread words
 
--- words that clap takes are read, and those that it does not take are not read, or lack what is to be written
+-- what is known of a command
+record IsOwn (command : Text × List Item) : Type 0 where
+  met : subcommand_met (names_of program) idle command.0 ≡ Some command.0
+  named : find (λ s. answers_to command.0 (label_of s)) program.subs ≡ Some (leaf command.0 command.1)
+  items_are : items_of command.0 ≡ command.1
+  is_level : IsLevel command.0 command.1
+  agrees : (uses : List Use) → Agrees (filled_rows command.1 uses) uses
+  target : (uses : List Use) → lacks command.1 (filled_rows command.1 uses) ≡ true → LacksTarget command.0 uses
+
+-- of each item, that its rule is found, and what is to be known of it
+level_of : (name : Text) (items : List Item) → arg_by_index (rules_of items) 1 ≡ Some (rule_of file) → arg_by_index (rules_of items) 2 ≡ None
+    → IsOf items file → AllByRecursion (IsOf items) items → IsLevel name items
+level_of name items first second of_file are = level name items first second of_file (λ test item is.
+    All-contains (IsOf items) items item (All-from_recursion (IsOf items) items are) (found_in test items item is).0)
+
+-- `convert` has to have a target
+lacks_target : (uses : List Use) → lacks (items_at 2) (filled_rows (items_at 2) uses) ≡ true → text_in uses (codes "o") ≡ None
+unfolding clap_on_literals
+lacks_target uses lacking = go (text_in uses (codes "o")) (given_filled (codes "o") (items_at 2) uses refl)
+    (is_given (codes "o") (filled_rows (items_at 2) uses)) refl lacking
+  where
+    go : (o : Option Text) → is_given (codes "o") (filled_rows (items_at 2) uses) ≡ is_some o → (b : Bool)
+        → is_given (codes "o") (filled_rows (items_at 2) uses) ≡ b → (not b || false) ≡ true → o ≡ None
+    go None given b is lacking = refl
+    go (Some t) given true is lacking = cc
+    go (Some t) given false is lacking = cc
+
+own_commands : All IsOwn commands
+unfolding clap_on_literals
+own_commands = All-from_recursion IsOwn commands (
+  record {
+    met = refl;
+    named = refl;
+    items_are = refl;
+    is_level = level_of (codes "list") (items_at 0) refl refl (refl, tt) ((refl, tt), ((refl, lit< tt), ((refl, tt), tt)));
+    agrees = agree_by (items_at 0) refl refl refl refl refl refl refl;
+    target = λ uses lacking. cc;
+  },
+  (
+    record {
+      met = refl;
+      named = refl;
+      items_are = refl;
+      is_level = level_of (codes "rows") (items_at 1) refl refl (refl, tt) ((refl, tt), ((refl, lit< tt), ((refl, tt), ((refl, tt), tt))));
+      agrees = agree_by (items_at 1) refl refl refl refl refl refl refl;
+      target = λ uses lacking. cc;
+    },
+    (
+      record {
+        met = refl;
+        named = refl;
+        items_are = refl;
+        is_level = level_of (codes "convert") (items_at 2) refl refl (refl, tt)
+            ((refl, refl), ((refl, lit< tt), ((refl, lit< tt), ((refl, lit< tt), ((refl, tt), ((refl, tt), tt))))));
+        agrees = agree_by (items_at 2) refl refl refl refl refl refl refl;
+        target = λ uses lacking. (refl, lacks_target uses lacking);
+      },
+      (
+        record {
+          met = refl;
+          named = refl;
+          items_are = refl;
+          is_level = level_of (codes "check") (items_at 3) refl refl (refl, tt) ((refl, tt), tt);
+          agrees = agree_by (items_at 3) refl refl refl refl refl refl refl;
+          target = λ uses lacking. cc;
+        },
+        tt,
+      ),
+    ),
+  ),
+)
+
+-- words of this command
+reads_own : (command : Text × List Item) → IsOwn command → (own : Text) (rest : List Text)
+    → read (own ∷ command.0 ∷ rest) ≡ option_map {U = Text × List Use} (λ uses. (command.0, uses)) (uses_of command.1 rest)
+    → ReadsTaken (own ∷ command.0 ∷ rest) × ReadsUntaken (own ∷ command.0 ∷ rest)
+reads_own (name, items) is own rest reads = (
+  λ given entries taken named.
+      let of = taken_at name items is.met is.named is.is_level own rest given entries taken named in (
+        of.0,
+        reads ∙ ap (option_map {U = Text × List Use} (λ uses. (name, uses))) of.1 ∙ ap (λ name. Some (name, of.0)) (sym of.2),
+        subst (λ entries. Agrees entries of.0) (sym of.3) (is.agrees of.0),
+        of.3 ∙ ap (λ items. filled_rows items of.0) (sym is.items_are) ∙ ap (λ name. filled_rows (items_of name) of.0) (sym of.2),
+      ),
+  λ untaken. elim (untaken_at name items is.met is.named is.is_level own rest untaken) [
+    | inl none ↦ inl (reads ∙ ap (option_map {U = Text × List Use} (λ uses. (name, uses))) none)
+    | inr of ↦ inr (
+      name,
+      of.0,
+      reads ∙ ap (option_map {U = Text × List Use} (λ uses. (name, uses))) of.1,
+      is.target of.0 of.2,
+    )
+  ],
+)
+
+-- no command is met by a word that is no command's name
+unnamed_met : (word : Text) (all : List (Text × List Item)) → find (λ command. bytes_eq command.0 word) all ≡ None
+    → subcommand_met (map (λ command. (command.0, [])) all) idle word ≡ None
+unnamed_met word [] none = refl
+unnamed_met word (command ∷ all) none = go (bytes_eq command.0 word) none (unnamed_met word all)
+  where
+    go : (b : Bool) → cond b (Some command) (find (λ command. bytes_eq command.0 word) all) ≡ None
+        → (find (λ command. bytes_eq command.0 word) all ≡ None → subcommand_met (map (λ command. (command.0, [])) all) idle word ≡ None)
+        → option_map (λ (s : Text × List Text). s.0)
+        (cond (b || false) (Some (command.0, [])) (find (answers_to word) (map (λ command. (command.0, [])) all))) ≡ None
+    go true none later = cc
+    go false none later = later none
+
 pub read_as : (words : List Text) → ReadsTaken words × ReadsUntaken words
 unfolding clap_on_literals
 read_as [] = (λ name entries taken named. cc, λ untaken. inl refl)
 read_as (own ∷ []) = (λ name entries taken named. cc, λ untaken. inl refl)
-read_as (own ∷ word ∷ rest) =
-    go (bytes_eq (codes "list") word) (bytes_eq (codes "rows") word) (bytes_eq (codes "convert") word) (bytes_eq (codes "check") word)
-    refl refl refl refl
+read_as (own ∷ word ∷ rest) = go (find (λ command. bytes_eq command.0 word) commands) refl
   where
-    at : (name word : Text) → name ≡ word → ReadsTaken (own ∷ name ∷ rest) × ReadsUntaken (own ∷ name ∷ rest)
+    go : (o : Option (Text × List Item)) → find (λ command. bytes_eq command.0 word) commands ≡ o
         → ReadsTaken (own ∷ word ∷ rest) × ReadsUntaken (own ∷ word ∷ rest)
-    at name word same reads = subst (λ word. ReadsTaken (own ∷ word ∷ rest) × ReadsUntaken (own ∷ word ∷ rest)) same reads
-
-    go : (a b c d : Bool) → bytes_eq (codes "list") word ≡ a → bytes_eq (codes "rows") word ≡ b → bytes_eq (codes "convert") word ≡ c
-        → bytes_eq (codes "check") word ≡ d → ReadsTaken (own ∷ word ∷ rest) × ReadsUntaken (own ∷ word ∷ rest)
-    go true b c d list rows convert check = at (codes "list") word (named_as (codes "list") word list)
-        (taken_list own rest, unread_list own rest)
-    go false true c d list rows convert check = at (codes "rows") word (named_as (codes "rows") word rows)
-        (taken_rows own rest, unread_rows own rest)
-    go false false true d list rows convert check =
-        at (codes "convert") word (named_as (codes "convert") word convert) (taken_convert own rest, unread_convert own rest)
-    go false false false true list rows convert check =
-        at (codes "check") word (named_as (codes "check") word check) (taken_check own rest, unread_check own rest)
-    go false false false false list rows convert check = (
-      λ name entries taken named. absurd (unnamed_taken own word rest list rows convert check taken),
-      λ untaken. inl (rw (list, rows, convert, check) refl),
+    go None none = (
+      λ name entries taken named. absurd (unnamed word rest (view word) (unnamed_met word commands none) taken),
+      λ untaken. inl (ap (option_and_then (λ c. option_map (λ uses. (c.0, uses)) (uses_of c.1 rest))) none),
     )
+    go (Some command) is =
+        let of = found_in (λ command. bytes_eq command.0 word) commands command is in
+        let same : command.0 ≡ word = (bytes_eq-Decides command.0 word).0 of.1 in
+        let known = All-contains IsOwn commands command own_commands of.0 in
+        let reads : read (own ∷ word ∷ rest) ≡ option_map {U = Text × List Use} (λ uses. (command.0, uses)) (uses_of command.1 rest) =
+        ap (option_and_then (λ c. option_map (λ uses. (c.0, uses)) (uses_of c.1 rest))) is in
+        subst (λ word. read (own ∷ word ∷ rest) ≡ option_map {U = Text × List Use} (λ uses. (command.0, uses)) (uses_of command.1 rest)
+        → ReadsTaken (own ∷ word ∷ rest) × ReadsUntaken (own ∷ word ∷ rest)) same (reads_own command known own rest) reads

@@ -1,10 +1,12 @@
 -- What the rows of a parse are, of the uses that the words make.
-use Rattle.std.proofs.Common.{◌≡◌, ◌∙◌, ◌||◌, ◌&&◌, ◌++◌, ap, append_assoc, cond, codes, refl, sym, Bool, true, false}
-use Rattle.std.proofs.Common.{List, [], ◌∷◌, Option, Some, None, map}
+use Rattle.std.proofs.Common.{◌≡◌, ◌∙◌, ◌&&◌, ◌++◌, ap, append_assoc, cond, codes, refl, sym, Bool, true, false}
+use Rattle.std.proofs.Common.{List, [], ◌∷◌, Option, Some, None, append-nil, is_some, map}
 use Rattle.std.specs.Prelude.{find, not, slice_get, option_and_then, option_map}
 use Rattle.std.specs.List.{fold, list_all, list_any}
 use Rattle.std.specs.Option.{option_map_or}
 use Rattle.std.specs.Str.{bytes_eq}
+use Rattle.std.proofs.lemmas.List.{map-append}
+use Rattle.clap.proofs.WalkLemmas.{find-map, list_any-map}
 use Rattle.clap.specs.Kinds.{Kinds, or_else}
 use Rattle.clap.specs.Walk.{Row, Text, arg_by_index, more_values, with_values, first_of, has_row, reading_by, rows_after, settled, walk}
 use Rattle.clap.specs.Walk.{walk_from, idle, nothing_held, with_default}
@@ -13,7 +15,7 @@ use Rattle.clap.specs.Facts.{explicit_source}
 use Rattle.clap.specs.Faults.{check_fault, default_fault, defaults_fault, level_fault, settle_fault, walk_fault}
 use Rattle.clap.specs.declared.error.kind.ErrorKind.TheVariants.{MissingRequiredArgument}
 use Rattle.clap.specs.declared.parser.matches.ValueSource.TheVariants.{DefaultValue}
-use Rattle.fax_tool.specs.Grammar.{Item, Use, file, flag, letter, name_of, number, text, text_in}
+use Rattle.fax_tool.specs.Grammar.{Item, Use, file, flag, name_of, text_in}
 use Rattle.fax_tool.specs.code.Scan.{are_apart, checked, is_taken, is_used}
 use Rattle.fax_tool.specs.code.Scan.{uses_from, uses_of}
 use Rattle.fax_tool.proofs.RuleLemmas.{rule_of, rules_of}
@@ -21,25 +23,13 @@ use Rattle.fax_tool.proofs.UseLemmas.{at_end, guard, guard_twice, row_of}
 use Rattle.fax_tool.proofs.TurnLemmas.{IsOf, leaf, run, stand}
 use Rattle.fax_tool.proofs.WalkLemmas.{entered, whole_walk}
 
-rows_used : (id : Text) (before : List Use) → has_row id (map row_of before) ≡ is_used id before
-rows_used id [] = refl
-rows_used id (u ∷ us) = ap (λ b. bytes_eq (name_of u.item) id || b) (rows_used id us)
-
-rows_of_more : (before : List Use) (u : Use) → map row_of before ++ row_of u ∷ [] ≡ map row_of (before ++ u ∷ [])
-rows_of_more [] u = refl
-rows_of_more (x ∷ xs) u = ap (λ rs. row_of x ∷ rs) (rows_of_more xs u)
-
-no_more_uses : (before : List Use) → before ++ [] ≡ before
-no_more_uses [] = refl
-no_more_uses (u ∷ us) = ap (λ xs. u ∷ xs) (no_more_uses us)
-
 entered_from : (before uses : List Use)
     → entered (map row_of before) uses ≡ cond (are_apart before uses && list_all is_taken uses) (Some (map row_of (before ++ uses))) None
-entered_from before [] = ap (λ us. Some (map row_of us)) (sym (no_more_uses before))
+entered_from before [] = ap (λ us. Some (map row_of us)) (sym (append-nil before))
 entered_from before (u ∷ us) =
-    rw (rows_used (name_of u.item) before)
+    rw (← list_any-map (λ r. bytes_eq r.id (name_of u.item)) row_of before)
     (go (is_used (name_of u.item) before) (is_taken u) (are_apart (before ++ u ∷ []) us) (list_all is_taken us)
-    (ap (λ rs. entered rs us) (rows_of_more before u) ∙ (entered_from (before ++ u ∷ []) us
+    (ap (λ rs. entered rs us) (sym (map-append row_of before (u ∷ []))) ∙ (entered_from (before ++ u ∷ []) us
     ∙ ap (λ xs. cond (are_apart (before ++ u ∷ []) us && list_all is_taken us) (Some (map row_of xs)) None)
     (append_assoc before (u ∷ []) us))))
   where
@@ -67,11 +57,8 @@ no_fault_either true kinds none = refl
 no_fault_either false kinds none = none
 
 no_default_fault : (rows : List Row) (item : Item) → default_fault rows (rule_of item) ≡ []
-no_default_fault rows (text own) = no_fault_either _ _ refl
-no_default_fault rows (number own most) = no_fault_either _ _ refl
-no_default_fault rows (letter x) = no_fault_either _ _ refl
 no_default_fault rows (flag own) = no_fault_either _ _ refl
-no_default_fault rows file = no_fault_either _ _ refl
+no_default_fault rows item = no_fault_either _ _ refl
 
 no_defaults_fault : (items : List Item) (rows : List Row) → defaults_fault rows (rules_of items) ≡ []
 unfolding defaults_fault
@@ -119,15 +106,12 @@ row_at_more id (x ∷ xs) r other = ap (cond (bytes_eq x.id id) (Some x)) (row_a
 -- the row of an item that is no flag
 default_keeps : (id : Text) (item : Item) (rows : List Row) → is_flag id item ≡ false
     → row_at id (with_default rows (rule_of item)) ≡ row_at id rows
-default_keeps id (text own) rows other = ap (row_at id) (same_either (has_row own rows) rows)
-default_keeps id (number own most) rows other = ap (row_at id) (same_either (has_row own rows) rows)
-default_keeps id (letter x) rows other = ap (row_at id) (same_either (has_row (x ∷ []) rows) rows)
-default_keeps id file rows other = ap (row_at id) (same_either (has_row (codes "FILE") rows) rows)
 default_keeps id (flag own) rows other = ap (row_at id) (flag_default own rows) ∙ go (has_row own rows)
   where
     go : (b : Bool) → row_at id (cond b rows (rows ++ default_row own ∷ [])) ≡ row_at id rows
     go true = refl
     go false = row_at_more id rows (default_row own) other
+default_keeps id item rows other = ap (row_at id) (same_either (has_row (name_of item) rows) rows)
 
 abbrev pub is_no_flag : Text → List Item → Bool
 is_no_flag id items = list_all (λ item. not (is_flag id item)) items
@@ -169,42 +153,38 @@ flag_more id own (x ∷ xs) = go (bytes_eq x.id id) (flag_more id own xs)
 
 default_sets : (id : Text) (item : Item) (rows : List Row)
     → is_true (first_at (row_at id (with_default rows (rule_of item)))) ≡ is_true (first_at (row_at id rows))
-default_sets id (text own) rows = ap (λ o. is_true (first_at o)) (default_keeps id (text own) rows refl)
-default_sets id (number own most) rows = ap (λ o. is_true (first_at o)) (default_keeps id (number own most) rows refl)
-default_sets id (letter x) rows = ap (λ o. is_true (first_at o)) (default_keeps id (letter x) rows refl)
-default_sets id file rows = ap (λ o. is_true (first_at o)) (default_keeps id file rows refl)
 default_sets id (flag own) rows = ap (λ rows. is_true (first_at (row_at id rows))) (flag_default own rows) ∙ go (has_row own rows)
   where
     go : (b : Bool) → is_true (first_at (row_at id (cond b rows (rows ++ default_row own ∷ [])))) ≡ is_true (first_at (row_at id rows))
     go true = refl
     go false = flag_more id own rows
+default_sets id item rows = ap (λ o. is_true (first_at o)) (default_keeps id item rows refl)
 
 defaults_set : (id : Text) (items : List Item) (rows : List Row)
     → is_true (first_at (row_at id (fold with_default rows (rules_of items)))) ≡ is_true (first_at (row_at id rows))
 defaults_set id [] rows = refl
 defaults_set id (item ∷ items) rows = defaults_set id items (with_default rows (rule_of item)) ∙ default_sets id item rows
 
+-- the row of a name is that of its first use
+row_used : (id : Text) (uses : List Use) → row_at id (map row_of uses) ≡ option_map row_of (find (λ u. bytes_eq (name_of u.item) id) uses)
+row_used id uses = sym (find-map (λ r. bytes_eq r.id id) row_of uses)
+
 first_use : (id : Text) (uses : List Use) → first_at (row_at id (map row_of uses)) ≡ text_in uses id
-first_use id [] = refl
-first_use id (u ∷ us) = go (bytes_eq (name_of u.item) id) (first_use id us)
+first_use id uses = ap first_at (row_used id uses) ∙ go (find (λ u. bytes_eq (name_of u.item) id) uses)
   where
-    go : (b : Bool) → first_at (row_at id (map row_of us)) ≡ text_in us id
-        → first_at (cond b (Some (row_of u)) (row_at id (map row_of us)))
-        ≡ option_map (λ given. given.value) (cond b (Some u) (find (λ given. bytes_eq (name_of given.item) id) us))
-    go true later = refl
-    go false later = later
+    go : (o : Option Use) → first_at (option_map row_of o) ≡ option_map (λ given. given.value) o
+    go None = refl
+    go (Some u) = refl
 
 abbrev explicit : Option Row → Bool
 explicit o = option_map_or (λ r. explicit_source r.source) o false
 
-given_use : (id : Text) (uses : List Use) → explicit (row_at id (map row_of uses)) ≡ is_used id uses
-given_use id [] = refl
-given_use id (u ∷ us) = go (bytes_eq (name_of u.item) id) (given_use id us)
+given_use : (id : Text) (uses : List Use) → explicit (row_at id (map row_of uses)) ≡ is_some (text_in uses id)
+given_use id uses = ap explicit (row_used id uses) ∙ go (find (λ u. bytes_eq (name_of u.item) id) uses)
   where
-    go : (b : Bool) → explicit (row_at id (map row_of us)) ≡ is_used id us
-        → explicit (cond b (Some (row_of u)) (row_at id (map row_of us))) ≡ (b || is_used id us)
-    go true later = refl
-    go false later = later
+    go : (o : Option Use) → explicit (option_map row_of o) ≡ is_some (option_map (λ given. given.value) o)
+    go None = refl
+    go (Some u) = refl
 
 -- the rows of uses, with what was left out
 abbrev pub filled_rows : List Item → List Use → List Row
@@ -219,7 +199,7 @@ pub flag_filled : (id : Text) (items : List Item) (uses : List Use)
 flag_filled id items uses = defaults_set id items (map row_of uses) ∙ ap is_true (first_use id uses)
 
 pub given_filled : (id : Text) (items : List Item) (uses : List Use) → is_no_flag id items ≡ true
-    → is_given id (filled_rows items uses) ≡ is_used id uses
+    → is_given id (filled_rows items uses) ≡ is_some (text_in uses id)
 given_filled id items uses none = ap explicit (defaults_keep id items (map row_of uses) none) ∙ given_use id uses
 
 -- ---- a level

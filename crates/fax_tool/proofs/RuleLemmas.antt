@@ -1,14 +1,16 @@
 -- What clap's rules are of items, and what it finds by a name.
-use Rattle.std.proofs.Common.{◌≡◌, ◌||◌, ◌&&◌, cond, refl, Bool, true, false, ℕ, List, [], ◌∷◌, Some}
+use Rattle.std.proofs.Common.{◌≡◌, ◌∙◌, ◌&&◌, ap, arith, cond, refl, subst, sym, Bool, true, false, ℕ, suc, List, [], ◌∷◌, Some}
 use Rattle.std.proofs.Common.{is_some, map}
+use Rattle.std.proofs.Math.Bool.{or-false}
+use Rattle.clap.proofs.WalkLemmas.{find-map}
 use Rattle.std.specs.Prelude.{find, not, option_map}
 use Rattle.std.specs.Str.{bytes_eq}
 use Rattle.clap.specs.Walk.{Rule, arg_by_long, arg_by_short}
 use Rattle.clap.specs.Walk.{has_long as rule_has_long, has_short}
 use Rattle.clap.specs.Simple.{Shape, built, filled, new_shape, with_index}
-use Rattle.std.specs.List.{slice_index_or}
+use Rattle.std.specs.List.{Contains, slice_index_or}
 use Rattle.fax_tool.specs.code.CommandLine.{faxpages_app, file_rule, flag_rule, number_rule, text_rule}
-use Rattle.fax_tool.specs.Grammar.{Item, Text, commands, file, flag, letter, number, text}
+use Rattle.fax_tool.specs.Grammar.{Item, Text, commands, file, flag, letter, name_of, number, text}
 use Rattle.fax_tool.specs.code.Scan.{has_letter, has_long}
 use Rattle.clap.specs.Simple.{new_rule}
 
@@ -32,36 +34,35 @@ items_at i = (slice_index_or commands i ([], [])).1
 abbrev pub sub_at : ℕ → Shape
 sub_at i = slice_index_or (built faxpages_app).subs i (new_shape [])
 
-or_false : (b : Bool) → (b || false) ≡ b
-or_false true = refl
-or_false false = refl
+-- what is found is among the list, and passes
+pub found : {A : Type 0} (test : A → Bool) (xs : List A) (x : A) → find test xs ≡ Some x → Contains xs x × (test x ≡ true)
+found test [] x is = cc
+found test (first ∷ xs) x is = go (test first) refl is (found test xs x)
+  where
+    go : (t : Bool) → test first ≡ t → cond t (Some first) (find test xs) ≡ Some x
+        → (find test xs ≡ Some x → Contains xs x × (test x ≡ true)) → Contains (first ∷ xs) x × (test x ≡ true)
+    go true here is later =
+        let same : first ≡ x = cc in
+        ((0, omega arith, same), subst (λ x. test x ≡ true) same here)
+    go false here is later =
+        let of = later is in
+        let low = of.0.1 in
+        ((suc of.0.0, omega arith, of.0.2), of.1)
 
 long_test : (name : Text) (item : Item) → (not (is_some (rule_of item).index) && rule_has_long (rule_of item) name) ≡ has_long name item
-long_test name (text own) = or_false (bytes_eq own name)
-long_test name (number own most) = or_false (bytes_eq own name)
 long_test name (letter x) = refl
-long_test name (flag own) = or_false (bytes_eq own name)
 long_test name file = refl
+long_test name item = or-false (bytes_eq (name_of item) name)
 
 letter_test : (x : ℕ) (item : Item) → (not (is_some (rule_of item).index) && has_short (rule_of item) x) ≡ has_letter x item
-letter_test x (text own) = refl
-letter_test x (number own most) = refl
-letter_test x (letter own) = or_false _
-letter_test x (flag own) = refl
-letter_test x file = refl
+letter_test x (letter own) = or-false _
+letter_test x item = refl
 
 -- a find of rules is one of items, where the tests agree
 find_rule : (test : Rule → Bool) (own : Item → Bool) → ((item : Item) → test (rule_of item) ≡ own item) → (items : List Item)
     → find test (rules_of items) ≡ option_map rule_of (find own items)
-find_rule test own same [] = refl
-find_rule test own same (item ∷ items) = go (test (rule_of item)) (own item) (same item) (find_rule test own same items)
-  where
-    go : (a b : Bool) → a ≡ b → find test (rules_of items) ≡ option_map rule_of (find own items)
-        → cond a (Some (rule_of item)) (find test (rules_of items)) ≡ option_map rule_of (cond b (Some item) (find own items))
-    go true true e later = refl
-    go false false e later = later
-    go true false e later = cc
-    go false true e later = cc
+find_rule test own same items =
+    sym (find-map test rule_of items) ∙ ap (λ p. option_map rule_of (find p items)) (λ i item. same item i)
 
 pub by_long : (items : List Item) (name : Text) → arg_by_long (rules_of items) name ≡ option_map rule_of (find (has_long name) items)
 by_long items name = find_rule _ (has_long name) (long_test name) items

@@ -4,6 +4,7 @@ use Rattle.std.proofs.Common.{map, take, drop, refl, ap, sym, ◌∙◌, subst, 
 use Rattle.std.proofs.Common.{true, false, Bool, take-append-drop, get_or, ◌≤◌, ◌^◌, arith}
 use Rattle.std.proofs.Math.Seq.{take-length}
 use Rattle.std.proofs.lemmas.Bool.Decides.{nat_tests}
+use Rattle.std.proofs.lemmas.Grind.{flat_map-append}
 use Rattle.std.proofs.lemmas.List.{append_cancel_left, append_cancel_right, drop_all}
 use Rattle.std.specs.Prelude.{Option, Some, None, nat_le}
 use Rattle.fax_walk.specs.declared.begun.Begun.{Begun}
@@ -16,11 +17,11 @@ use Rattle.fax_walk.specs.laws.Cursors.{CursorsAreShort, PlacesAreShort, TextsNa
 use Rattle.fax_walk.specs.laws.Tails.{BeginningsHaveOneTail, IsReached, LongTailsGoOn, PlacesAreReached, TailsGoOn}
 use Rattle.fax_walk.specs.Items.{RowItem as Item, IsTailFrom, begun_text, cursor_after, long_after}
 use Rattle.fax_tool.specs.Run.{AreRowLines}
-use Rattle.fax_tool.proofs.BeginLemmas.{begun_at}
+use Rattle.fax_tool.proofs.BeginLemmas.{begun_at, one_begun}
 use Rattle.fax_tool.specs.Text.{Line, Printed, named, next_after, next_line, text_of, end_text}
 use Rattle.fax_tool.specs.Text.{is_cut, line_of_row, texts_of, up_to}
 use Rattle.fax_tool.specs.laws.Runs.{AreAsOneRun, AreRunsOfRows, CutRunsAreReadOn, IsBegun, IsReadAfter, IsRunOfRows, MayBegin, RunsGoOn}
-use Rattle.fax_tool.proofs.LineLemmas.{begins_after, one_rows}
+use Rattle.fax_tool.proofs.LineLemmas.{begins_after, next_after-append, one_rows}
 use Rattle.fax_tool.proofs.TextLemmas.{all_taken}
 
 -- what is written of these lines and their end, or of lines and where to go on
@@ -37,14 +38,6 @@ first_text long begun lines = ended_text long begun lines None
 
 abbrev last_line : End → Begun → List ℕ
 last_line end next = (end_text (Some end) next).output
-
-texts_of-append : (xs ys : List Line) → texts_of (xs ++ ys) ≡ texts_of xs ++ texts_of ys
-texts_of-append [] ys = refl
-texts_of-append (x ∷ xs) ys = ap (λ text. x.text ++ text) (texts_of-append xs ys) ∙ sym (append_assoc x.text (texts_of xs) (texts_of ys))
-
-next_after-append : (begun : Begun) (xs ys : List Line) → next_after begun (xs ++ ys) ≡ next_after (next_after begun xs) ys
-next_after-append begun [] ys = refl
-next_after-append begun (x ∷ xs) ys = next_after-append x.next xs ys
 
 -- what is named of what was named is named
 named_again : (long : Bool) (begun : Begun) → named long (named long begun) ≡ named long begun
@@ -77,7 +70,7 @@ alone : (lines : List Line) (max : Option ℕ) (rows : List ℕ) (last whole : P
     → rows ≡ texts_of (up_to max lines) → (cut ≡ false → last ≡ whole) → AreAsOneRun [] rows last cut (texts_of lines) whole
 alone lines max rows last whole cut rows_are all = record {
   more = texts_of (lines_left max lines);
-  beginning = ap texts_of (sym (parts max lines)) ∙ texts_of-append (up_to max lines) (lines_left max lines)
+  beginning = ap texts_of (sym (parts max lines)) ∙ flat_map-append (λ line. line.text) (up_to max lines) (lines_left max lines)
       ∙ ap (λ text. text ++ texts_of (lines_left max lines)) (sym rows_are);
   output = λ no. ap (λ (printed : Printed). printed.output) (all no);
   error = λ no. ap (λ (printed : Printed). printed.error) (all no);
@@ -94,24 +87,17 @@ as_one_after long begun xs ys end first others rows last cut first_is all =
     named_after long (next_after begun xs) ys ∙ ap (named long) (sym (next_after-append begun xs ys)) in
     record {
       more = all.more;
-      beginning = texts_of-append xs ys ∙ ap (λ text. text ++ texts_of ys) (sym first_is) ∙ ap (λ text. first ++ text) all.beginning
+      beginning = flat_map-append (λ line. line.text) xs ys ∙ ap (λ text. text ++ texts_of ys) (sym first_is) ∙ ap (λ text. first ++ text) all.beginning
           ∙ sym (append_assoc first (others ++ rows) all.more) ∙ ap (λ text. text ++ all.more) (sym (append_assoc first others rows));
       output = λ no.
           append_assoc first others last.output ∙ ap (λ text. first ++ text) (all.output no)
           ∙ ap (λ (b : Begun). first ++ (texts_of ys ++ last_line end b)) next
           ∙ sym (append_assoc first (texts_of ys) (last_line end (named long (next_after begun (xs ++ ys)))))
           ∙ ap (λ (text : List ℕ). (text ++ texts_of ys) ++ last_line end (named long (next_after begun (xs ++ ys)))) first_is
-          ∙ ap (λ (text : List ℕ). text ++ last_line end (named long (next_after begun (xs ++ ys)))) (sym (texts_of-append xs ys));
+          ∙ ap (λ (text : List ℕ). text ++ last_line end (named long (next_after begun (xs ++ ys)))) (sym (flat_map-append (λ line. line.text) xs ys));
       error = λ no. all.error no ∙ ap (λ (b : Begun). (end_text (Some end) b).error) next;
       status = λ no. all.status no ∙ ap (λ (b : Begun). (end_text (Some end) b).status) next;
     }
-
--- what a run begins with has one text
-one_begun : TextsNameOne → (begun other : Begun) → IsBegun begun → IsBegun other → begun_text begun ≡ begun_text other → begun ≡ other
-one_begun names (At at) (At other) is is_too e = ap At (names.cursors at other is is_too e)
-one_begun names (At at) (Inside place) is is_too e = absurd (names.apart at place e)
-one_begun names (Inside place) (At at) is is_too e = absurd (names.apart at place (sym e))
-one_begun names (Inside place) (Inside other) is is_too e = ap Inside (names.places place other is is_too e)
 
 -- the text of `next` tells the text that stands in it
 same_text : (rows : List ℕ) (begun next : Begun) → rows ++ next_line begun ≡ rows ++ next_line next → begun_text begun ≡ begun_text next

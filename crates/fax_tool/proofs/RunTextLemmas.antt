@@ -43,12 +43,4 @@ eight_written s₀ s₁ s₂ s₃ s₄ (a ∷ b ∷ c ∷ d ∷ e ∷ f ∷ g �
         let grouped : (((s₀ ++ (a ++ b)) ++ (c ++ d)) ++ (e ++ f)) ++ (g ++ h)
         ≡ s₀ ++ (a ++ (b ++ (c ++ (d ++ (e ++ (f ++ (g ++ (h ++ [])))))))) = simp (append_assoc, append-nil) in
         all ∙ grouped
-eight_written s₀ s₁ s₂ s₃ s₄ [] long one two three four = absurd (omega (arith, long))
-eight_written s₀ s₁ s₂ s₃ s₄ (a ∷ []) long one two three four = absurd (omega (arith, long))
-eight_written s₀ s₁ s₂ s₃ s₄ (a ∷ b ∷ []) long one two three four = absurd (omega (arith, long))
-eight_written s₀ s₁ s₂ s₃ s₄ (a ∷ b ∷ c ∷ []) long one two three four = absurd (omega (arith, long))
-eight_written s₀ s₁ s₂ s₃ s₄ (a ∷ b ∷ c ∷ d ∷ []) long one two three four = absurd (omega (arith, long))
-eight_written s₀ s₁ s₂ s₃ s₄ (a ∷ b ∷ c ∷ d ∷ e ∷ []) long one two three four = absurd (omega (arith, long))
-eight_written s₀ s₁ s₂ s₃ s₄ (a ∷ b ∷ c ∷ d ∷ e ∷ f ∷ []) long one two three four = absurd (omega (arith, long))
-eight_written s₀ s₁ s₂ s₃ s₄ (a ∷ b ∷ c ∷ d ∷ e ∷ f ∷ g ∷ []) long one two three four = absurd (omega (arith, long))
-eight_written s₀ s₁ s₂ s₃ s₄ (a ∷ b ∷ c ∷ d ∷ e ∷ f ∷ g ∷ h ∷ i ∷ more) long one two three four = absurd (omega (arith, long))
+eight_written s₀ s₁ s₂ s₃ s₄ xs long one two three four = absurd (omega (arith, long))

@@ -1,9 +1,9 @@
 -- Words of UTF-8 that are scanned are those of a command.
-use Rattle.std.proofs.Common.{◌≡◌, ◌∙◌, ◌<◌, ◌==◌, ◌&&◌, ◌++◌, ap, append_assoc, arith, cond, codes, inl, inr, lit<, refl, sym, subst}
+use Rattle.std.proofs.Common.{◌≡◌, ◌∙◌, ◌<◌, ◌==◌, ◌&&◌, ◌++◌, ap, append-nil, append_assoc, arith, cond, codes, inl, inr, lit<, refl, sym, subst}
 use Rattle.std.proofs.Common.{Bool, true, false, ℕ, suc, drop}
 use Rattle.std.proofs.Common.{List, [], ◌∷◌, Option, Some, None}
 use Rattle.std.specs.Prelude.{find, option_and_then, option_map, slice_get}
-use Rattle.std.specs.List.{All, Contains, before_first, list_all, position_or_len, slice_index_or}
+use Rattle.std.specs.List.{All, Contains, before_first, list_all, position_or_len}
 use Rattle.std.specs.Option.{option_map_or}
 use Rattle.std.specs.Str.{IsUtf8, bytes_eq, chars}
 use Rattle.std.proofs.lemmas.Bool.Decides.{nat_tests}
@@ -12,14 +12,16 @@ use Rattle.std.proofs.lemmas.List.Elements.{All-contains, All-from_recursion, Al
 use Rattle.std.proofs.lemmas.Str.{IsUtf8-past_char, byte_from_char, encode_ascii, encodes-chars}
 use Rattle.std.specs.Str.{encode_utf8_all}
 use Rattle.std.proofs.Math.Numerals.{add-one, one-add}
+use Rattle.clap.proofs.WalkLemmas.{both}
 use Rattle.fax_tool.specs.Grammar.{AreOfCommand, AreSpelled, IsPlain, IsSpelled, Item, Text, Use, commands, file, flag, letter, number}
 use Rattle.fax_tool.specs.Grammar.{text}
 use Rattle.fax_tool.specs.code.Scan.{Word, are_apart, attached, checked, ends, file_after, first_char, has_letter, has_long, is_plain}
 use Rattle.fax_tool.specs.code.Scan.{is_taken, joined, read, takes, uses_of, option_word, says, unknown, use_of, uses_from, waits}
 use Rattle.fax_tool.specs.code.Scan.{with_word, word_of}
-use Rattle.fax_tool.proofs.GrammarLemmas.{both_parts, other_first, scanned_apart, scanned_number, scanned_plain}
+use Rattle.fax_tool.proofs.GrammarLemmas.{other_first, scanned_apart, scanned_number, scanned_plain}
 use Rattle.clap.specs.Lexer.{long_of, long_of_rest, name_and_value, short_of, short_of_rest, strip_byte}
-use Rattle.fax_tool.proofs.ViewLemmas.{View, as_end, as_long, as_plain, as_short, hyphens, view}
+use Rattle.fax_tool.proofs.ViewLemmas.{View, as_end, as_long, as_plain, as_short, hyphens, same_byte, view}
+use Rattle.fax_tool.proofs.RuleLemmas.{found as found_in, items_at}
 
 -- a text's first byte is its first character, where that is ASCII
 first_byte : (b : ℕ) (bs : Text) (x : ℕ) → IsUtf8 (45 ∷ b ∷ bs) → first_char (b ∷ bs) ≡ Some x → x < 128 → b ≡ x
@@ -49,15 +51,8 @@ at_equals (x ∷ xs) = go (x == 61) refl (at_equals xs)
         let later = rw (add-one n) at later in
         rw (other, one-add n, add-one (suc n)) (ap (λ ys. x ∷ ys) later)
 
-no_more : (xs : Text) → xs ++ [] ≡ xs
-no_more [] = refl
-no_more (x ∷ xs) = ap (λ ys. x ∷ ys) (no_more xs)
-
 abbrev with_equals : Option Text → Text
 with_equals v = option_map_or (λ t. 61 ∷ t) v []
-
-is_byte : (x c : ℕ) → (x == c) ≡ true → x ≡ c
-is_byte x c is = grind (arith, nat_tests)
 
 long_shape : (word own : Text) (v : Option Text) → long_of word ≡ Some (own, v) → word ≡ 45 ∷ 45 ∷ own ++ with_equals v
 long_shape [] own v is = cc
@@ -75,13 +70,13 @@ long_shape (x ∷ xs) own v is = first (x == 45) refl is
       where
         go : (b : Bool) → (y == 45) ≡ b → option_and_then long_of_rest (cond b (Some ys) None) ≡ Some (own, v)
             → y ∷ ys ≡ 45 ∷ own ++ with_equals v
-        go true same is = ap (λ y. y ∷ ys) (is_byte y 45 same) ∙ ap (λ zs. 45 ∷ zs) (third ys is)
+        go true same is = ap (λ y. y ∷ ys) (same_byte y 45 same) ∙ ap (λ zs. 45 ∷ zs) (third ys is)
         go false other is = cc
 
     first : (b : Bool) → (x == 45) ≡ b
         → option_and_then long_of_rest (option_and_then (strip_byte 45) (cond b (Some xs) None)) ≡ Some (own, v)
         → x ∷ xs ≡ 45 ∷ 45 ∷ own ++ with_equals v
-    first true same is = ap (λ x. x ∷ xs) (is_byte x 45 same) ∙ ap (λ ys. 45 ∷ ys) (second xs is)
+    first true same is = ap (λ x. x ∷ xs) (same_byte x 45 same) ∙ ap (λ ys. 45 ∷ ys) (second xs is)
     first false other is = cc
 
 short_shape : (word : Text) (b : ℕ) (bs : Text) → short_of word ≡ Some (b ∷ bs) → word ≡ 45 ∷ b ∷ bs
@@ -98,23 +93,8 @@ short_shape (x ∷ xs) b bs is = first (x == 45) refl is
 
     first : (t : Bool) → (x == 45) ≡ t → option_and_then short_of_rest (cond t (Some xs) None) ≡ Some (b ∷ bs)
         → x ∷ xs ≡ 45 ∷ b ∷ bs
-    first true same is = ap (λ x. x ∷ xs) (is_byte x 45 same) ∙ ap (λ ys. 45 ∷ ys) (second xs is)
+    first true same is = ap (λ x. x ∷ xs) (same_byte x 45 same) ∙ ap (λ ys. 45 ∷ ys) (second xs is)
     first false other is = cc
-
-contains_found : (test : Item → Bool) (items : List Item) (item : Item) → find test items ≡ Some item → Contains items item ×
-    (test item ≡ true)
-contains_found test [] item is = cc
-contains_found test (first ∷ items) item is = go (test first) refl is (contains_found test items item)
-  where
-    go : (t : Bool) → test first ≡ t → cond t (Some first) (find test items) ≡ Some item
-        → (find test items ≡ Some item → Contains items item × (test item ≡ true)) → Contains (first ∷ items) item × (test item ≡ true)
-    go true here is later =
-        let same : first ≡ item = cc in
-        ((0, omega arith, same), subst (λ item. test item ≡ true) same here)
-    go false here is later =
-        let of = later is in
-        let low = of.0.1 in
-        ((suc of.0.0, omega arith, of.0.2), of.1)
 
 abbrev SpelledAs : List Item → Word → Text → Type 0
 SpelledAs items (says u) word = is_taken u ≡ true → Contains items u.item × IsSpelled u.item u.value (word ∷ [])
@@ -140,7 +120,7 @@ module _ (items : List Item) where
 
   bare_word : (n own word : Text) → bytes_eq n own ≡ true → word ≡ 45 ∷ 45 ∷ own ++ [] → word ≡ codes "--" ++ n
   bare_word n own word named shape =
-      shape ∙ ap (λ own. 45 ∷ 45 ∷ own) (no_more own ∙ sym (named_text n own named))
+      shape ∙ ap (λ own. 45 ∷ 45 ∷ own) (append-nil own ∙ sym (named_text n own named))
 
   long_as : (item : Item) (own : Text) (v : Option Text) (word : Text) → Contains items item → has_long own item ≡ true
       → word ≡ 45 ∷ 45 ∷ own ++ with_equals v → SpelledAs items (option_word v item) word
@@ -155,33 +135,29 @@ module _ (items : List Item) where
       (among, (inr (ap (λ w. w ∷ value ∷ []) (bare_word n own word named shape), plain), scanned_number most value taken))
   long_as (flag n) own None word among named shape =
       λ taken. (among, (ap (λ w. w ∷ []) (bare_word n own word named shape), refl))
-  long_as (letter x) own v word among named shape = cc
-  long_as file own v word among named shape = cc
+  long_as item own v word among named shape = cc
 
   short_as : (item : Item) (x : ℕ) (bs word : Text) → Contains items item → has_letter x item ≡ true → word ≡ 45 ∷ x ∷ bs
       → SpelledAs items (option_word (attached bs) item) word
   short_as (letter l) x [] word among named shape =
       λ value plain taken.
-      (among, inl (inr (ap (λ w. w ∷ value ∷ []) (shape ∙ ap (λ x. 45 ∷ x ∷ []) (sym (is_byte l x named))), plain)))
+      (among, inl (inr (ap (λ w. w ∷ value ∷ []) (shape ∙ ap (λ x. 45 ∷ x ∷ []) (sym (same_byte l x named))), plain)))
   short_as (letter l) x (c ∷ cs) word among named shape = λ taken. (among, go (c == 61) refl)
     where
       whole : word ∷ [] ≡ (45 ∷ l ∷ c ∷ cs) ∷ []
-      whole = ap (λ w. w ∷ []) (shape ∙ ap (λ x. 45 ∷ x ∷ c ∷ cs) (sym (is_byte l x named)))
+      whole = ap (λ w. w ∷ []) (shape ∙ ap (λ x. 45 ∷ x ∷ c ∷ cs) (sym (same_byte l x named)))
 
       go : (t : Bool) → (c == 61) ≡ t → IsSpelled (letter l) (cond t cs (c ∷ cs)) (word ∷ [])
-      go true same = inl (inl (whole ∙ ap (λ c. (45 ∷ l ∷ c ∷ cs) ∷ []) (is_byte c 61 same)))
+      go true same = inl (inl (whole ∙ ap (λ c. (45 ∷ l ∷ c ∷ cs) ∷ []) (same_byte c 61 same)))
       go false other = inr (whole, (λ none. cc), other_first c cs other)
-  short_as (text n) x bs word among named shape = cc
-  short_as (number n most) x bs word among named shape = cc
-  short_as (flag n) x bs word among named shape = cc
-  short_as file x bs word among named shape = cc
+  short_as item x bs word among named shape = cc
 
   module _ (has_file : Contains items file) (ascii : (x : ℕ) → Contains items (letter x) → x < 128) where
     spelled_as : (word : Text) → IsUtf8 word → View word → SpelledAs items (word_of items word) word
     spelled_as word utf8 (as_end is_end says_is not_plain) =
         subst (λ W. SpelledAs items W word) (sym (says_is items)) ((bytes_eq-Decides word hyphens).0 is_end)
     spelled_as word utf8 (as_long own v no_end form says_is not_plain) =
-        subst (λ W. SpelledAs items W word) (sym (says_is items)) (go (find (has_long own) items) (contains_found (has_long own) items))
+        subst (λ W. SpelledAs items W word) (sym (says_is items)) (go (find (has_long own) items) (found_in (has_long own) items))
       where
         go : (o : Option Item) → ((item : Item) → o ≡ Some item → Contains items item × (has_long own item ≡ true))
             → SpelledAs items (option_map_or (option_word v) o unknown) word
@@ -190,17 +166,14 @@ module _ (items : List Item) where
             let of = found item refl in
             long_as item own v word of.0 of.1 (long_shape word own v form)
     spelled_as word utf8 (as_short b bs x no_end no_long form char says_is not_plain) =
-        subst (λ W. SpelledAs items W word) (sym (says_is items)) (go (find (has_letter x) items) (contains_found (has_letter x) items))
+        subst (λ W. SpelledAs items W word) (sym (says_is items)) (go (find (has_letter x) items) (found_in (has_letter x) items))
       where
         shape : word ≡ 45 ∷ b ∷ bs
         shape = short_shape word b bs form
 
         letter_at : (item : Item) → Contains items item → has_letter x item ≡ true → x < 128
-        letter_at (letter l) among named = subst (λ x. x < 128) (is_byte l x named) (ascii l among)
-        letter_at (text n) among named = cc
-        letter_at (number n most) among named = cc
-        letter_at (flag n) among named = cc
-        letter_at file among named = cc
+        letter_at (letter l) among named = subst (λ x. x < 128) (same_byte l x named) (ascii l among)
+        letter_at item among named = cc
 
         go : (o : Option Item) → ((item : Item) → o ≡ Some item → Contains items item × (has_letter x item ≡ true))
             → SpelledAs items (option_map_or (option_word (attached (drop 1 (b ∷ bs)))) o unknown) word
@@ -240,7 +213,7 @@ module _ (items : List Item) where
     taken_parts : (u : Use) (us uses : List Use) → uses ≡ u ∷ us → list_all is_taken uses ≡ true
         → (is_taken u ≡ true) × (list_all is_taken us ≡ true)
     taken_parts u us uses is taken =
-        both_parts (is_taken u) (list_all is_taken us) (subst (λ uses. list_all is_taken uses ≡ true) is taken)
+        both (is_taken u) (list_all is_taken us) (subst (λ uses. list_all is_taken uses ≡ true) is taken)
 
     idle_from : (word : Text) (words : List Text) (W : Word) → SpelledAs items W word → IdleSpelled words → WaitsSpelled words
         → All IsUtf8 words → (uses : List Use) → with_word W words (λ waiting. uses_from items waiting words) ≡ Some uses
@@ -295,9 +268,6 @@ module _ (items : List Item) where
           waits_from word words others.0,
         )
 
-abbrev items_at : ℕ → List Item
-items_at i = (slice_index_or commands i ([], [])).1
-
 abbrev IsSpelledOf : List Item → Type 0
 IsSpelledOf items = (uses : List Use) (words : List Text) → All IsUtf8 words → uses_from items None words ≡ Some uses
     → list_all is_taken uses ≡ true → AreSpelled items uses words
@@ -325,23 +295,6 @@ read_texts_are_spelled = All-from_recursion (λ command. IsSpelledOf command.1) 
   ),
 )
 
--- a command that is found by a name is among them, and has this name
-named_command : (name : Text) (all : List (Text × List Item)) (command : Text × List Item)
-    → find (λ c. bytes_eq c.0 name) all ≡ Some command → Contains all command × (command.0 ≡ name)
-named_command name [] command is = cc
-named_command name (first ∷ others) command is = go (bytes_eq first.0 name) refl is (named_command name others command)
-  where
-    go : (t : Bool) → bytes_eq first.0 name ≡ t → cond t (Some first) (find (λ c. bytes_eq c.0 name) others) ≡ Some command
-        → (find (λ c. bytes_eq c.0 name) others ≡ Some command → Contains others command × (command.0 ≡ name))
-        → Contains (first ∷ others) command × (command.0 ≡ name)
-    go true here is later =
-        let same : first ≡ command = cc in
-        ((0, omega arith, same), sym (ap (λ (c : Text × List Item). c.0) same) ∙ named_text first.0 name here)
-    go false here is later =
-        let of = later is in
-        let low = of.0.1 in
-        ((suc of.0.0, omega arith, of.0.2), of.1)
-
 -- words of UTF-8 that are read are those of a command
 pub read_is_of_command : (words : List Text) (name : Text) (uses : List Use) → All IsUtf8 words → read words ≡ Some (name, uses)
     → AreOfCommand words name uses
@@ -363,7 +316,7 @@ read_is_of_command (program ∷ word ∷ words) name uses utf8 is =
             → AreOfCommand (program ∷ word ∷ words) name uses
         go false test is = cc
         go true test is =
-            let both = both_parts (are_apart [] us) (list_all is_taken us) test in
+            let both = both (are_apart [] us) (list_all is_taken us) test in
             let pair : ◌≡◌ {A = Text × List Use} (command.0, us) (name, uses) = cc in
             let name_is : command.0 ≡ name = ap (λ (c : Text × List Use). c.0) pair in
             let uses_are : us ≡ uses = ap (λ (c : Text × List Use). c.1) pair in
@@ -385,5 +338,5 @@ read_is_of_command (program ∷ word ∷ words) name uses utf8 is =
         → AreOfCommand (program ∷ word ∷ words) name uses
     found None at is = cc
     found (Some command) at is =
-        let of = named_command word commands command at in
-        scanned command of.0 of.1 (uses_from command.1 None words) refl is
+        let of = found_in (λ c. bytes_eq c.0 word) commands command at in
+        scanned command of.0 (named_text command.0 word of.1) (uses_from command.1 None words) refl is

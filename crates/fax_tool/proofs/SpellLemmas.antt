@@ -2,7 +2,7 @@
 use Rattle.std.proofs.Common.{◌≡◌, ◌∙◌, ◌++◌, ap, codes, inl, inr, refl, sym, true, ℕ}
 use Rattle.std.proofs.Common.{List, [], ◌∷◌, Some, None}
 use Rattle.std.specs.Prelude.{option_map}
-use Rattle.std.specs.List.{All, AllByRecursion, Contains, list_all, slice_index_or}
+use Rattle.std.specs.List.{All, AllByRecursion, Contains, list_all}
 use Rattle.std.specs.Str.{chars}
 use Rattle.std.proofs.lemmas.List.Elements.{All-contains, All-from_recursion}
 use Rattle.fax_tool.specs.Grammar.{AreOfCommand, AreOfNoCommand, AreSpelled, IsPlain, IsSpelled, Item, Text, Use, commands, file, flag}
@@ -10,6 +10,7 @@ use Rattle.fax_tool.specs.Grammar.{letter, number, text}
 use Rattle.fax_tool.specs.code.Scan.{attached, is_plain, is_taken, option_word, read, says, takes, use_of, uses_from, uses_of, waits}
 use Rattle.fax_tool.specs.code.Scan.{word_of}
 use Rattle.fax_tool.proofs.GrammarLemmas.{apart_scanned, attached_scanned, number_scanned, plain_scanned}
+use Rattle.fax_tool.proofs.RuleLemmas.{items_at}
 use Rattle.fax_tool.proofs.ViewLemmas.{View, as_end, as_long, as_plain, as_short, view}
 
 -- what one word of an item says
@@ -79,27 +80,15 @@ module _ (items : List Item) (each : (item : Item) → Contains items item → I
       let u_is : use_of file u.value ≡ u = ap (λ item. use_of item u.value) (sym as_file) in
       rw is (ap (λ us. Some us) (ap (λ u. u ∷ []) u_is ∙ ap (λ us. u ∷ us) (sym none)))
 
--- the same, of each item of a list
-abbrev AreRead : List Item → List Item → Type 0
-AreRead all [] = Unit {0}
-AreRead all (item ∷ items) = IsRead all item × AreRead all items
-
-by_items : (all items : List Item) → AreRead all items → AllByRecursion (IsRead all) items
-by_items all [] are = tt
-by_items all (item ∷ items) are = (are.0, by_items all items are.1)
-
-each_read : (items : List Item) → AreRead items items → (item : Item) → Contains items item → IsRead items item
+each_read : (items : List Item) → AllByRecursion (IsRead items) items → (item : Item) → Contains items item → IsRead items item
 each_read items are item among = All-contains (IsRead items) items item
-    (All-from_recursion (IsRead items) items (by_items items items are)) among
+    (All-from_recursion (IsRead items) items are) among
 
 letter_read : (items : List Item) (x : ℕ) →
     ((b : ℕ) (bs : Text) → word_of items (codes "-" ++ x ∷ b ∷ bs) ≡ option_word (attached (b ∷ bs)) (letter x))
     → (value : Text) → attached value ≡ Some value → word_of items (codes "-" ++ x ∷ value) ≡ says (use_of (letter x) value)
 letter_read items x of [] is = cc
 letter_read items x of (b ∷ bs) is = of b bs ∙ ap (λ v. option_word v (letter x)) is
-
-abbrev items_at : ℕ → List Item
-items_at i = (slice_index_or commands i ([], [])).1
 
 abbrev IsReadOf : List Item → Type 0
 IsReadOf items = (uses : List Use) (words : List Text) → AreSpelled items uses words → uses_from items None words ≡ Some uses
@@ -129,11 +118,8 @@ spelled_words_are_read =
 
 -- and each text is one that its item takes
 use_taken : (item : Item) (value : Text) (own : List Text) → IsSpelled item value own → takes item value ≡ true
-use_taken (text name) value own is = refl
 use_taken (number name most) value own is = number_scanned most value is.1
-use_taken (letter x) value own is = refl
-use_taken (flag name) value own is = refl
-use_taken file value own is = refl
+use_taken item value own is = refl
 
 uses_taken : (items : List Item) (uses : List Use) (words : List Text) → AreSpelled items uses words → list_all is_taken uses ≡ true
 uses_taken items [] words is = refl

@@ -1,5 +1,5 @@
 -- What a command writes of a file is one text.
-use Rattle.std.proofs.Common.{◌≡◌, ℕ, List, [], ◌++◌, codes, Option, Bool, false, ap, sym, ◌∙◌, inl, inr}
+use Rattle.std.proofs.Common.{◌≡◌, ℕ, List, [], ◌++◌, codes, Option, Bool, false, ap, ap₂, sym, ◌∙◌, inl, inr}
 use Rattle.std.specs.Prelude.{flat_map}
 use Rattle.std.specs.Option.{option_map_or}
 use Rattle.fax_bits.specs.laws.Codes.{IsOne}
@@ -22,8 +22,7 @@ one_of_lines : (are : List Line → End → Type 0) → IsOne are → (long : Bo
 one_of_lines are one long max begun printed other (lines, end, first, is) (lines', end', second, is') =
     let these = one.one lines end first in
     let those = one.one lines' end' second in
-    is ∙ ap (λ (l : List Line). text_of long max begun l end) (these.0 ∙ sym those.0)
-    ∙ ap (λ (e : End). text_of long max begun lines' e) (these.1 ∙ sym those.1) ∙ sym is'
+    is ∙ ap₂ (text_of long max begun) (these.0 ∙ sym those.0) (these.1 ∙ sym those.1) ∙ sym is'
 
 one_conversion : BytesAreConvertedInOneWay → (options : Options) (file : List ℕ) (printed other : Printed)
     → IsConversionText options file printed → IsConversionText options file other → printed ≡ other
@@ -50,10 +49,8 @@ one_report : FilesHaveOneReport → (file : List ℕ) (printed other : Printed) 
     → printed ≡ other
 one_report reports file printed other (report, first, is) (report', second, is') =
     let same = reports file report report' first second in
-    is ∙ ap (λ notes. text_of_parts notes report.pages report.rows report.fault) same.notes
-    ∙ ap (λ pages. text_of_parts report'.notes.items pages report.rows report.fault) same.pages
-    ∙ ap (λ rows. text_of_parts report'.notes.items report'.pages rows report.fault) same.rows
-    ∙ ap (text_of_parts report'.notes.items report'.pages report'.rows) same.fault ∙ sym is'
+    is ∙ ap₂ (λ notes pages. text_of_parts notes pages report.rows report.fault) same.notes same.pages
+    ∙ ap₂ (text_of_parts report'.notes.items report'.pages) same.rows same.fault ∙ sym is'
 
 pub texts_are_one : BeginningsHaveOneTail → CursorsHaveOneFormTail → BytesAreConvertedInOneWay
     → FilesHaveOneReport → TextsAreOne

@@ -82,9 +82,9 @@ by_ending lines end count long max begun None (is, some) =
 by_ending lines end count long max begun (Some met) (end_is, all, few) =
     rw (all, ← end_is) (whole_ended lines end long max begun (rw all at few))
 
-module _ (tail now : List Line → End → Type 0) (one : IsOne tail) (same : (all : List Line) (end : End) → tail all end ↔ now all end)
-    (begun now_begun : Begun) (same_begun : now_begun ≡ begun) (long : Bool) (max : Option ℕ) (ending : Option End) (count : ℕ)
-    (output written : Option (List ℕ)) (prints : PrintsLines tail max ending count output written) where
+module _ {tail now : List Line → End → Type 0} (one : IsOne tail) (same : (all : List Line) (end : End) → tail all end ↔ now all end)
+    {begun now_begun : Begun} (same_begun : now_begun ≡ begun) (long : Bool) {max : Option ℕ} {ending : Option End} {count : ℕ}
+    {output written : Option (List ℕ)} (prints : PrintsLines tail max ending count output written) where
   ended : IsEndedText prints.lines prints.end count long max begun ending
   ended = by_ending prints.lines prints.end count long max begun ending prints.ends
 

@@ -1,26 +1,25 @@
 -- What clap's walk makes of one word of a command without subcommands.
-use Rattle.std.proofs.Common.{◌≡◌, ◌∙◌, ◌==◌, ◌&&◌, ap, arith, cond, refl, sym, subst, Bool, true, false, ℕ}
+use Rattle.std.proofs.Common.{◌≡◌, ◌∙◌, ap, refl, sym, subst, Bool, true, false, ℕ}
 use Rattle.std.proofs.Common.{List, [], ◌∷◌, Option, Some, None, drop, length}
 use Rattle.std.specs.Prelude.{encode_utf8, find, slice_get, option_and_then, option_map}
 use Rattle.std.specs.List.{fold}
 use Rattle.std.specs.Option.{option_map_or}
 use Rattle.std.specs.Str.{bytes_eq, chars}
-use Rattle.std.proofs.lemmas.Bool.Decides.{nat_tests}
 use Rattle.clap.specs.Lexer.{long_of, short_of}
 use Rattle.clap.specs.Kinds.{Kinds}
 use Rattle.clap.specs.Simple.{Shape, new_shape}
-use Rattle.fax_tool.proofs.ViewLemmas.{attached_is, hyphens}
+use Rattle.fax_tool.proofs.ViewLemmas.{attached_is, hyphens, same_byte}
 use Rattle.clap.specs.Walk.{Held, Outcome, attached_value, short_met, Row, Rule, Step, Text, Waiting, Walk, after_flag, after_step}
 use Rattle.clap.specs.Walk.{arg_by_id, arg_by_long, arg_by_short}
 use Rattle.clap.specs.Walk.{idle, option, settled, used, used_by_id, walked, done}
 use Rattle.clap.specs.Walk.{long_met, bundle_met}
 use Rattle.clap.specs.Faults.{settle_fault, short_fault, step_fault, word_fault, turn_fault, use_fault, walk_fault, long_fault}
 use Rattle.clap.specs.Faults.{react_fault, flags_fault}
-use Rattle.fax_tool.specs.Grammar.{Item, Use, file, flag, letter}
+use Rattle.fax_tool.specs.Grammar.{Item, Use, flag, letter}
 use Rattle.fax_tool.specs.code.Scan.{Word, attached, ends, says, unknown, waits, has_letter, has_long}
-use Rattle.fax_tool.specs.Grammar.{name_of, number, text}
+use Rattle.fax_tool.specs.Grammar.{name_of}
 use Rattle.fax_tool.specs.code.Scan.{letter_word, option_word, use_of}
-use Rattle.fax_tool.proofs.RuleLemmas.{by_long, by_short, rule_of, rules_of}
+use Rattle.fax_tool.proofs.RuleLemmas.{by_long, by_short, found, rule_of, rules_of}
 use Rattle.fax_tool.proofs.UseLemmas.{IsItem, enter, flag_used, guard, guard_twice, is_option, option_used}
 
 -- a built command of these items
@@ -64,24 +63,6 @@ pub and_then_none : {A B : Type 0} (o : Option A) → ◌≡◌ {A = Option B} (
 and_then_none None = refl
 and_then_none (Some x) = refl
 
-same_letter : (l x : ℕ) → (l == x) ≡ true → l ≡ x
-same_letter l x is = grind (arith, nat_tests)
-
-found_passes : (test : Item → Bool) (items : List Item) (item : Item) → find test items ≡ Some item → test item ≡ true
-found_passes test [] item is = cc
-found_passes test (first ∷ items) item is = go (test first) refl is (found_passes test items item)
-  where
-    go : (b : Bool) → test first ≡ b → cond b (Some first) (find test items) ≡ Some item
-        → (find test items ≡ Some item → test item ≡ true) → test item ≡ true
-    go true here is later =
-        let same : first ≡ item = cc in
-        subst (λ item. test item ≡ true) same here
-    go false here is later = later is
-
-pub and_false : (b : Bool) → (b && false) ≡ false
-and_false true = refl
-and_false false = refl
-
 module _ (name : Text) (items : List Item) where
   -- the rows at the end of a walk without a fault
   abbrev pub run : Walk → List Text → Option (List Row)
@@ -112,11 +93,8 @@ module _ (name : Text) (items : List Item) where
       subst (λ (o : Option Rule). guard (option_map_or (λ a. use_fault false a [] rows) o []) r ≡ None) (sym is.0) (go item takes)
     where
       go : (item : Item) → is_option item ≡ true → guard (use_fault false (rule_of item) [] rows) r ≡ None
-      go (text name) takes = refl
-      go (number name most) takes = refl
-      go (letter x) takes = refl
       go (flag name) takes = cc
-      go file takes = refl
+      go item takes = refl
 
   -- the rows after a word of an option
   abbrev pub goes : List Text → ℕ → Word → List Row → Option (List Row)
@@ -158,22 +136,15 @@ module _ (name : Text) (items : List Item) where
       → IsItem item
       → found_run (Some (rule_of item)) value word p rows position words ≡ option_and_then
       (goes words position (option_word value item)) (settle p rows)
-  met_is (text own) (Some value) word p rows position words is fits = valued (text own) value p rows position words is fits refl
-  met_is (number own most) (Some value) word p rows position words is fits = valued (number own most) value p rows position words is
-      fits refl
-  met_is (letter x) (Some value) word p rows position words is fits = valued (letter x) value p rows position words is fits refl
-  met_is file (Some value) word p rows position words is fits = valued file value p rows position words is fits refl
   met_is (flag own) (Some value) word p rows position words is fits = sym (and_then_none (settle p rows))
-  met_is (text own) None word p rows position words is fits = settle_then p rows (goes words position (waits (text own))) is
-  met_is (number own most) None word p rows position words is fits = settle_then p rows (goes words position (waits (number own most))) is
-  met_is (letter x) None word p rows position words is fits = settle_then p rows (goes words position (waits (letter x))) is
-  met_is file None word p rows position words is fits = settle_then p rows (goes words position (waits file)) is
   met_is (flag own) None word p rows position words is fits =
       guard_twice (settle_fault (rules_of items) false (holding rows (pend p)))
       (use_fault false (rule_of (flag own)) [] (settled (rules_of items) (holding rows (pend p))).rows) _
       ∙ settle_then p rows (λ r. guard (use_fault false (rule_of (flag own)) [] r)
       (run (stand (used (rule_of (flag own)) [] r) None idle position false) words)) is
       ∙ and_then_at (settle p rows) _ _ (λ r at. flag_used own r (λ r. run (stand r None idle position false) words))
+  met_is item (Some value) word p rows position words is fits = valued item value p rows position words is fits refl
+  met_is item None word p rows position words is fits = settle_then p rows (goes words position (waits item)) is
 
   module _ (each : (test : Item → Bool) (item : Item) → find test items ≡ Some item → IsItem item) where
     found_is : (o : Option Item) (value : Option Text) (word : Text) (p : Option Use) (rows : List Row) (position : ℕ) (words : List Text)
@@ -203,16 +174,13 @@ module _ (name : Text) (items : List Item) where
         ≡ option_and_then (goes words position (option_map_or (option_word (attached (drop 1 (b ∷ bs)))) o unknown)) (settle p rows)
     short_is x None b bs fault met word p rows position words is test fits = sym (and_then_none (settle p rows))
     short_is x (Some (letter l)) b bs fault met word p rows position words is test fits =
-        let same : l ≡ x = same_letter l x (test (letter l) refl) in
+        let same : l ≡ x = same_byte l x (test (letter l) refl) in
         let one : length (encode_utf8 x) ≡ 1 = subst (λ x. length (encode_utf8 x) ≡ 1) same (fits (letter l) refl) in
         let rest_is : attached_value (drop (length (encode_utf8 x)) (b ∷ bs)) ≡ attached (drop 1 (b ∷ bs)) =
         attached_is (drop (length (encode_utf8 x)) (b ∷ bs)) ∙ ap (λ n. attached (drop n (b ∷ bs))) one in
         ap (λ v. found_run (Some (rule_of (letter l))) v word p rows position words) rest_is
         ∙ met_is (letter l) (attached (drop 1 (b ∷ bs))) word p rows position words is (fits (letter l) refl)
-    short_is x (Some (text own)) b bs fault met word p rows position words is test fits = let no = test (text own) refl in cc
-    short_is x (Some (number own most)) b bs fault met word p rows position words is test fits = let no = test (number own most) refl in cc
-    short_is x (Some (flag own)) b bs fault met word p rows position words is test fits = let no = test (flag own) refl in cc
-    short_is x (Some file) b bs fault met word p rows position words is test fits = let no = test file refl in cc
+    short_is x (Some item) b bs fault met word p rows position words is test fits = let no = test item refl in cc
 
     -- a word that begins with `--`, and names something
     pub long_turn : (own : Text) (value : Option Text) (word : Text) (p : Option Use) (rows : List Row) (position : ℕ) (words : List Text)
@@ -249,5 +217,5 @@ module _ (name : Text) (items : List Item) where
         ∙ ap (λ o. short_run o rest (flags_fault c false (length bs) rest 0) (bundle_met c (length bs) rest 0 done) word p rows position
         words)
         (by_short items x)
-        ∙ short_is x (find (has_letter x) items) b bs _ _ word p rows position words is (found_passes (has_letter x) items)
+        ∙ short_is x (find (has_letter x) items) b bs _ _ word p rows position words is (λ item is. (found (has_letter x) items item is).1)
         (each (has_letter x))

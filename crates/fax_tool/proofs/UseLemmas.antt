@@ -1,6 +1,6 @@
 -- What one use of an item does to the rows of a parse.
 use Rattle.std.proofs.Common.{◌≡◌, ◌∙◌, ◌<◌, ◌^◌, ◌==◌, ◌||◌, ◌&&◌, ◌++◌, ap, arith, cond, refl, sym, subst, Bool, true, false, ℕ, zero}
-use Rattle.std.proofs.Common.{suc, pos}
+use Rattle.std.proofs.Common.{append-nil, suc, pos}
 use Rattle.std.proofs.Common.{List, [], ◌∷◌, Option, Some, None, codes, length}
 use Rattle.std.specs.Prelude.{encode_utf8, int_le, neg_ℤ, not, option_and_then, nat_le, nat_lt}
 use Rattle.std.specs.Str.{bytes_eq}
@@ -15,7 +15,7 @@ use Rattle.clap.specs.declared.builder.value_parser.ValueParser.TheVariants as p
 use Rattle.clap.specs.declared.error.kind.ErrorKind.{ErrorKind}
 use Rattle.clap.specs.declared.error.kind.ErrorKind.TheVariants as kind
 use Rattle.clap.specs.declared.parser.matches.ValueSource.TheVariants.{CommandLine}
-use Rattle.fax_tool.specs.Grammar.{Item, Use, file, flag, letter, name_of, number, text}
+use Rattle.fax_tool.specs.Grammar.{Item, Use, flag, letter, name_of, number}
 use Rattle.fax_tool.specs.code.Scan.{is_number, is_taken, use_of}
 use Rattle.fax_tool.proofs.RuleLemmas.{rule_of}
 
@@ -39,10 +39,6 @@ abbrev pub enter : List Row → Use → Option (List Row)
 enter rows given =
     cond (not (has_row (name_of given.item) rows) && is_taken given) (Some (rows ++ row_of given ∷ [])) None
 
-nothing_more : (rows : List Row) → rows ++ [] ≡ rows
-nothing_more [] = refl
-nothing_more (r ∷ rs) = ap (λ xs. r ∷ xs) (nothing_more rs)
-
 pub at_end : (id : Text) (change : Row → List Row) (missing rows : List Row) → has_row id rows ≡ false
     → at_row id change missing rows ≡ rows ++ missing
 at_end id change missing [] none = refl
@@ -56,7 +52,7 @@ at_end id change missing (r ∷ rs) none = go (bytes_eq r.id id) none (at_end id
 fresh : (id : Text) (how : Reading) (value : Text) (rows : List Row) → has_row id rows ≡ false
     → with_values id how CommandLine (value ∷ []) (without id rows) ≡ rows ++ row_with id how value ∷ []
 fresh id how value rows none =
-    let same : without id rows ≡ rows = at_end id (λ _. []) [] rows none ∙ nothing_more rows in
+    let same : without id rows ≡ rows = at_end id (λ _. []) [] rows none ∙ append-nil rows in
     rw same (at_end id (more_values CommandLine (value ∷ [])) _ rows none)
 
 -- a first use of an id, with a value that passes or not
@@ -143,16 +139,12 @@ is_option item = true
 pub option_used : (item : Item) (value : Text) (rows : List Row) (K : List Row → Option (List Row)) → IsItem item → is_option item ≡ true
     → guard (use_fault false (rule_of item) (value ∷ []) rows) (K (used (rule_of item) (value ∷ []) rows))
     ≡ option_and_then K (enter rows (use_of item value))
-option_used (text name) value rows K fits is = set_step name (reading_by (rule_of (text name))) value _ true kind.ArgumentConflict rows
-    K (λ r. refl)
-option_used (letter x) value rows K fits is = set_step (x ∷ []) (reading_by (rule_of (letter x))) value _ true kind.ArgumentConflict
-    rows K (λ r. refl)
-option_used file value rows K fits is = set_step (codes "FILE") (reading_by (rule_of file)) value _ true kind.ArgumentConflict rows K
-    (λ r. refl)
 option_used (flag name) value rows K fits is = cc
 option_used (number name most) value rows K fits is =
     set_step name (reading_by (rule_of (number name most))) value _ (is_number most value) kind.ArgumentConflict rows K
     (λ r. values_of _ kind.ValueValidation r ∙ ap (λ b. cond b r None) (number_test most value fits))
+option_used item value rows K fits is =
+    set_step (name_of item) (reading_by (rule_of item)) value _ true kind.ArgumentConflict rows K (λ r. refl)
 
 -- a use of a flag
 pub flag_used : (name : Text) (rows : List Row) (K : List Row → Option (List Row))

@@ -39,8 +39,8 @@ long_view b bs =
 view_of : (x : ℕ) (xs : Text) → x ≡ 45 → View (45 ∷ xs) → View (x ∷ xs)
 view_of x xs is view = subst (λ x. View (x ∷ xs)) (sym is) view
 
-is_hyphen : (x : ℕ) → (x == 45) ≡ true → x ≡ 45
-is_hyphen x is = grind (arith, nat_tests)
+pub same_byte : (x y : ℕ) → (x == y) ≡ true → x ≡ y
+same_byte x y is = grind (arith, nat_tests)
 
 hyphen_view : (xs : Text) → View (45 ∷ xs)
 unfolding chars
@@ -52,7 +52,7 @@ hyphen_view (y ∷ ys) = go (y == 45) refl
     second (z ∷ zs) = long_view z zs
 
     go : (b : Bool) → (y == 45) ≡ b → View (45 ∷ y ∷ ys)
-    go true is = subst (λ y. View (45 ∷ y ∷ ys)) (sym (is_hyphen y is)) (second ys)
+    go true is = subst (λ y. View (45 ∷ y ∷ ys)) (sym (same_byte y 45 is)) (second ys)
     go false other = short_view y ys other (slice_get (chars (y ∷ ys)) 0) refl
 
 pub view : (word : Text) → View word
@@ -60,7 +60,7 @@ view [] = as_plain refl refl (inl refl) (λ items. refl) refl
 view (x ∷ xs) = go (x == 45) refl
   where
     go : (b : Bool) → (x == 45) ≡ b → View (x ∷ xs)
-    go true is = view_of x xs (is_hyphen x is) (hyphen_view xs)
+    go true is = view_of x xs (same_byte x 45 is) (hyphen_view xs)
     go false other = as_plain (rw other) (rw other) (inl (rw other)) (λ items. rw other) (rw other)
 
 -- what follows a letter

@@ -1,10 +1,12 @@
 -- What clap's walk makes of all the words of a command without subcommands.
-use Rattle.std.proofs.Common.{◌≡◌, ◌∙◌, ◌&&◌, ◌||◌, ap, cond, codes, inl, inr, refl, sym, subst, Bool, true, false, ℕ}
+use Rattle.std.proofs.Common.{◌≡◌, ◌∙◌, ◌&&◌, ap, cond, codes, inl, inr, refl, sym, subst, Bool, true, false, ℕ}
 use Rattle.std.proofs.Common.{List, [], ◌∷◌, ◌++◌, Option, Some, None, drop, is_some}
 use Rattle.std.specs.Prelude.{find, nat_lt, not, option_and_then, option_map}
 use Rattle.std.specs.Option.{option_map_or}
 use Rattle.std.specs.Str.{bytes_eq}
 use Rattle.std.proofs.lemmas.Slice.Eq.{bytes_eq-Decides}
+use Rattle.std.proofs.lemmas.List.Folds.{list_any-append}
+use Rattle.std.proofs.Math.Bool.{and-false, or-true}
 use Rattle.clap.specs.Kinds.{Kinds, or_else}
 use Rattle.clap.specs.Walk.{Held, attached_value, Row, Rule, Text, Waiting, after_step, arg_by_index, arg_by_long, arg_by_short}
 use Rattle.clap.specs.Walk.{has_row, idle, option, settled, takes_values, walked}
@@ -12,11 +14,11 @@ use Rattle.clap.specs.Walk.{bundle_met, reacted}
 use Rattle.clap.specs.Faults.{settle_fault, short_fault, word_fault, walk_fault, long_fault, option_fault, react_fault, flags_fault}
 use Rattle.fax_tool.specs.Grammar.{Item, Use, file, flag}
 use Rattle.fax_tool.specs.code.Scan.{Word, attached, ends, says, unknown, waits, has_letter, has_long, is_taken}
-use Rattle.fax_tool.specs.Grammar.{letter, name_of, number, text}
+use Rattle.fax_tool.specs.Grammar.{name_of}
 use Rattle.fax_tool.specs.code.Scan.{letter_word, option_word, use_of}
 use Rattle.fax_tool.proofs.RuleLemmas.{rule_of, rules_of}
 use Rattle.fax_tool.proofs.UseLemmas.{enter, guard, guard_twice, is_option}
-use Rattle.fax_tool.proofs.TurnLemmas.{IsOf, IsPending, and_then_at, and_then_none, goes, holding, leaf, long_turn, and_false, pend}
+use Rattle.fax_tool.proofs.TurnLemmas.{IsOf, IsPending, and_then_at, and_then_none, goes, holding, leaf, long_turn, pend}
 use Rattle.fax_tool.proofs.TurnLemmas.{run, settle, settle_then}
 use Rattle.clap.specs.declared.error.kind.ErrorKind.TheVariants.{TooManyValues}
 use Rattle.fax_tool.proofs.TurnLemmas.{short_turn, stand, turn, unsettled}
@@ -37,21 +39,10 @@ one_first rows u None = and_then_none (enter rows u)
 one_first rows u (Some us) = refl
 
 keeps : (id : Text) (rows more : List Row) → has_row id rows ≡ true → has_row id (rows ++ more) ≡ true
-keeps id [] more has = cc
-keeps id (r ∷ rs) more has = go (bytes_eq r.id id) has (keeps id rs more)
-  where
-    go : (b : Bool) → (b || has_row id rs) ≡ true → (has_row id rs ≡ true → has_row id (rs ++ more) ≡ true)
-        → (b || has_row id (rs ++ more)) ≡ true
-    go true has later = refl
-    go false has later = later has
+keeps id rows more has = list_any-append (λ r. bytes_eq r.id id) rows more ∙ rw has refl
 
 gets : (id : Text) (rows : List Row) (r : Row) → bytes_eq r.id id ≡ true → has_row id (rows ++ r ∷ []) ≡ true
-gets id [] r same = rw same refl
-gets id (x ∷ xs) r same = go (bytes_eq x.id id) (gets id xs r same)
-  where
-    go : (b : Bool) → has_row id (xs ++ r ∷ []) ≡ true → (b || has_row id (xs ++ r ∷ [])) ≡ true
-    go true later = refl
-    go false later = later
+gets id rows r same = list_any-append (λ r. bytes_eq r.id id) rows (r ∷ []) ∙ rw same (or-true (has_row id rows))
 
 entered_row : (rows : List Row) (u : Use) (r : List Row) → enter rows u ≡ Some r → rows ++ row_of u ∷ [] ≡ r
 entered_row rows u r is = go (not (has_row (name_of u.item) rows) && is_taken u) is
@@ -114,7 +105,7 @@ module _ (name : Text) (items : List Item) (first : arg_by_index (rules_of items
       (run name items (stand (settled (rules_of items) (holding rows pending)).rows (Some (codes "FILE", word ∷ [])) idle 2 trailing) words)
   placed rows pending waiting trailing word words =
       ap (λ o. place_run o rows pending waiting 1 trailing word words) first
-      ∙ (go trailing ∙ ap (place_at rows pending word words trailing) (and_false (is_pending (rule_of file) pending)))
+      ∙ (go trailing ∙ ap (place_at rows pending word words trailing) (and-false (is_pending (rule_of file) pending)))
     where
       go : (trailing : Bool) → place_run (Some (rule_of file)) rows pending waiting 1 trailing word words
           ≡ place_at rows pending word words trailing (is_pending (rule_of file) pending && false)
@@ -188,14 +179,8 @@ module _ (name : Text) (items : List Item) (first : arg_by_index (rules_of items
   said : (v : Option Text) (item : Item) → IsOf items item → IsSaid (option_word v item)
   said None (flag own) is = tt
   said (Some v) (flag own) is = tt
-  said None (text own) is = (is, refl)
-  said None (number own most) is = (is, refl)
-  said None (letter x) is = (is, refl)
-  said None file is = (is, refl)
-  said (Some v) (text own) is = tt
-  said (Some v) (number own most) is = tt
-  said (Some v) (letter x) is = tt
-  said (Some v) file is = tt
+  said None item is = (is, refl)
+  said (Some v) item is = tt
 
   found_said : (o : Option Item) (v : Option Text) → ((item : Item) → o ≡ Some item → IsOf items item)
       → IsSaid (option_map_or (option_word v) o unknown)
@@ -263,48 +248,35 @@ module _ (name : Text) (items : List Item) (first : arg_by_index (rules_of items
       ∙ rw (no_end, no_long, form, none) (plain_idle word words idles (says_is items) p rows filed is at)
 
   -- a word of an option, where another one waits
-  unsettled_long : (item : Item) (rows : List Row) (o : Option Rule) (v : Option Text) (r : Option (List Row)) → IsOf items item
-      → is_option item ≡ true
-      → guard (long_fault (rules_of items) false o v (holding rows (Some (name_of item, [])))) r ≡ None
-  unsettled_long item rows None v r is takes = refl
-  unsettled_long item rows (Some a) v r is takes = go (takes_values a) v
-    where
-      none : (r : Option (List Row)) → guard (settle_fault (rules_of items) false (holding rows (Some (name_of item, [])))) r ≡ None
-      none r = unsettled name items item rows r is takes
+  module _ (item : Item) (rows : List Row) (is : IsOf items item) (takes : is_option item ≡ true) where
+    abbrev unfilled : Held
+    unfilled = holding rows (Some (name_of item, []))
 
-      react : (values : List Text) → guard (react_fault (rules_of items) false a values (holding rows (Some (name_of item, [])))) r ≡ None
-      react values = guard_twice (settle_fault (rules_of items) false (holding rows (Some (name_of item, [])))) _ r ∙ none _
+    reacts : (a : Rule) (values : List Text) (r : Option (List Row)) → guard (react_fault (rules_of items) false a values unfilled) r ≡ None
+    reacts a values r = guard_twice (settle_fault (rules_of items) false unfilled) _ r ∙ unsettled name items item rows _ is takes
 
-      go : (b : Bool) (v : Option Text)
-          → guard (cond b (option_fault (rules_of items) false a v (holding rows (Some (name_of item, []))))
-          (cond (is_some v) (TooManyValues ∷ []) (react_fault (rules_of items) false a [] (holding rows (Some (name_of item, [])))))) r
-          ≡ None
-      go true (Some v) = react (v ∷ [])
-      go true None = none r
-      go false (Some v) = refl
-      go false None = react []
+    unsettled_long : (o : Option Rule) (v : Option Text) (r : Option (List Row))
+        → guard (long_fault (rules_of items) false o v unfilled) r ≡ None
+    unsettled_long None v r = refl
+    unsettled_long (Some a) v r = go (takes_values a) v
+      where
+        go : (b : Bool) (v : Option Text) → guard (cond b (option_fault (rules_of items) false a v unfilled)
+            (cond (is_some v) (TooManyValues ∷ []) (react_fault (rules_of items) false a [] unfilled))) r ≡ None
+        go true (Some v) = reacts a (v ∷ []) r
+        go true None = unsettled name items item rows r is takes
+        go false (Some v) = refl
+        go false None = reacts a [] r
 
-  unsettled_short : (item : Item) (rows : List Row) (o : Option Rule) (rest : Text) (next : Held → Kinds) (r : Option (List Row))
-      → IsOf items item
-      → is_option item ≡ true
-      → guard (short_fault (rules_of items) false o rest (holding rows (Some (name_of item, []))) next) r ≡ None
-  unsettled_short item rows None rest next r is takes = refl
-  unsettled_short item rows (Some a) rest next r is takes = go (takes_values a) (attached_value rest)
-    where
-      none : (r : Option (List Row)) → guard (settle_fault (rules_of items) false (holding rows (Some (name_of item, [])))) r ≡ None
-      none r = unsettled name items item rows r is takes
-
-      react : (values : List Text) (r : Option (List Row))
-          → guard (react_fault (rules_of items) false a values (holding rows (Some (name_of item, [])))) r ≡ None
-      react values r = guard_twice (settle_fault (rules_of items) false (holding rows (Some (name_of item, [])))) _ r ∙ none _
-
-      go : (b : Bool) (v : Option Text)
-          → guard (cond b (option_fault (rules_of items) false a v (holding rows (Some (name_of item, []))))
-          (or_else (react_fault (rules_of items) false a [] (holding rows (Some (name_of item, []))))
-          (next (reacted (rules_of items) a [] (holding rows (Some (name_of item, []))))))) r ≡ None
-      go true (Some v) = react (v ∷ []) r
-      go true None = none r
-      go false v = guard_twice (react_fault (rules_of items) false a [] (holding rows (Some (name_of item, [])))) _ r ∙ react [] _
+    unsettled_short : (o : Option Rule) (rest : Text) (next : Held → Kinds) (r : Option (List Row))
+        → guard (short_fault (rules_of items) false o rest unfilled next) r ≡ None
+    unsettled_short None rest next r = refl
+    unsettled_short (Some a) rest next r = go (takes_values a) (attached_value rest)
+      where
+        go : (b : Bool) (v : Option Text) → guard (cond b (option_fault (rules_of items) false a v unfilled)
+            (or_else (react_fault (rules_of items) false a [] unfilled) (next (reacted (rules_of items) a [] unfilled)))) r ≡ None
+        go true (Some v) = reacts a (v ∷ []) r
+        go true None = unsettled name items item rows r is takes
+        go false v = guard_twice (react_fault (rules_of items) false a [] unfilled) _ r ∙ reacts a [] _
 
   -- `--`, where an option waits
   unsettled_trail : (item : Item) (rows : List Row) (waiting : Waiting) (filed : Bool) (words : List Text) → IsOf items item
@@ -325,11 +297,9 @@ module _ (name : Text) (items : List Item) (first : arg_by_index (rules_of items
   -- one value is enough
   enough : (item : Item) → is_option item ≡ true
       → nat_lt (cond (bytes_eq (name_of item) (rule_of item).id) 1 0) (most_values (rule_of item)) ≡ false
-  enough (text own) takes = rw (same_bytes own) refl
-  enough (number own most) takes = rw (same_bytes own) refl
-  enough (letter x) takes = rw (same_bytes (x ∷ [])) refl
   enough (flag own) takes = cc
   enough file takes = refl
+  enough item takes = rw (same_bytes (name_of item)) refl
 
   value_run : (item : Item) (rows : List Row) (word : Text) (words : List Text) (filed : Bool) → IsOf items item → is_option item ≡ true
       → run name items (after_step (rules_of items) word
@@ -347,11 +317,11 @@ module _ (name : Text) (items : List Item) (first : arg_by_index (rules_of items
   waits_step word words (as_long own v no_end form says_is not_plain) idles item rows filed is takes at =
       turn name items (stand rows (Some (name_of item, [])) (option (name_of item)) (place_of filed) false) word words
       ∙ guard_twice (word_fault (leaf name items) [] false (option (name_of item)) word (holding rows (Some (name_of item, [])))) _ _
-      ∙ rw (no_end, form, not_plain) (unsettled_long item rows (arg_by_long (rules_of items) own) v _ is takes)
+      ∙ rw (no_end, form, not_plain) (unsettled_long item rows is takes (arg_by_long (rules_of items) own) v _)
   waits_step word words (as_short b bs x no_end no_long form char says_is not_plain) idles item rows filed is takes at =
       turn name items (stand rows (Some (name_of item, [])) (option (name_of item)) (place_of filed) false) word words
       ∙ guard_twice (word_fault (leaf name items) [] false (option (name_of item)) word (holding rows (Some (name_of item, [])))) _ _
-      ∙ rw (no_end, no_long, form, char, not_plain) (unsettled_short item rows (arg_by_short (rules_of items) x) _ _ _ is takes)
+      ∙ rw (no_end, no_long, form, char, not_plain) (unsettled_short item rows is takes (arg_by_short (rules_of items) x) _ _ _)
   waits_step word words (as_plain no_end no_long (inl none) says_is plain) idles item rows filed is takes at =
       turn name items (stand rows (Some (name_of item, [])) (option (name_of item)) (place_of filed) false) word words
       ∙ rw (no_end, no_long, none, plain) (value_run item rows word words filed is takes

@@ -1,5 +1,5 @@
 -- What the commands that write a whole text leave on the output.
-use Rattle.std.proofs.Common.{◌≡◌, ◌≢◌, ℕ, List, [], inl, inr, refl, sym, ◌∙◌}
+use Rattle.std.proofs.Common.{◌≡◌, ◌≢◌, ℕ, List, [], inl, inr, refl, sym}
 use Rattle.std.specs.Prelude.{Option, Some, None, IfSome}
 use Rattle.std.specs.Io.KnownBytes.{Appends}
 use Rattle.std.proofs.KnownBytes.{Appends-nil}
@@ -18,7 +18,7 @@ use Rattle.fax_tool.specs.ReportText.{convert_fault_line, report_text}
 use Rattle.fax_tool.specs.code.ReportParts.{report_output}
 use Rattle.fax_tool.specs.code.Outcome.{IsDone, IsLineOf, IsStopped, error_of, status_of}
 use Rattle.fax_tool.specs.code.Transfers.{IsGivenInPart}
-use Rattle.fax_tool.proofs.CommandLemmas.{text_stopped}
+use Rattle.fax_tool.proofs.CommandLemmas.{text_done, text_stopped}
 
 module _ (bytes : Option (List ℕ)) (file : List ℕ) (same : IfSome bytes (λ b. file ≡ b)) (taken : ℕ) (counts : Counts)
     (read : IsRead (input_after bytes taken counts)) (options : Options) (old new : Option (List ℕ)) (given : Counts) where
@@ -35,43 +35,17 @@ module _ (bytes : Option (List ℕ)) (file : List ℕ) (same : IfSome bytes (λ 
 
   pub converted : (output : List ℕ) → IsConverted file options output → Appends old new output → HasWorked given
       → IsDone (Convert options) (input_after bytes taken counts) (output_after old new given) None
-  converted output is moved worked = record {
-    read = read;
-    written = worked;
-    writes = (
-      file,
-      same,
-      record {
-        printed = converted_text output;
-        is = inl (output, is, refl);
-        output_is = moved;
-        error_is = refl;
-        status_is = refl;
-      },
-    );
-  }
+  converted output is moved worked =
+      text_done (Convert options) bytes taken counts file old new given (converted_text output) None same read (inl (output, is, refl))
+      moved worked refl refl
 
   pub not_converted : (fault : ConvertFault) (line : List ℕ) → (fault ≢ NoMemory → IsNotConverted file options fault) → IsLineOf fault line
       → HasWorked given
       → IsDone (Convert options) (input_after bytes taken counts) (output_after old old given) (Some line)
-  not_converted fault line refused is worked = record {
-    read = read;
-    written = worked;
-    writes = (
-      file,
-      same,
-      record {
-        printed = record { output = []; error = convert_fault_line fault; status = 1 };
-        is = inr (fault, refused is.0, refl);
-        output_is = Appends-nil old;
-        error_is = sym is.1;
-        status_is = refl;
-      },
-    );
-  }
-
-report_output_is : (report : Report) → (report_text report).output ≡ report_output report
-report_output_is report = refl
+  not_converted fault line refused is worked =
+      text_done (Convert options) bytes taken counts file old old given
+      (record { output = []; error = convert_fault_line fault; status = 1 }) (Some line) same read
+      (inr (fault, refused is.0, refl)) (Appends-nil old) worked (sym is.1) refl
 
 module _ (bytes : Option (List ℕ)) (file : List ℕ) (same : IfSome bytes (λ b. file ≡ b)) (taken : ℕ) (counts : Counts)
     (read : IsRead (input_after bytes taken counts)) (old new : Option (List ℕ)) (given : Counts) (report : Report)
@@ -80,23 +54,11 @@ module _ (bytes : Option (List ℕ)) (file : List ℕ) (same : IfSome bytes (λ 
       → IsStopped Check refusal (input_after bytes taken counts) (output_after old new given)
   check_stopped refusal part =
       text_stopped Check bytes taken counts file old new given (report_text report) refusal same read (report, is, refl)
-      (rw (text_is ∙ sym (report_output_is report)) at part)
+      (rw text_is at part)
 
   pub checked : (line : Option (List ℕ)) → Appends old new text → HasWorked given → (report_text report).error ≡ error_of line
       → (report_text report).status ≡ status_of line
       → IsDone Check (input_after bytes taken counts) (output_after old new given) line
-  checked line moved worked error status = record {
-    read = read;
-    written = worked;
-    writes = (
-      file,
-      same,
-      record {
-        printed = report_text report;
-        is = (report, is, refl);
-        output_is = rw (text_is ∙ sym (report_output_is report)) at moved;
-        error_is = error;
-        status_is = status;
-      },
-    );
-  }
+  checked line moved worked error status =
+      text_done Check bytes taken counts file old new given (report_text report) line same read (report, is, refl) (rw text_is at moved)
+      worked error status

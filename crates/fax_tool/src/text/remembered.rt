@@ -133,6 +133,7 @@ impl Texts {
         requires { at + 11 ≤ length bytes.old }
         ensures written { take result bytes.new ≡ take at bytes.old ++ and_number number }
         ensures end { result ≡ at + length (and_number number) }
+        ensures within { result ≤ at + 11 }
         ensures same_len { length bytes.new ≡ length bytes.old }
     {
         let place = number as usize;

@@ -1,5 +1,5 @@
 use Rattle.std.proofs.Common.{◌≡◌, ◌∙◌, ap, inl, inr, refl, rules, subst, sym, List, [], Some}
-use Rattle.std.specs.Prelude.{◌≢◌, codes, option_and_then, Err, IfErr, Ok, Result}
+use Rattle.std.specs.Prelude.{◌≢◌, option_and_then, Err, IfErr, Ok, Result}
 use Rattle.std.specs.List.{All}
 use Rattle.std.specs.Result.{IsErrAnd}
 use Rattle.std.specs.Str.{IsUtf8}
@@ -84,10 +84,10 @@ unread : (words : List Text) → All IsUtf8 words → (AreTaken words → ⊥) �
 unread words utf8 untaken = elim ((read_as words).1 untaken) [
   | inl none ↦ inl (unread_is_no_command words none)
   | inr of ↦ inr (record {
-    name = codes "convert";
-    uses = of.0;
-    named = read_is_of_command words (codes "convert") of.0 utf8 of.1;
-    command = (refl, inl (ap (option_and_then target_of) of.2));
+    name = of.0;
+    uses = of.1;
+    named = read_is_of_command words of.0 of.1 utf8 of.2;
+    command = (of.3.0, inl (ap (option_and_then target_of) of.3.1));
   })
 ]
 

@@ -1,5 +1,5 @@
 use Rattle.std.proofs.Common.{◌∙◌, refl, rules}
-use Rattle.std.proofs.lemmas.Result.{err_from_is_err_and}
+use Rattle.clap.proofs.TakesLemmas.{passed_up}
 use Rattle.fax_tool.specs.declared.words.Command.TheVariants.{Check}
 use Rattle.fax_tool.proofs.CommandLemmas.{whole_unread, without_memory}
 use Rattle.fax_tool.proofs.WholeLemmas.{checked, check_stopped}
@@ -7,30 +7,26 @@ use Rattle.fax_tool.proofs.commands.check.check.Goals as goal
 
 pub returns-in_err-file-clause-err : goal.returns-in_err-file-clause-err
 returns-in_err-file-clause-err g c =
-    let p = err_from_is_err_and c.from_residual.result c.from_residual.ensures.1 in
-    rw (p.1, p.2)
+    passed_up c.from_residual.result _ _ c.from_residual.ensures.1
     (whole_unread Check (λ file. refl) (g.R.Source.left c.args.input.now) _ _ (g.W.Sink.written c.args.out.now) _
     (rw c.requires.counts (search rules)) _ c.in_err-file.ensures.reason)
 
 pub returns-in_err-report-clause-err : goal.returns-in_err-report-clause-err
 returns-in_err-report-clause-err g c =
-    let p = err_from_is_err_and c.from_residual-in_err-report.result c.from_residual-in_err-report.ensures.1 in
-    rw (p.1, p.2)
+    passed_up c.from_residual-in_err-report.result _ _ c.from_residual-in_err-report.ensures.1
     (without_memory Check (λ file. refl) (g.R.Source.left c.args.input.now) _ _ (g.W.Sink.written c.args.out.now) _
     (rw c.requires.counts (search rules)) c.in_ok-file.ensures.read)
 
 pub returns-in_err-text-clause-err : goal.returns-in_err-text-clause-err
 returns-in_err-text-clause-err g c =
-    let p = err_from_is_err_and c.from_residual-in_err-text.result c.from_residual-in_err-text.ensures.1 in
-    rw (p.1, p.2)
+    passed_up c.from_residual-in_err-text.result _ _ c.from_residual-in_err-text.ensures.1
     (without_memory Check (λ file. refl) (g.R.Source.left c.args.input.now) _ _ (g.W.Sink.written c.args.out.now) _
     (rw c.requires.counts (search rules)) c.in_ok-file.ensures.read)
 
 pub returns-in_err-give_all-clause-err : goal.returns-in_err-give_all-clause-err
 returns-in_err-give_all-clause-err g c =
-    let p = err_from_is_err_and c.from_residual-in_err-give_all.result c.from_residual-in_err-give_all.ensures.1 in
     let is = rw c.deref.ensures.value at c.in_ok-report.ensures in
-    rw (p.1, p.2)
+    passed_up c.from_residual-in_err-give_all.result _ _ c.from_residual-in_err-give_all.ensures.1
     (check_stopped (g.R.Source.left c.args.input.now) c.in_ok-file.file.items c.in_ok-file.ensures.whole _ _ c.in_ok-file.ensures.read
     (g.W.Sink.written c.args.out.now) _ _ c.in_ok-report.report is c.as_bytes.result.now (c.as_bytes.ensures ∙ c.in_ok-text.ensures) _
     c.in_err-give_all.ensures.err)

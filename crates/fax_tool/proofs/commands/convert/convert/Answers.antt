@@ -1,5 +1,5 @@
 use Rattle.std.proofs.Common.{refl, rules}
-use Rattle.std.proofs.lemmas.Result.{err_from_is_err_and}
+use Rattle.clap.proofs.TakesLemmas.{passed_up}
 use Rattle.fax_tool.specs.declared.words.Command.TheVariants.{Convert}
 use Rattle.fax_tool.proofs.CommandLemmas.{whole_unread, without_memory}
 use Rattle.fax_tool.proofs.WholeLemmas.{converted, conversion_stopped, not_converted}
@@ -7,17 +7,15 @@ use Rattle.fax_tool.proofs.commands.convert.convert.Goals as goal
 
 pub returns-in_err-file-clause-err : goal.returns-in_err-file-clause-err
 returns-in_err-file-clause-err g c =
-    let p = err_from_is_err_and c.from_residual.result c.from_residual.ensures.1 in
-    rw (p.1, p.2)
+    passed_up c.from_residual.result _ _ c.from_residual.ensures.1
     (whole_unread (Convert c.args.options) (λ file. refl) (g.R.Source.left c.args.input.now) _ _ (g.W.Sink.written c.args.out.now) _
     (rw c.requires.counts (search rules)) _ c.in_err-file.ensures.reason)
 
 pub returns-in_err-give_all-in-Ok-clause-err : goal.returns-in_err-give_all-in-Ok-clause-err
 returns-in_err-give_all-in-Ok-clause-err g c =
-    let p = err_from_is_err_and c.from_residual-in_err-give_all-in-Ok.result c.from_residual-in_err-give_all-in-Ok.ensures.1 in
     let is = rw c.deref.ensures.value at c.in-Ok.ensures.ok in
     let given = rw c.deref-in-Ok.ensures.value at c.in_err-give_all-in-Ok.ensures.err in
-    rw (p.1, p.2)
+    passed_up c.from_residual-in_err-give_all-in-Ok.result _ _ c.from_residual-in_err-give_all-in-Ok.ensures.1
     (conversion_stopped (g.R.Source.left c.args.input.now) c.in_ok-file.file.items c.in_ok-file.ensures.whole _ _ c.in_ok-file.ensures.read
     c.args.options (g.W.Sink.written c.args.out.now) _ _ c.in-Ok.bytes.items _ is given)
 
@@ -30,9 +28,7 @@ returns-in-Ok-clause-ok g c =
 
 pub returns-in_err-conversion_line-in-Err-clause-err : goal.returns-in_err-conversion_line-in-Err-clause-err
 returns-in_err-conversion_line-in-Err-clause-err g c =
-    let p = err_from_is_err_and c.from_residual-in_err-conversion_line-in-Err.result
-    c.from_residual-in_err-conversion_line-in-Err.ensures.1 in
-    rw (p.1, p.2)
+    passed_up c.from_residual-in_err-conversion_line-in-Err.result _ _ c.from_residual-in_err-conversion_line-in-Err.ensures.1
     (without_memory (Convert c.args.options) (λ file. refl) (g.R.Source.left c.args.input.now) _ _ (g.W.Sink.written c.args.out.now) _
     (rw c.requires.counts (search rules)) c.in_ok-file.ensures.read)
 

@@ -1,12 +1,11 @@
-use Rattle.std.proofs.lemmas.Result.{err_from_is_err_and}
+use Rattle.clap.proofs.TakesLemmas.{passed_up}
 use Rattle.fax_tool.specs.declared.words.Command.TheVariants.{List as Forms}
 use Rattle.fax_tool.proofs.CommandLemmas.{command_done, command_stopped, pages_unread}
 use Rattle.fax_tool.proofs.commands.print.list.Goals as goal
 
 pub returns-in_err-file-clause-err : goal.returns-in_err-file-clause-err
 returns-in_err-file-clause-err g c =
-    let p = err_from_is_err_and c.from_residual.result c.from_residual.ensures.1 in
-    rw (p.1, p.2)
+    passed_up c.from_residual.result _ _ c.from_residual.ensures.1
     (pages_unread c.form_tails_are_one.ensures.one c.args.part.now _ (g.R.Source.left c.args.input.now) _ _ _ c.in_err-file.ensures.err)
 
 pub returns-clause-ok : goal.returns-clause-ok

@@ -1,5 +1,5 @@
 use Rattle.std.proofs.Common.{◌∙◌, refl, rules}
-use Rattle.std.proofs.lemmas.Result.{err_from_is_err_and}
+use Rattle.clap.proofs.TakesLemmas.{passed_up}
 use Rattle.fax_tool.proofs.PrintLemmas.{none_printed, one_more, part_sent, ended_at_end, stopped_for_memory, stopped_for_write}
 use Rattle.fax_tool.proofs.commands.print.print_lines.Goals as goal
 
@@ -14,32 +14,22 @@ loop-left-init g c = record {
 
 pub returns-in_err-write_out-clause-err : goal.returns-in_err-write_out-clause-err
 returns-in_err-write_out-clause-err g c =
-    let p = err_from_is_err_and c.from_residual.result c.from_residual.ensures.1 in
-    rw (p.1, p.2)
-    (stopped_for_write (g.L.Lines.tail c.args.lines.now) (g.L.Lines.tail c.loop-left.lines) c.loop-left.invariant.one
-    (g.L.Lines.given c.loop-left.lines) c.args.max c.loop-left.left (g.W.Sink.written c.args.out.now) (g.W.Sink.written c.loop-left.out)
-    c.loop-left.text c.loop-left.invariant.some (g.L.Lines.begun c.args.lines.now) _ _ _ c.in_err-write_out.ensures.err)
+    passed_up c.from_residual.result _ _ c.from_residual.ensures.1
+    (stopped_for_write c.loop-left.invariant.one c.loop-left.invariant.some (g.L.Lines.begun c.args.lines.now) _ _ _ c.in_err-write_out.ensures.err)
 
 pub returns-in_err-write_where_long-clause-err : goal.returns-in_err-write_where_long-clause-err
 returns-in_err-write_where_long-clause-err g c =
-    let p = err_from_is_err_and c.from_residual-in_err-write_where_long.result c.from_residual-in_err-write_where_long.ensures.1 in
-    rw (p.1, p.2)
-    (stopped_for_write (g.L.Lines.tail c.args.lines.now) (g.L.Lines.tail c.loop-left.lines) c.loop-left.invariant.one
-    (g.L.Lines.given c.loop-left.lines) c.args.max c.loop-left.left (g.W.Sink.written c.args.out.now) (g.W.Sink.written c.loop-left.out)
-    c.loop-left.text c.loop-left.invariant.some (g.L.Lines.begun c.args.lines.now) _ _ _ c.in_err-write_where_long.ensures.err)
+    passed_up c.from_residual-in_err-write_where_long.result _ _ c.from_residual-in_err-write_where_long.ensures.1
+    (stopped_for_write c.loop-left.invariant.one c.loop-left.invariant.some (g.L.Lines.begun c.args.lines.now) _ _ _ c.in_err-write_where_long.ensures.err)
 
 pub loop-left-preserved : goal.loop-left-preserved
 loop-left-preserved g c =
     let put = rw c.in-Ok-None.field-0-is at c.in-Ok-None.ensures.put in
-    let sent = part_sent (g.L.Lines.tail c.args.lines.now) (g.L.Lines.tail c.loop-left.lines) c.loop-left.invariant.one
-    (g.L.Lines.given c.loop-left.lines) c.args.max c.loop-left.left (g.W.Sink.written c.args.out.now) (g.W.Sink.written c.loop-left.out)
-    c.loop-left.text c.loop-left.invariant.some (g.W.Sink.written c.write_where_long.new.out) c.write_where_long.new.text
+    let sent = part_sent c.loop-left.invariant.one c.loop-left.invariant.some (g.W.Sink.written c.write_where_long.new.out) c.write_where_long.new.text
     c.in_ok-write_where_long.ensures.ok in
     record {
       one = c.loop-left.invariant.one;
-      some = one_more (g.L.Lines.tail c.args.lines.now) (g.L.Lines.tail c.loop-left.lines) c.loop-left.invariant.one
-          (g.L.Lines.given c.loop-left.lines) c.args.max c.loop-left.left (g.W.Sink.written c.args.out.now)
-          (g.W.Sink.written c.write_where_long.new.out) c.write_where_long.new.text sent (g.L.Lines.tail c.put_next.new.self)
+      some = one_more c.loop-left.invariant.one sent (g.L.Lines.tail c.put_next.new.self)
           (g.L.Lines.given c.put_next.new.self) _ put.0 _ c.in-Ok-None.ensures.tail put.1 put.2
           (search rules) c.after_one-left.ensures put.3;
       begun = c.in-Ok-None.ensures.begun ∙ c.loop-left.invariant.begun;
@@ -48,39 +38,26 @@ loop-left-preserved g c =
 
 pub returns-in_err-write_out-in-Ok-Some-clause-err : goal.returns-in_err-write_out-in-Ok-Some-clause-err
 returns-in_err-write_out-in-Ok-Some-clause-err g c =
-    let p = err_from_is_err_and c.from_residual-in_err-write_out-in-Ok-Some.result c.from_residual-in_err-write_out-in-Ok-Some.ensures.1 in
     let put = rw c.in-Ok-Some.field-0-is at c.in-Ok-Some.ensures.put in
-    let sent = part_sent (g.L.Lines.tail c.args.lines.now) (g.L.Lines.tail c.loop-left.lines) c.loop-left.invariant.one
-    (g.L.Lines.given c.loop-left.lines) c.args.max c.loop-left.left (g.W.Sink.written c.args.out.now) (g.W.Sink.written c.loop-left.out)
-    c.loop-left.text c.loop-left.invariant.some (g.W.Sink.written c.write_where_long.new.out) c.write_where_long.new.text
+    let sent = part_sent c.loop-left.invariant.one c.loop-left.invariant.some (g.W.Sink.written c.write_where_long.new.out) c.write_where_long.new.text
     c.in_ok-write_where_long.ensures.ok in
-    rw (p.1, p.2)
-    (stopped_for_write (g.L.Lines.tail c.args.lines.now) (g.L.Lines.tail c.loop-left.lines) c.loop-left.invariant.one
-    (g.L.Lines.given c.loop-left.lines) c.args.max c.loop-left.left (g.W.Sink.written c.args.out.now)
-    (g.W.Sink.written c.write_where_long.new.out) c.write_where_long.new.text sent (g.L.Lines.begun c.args.lines.now) _ _ _
+    passed_up c.from_residual-in_err-write_out-in-Ok-Some.result _ _ c.from_residual-in_err-write_out-in-Ok-Some.ensures.1
+    (stopped_for_write c.loop-left.invariant.one sent (g.L.Lines.begun c.args.lines.now) _ _ _
     (rw put.2 at c.in_err-write_out-in-Ok-Some.ensures.err))
 
 pub returns-in-Ok-Some-clause-ok : goal.returns-in-Ok-Some-clause-ok
 returns-in-Ok-Some-clause-ok g c =
     let put = rw c.in-Ok-Some.field-0-is at c.in-Ok-Some.ensures.put in
-    let sent = part_sent (g.L.Lines.tail c.args.lines.now) (g.L.Lines.tail c.loop-left.lines) c.loop-left.invariant.one
-    (g.L.Lines.given c.loop-left.lines) c.args.max c.loop-left.left (g.W.Sink.written c.args.out.now) (g.W.Sink.written c.loop-left.out)
-    c.loop-left.text c.loop-left.invariant.some (g.W.Sink.written c.write_where_long.new.out) c.write_where_long.new.text
+    let sent = part_sent c.loop-left.invariant.one c.loop-left.invariant.some (g.W.Sink.written c.write_where_long.new.out) c.write_where_long.new.text
     c.in_ok-write_where_long.ensures.ok in
     rw c.in-Ok-Some.end-is
-    (ended_at_end (g.L.Lines.tail c.args.lines.now) (g.L.Lines.tail c.loop-left.lines) c.loop-left.invariant.one
-    (g.L.Lines.given c.loop-left.lines) c.args.max c.loop-left.left (g.W.Sink.written c.args.out.now)
-    (g.W.Sink.written c.write_where_long.new.out) c.write_where_long.new.text sent _ (g.L.Lines.given c.put_next.new.self) _ _
+    (ended_at_end c.loop-left.invariant.one sent _ (g.L.Lines.given c.put_next.new.self) _ _
     (search rules) put.0 put.1 put.2 c.in_ok-write_out-in-Ok-Some.ensures.ok)
 
 pub returns-in-Err-clause-err : goal.returns-in-Err-clause-err
 returns-in-Err-clause-err g c =
-    let sent = part_sent (g.L.Lines.tail c.args.lines.now) (g.L.Lines.tail c.loop-left.lines) c.loop-left.invariant.one
-    (g.L.Lines.given c.loop-left.lines) c.args.max c.loop-left.left (g.W.Sink.written c.args.out.now) (g.W.Sink.written c.loop-left.out)
-    c.loop-left.text c.loop-left.invariant.some (g.W.Sink.written c.write_where_long.new.out) c.write_where_long.new.text
+    let sent = part_sent c.loop-left.invariant.one c.loop-left.invariant.some (g.W.Sink.written c.write_where_long.new.out) c.write_where_long.new.text
     c.in_ok-write_where_long.ensures.ok in
-    stopped_for_memory (g.L.Lines.tail c.args.lines.now) (g.L.Lines.tail c.loop-left.lines) c.loop-left.invariant.one
-    (g.L.Lines.given c.loop-left.lines) c.args.max c.loop-left.left (g.W.Sink.written c.args.out.now)
-    (g.W.Sink.written c.write_where_long.new.out) c.write_where_long.new.text sent (g.L.Lines.begun c.args.lines.now)
+    stopped_for_memory c.loop-left.invariant.one sent (g.L.Lines.begun c.args.lines.now)
     (g.L.Lines.begun c.loop-left.lines) c.cursor-cursor.result _ c.as_bytes.result.now c.deref.result.now _ _ c.loop-left.invariant.begun
     c.cursor-cursor.ensures (c.as_bytes.ensures ∙ c.in-Err.ensures.put) (search rules) c.stop_for_memory.ensures

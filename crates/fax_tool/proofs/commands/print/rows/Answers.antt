@@ -1,21 +1,20 @@
 use Rattle.std.proofs.Common.{rules}
-use Rattle.std.proofs.lemmas.Result.{err_from_is_err_and}
+use Rattle.clap.proofs.TakesLemmas.{passed_up}
 use Rattle.fax_tool.specs.declared.words.Command.TheVariants.{Rows}
 use Rattle.fax_tool.proofs.CommandLemmas.{command_done, command_stopped, rows_unbegun, rows_unread}
 use Rattle.fax_tool.proofs.commands.print.rows.Goals as goal
 
 pub returns-in_err-begun-clause-err : goal.returns-in_err-begun-clause-err
 returns-in_err-begun-clause-err g c =
-    let p = err_from_is_err_and c.from_residual.result c.from_residual.ensures.1 in
-    rw (p.1, p.2, c.requires.input_counts, c.requires.taken)
+    passed_up c.from_residual.result _ _ c.from_residual.ensures.1 (rw (c.requires.input_counts, c.requires.taken)
     (rows_unbegun c.beginnings_have_one_tail.ensures c.args.part.now _ (g.R.Source.left c.args.input.now) _ _ _ (search rules)
-    c.in_err-begun.ensures.err)
+    c.in_err-begun.ensures.err))
 
 pub returns-in_err-file-clause-err : goal.returns-in_err-file-clause-err
 returns-in_err-file-clause-err g c =
-    let p = err_from_is_err_and c.from_residual-in_err-file.result c.from_residual-in_err-file.ensures.1 in
     let stops = rw (c.begin.ensures, c.in_ok-begun.ensures.unwritten) at c.in_err-file.ensures.err in
-    rw (p.1, p.2) (rows_unread c.beginnings_have_one_tail.ensures c.args.part.now _ (g.R.Source.left c.args.input.now) _ _ _ stops)
+    passed_up c.from_residual-in_err-file.result _ _ c.from_residual-in_err-file.ensures.1
+    (rows_unread c.beginnings_have_one_tail.ensures c.args.part.now _ (g.R.Source.left c.args.input.now) _ _ _ stops)
 
 pub returns-clause-ok : goal.returns-clause-ok
 returns-clause-ok g c =

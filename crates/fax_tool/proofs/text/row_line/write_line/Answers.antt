@@ -2,48 +2,20 @@ use Rattle.std.proofs.Common.{ℕ, take, arith, length-set}
 use Rattle.std.specs.Prelude.{codes, flat_map}
 use Rattle.fax_rows.specs.Rows.{runs_of}
 use Rattle.fax_tool.specs.Text.{and_number, row_line_of}
-use Rattle.fax_tool.proofs.NumberLemmas.{length_long, line_is, one, three}
+use Rattle.fax_tool.proofs.NumberLemmas.{line_is, one, three}
 use Rattle.fax_tool.proofs.text.row_line.write_line.Goals as goal
 
 pub write_number-page_end-requires : goal.write_number-page_end-requires
-write_number-page_end-requires c = simp length-set (omega (arith, length_long c.args.place.page (omega arith), c.requires))
+write_number-page_end-requires c = omega (arith, length-set {A = ℕ}, c.requires)
 
 pub write_number-row_end-requires : goal.write_number-row_end-requires
-write_number-row_end-requires c =
-    omega (
-      arith,
-      length-set {A = ℕ},
-      length_long c.args.place.page (omega arith),
-      length_long c.args.place.row (omega arith),
-      c.write_number-page_end.ensures.end,
-      c.write_number-page_end.ensures.same_len,
-    )
+write_number-row_end-requires c = omega (arith, length-set {A = ℕ})
 
 pub write_runs-end-requires : goal.write_runs-end-requires
-write_runs-end-requires c =
-    omega (
-      arith,
-      length-set {A = ℕ},
-      length_long c.args.place.page (omega arith),
-      length_long c.args.place.row (omega arith),
-      c.write_number-page_end.ensures.end,
-      c.write_number-page_end.ensures.same_len,
-      c.write_number-row_end.ensures.end,
-      c.write_number-row_end.ensures.same_len,
-    )
+write_runs-end-requires c = omega (arith, length-set {A = ℕ})
 
 pub bounds-bytes-end : goal.bounds-bytes-end
-bounds-bytes-end c =
-    omega (
-      arith,
-      length-set {A = ℕ},
-      length_long c.args.place.page (omega arith),
-      length_long c.args.place.row (omega arith),
-      c.write_number-page_end.ensures.end,
-      c.write_number-page_end.ensures.same_len,
-      c.write_number-row_end.ensures.end,
-      c.write_number-row_end.ensures.same_len,
-    )
+bounds-bytes-end c = omega (arith, length-set {A = ℕ})
 
 pub returns-clause-written : goal.returns-clause-written
 unfolding row_line_of
@@ -53,26 +25,7 @@ returns-clause-written c =
     (three c.args.bytes.now c.args.at 114 111 119 (omega arith))
     c.write_number-page_end.ensures.written c.write_number-row_end.ensures.written c.write_runs-end.ensures.written
     (one c.write_runs-end.new.bytes c.write_runs-end.result 10
-    (omega (
-      arith,
-      length-set {A = ℕ},
-      length_long c.args.place.page (omega arith),
-      length_long c.args.place.row (omega arith),
-      c.write_number-page_end.ensures.end,
-      c.write_number-page_end.ensures.same_len,
-      c.write_number-row_end.ensures.end,
-      c.write_number-row_end.ensures.same_len,
-    )))
+    (omega (arith, length-set {A = ℕ})))
 
 pub returns-clause-within : goal.returns-clause-within
-returns-clause-within c =
-    omega (
-      arith,
-      length-set {A = ℕ},
-      length_long c.args.place.page (omega arith),
-      length_long c.args.place.row (omega arith),
-      c.write_number-page_end.ensures.end,
-      c.write_number-page_end.ensures.same_len,
-      c.write_number-row_end.ensures.end,
-      c.write_number-row_end.ensures.same_len,
-    )
+returns-clause-within c = omega (arith, length-set {A = ℕ})

@@ -1,13 +1,15 @@
-use Rattle.std.proofs.Common.{refl, ap, arith}
+use Rattle.std.proofs.Common.{ap, arith}
 use Rattle.fax_walk.specs.views.Walk.{WalkView}
-use Rattle.fax_tool.proofs.LineLemmas.{row_put, rows_end, rows_refused}
+use Rattle.fax_walk.specs.Items.{IsTailFrom}
+use Rattle.fax_tool.specs.Text.{line_of_row}
+use Rattle.fax_tool.proofs.LineLemmas.{line_put, lines_ended, rows_refused}
 use Rattle.fax_tool.proofs.commands.lines.WalkLines.put_next.Goals as goal
 
 pub returns-in_ok-put_row_line-in-Ok-Some-clause-put : goal.returns-in_ok-put_row_line-in-Ok-Some-clause-put
 returns-in_ok-put_row_line-in-Ok-Some-clause-put c =
     let next = rw (c.in-Ok-Some.is, c.in-Ok-Some.field-0-is) at c.next_row.follows.holds-at-none in
-    row_put c.args.self.now.file c.args.self.now.begun c.args.self.now.given _ next.0 _ _ _ c.args.text.now _ next.1.number next.2.0
-    next.2.1 next.2.2 (ap (λ (w : WalkView). w.given) next.1.new_is) c.in_ok-put_row_line-in-Ok-Some.ensures.ok
+    line_put line_of_row IsTailFrom _ c.args.self.now _ next.0 c.args.text.now _ next.1
+    (rw (next.2.0, next.2.1, next.2.2) c.in_ok-put_row_line-in-Ok-Some.ensures.ok)
 
 pub returns-in_ok-put_row_line-in-Ok-Some-clause-tail : goal.returns-in_ok-put_row_line-in-Ok-Some-clause-tail
 returns-in_ok-put_row_line-in-Ok-Some-clause-tail c =
@@ -26,11 +28,8 @@ returns-in_ok-put_row_line-in-Ok-Some-clause-fewer c =
 
 pub returns-in-Ok-None-clause-put : goal.returns-in-Ok-None-clause-put
 returns-in-Ok-None-clause-put c =
-    let ended = rw (c.in-Ok-None.is, c.in-Ok-None.field-0-is) at c.next_row.follows.holds-at-none in (
-      rows_end c.args.self.now.file c.args.self.now.begun c.args.self.now.given _ ended.0,
-      ap (λ (w : WalkView). w.given) ended.2,
-      refl,
-    )
+    let ended = rw (c.in-Ok-None.is, c.in-Ok-None.field-0-is) at c.next_row.follows.holds-at-none in
+    lines_ended line_of_row IsTailFrom c.args.self.now _ _ c.args.text.now ended
 
 pub returns-in-Ok-None-clause-tail : goal.returns-in-Ok-None-clause-tail
 returns-in-Ok-None-clause-tail c =
@@ -40,11 +39,8 @@ returns-in-Ok-None-clause-tail c =
 pub returns-in_ok-end_of-in-Err-clause-put : goal.returns-in_ok-end_of-in-Err-clause-put
 returns-in_ok-end_of-in-Err-clause-put c =
     let next = rw c.in-Err.is at c.next_row.follows.holds-at-none in
-    let ended = rows_refused c.args.self.now c.next_row.follows.lender-at-none c.in-Err.fault _ next c.in_ok-end_of-in-Err.ensures in (
-      rows_end c.args.self.now.file c.args.self.now.begun c.args.self.now.given _ ended.0,
-      ap (λ (w : WalkView). w.given) ended.2,
-      refl,
-    )
+    let ended = rows_refused c.args.self.now c.next_row.follows.lender-at-none c.in-Err.fault _ next c.in_ok-end_of-in-Err.ensures in
+    lines_ended line_of_row IsTailFrom c.args.self.now _ _ c.args.text.now ended
 
 pub returns-in_ok-end_of-in-Err-clause-tail : goal.returns-in_ok-end_of-in-Err-clause-tail
 returns-in_ok-end_of-in-Err-clause-tail c =
