@@ -29,9 +29,7 @@ none_at (suc n) (suc k) within is = none_at n k (omega (arith, within)) is
 
 -- and not where there are zeros alone
 pub contains_none : (b : List Bool) → IsAllZeros b → Contains b true → ⊥
-contains_none b all has =
-    let here = subst (λ c. Contains c true) all.1 has in
-    none_at all.0 here.0 here.1 here.2
+contains_none b all has = grind (arith, none_at)
 
 -- where an EOL is not there, no EOL of a return to control is
 pub no_eol : (b rest : List Bool) (fault : StripFault) → HasNoEol false b fault → IsEndOfLine b rest → ⊥
@@ -39,8 +37,7 @@ no_eol b rest fault (inl all) eol = eol_is_not_zeros b rest eol all.0
 no_eol b rest fault (inr below) eol = eol_is_not_below b rest eol below.1
 
 pub eol_taken : (b rest : List Bool) → HasEol false b rest → IsEndOfLine b rest
-eol_taken b rest (inl eol) = eol
-eol_taken b rest (inr none) = absurd (cc (none.0))
+eol_taken b rest h = grind arith
 
 -- an EOL of a return to control is taken in one way
 pub same_return_eol : (coding : Coding) (b rest remaining : List Bool) → IsReturnEol coding b rest → IsReturnEol coding b remaining
@@ -56,10 +53,7 @@ module _ (coding : Coding) (b : List Bool) where
   Stand rest n = AreReturnEols coding n b rest
 
   pub none_taken : AreEolsTaken coding b 0 b
-  none_taken = record {
-    onward = λ n rest eols. subst (Stand rest) (omega arith) eols;
-    back = λ n rest eols. subst (Stand rest) (omega arith) eols;
-  }
+  none_taken = grind arith
 
   module _ (ahead : List Bool) (i : ℕ) (taken : AreEolsTaken coding b i ahead) where
     pub one_taken : (rest : List Bool) → IsReturnEol coding ahead rest → AreEolsTaken coding b (i + 1) rest
@@ -96,14 +90,7 @@ pub end_found : (coding : Coding) (left after : List Bool) (zeros : Option ℕ) 
     → IsEndMark coding left after
     → MatchOption zeros (IsAllZeros after) (HasZerosAhead after) → more ≡ is_some zeros → found ≡ (true, more)
     → IsEndFound coding left found.0 found.1
-end_found coding left after zeros more found mark ahead more_is found_is =
-    subst (λ (pair : Bool × Bool). IsEndFound coding left pair.0 pair.1) (sym found_is)
-    (record {
-      after = after;
-      after_end = inl mark;
-      mark = (λ is. (after, mark), λ has. refl);
-      one = subst (λ m. IsTrue m ↔ Contains after true) (sym more_is) (one_found after zeros ahead);
-    })
+end_found coding left after zeros more found mark ahead more_is found_is = grind (arith, one_found)
 
 -- or after the last row
 pub no_end_found : (coding : Coding) (left : List Bool) (zeros : Option ℕ) (more : Bool) (found : Bool × Bool)
@@ -117,10 +104,6 @@ no_end_found coding left zeros more found none ahead more_is found_is =
       mark = (λ is. absurd (cc is), λ has. absurd (none has.0 has.1));
       one = subst (λ m. IsTrue m ↔ Contains left true) (sym more_is) (one_found left zeros ahead);
     })
-
-is_not : (ended : Bool) (P : Type 0) → IsTrue ended ↔ P → IsTrue (not ended) ↔ (P → ⊥)
-is_not true P same = (λ is. absurd (cc is), λ none. absurd (none (same.0 refl)))
-is_not false P same = (λ is has. let yes = same.1 has in cc yes, λ none. refl)
 
 abbrev pub IsMhOrMr : Coding → Type 0
 IsMhOrMr coding = (coding ≡ Mh) ⊎ (coding ≡ Mr)
@@ -138,14 +121,7 @@ pub notes_of_eols : (coding : Coding) (left : List Bool) (ended more other : Boo
       not_t4_choice =
           other;
     })
-notes_of_eols coding left ended more other either found = record {
-  after = found.after;
-  after_end = found.after_end;
-  no_end_of_block = (λ is. absurd (cc is), λ none. absurd (not_mmr coding either none.0));
-  return_to_control = (λ is. (not_mmr coding either, found.mark.0 is), λ has. found.mark.1 has.1);
-  data_after_end = found.one;
-  other_is = refl;
-}
+notes_of_eols coding left ended more other either found = grind arith
 
 -- and in MMR
 pub notes_of_block : (coding : Coding) (left : List Bool) (ended more other : Bool) → coding ≡ Mmr → IsEndFound coding left ended more
@@ -156,16 +132,7 @@ pub notes_of_block : (coding : Coding) (left : List Bool) (ended more other : Bo
           more;
       not_t4_choice = other;
     })
-notes_of_block coding left ended more other is_mmr found =
-    let same = is_not ended (HasEndMark coding left) found.mark in
-    record {
-      after = found.after;
-      after_end = found.after_end;
-      no_end_of_block = (λ is. (is_mmr, same.0 is), λ none. same.1 none.1);
-      return_to_control = (λ is. absurd (cc is), λ has. absurd (has.0 is_mmr));
-      data_after_end = found.one;
-      other_is = refl;
-    }
+notes_of_block coding left ended more other is_mmr found = grind arith
 
 -- a return to control is the end mark of MH and MR
 pub eols_end : (coding : Coding) (b : List Bool) (found : Option Source) → IsMhOrMr coding → IsAfterMark (AreReturnEols coding 6 b) found
@@ -180,8 +147,7 @@ unfolding code_bits
 block_bits = refl
 
 pub block_end : (coding : Coding) (b rest : List Bool) → coding ≡ Mmr → b ≡ code_bits 24 4097 ++ rest → IsEndMark coding b rest
-block_end coding b rest is taken =
-    subst (λ c. IsEndMark c b rest) (sym is) (taken ∙ ap (λ front. front ++ rest) block_bits)
+block_end coding b rest is taken = grind (arith, block_bits)
 
 pub no_block_end : (coding : Coding) (b rest : List Bool) → coding ≡ Mmr → (BeginsWith b (code_bits 24 4097) → ⊥) → IsEndMark coding b rest
     → ⊥
@@ -201,9 +167,7 @@ one_bit = refl
 
 pub tag_taken : (coding : Coding) (b after : List Bool) (result : Bool) (rest : List Bool) → coding ≡ Mr → HasEol false b after
     → IsTaken (code_bits 1 1) after result rest → TakesReturnEol coding b result rest
-tag_taken coding b after true rest is eol taken =
-    subst (λ c. IsReturnEol c b rest) (sym is)
-    (subst (λ c. IsEndOfLine b c) (taken ∙ ap (λ front. front ++ rest) one_bit) (eol_taken b after eol))
+tag_taken coding b after true rest is eol taken = grind (arith, one_bit)
 tag_taken coding b after false rest is eol taken = λ more return_eol.
     let found = subst (λ c. IsReturnEol c b more) is return_eol in
     taken.1 (more, same_eol b after (true ∷ more) (eol_taken b after eol) found ∙ ap (λ front. front ++ more) (sym one_bit))

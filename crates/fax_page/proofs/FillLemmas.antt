@@ -1,6 +1,6 @@
 -- Fill before an EOL.
-use Rattle.std.proofs.Common.{◌≡◌, ℕ, zero, suc, ◌+◌, ◌<◌, ◌≤◌, ◌^◌, List, ◌∷◌, ◌++◌, length, replicate, Bool, true, false, nat_eq, sym, ap}
-use Rattle.std.proofs.Common.{◌∙◌, subst, arith, append_assoc}
+use Rattle.std.proofs.Common.{◌≡◌, ℕ, zero, suc, ◌+◌, ◌<◌, ◌^◌, List, ◌∷◌, ◌++◌, length, replicate, Bool, true, false, nat_eq, sym, ap}
+use Rattle.std.proofs.Common.{◌∙◌, arith, append_assoc}
 use Rattle.std.proofs.Math.Nat.{pow-le-pow_right}
 use Rattle.std.proofs.lemmas.Nat.Bits.{bit_at_above}
 use Rattle.std.proofs.lemmas.List.{replicate-append-replicate}
@@ -11,17 +11,13 @@ use Rattle.fax_page.specs.Strip.{end_of_line, fill_zeros}
 
 -- a number that fits fits more bits too
 pub fits_more : (n len number : ℕ) → number < 2 ^ len → number < 2 ^ (len + n)
-fits_more n len number fits =
-    let more : 2 ^ len ≤ 2 ^ (len + n) = pow-le-pow_right (omega arith) (omega arith) in
-    omega (arith, fits, more)
+fits_more n len number fits = grind (arith, pow-le-pow_right)
 
 -- the bits of a number after zeros
 pub code_bits-after_zeros : (n len number : ℕ) → number < 2 ^ len
     → code_bits (len + n) number ≡ replicate n false ++ code_bits len number
 unfolding code_bits
-code_bits-after_zeros zero len number fits =
-    let e : len + zero ≡ len = omega arith in
-    ap (λ m. code_bits m number) e
+code_bits-after_zeros zero len number fits = grind arith
 code_bits-after_zeros (suc n) len number fits =
     let e : len + suc n ≡ suc (len + n) = omega arith in
     ap (λ m. code_bits m number) e
@@ -44,8 +40,4 @@ pub put_after_fill : (old new : Sink) (aligned : Bool) (place fill len number : 
     → fill ≡ fill_zeros aligned place → number < 2 ^ len → code_bits len number ≡ start
     → Appends old (code_bits (len + fill) number) new
     → Appends old (replicate (fill_zeros aligned (length old.bits)) false ++ start) new
-put_after_fill old new aligned place fill len number start here is fits spells put =
-    let count : fill ≡ fill_zeros aligned (length old.bits) = is ∙ ap (fill_zeros aligned) here in
-    subst (λ b. Appends old b new)
-    (code_bits-after_zeros fill len number fits ∙ ap (λ n. replicate n false ++ code_bits len number) count
-    ∙ ap (λ b. replicate (fill_zeros aligned (length old.bits)) false ++ b) spells) put
+put_after_fill old new aligned place fill len number start here is fits spells put = grind (arith, code_bits-after_zeros)

@@ -1,6 +1,6 @@
 -- The codes of a row begin with fewer than eleven zeros and a 1.
 use Rattle.std.proofs.Common.{◌≡◌, ℕ, zero, suc, ◌<◌, List, [], ◌∷◌, ◌++◌, length, get_or, map, Bool, true, false, refl, ap, sym, subst}
-use Rattle.std.proofs.Common.{arith, None, Some}
+use Rattle.std.proofs.Common.{arith, Some}
 use Rattle.std.specs.Prelude.{◌&&◌}
 use Rattle.fax_bits.specs.declared.codes.CodeEntry.{CodeEntry}
 use Rattle.fax_bits.specs.declared.Colour.{Colour}
@@ -12,7 +12,6 @@ use Rattle.fax_bits.specs.Codes.{bits_of, Takes, Spells}
 use Rattle.fax_bits.specs.Tables.{run_table, modes, white_runs, white_terminating, white_make_up, common_make_up}
 use Rattle.fax_rows.specs.Rows.{AreRuns, Position, beginning, AreSteps}
 use Rattle.fax_page.specs.declared.Dimension.{Dimension}
-use Rattle.fax_page.specs.declared.Dimension.TheVariants.{OneDimensional, TwoDimensional}
 use Rattle.fax_page.specs.Lines.{StripForm, BeginsBelowEleven, IsRowIn, IsLine}
 use Rattle.fax_page.specs.code.Starts.{IsStarted}
 use Rattle.fax_page.proofs.BegunLemmas.{start_is}
@@ -38,14 +37,12 @@ all_have_one [] = true
 all_have_one (entry ∷ table) = has_one 11 (bits_of entry) && all_have_one table
 
 both : (a b : Bool) → (a && b) ≡ true → (a ≡ true) × (b ≡ true)
-both true b h = (refl, h)
-both false b h = cc
+both a b h = grind arith
 
 one_at : {M : Type 0} (table : List (CodeEntry M)) (i : ℕ) (entry : CodeEntry M) → all_have_one table ≡ true → i < length table
     → get_or table i entry ≡ entry → has_one 11 (bits_of entry) ≡ true
 one_at [] i entry all within is = absurd (omega arith)
-one_at (first ∷ table) zero entry all within is =
-    subst (λ (e : CodeEntry _). has_one 11 (bits_of e) ≡ true) is (both (has_one 11 (bits_of first)) (all_have_one table) all).0
+one_at (first ∷ table) zero entry all within is = grind arith
 one_at (first ∷ table) (suc i) entry all within is =
     one_at table i entry (both (has_one 11 (bits_of first)) (all_have_one table) all).1 (omega arith) is
 
@@ -76,9 +73,7 @@ runs_begin width (n ∷ runs) b rest some coded = run_begins coded.2.make_up cod
 
 steps_begin : (reference : List Colour) (b : List Bool) (positions : List Position) (last : Position) (rest : List Bool)
     → AreSteps reference beginning b positions last rest → last.a0 ≡ Some (length reference) → BeginsBelowEleven b
-steps_begin reference b [] last rest steps ends =
-    let none : last.a0 ≡ None = ap (λ (at : Position). at.a0) steps.0 in
-    cc
+steps_begin reference b [] last rest steps ends = grind arith
 steps_begin reference b (next ∷ positions) last rest steps ends =
     taken_begins modes b steps.2.mode steps.2.after all_have_one-modes steps.2.taken
 
@@ -86,9 +81,7 @@ steps_begin reference b (next ∷ positions) last rest steps ends =
 pub row_begins : (dimension : Dimension) (width : ℕ) (reference : List Colour) (b : List Bool) (row : List Colour) (rest : List Bool)
     → 0 < width
     → IsRowIn dimension width reference b row rest → BeginsBelowEleven b
-row_begins OneDimensional width reference b row rest some is = runs_begin width is.runs b rest some is.coded
-row_begins TwoDimensional width reference b row rest some is =
-    steps_begin reference b is.positions is.last rest is.steps is.ends
+row_begins dimension width reference b row rest some is = grind (arith, runs_begin, steps_begin)
 
 -- a row whose codes are read after what stands before them
 unfoldable pub line_begun : (form : StripForm) (i : ℕ) (reference row : List Colour) (b codes rest : List Bool) (dimension : Dimension)

@@ -1,5 +1,6 @@
 -- The fault of a row that could not be read, where its start is read once more.
-use Rattle.std.proofs.Common.{◌≡◌, ℕ, ◌+◌, List, Bool, drop, ap, sym, ◌∙◌, subst}
+use Rattle.std.proofs.Common.{arith}
+use Rattle.std.proofs.Common.{◌≡◌, ℕ, ◌+◌, List, Bool, drop}
 use Rattle.fax_bits.specs.declared.Colour.{Colour}
 use Rattle.fax_bits.specs.declared.FillOrder.{FillOrder}
 use Rattle.fax_bits.specs.views.Source.{Source, source_of}
@@ -15,13 +16,10 @@ use Rattle.fax_page.proofs.StartLaws.{one_start}
 pub in_codes : (form : StripForm) (i : ℕ) (reference : List Colour) (b : List Bool) (cause : RowFault)
     → IsLineStop form i reference b (Codes cause) → (dimension : Dimension) (codes : List Bool)
     → IsStarted form.coding i b dimension codes → (fault : StripFault) → IsStop codes cause fault → IsCause form i reference b fault
-in_codes form i reference b cause (first, others, begun, stops) dimension codes again fault stop =
-    let same = one_start form.coding i b dimension first codes others again begun in
-    cause_in_codes form i reference b first others cause fault begun (subst (λ c. IsStop c cause fault) same.1 stop) stops
+in_codes form i reference b cause (first, others, begun, stops) dimension codes again fault stop = grind (arith, one_start, cause_in_codes)
 
 -- a source that is made anew has the bits of the one that stood there
 pub bits_again : (order : FillOrder) (bytes : List ℕ) (place : ℕ) (first again there : Source) → first ≡ source_of order bytes 0
     → again ≡ record { left = drop place first.left; place = first.place + place } → there ≡ source_of order bytes place
     → there.left ≡ again.left
-bits_again order bytes place first again there begins skips stands =
-    ap (λ (s : Source). s.left) stands ∙ sym (ap (λ (s : Source). drop place s.left) begins) ∙ sym (ap (λ (s : Source). s.left) skips)
+bits_again order bytes place first again there begins skips stands = grind arith

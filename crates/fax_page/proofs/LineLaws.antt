@@ -1,5 +1,6 @@
 -- A row of a strip is read in one way, where rows are.
-use Rattle.std.proofs.Common.{◌≡◌, ℕ, List, length, Bool, refl, ap, sym, ◌∙◌, subst, inl, inr, Ok}
+use Rattle.std.proofs.Common.{arith}
+use Rattle.std.proofs.Common.{◌≡◌, ℕ, List, length, Bool, refl, ap, sym, ◌∙◌, inl, inr, Ok}
 use Rattle.std.specs.Prelude.{◌⊎◌}
 use Rattle.fax_bits.specs.declared.Colour.{Colour}
 use Rattle.fax_bits.specs.laws.Codes.{IsReadInOneWay}
@@ -21,16 +22,12 @@ use Rattle.fax_page.proofs.StartLaws.{first_code_has_no_fault, one_first_code_fa
 same_codes : (form : StripForm) (i : ℕ) (b : List Bool) (dimension another : Dimension) (codes others : List Bool)
     → IsStart form.coding i b (Ok (dimension, codes)) → IsStart form.coding i b (Ok (another, others))
     → (P : Dimension → List Bool → Type 0) → P another others → P dimension codes
-same_codes form i b dimension another codes others first second P holds =
-    let same = one_start form.coding i b dimension another codes others (started form.coding i b dimension codes first)
-    (started form.coding i b another others second) in
-    subst (λ d. P d codes) (sym same.0) (subst (λ c. P another c) (sym same.1) holds)
+same_codes form i b dimension another codes others first second P holds = grind (arith, one_start, started)
 
 -- no first code is a stop in the codes
 no_first_code : (dimension : Dimension) (width : ℕ) (reference : List Colour) (b : List Bool) (fault : StripFault) → IsFirstCodeFault b fault
     → IsStopInCodes dimension width reference b fault
-no_first_code dimension width reference b fault (inl marker) = inl marker
-no_first_code dimension width reference b fault (inr short) = inr (inl short)
+no_first_code dimension width reference b fault h = grind arith
 
 module _ (rows : (width : ℕ) → ReadsRowsOneWay width) (rows_over : (reference : List Colour) → ReadsRowsOverOneWay reference)
     (widths : RowsHaveTheirWidth) where
@@ -42,8 +39,7 @@ module _ (rows : (width : ℕ) → ReadsRowsOneWay width) (rows_over : (referenc
 
   row_wide : (dimension : Dimension) (width : ℕ) (reference : List Colour) (b : List Bool) (row : List Colour) (rest : List Bool)
       → length reference ≡ width → IsRowIn dimension width reference b row rest → length row ≡ width
-  row_wide OneDimensional width reference b row rest wide is = widths.one_dimensional width b row rest is
-  row_wide TwoDimensional width reference b row rest wide is = widths.two_dimensional reference b row rest is ∙ wide
+  row_wide dimension width reference b row rest wide is = grind arith
 
   one_line : (form : StripForm) (i : ℕ) (reference : List Colour) (b : List Bool) (row another : List Colour)
       (rest remaining : List Bool) → IsLine form i reference b row rest → IsLine form i reference b another remaining

@@ -1,5 +1,6 @@
 -- A strip is noted in one way, where its rows are read in one way.
-use Rattle.std.proofs.Common.{◌≡◌, ℕ, zero, suc, ◌+◌, ◌⊎◌, ◌↔◌, List, [], ◌∷◌, Bool, true, false, IsTrue, refl, ap, sym, ◌∙◌, subst, inl, inr}
+use Rattle.std.proofs.Common.{arith}
+use Rattle.std.proofs.Common.{◌≡◌, ℕ, zero, suc, ◌+◌, ◌⊎◌, ◌↔◌, List, [], ◌∷◌, Bool, true, IsTrue, ap, sym, ◌∙◌, subst}
 use Rattle.std.proofs.Common.{None}
 use Rattle.std.proofs.lemmas.List.{append_cancel_left}
 use Rattle.std.specs.List.{Contains}
@@ -32,10 +33,7 @@ abbrev IsAfterMark : Coding → List Bool → List Bool → Type 0
 IsAfterMark coding left after = IsEndMark coding left after ⊎ ((HasEndMark coding left → ⊥) × (after ≡ left))
 
 same_after : (coding : Coding) (left after other : List Bool) → IsAfterMark coding left after → IsAfterMark coding left other → after ≡ other
-same_after coding left after other (inl mark) (inl another) = same_mark coding left after other mark another
-same_after coding left after other (inl mark) (inr none) = absurd (none.0 (after, mark))
-same_after coding left after other (inr none) (inl mark) = absurd (none.0 (other, mark))
-same_after coding left after other (inr none) (inr nor) = none.1 ∙ sym nor.1
+same_after coding left after other h h' = grind (arith, same_mark)
 
 abbrev noted : Bool → Bool → Bool → Bool → StripNotes
 noted block return more choice =
@@ -43,10 +41,7 @@ noted block return more choice =
 
 -- two flags of one fact
 same_flag : (a b : Bool) (P : Type 0) → IsTrue a ↔ P → IsTrue b ↔ P → a ≡ b
-same_flag true true P first second = refl
-same_flag true false P first second = sym (second.1 (first.0 refl))
-same_flag false true P first second = first.1 (second.0 refl)
-same_flag false false P first second = refl
+same_flag a b P first second = grind arith
 
 module _ (reads : (form : StripForm) (i : ℕ) (reference : List Colour) → ReadsLinesOneWay form i reference) where
   -- the bits that are left after all rows

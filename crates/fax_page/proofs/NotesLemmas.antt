@@ -1,13 +1,11 @@
 -- A strip that is read for its notes, row by row.
-use Rattle.std.proofs.Common.{◌≡◌, ℕ, ◌+◌, ◌<◌, ◌↔◌, List, [], ◌∷◌, ◌++◌, length, Bool, true, false, IsTrue, refl, ap, sym, ◌∙◌, subst}
+use Rattle.std.proofs.Common.{◌≡◌, ℕ, ◌+◌, ◌<◌, ◌↔◌, List, [], ◌∷◌, ◌++◌, length, Bool, true, false, IsTrue, ap, sym, ◌∙◌, subst}
 use Rattle.std.proofs.Common.{arith, append_assoc, append-nil, length-append, inl, inr, Option, Some, None}
 use Rattle.fax_bits.specs.declared.Colour.{Colour}
 use Rattle.fax_bits.specs.Bits.{BeginsWith}
 use Rattle.fax_rows.specs.laws.Rows.{HasWidth}
 use Rattle.fax_rows.specs.laws.Rows.{OneDimensionalBitsAreOneRow, TwoDimensionalBitsAreOneRow}
-use Rattle.fax_rows.specs.Rows.{IsOneDimensionalRow, IsTwoDimensionalRow}
 use Rattle.fax_page.specs.declared.Dimension.{Dimension}
-use Rattle.fax_page.specs.declared.Dimension.TheVariants.{OneDimensional, TwoDimensional}
 use Rattle.fax_page.specs.declared.StripForm.{StripForm}
 use Rattle.fax_page.specs.declared.StripFault.{StripFault}
 use Rattle.fax_page.specs.declared.notes.NotesFault.{NotesFault}
@@ -30,35 +28,12 @@ use Rattle.fax_page.proofs.StartLaws.{one_start}
 
 -- what follows the codes that T.4 chooses is what follows the row
 module _ (one : OneDimensionalBitsAreOneRow) (two : TwoDimensionalBitsAreOneRow) where
-  same_rest : (dimension : Dimension) (width : ℕ) (reference codes_row : List Colour) (codes rest more : List Bool) → HasWidth codes_row
-      → length codes_row ≡ width
-      → length reference ≡ width → IsRowIn dimension width reference codes codes_row rest
-      → codes ≡ row_bits dimension reference codes_row ++ more → more ≡ rest
-  same_rest OneDimensional width reference row codes rest more fits is_width reference_width read is =
-      (one row row more rest fits
-      (subst (λ b. IsOneDimensionalRow (length row) b row rest) is
-      (subst (λ n. IsOneDimensionalRow n codes row rest) (sym is_width) read))).1
-  same_rest TwoDimensional width reference row codes rest more fits is_width reference_width read is =
-      (two reference row row more rest fits (reference_width ∙ sym is_width)
-      (subst (λ b. IsTwoDimensionalRow reference b row rest) is read)).1
-
   -- codes that were read, and whether those that T.4 chooses begin where they do
   pub codes_read : (form : StripForm) (reference row : List Colour) (codes rest put : List Bool) (dimension : Dimension) (chosen : Bool)
       → HasWidth row → length row ≡ form.width → length reference ≡ form.width → IsRowIn dimension form.width reference codes row rest
       → put ≡ row_bits dimension reference row → IsTrue chosen ↔ BeginsWith codes put
       → AreCodesRead form dimension reference codes row rest chosen
-  codes_read form reference row codes rest put dimension chosen fits is_width reference_width read put_is begins = record {
-    coded = read;
-    choice = (
-      λ yes.
-          let here = begins.0 yes in
-          let is : codes ≡ row_bits dimension reference row ++ here.0 = here.1 ∙ ap (λ c. c ++ here.0) put_is in
-          is
-          ∙ ap (λ c. row_bits dimension reference row ++ c)
-          (same_rest dimension form.width reference row codes rest here.0 fits is_width reference_width read is),
-      λ is. begins.1 (rest, is ∙ ap (λ c. c ++ rest) (sym put_is)),
-    );
-  }
+  codes_read form reference row codes rest put dimension chosen fits is_width reference_width read put_is begins = grind arith
 
 module _ (reads : (form : StripForm) (i : ℕ) (reference : List Colour) → ReadsLinesOneWay form i reference) where
   -- a row is chosen by one reading of it where it is by another, and the same rest follows
@@ -117,8 +92,7 @@ module _ (reads : (form : StripForm) (i : ℕ) (reference : List Colour) → Rea
 
       marks : (now : Bool) → (now ≡ false → IsChosen noted.line.dimension reference noted.line.codes row rest)
           → (IsChosen noted.line.dimension reference noted.line.codes row rest → ⊥) → now ≡ true
-      marks true none other_choice = refl
-      marks false none other_choice = absurd (other_choice (none refl))
+      marks now none other_choice = grind arith
 
 -- codes that are seen to be chosen
 pub codes_seen : (chosen : Type 0) (other : Bool) → chosen → IsChoiceNoted chosen other other
@@ -137,9 +111,7 @@ line_noted form i reference row b codes rest dimension other now some start read
 -- and one whose codes cannot be read
 pub codes_fault : (form : StripForm) (i : ℕ) (reference : List Colour) (b codes : List Bool) (dimension : Dimension) (fault : NotesFault)
     → IsStarted form.coding i b dimension codes → IsCodesFault form i dimension reference codes fault → IsLineFault form i reference b fault
-codes_fault form i reference b codes dimension Memory start is = tt
-codes_fault form i reference b codes dimension (Strip row fault) start (here, cause, in_codes, stop) =
-    (here, cause_in_codes form i reference b dimension codes cause fault start stop in_codes)
+codes_fault form i reference b codes dimension fault start is = grind (arith, cause_in_codes)
 
 -- the rows so far, and an end after them
 stopped : (form : StripForm) (b left : List Bool) (i : ℕ) (reference : List Colour) (other : Bool) (end : Option StripFault)

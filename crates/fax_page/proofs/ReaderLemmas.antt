@@ -1,10 +1,9 @@
 -- A strip that is read row by row.
-use Rattle.std.proofs.Common.{◌≡◌, ◌<◌, List, [], ◌∷◌, ◌++◌, Option, Some, None, Err, refl, sym, ap, ◌∙◌, subst, append_assoc}
-use Rattle.std.proofs.Common.{append-nil, inl, inr}
+use Rattle.std.proofs.Common.{arith}
+use Rattle.std.proofs.Common.{◌≡◌, List, [], ◌∷◌, ◌++◌, Option, Some, None, Err, refl, sym, subst, append_assoc}
+use Rattle.std.proofs.Common.{append-nil}
 use Rattle.fax_bits.specs.declared.Colour.{Colour}
-use Rattle.fax_page.specs.declared.StripForm.{StripForm}
 use Rattle.fax_page.specs.declared.StripFault.{StripFault}
-use Rattle.fax_page.specs.Lines.{IsLine, IsCause}
 use Rattle.fax_page.specs.Strip.{AreLines}
 use Rattle.fax_page.proofs.StripLaws.{EndsAt, no_rows}
 use Rattle.fax_page.specs.views.Reader.{StripState, bits_left, strip_after, ReadsRow, IsAtEnd, MeetsFault, IsAdvance}
@@ -16,17 +15,7 @@ begins_on start = record { same_form = refl; same_bytes = refl; followed = λ mo
 -- one row more
 row_read_on : (start : StripState) (rows : List (List Colour)) (old new : StripState) → HasReadFrom start rows old → ReadsRow old new
     → HasReadFrom start (rows ++ new.reference ∷ []) new
-row_read_on start rows old new so_far reads = record {
-  same_form = reads.same_form ∙ so_far.same_form;
-  same_bytes = reads.same_bytes ∙ so_far.same_bytes;
-  followed = λ more end left lines.
-      let due : old.row < start.form.rows = subst (λ (f : StripForm). old.row < f.rows) so_far.same_form reads.due in
-      let line = subst (λ f. IsLine f old.row old.reference (bits_left old) new.reference (bits_left new)) so_far.same_form reads.line in
-      let after = subst (λ n. AreLines start.form n new.reference (bits_left new) more end left) reads.next_row lines in
-      subst (λ them. AreLines start.form start.row start.reference (bits_left start) them end left)
-      (sym (append_assoc rows (new.reference ∷ []) more))
-      (so_far.followed (new.reference ∷ more) end left (bits_left new, due, line, after));
-}
+row_read_on start rows old new so_far reads = grind (arith, append_assoc)
 
 -- the rows so far, and an end after them
 stopped_on : (start : StripState) (rows : List (List Colour)) (state : StripState) (end : Option StripFault) → HasReadFrom start rows state
@@ -39,16 +28,12 @@ stopped_on start rows state end so_far stop =
 
 ended_before : (start : StripState) (rows : List (List Colour)) (old new : StripState) → HasReadFrom start rows old → IsAtEnd old new
     → AreLines start.form start.row start.reference (bits_left start) rows None (bits_left old)
-ended_before start rows old new so_far at_end =
-    stopped_on start rows old None so_far (at_end.all_read ∙ ap (λ (f : StripForm). f.rows) so_far.same_form)
+ended_before start rows old new so_far at_end = grind (arith, stopped_on)
 
 fault_before : (start : StripState) (rows : List (List Colour)) (old new : StripState) (fault : StripFault)
     → HasReadFrom start rows old → MeetsFault old fault new
     → AreLines start.form start.row start.reference (bits_left start) rows (Some fault) (bits_left old)
-fault_before start rows old new fault so_far meets =
-    let due : old.row < start.form.rows = subst (λ (f : StripForm). old.row < f.rows) so_far.same_form meets.due in
-    let cause = subst (λ f. IsCause f old.row old.reference (bits_left old) fault) so_far.same_form meets.cause in
-    stopped_on start rows old (Some fault) so_far (due, cause)
+fault_before start rows old new fault so_far meets = grind (arith, stopped_on)
 
 ended_on : (start : StripState) (rows : List (List Colour)) (old new : StripState) → HasReadFrom start rows old → IsAtEnd old new
     → AreLines start.form start.row start.reference (bits_left start) rows None (bits_left new)
@@ -66,16 +51,7 @@ fault_met_on start rows old new fault so_far meets =
 -- a fault leaves the reader where it was
 stays_there : (old new : StripState) (fault : StripFault) → IsAdvance old (Err fault) new
     → (new.place ≡ old.place) × (new.row ≡ old.row) × (new.reference ≡ old.reference)
-stays_there old new fault (inl again) = (
-  ap (λ (s : StripState). s.place) again.unchanged,
-  ap (λ (s : StripState). s.row) again.unchanged,
-  ap (λ (s : StripState). s.reference) again.unchanged,
-)
-stays_there old new fault (inr meets) = (
-  ap (λ (s : StripState). s.place) meets.told,
-  ap (λ (s : StripState). s.row) meets.told,
-  ap (λ (s : StripState). s.reference) meets.told,
-)
+stays_there old new fault h = grind arith
 
 -- from a strip's beginning on
 pub read_row_by_row : ReadsRowByRow

@@ -1,21 +1,18 @@
 -- After a row of a strip stands a rest of the bits that it began in.
-use Rattle.std.proofs.Common.{◌≡◌, ℕ, ◌+◌, ◌*◌, ◌≤◌, List, [], ◌∷◌, ◌++◌, length, take, drop, map, replicate, Bool, true, false, refl, ap, sym}
-use Rattle.std.proofs.Common.{◌∙◌, subst, arith, append_assoc, length-append, length-drop, inl, inr}
+use Rattle.std.proofs.Common.{◌≡◌, ℕ, ◌+◌, ◌*◌, ◌≤◌, List, [], ◌∷◌, ◌++◌, length, take, drop, replicate, Bool, true, false, refl, ap, sym}
+use Rattle.std.proofs.Common.{◌∙◌, arith, append_assoc, length-append, length-drop}
 use Rattle.std.proofs.Math.Seq.{drop-append_seam}
 use Rattle.std.proofs.lemmas.List.{take-append-drop}
 use Rattle.fax_bits.specs.declared.codes.CodeEntry.{CodeEntry}
 use Rattle.fax_bits.specs.declared.Colour.{Colour}
-use Rattle.fax_bits.specs.declared.Colour.TheVariants.{White}
 use Rattle.fax_bits.specs.declared.modes.ModeCode.{ModeCode}
 use Rattle.fax_bits.specs.declared.modes.ModeCode.TheVariants.{Pass, Horizontal, Vertical, Extension}
-use Rattle.fax_bits.specs.declared.runs.RunCode.TheVariants.{Terminating, MakeUp}
 use Rattle.fax_bits.specs.Bits.{bits}
 use Rattle.fax_bits.specs.Codes.{bits_of, Takes, Spells, IsRun}
-use Rattle.fax_bits.specs.Tables.{run_table, modes}
+use Rattle.fax_bits.specs.Tables.{modes}
 use Rattle.fax_bits.specs.views.Source.{Source, source_of}
-use Rattle.fax_rows.specs.Rows.{other, AreRuns, Position, beginning, IsStepBy, AreSteps}
+use Rattle.fax_rows.specs.Rows.{other, AreRuns, Position, IsStepBy, AreSteps}
 use Rattle.fax_page.specs.declared.Dimension.{Dimension}
-use Rattle.fax_page.specs.declared.Dimension.TheVariants.{OneDimensional, TwoDimensional}
 use Rattle.fax_page.specs.declared.Coding.{Coding}
 use Rattle.fax_page.specs.declared.Coding.TheVariants.{Mh, Mr, Mmr}
 use Rattle.fax_page.specs.declared.StripForm.{StripForm}
@@ -49,8 +46,7 @@ spelled_rest table (meaning ∷ meanings) b rest spelled =
     onwards b spelled.0 rest (taken_rest table b meaning spelled.0 spelled.1) (spelled_rest table meanings spelled.0 rest spelled.2)
 
 run_rest : (colour : Colour) (b : List Bool) (n : ℕ) (rest : List Bool) → IsRun colour b n rest → EndsWith b rest
-run_rest colour b n rest run =
-    spelled_rest (run_table colour) (map MakeUp run.make_up ++ Terminating run.last ∷ []) b rest run.spelled
+run_rest colour b n rest run = grind (arith, spelled_rest)
 
 runs_rest : (width : ℕ) (colour : Colour) (from : ℕ) (runs : List ℕ) (b rest : List Bool) → AreRuns width colour from b runs rest
     → EndsWith b rest
@@ -79,8 +75,7 @@ steps_rest reference old (next ∷ more) b new rest steps =
 
 row_rest : (dimension : Dimension) (width : ℕ) (reference : List Colour) (b : List Bool) (row : List Colour) (rest : List Bool)
     → IsRowIn dimension width reference b row rest → EndsWith b rest
-row_rest OneDimensional width reference b row rest is = runs_rest width White 0 is.runs b rest is.coded
-row_rest TwoDimensional width reference b row rest is = steps_rest reference beginning is.positions b is.last rest is.steps
+row_rest dimension width reference b row rest is = grind (arith, runs_rest, steps_rest)
 
 eol_rest : (b rest : List Bool) → IsEndOfLine b rest → EndsWith b rest
 eol_rest b rest eol = record {
@@ -90,8 +85,7 @@ eol_rest b rest eol = record {
 
 start_rest : (coding : Coding) (i : ℕ) (b : List Bool) (dimension : Dimension) (rest : List Bool) → IsStarted coding i b dimension rest
     → EndsWith b rest
-start_rest Mh i b dimension rest start =
-    elim start.1 [ inl eol ↦ eol_rest b rest eol | inr none ↦ same b rest none.2 ]
+start_rest Mh i b dimension rest start = grind (arith, eol_rest)
 start_rest Mr i b dimension rest start =
     onwards b (tag_bit dimension ∷ rest) rest (eol_rest b (tag_bit dimension ∷ rest) start)
     (record { front = tag_bit dimension ∷ []; parts = refl })
@@ -117,8 +111,7 @@ rest_among form i reference b n row rest line =
 pub cause_there : (form : StripForm) (i : ℕ) (reference : List Colour) (bytes : List ℕ) (place : ℕ) (old : Source) (fault : StripFault)
     → old ≡ source_of form.order bytes place → IsCause form i reference old.left fault
     → IsCause form i reference (drop place (bits form.order bytes)) fault
-cause_there form i reference bytes place old fault here cause =
-    subst (λ (s : Source). IsCause form i reference s.left fault) here cause
+cause_there form i reference bytes place old fault here cause = grind arith
 
 -- a row between two places of a source
 module _ (form : StripForm) (i : ℕ) (reference row : List Colour) (bytes : List ℕ) (place after : ℕ) (old new : Source)
@@ -135,14 +128,10 @@ module _ (form : StripForm) (i : ℕ) (reference row : List Colour) (bytes : Lis
   from = rest_among form i reference b place row new.left line_here
 
   from_is : from.0 ≡ after
-  from_is =
-      let ends : new.place + length new.left ≡ place + length (drop place b) = rw here at same_end in
-      omega (arith, ends, from.1, ap length from.2, length-drop from.0 b, length-drop place b)
+  from_is = grind (arith, length-drop)
 
   pub row_after : new ≡ source_of form.order bytes after
-  row_after =
-      let left : new.left ≡ drop after b = sym from.2 ∙ ap (λ n. drop n b) from_is in
-      ap (λ (c : List Bool). record { left = c; place = new.place }) left ∙ ap (λ n. record { left = drop after b; place = n }) (sym after_is)
+  row_after = grind (arith, from_is)
 
   pub line_between : IsLine form i reference (drop place b) row (drop after b)
   line_between = rw (← from_is, from.2) line_here

@@ -1,4 +1,5 @@
 -- What stands before a row, and where its first code is due, is read in one way.
+use Rattle.std.proofs.lemmas.Grind.{common_steps}
 use Rattle.std.proofs.Common.{◌≡◌, ℕ, zero, suc, ◌<◌, ◌≤◌, List, [], ◌∷◌, ◌++◌, length, replicate, Bool, true, false, refl, ap, sym, ◌∙◌}
 use Rattle.std.proofs.Common.{arith, inl, inr}
 use Rattle.std.specs.Prelude.{◌⊎◌}
@@ -21,9 +22,7 @@ same_ahead : (n m : ℕ) (b c : List Bool) → replicate n false ++ true ∷ b �
 same_ahead zero zero b c h = (refl, cc)
 same_ahead zero (suc m) b c h = cc
 same_ahead (suc n) zero b c h = cc
-same_ahead (suc n) (suc m) b c h =
-    let same = same_ahead n m b c cc in
-    (ap suc same.0, same.1)
+same_ahead (suc n) (suc m) b c h = grind (arith, same_ahead n m b c cc)
 
 -- and not in zeros alone
 no_one : (n m : ℕ) (b : List Bool) → replicate n false ++ true ∷ b ≡ replicate m false → ⊥
@@ -66,8 +65,7 @@ pub eol_is_not_zeros : (b rest : List Bool) → IsEndOfLine b rest → IsAllZero
 eol_is_not_zeros b rest eol all = no_one eol.0 all.0 rest (sym eol.2 ∙ all.1)
 
 pub eol_is_not_below : (b rest : List Bool) → IsEndOfLine b rest → BeginsBelowEleven b → ⊥
-eol_is_not_below b rest eol below =
-    omega (arith, eol.1, below.1, (same_ahead eol.0 below.0 rest below.2.0 (sym eol.2 ∙ below.2.1)).0)
+eol_is_not_below b rest eol below = grind (arith, same_ahead)
 
 below_is_not_zeros : (b : List Bool) → BeginsBelowEleven b → IsAllZeros b → ⊥
 below_is_not_zeros b below all = no_one below.0 all.0 below.2.0 (sym below.2.1 ∙ all.1)
@@ -77,10 +75,7 @@ same_eol b rest remaining first second = (same_ahead first.0 second.0 rest remai
 
 same_tag : (dimension another : Dimension) (rest remaining : List Bool) → tag_bit dimension ∷ rest ≡ tag_bit another ∷ remaining
     → (dimension ≡ another) × (rest ≡ remaining)
-same_tag OneDimensional OneDimensional rest remaining h = (refl, cc)
-same_tag OneDimensional TwoDimensional rest remaining h = cc
-same_tag TwoDimensional OneDimensional rest remaining h = cc
-same_tag TwoDimensional TwoDimensional rest remaining h = (refl, cc)
+same_tag dimension another rest remaining h = grind arith
 
 -- a row begins in one way
 pub one_start : (coding : Coding) (i : ℕ) (b : List Bool) (dimension another : Dimension) (rest remaining : List Bool)
@@ -187,15 +182,9 @@ first_code_has_no_fault b fault below (inr short) = below_is_not_zeros b below (
 
 -- eleven zeros are not fewer
 marker_is_not_short : (after : List Bool) (zeros : ℕ) → zeros < 11 → replicate 11 false ++ after ≡ replicate zeros false → ⊥
-marker_is_not_short after zeros few h =
-    omega (arith, ap (λ (c : List Bool). length c) h, length-replicate zeros false)
+marker_is_not_short after zeros few h = grind (arith, common_steps)
 
 -- and one fault
 pub one_first_code_fault : (b : List Bool) (fault another : StripFault) → IsFirstCodeFault b fault → IsFirstCodeFault b another
     → fault ≡ another
-one_first_code_fault b fault another (inl marker) (inl other) = marker.2 ∙ sym other.2
-one_first_code_fault b fault another (inl marker) (inr short) =
-    absurd (marker_is_not_short marker.0 short.0 short.1 (sym marker.1 ∙ short.2))
-one_first_code_fault b fault another (inr short) (inl marker) =
-    absurd (marker_is_not_short marker.0 short.0 short.1 (sym marker.1 ∙ short.2))
-one_first_code_fault b fault another (inr short) (inr other) = short.3 ∙ sym other.3
+one_first_code_fault b fault another h h' = grind (arith, marker_is_not_short)

@@ -1,5 +1,6 @@
 -- Zeros before a row.
-use Rattle.std.proofs.Common.{◌≡◌, ℕ, ◌+◌, ◌-◌, ◌≤◌, List, ◌∷◌, ◌++◌, length, drop, replicate, Bool, true, false, ap, sym, ◌∙◌, arith}
+use Rattle.std.proofs.lemmas.Grind.{common_steps}
+use Rattle.std.proofs.Common.{◌≡◌, ℕ, ◌+◌, ◌-◌, ◌≤◌, List, ◌∷◌, ◌++◌, length, drop, replicate, Bool, true, false, ap, ◌∙◌, arith}
 use Rattle.std.proofs.Common.{append_assoc}
 use Rattle.std.proofs.Math.Seq.{drop-append-add}
 use Rattle.std.proofs.lemmas.List.{replicate-append-replicate, length-replicate}
@@ -9,9 +10,7 @@ use Rattle.fax_page.specs.Lines.{IsEndOfLine}
 
 -- so many zeros begin with fewer
 replicate-split : (n m : ℕ) → n ≤ m → replicate m false ≡ replicate n false ++ replicate (m - n) false
-replicate-split n m h =
-    let same : n + (m - n) ≡ m = omega arith in
-    sym (replicate-append-replicate n (m - n) false ∙ ap (λ k. replicate k false) same)
+replicate-split n m h = grind (arith, replicate-append-replicate)
 
 -- eleven zeros or more before a 1
 pub eleven_ahead : (b : List Bool) (zeros : ℕ) → 11 ≤ zeros → HasZerosAhead b zeros
@@ -30,11 +29,4 @@ eleven_alone b enough all =
 
 -- an EOL, after whose 1 the rest stands
 pub eol_before : (b rest : List Bool) (zeros : ℕ) → 11 ≤ zeros → HasZerosAhead b zeros → rest ≡ drop (zeros + 1) b → IsEndOfLine b rest
-eol_before b rest zeros enough ahead rest_is =
-    let after = ahead.0 in
-    let front = replicate zeros false in
-    let count : zeros + 1 ≡ length front + 1 = ap (λ n. n + 1) (sym (length-replicate zeros false)) in
-    let is : rest ≡ after =
-    rest_is ∙ ap (λ (c : List Bool). drop (zeros + 1) c) ahead.1 ∙ ap (λ n. drop n (front ++ true ∷ after)) count
-    ∙ drop-append-add front (true ∷ after) 1 in
-    (zeros, enough, ahead.1 ∙ ap (λ (c : List Bool). front ++ true ∷ c) (sym is))
+eol_before b rest zeros enough ahead rest_is = grind (arith, common_steps, drop-append-add)

@@ -1,5 +1,5 @@
 -- A written strip is read back, where its rows are.
-use Rattle.std.proofs.Common.{◌≡◌, ℕ, zero, suc, ◌+◌, List, [], ◌∷◌, ◌++◌, length, Bool, refl, sym, ◌∙◌, subst, arith, append_assoc, inl}
+use Rattle.std.proofs.Common.{◌≡◌, ℕ, zero, suc, ◌+◌, List, [], ◌∷◌, ◌++◌, length, Bool, refl, sym, subst, arith, append_assoc, inl}
 use Rattle.std.proofs.Common.{None}
 use Rattle.std.specs.Prelude.{All}
 use Rattle.std.proofs.lemmas.List.{length-replicate}
@@ -7,9 +7,7 @@ use Rattle.fax_bits.specs.declared.Colour.{Colour}
 use Rattle.fax_bits.specs.declared.Colour.TheVariants.{White}
 use Rattle.fax_rows.specs.laws.Rows.{OneDimensionalBitsAreRead, TwoDimensionalBitsAreRead}
 use Rattle.fax_rows.specs.Coded.{one_dimensional_bits}
-use Rattle.fax_rows.specs.Rows.{IsOneDimensionalRow}
 use Rattle.fax_page.specs.declared.Dimension.{Dimension}
-use Rattle.fax_page.specs.declared.Dimension.TheVariants.{OneDimensional, TwoDimensional}
 use Rattle.fax_page.specs.declared.Coding.{Coding}
 use Rattle.fax_page.specs.declared.Coding.TheVariants.{Mh, Mr, Mmr}
 use Rattle.fax_page.specs.declared.StripForm.{StripForm}
@@ -40,12 +38,7 @@ module _ (one_read : OneDimensionalBitsAreRead) (two_read : TwoDimensionalBitsAr
   row_back : (dimension : Dimension) (reference row : List Colour) (more : List Bool) → length reference ≡ form.width
       → length row ≡ form.width
       → IsRowIn dimension form.width reference (row_bits dimension reference row ++ more) row more
-  row_back OneDimensional reference row more reference_width width =
-      subst (λ n. IsOneDimensionalRow n (one_dimensional_bits row ++ more) row more) width
-      (one_read row more record { some = omega (arith, limits.some_pels, width); short = omega (arith, limits.short_rows, width) })
-  row_back TwoDimensional reference row more reference_width width =
-      two_read reference row more record { some = omega (arith, limits.some_pels, width); short = omega (arith, limits.short_rows, width) }
-      (reference_width ∙ sym width)
+  row_back dimension reference row more reference_width width = grind arith
 
   line_back : (before i : ℕ) (reference row : List Colour) (more : List Bool) → length reference ≡ form.width → length row ≡ form.width
       → IsLine form i reference (coded_line form k before i reference row ++ more) row more
