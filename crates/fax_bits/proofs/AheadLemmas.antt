@@ -1,6 +1,6 @@
 -- Bits that are loaded, and codes that are read from them.
 use Rattle.std.proofs.Common.{Bool, true, false, replicate, ◌≡◌, ℕ, ◌+◌, ◌*◌, ◌≤◌, ◌<◌, List, [], ◌∷◌, ◌++◌, length, take, drop, refl, ap, sym, ◌∙◌, arith}
-use Rattle.std.proofs.Common.{append_assoc, length-append, inl, inr, ◌⊎◌}
+use Rattle.std.proofs.Common.{append_assoc, length-append, ◌⊎◌}
 use Rattle.std.proofs.lemmas.Grind.{common_steps}
 use Rattle.std.specs.Prelude.{pos}
 use Rattle.std.proofs.Math.Seq.{drop-append-add}
@@ -23,8 +23,7 @@ use Rattle.fax_bits.proofs.WindowLemmas.{length-first_bits}
 -- as many bits are loaded as are looked at, or all that are left
 pub enough : (n : ℕ) (bytes : List ℕ) (window : Window) → n ≤ 32 → (32 ≤ window.count) ⊎ (window.at ≡ length bytes)
     → (n ≤ window.count) ⊎ (length bytes ≤ window.at)
-enough n bytes window few (inl many) = inl (omega arith)
-enough n bytes window few (inr all) = inr (omega arith)
+enough n bytes window few h = grind arith
 
 -- a 1 is a mode of its own
 one_is_code : IsCode modes (true ∷ []) (Vertical (pos 0))
@@ -56,12 +55,11 @@ module _ (order : FillOrder) (bytes : List ℕ) (old window : Window) (source : 
   loaded_left = same ∙ is.bits_are ∙ ap (λ (s : Source). s.left) shown
 
   pub loaded-left : window.count ≤ length source.left
-  loaded-left = grind (arith, common_steps, loaded_left, length-append, length-first_bits)
+  loaded-left = grind (arith, common_steps, length-first_bits)
 
   -- where all bytes are loaded, no bits are left but those of the window
   pub all_loaded : window.at ≡ length bytes → length source.left ≡ window.count
-  all_loaded all =
-      omega (arith, is.before, is.within, place, length-left order bytes (place_before old), ap (λ (s : Source). length s.left) shown)
+  all_loaded all = grind (arith, length-left)
 
   -- after some of its bits
   module _ (n : ℕ) (after : Window) (short : n ≤ 32) (count : after.count + n ≡ window.count) (at : after.at ≡ window.at) where
@@ -72,18 +70,7 @@ module _ (order : FillOrder) (bytes : List ℕ) (old window : Window) (source : 
     left_after_code = grind (arith, common_steps)
 
     pub end_kept : KeepsEnd source (source_of order bytes (place_before after))
-    end_kept =
-        omega (
-          arith,
-          place_after,
-          is.before,
-          is.within,
-          within,
-          length-left order bytes (place_before after),
-          length-left order bytes (place_before old),
-          ap (λ (s : Source). s.place) shown,
-          ap (λ (s : Source). length s.left) shown,
-        )
+    end_kept = grind (arith, length-left)
 
   -- zeros and the 1 after them are gone past
   pub zeros_taken : (zeros : ℕ) (after : Window) → zeros < 32 → HasZerosAhead (bits_ahead order bytes window) zeros
@@ -119,9 +106,6 @@ module _ (order : FillOrder) (bytes : List ℕ) (old window : Window) (source : 
     pub ones_left : take n source.left ≡ replicate n true
     ones_left = ap (take n) (sym loaded_left) ∙ ones
 
-    pub ones_within : n ≤ length source.left
-    ones_within = omega (arith, loaded-left)
-
     pub ones_taken : (k : ℕ) → k ≤ n → k ≤ 32 → (after : Window) → after.count + k ≡ window.count → after.at ≡ window.at
         → source.left ≡ replicate k true ++ drop (place_before after) (bits order bytes)
     ones_taken k few short after count at =
@@ -153,17 +137,4 @@ module _ (order : FillOrder) (bytes : List ℕ) (old window : Window) (source : 
           ∙ ap (λ rest. begun.front ++ rest) (sym front_left)
 
       pub looked_up : IsLookedUp means source found (source_of order bytes (place_before after))
-      looked_up = record {
-        front = begun.front;
-        meaning = begun.meaning;
-        taken = front_taken;
-        same_end = end_kept len after (begun_short number begun) count at;
-        shorter =
-            omega (
-              arith,
-              begun.some,
-              begun.long,
-              ap length front_taken,
-              length-append begun.front (drop (place_before after) (bits order bytes)),
-            );
-      }
+      looked_up = grind (arith, front_taken, length-append)

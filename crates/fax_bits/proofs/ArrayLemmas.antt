@@ -1,6 +1,6 @@
 -- A run table from its codes and their lengths.
 use Rattle.std.proofs.lemmas.Grind.{common_steps}
-use Rattle.std.proofs.Common.{◌≡◌, ℕ, zero, suc, ◌+◌, ◌<◌, List, [], ◌∷◌, length, get_or, refl, arith, zero-add}
+use Rattle.std.proofs.Common.{◌≡◌, ℕ, zero, suc, ◌+◌, ◌<◌, List, [], ◌∷◌, length, get_or, refl, arith}
 use Rattle.std.specs.Prelude.{Some, slice_get}
 use Rattle.fax_bits.specs.declared.codes.CodeEntry.{CodeEntry}
 use Rattle.fax_bits.specs.declared.runs.RunCode.{RunCode}
@@ -35,8 +35,7 @@ lens_of White = WHITE_LENS
 lens_of Black = BLACK_LENS
 
 pub length-codes_of : (colour : Colour) → (length (codes_of colour) ≡ 105) × (length (lens_of colour) ≡ 105)
-length-codes_of White = (refl, refl)
-length-codes_of Black = (refl, refl)
+length-codes_of colour = grind arith
 
 pub run_table_is : (colour : Colour) → run_table colour ≡ run_entries 0 (codes_of colour) (lens_of colour)
 unfolding white_runs white_terminating white_make_up black_runs black_terminating black_make_up common_make_up
@@ -46,4 +45,4 @@ run_table_is Black = refl
 -- its entry at a place
 pub run_entry_at : (colour : Colour) (place : ℕ) → place < 105 → slice_get (run_table colour) place
     ≡ Some (record { code = get_or (codes_of colour) place 0; len = get_or (lens_of colour) place 0; meaning = run_meaning place })
-run_entry_at colour place within = grind (arith, common_steps, length-codes_of, run_table_is, slice_get-run_entries, zero-add)
+run_entry_at colour place within = grind (arith, common_steps, run_table_is, slice_get-run_entries)

@@ -5,12 +5,11 @@ use Rattle.std.proofs.Math.Seq.{take-append_seam}
 use Rattle.std.proofs.lemmas.Nat.{pow_pos, mod_below, shr_below, shr_split}
 use Rattle.std.proofs.lemmas.Nat.Bits.{bit_at-lt, same_from_bits_below}
 use Rattle.std.specs.Int.{bit_at}
-use Rattle.std.proofs.lemmas.Bool.Decides.{nat_tests}
 use Rattle.fax_bits.specs.Bits.{code_bits, BeginsWith}
 use Rattle.fax_bits.proofs.CodeBitsLemmas.{code_bits-add, length-code_bits, get_or-code_bits}
 
 same_digit : (n m : ℕ) → n < 2 → m < 2 → nat_eq n 1 ≡ nat_eq m 1 → n ≡ m
-same_digit n m h k e = grind (arith, nat_tests)
+same_digit n m h k e = grind arith
 
 -- numbers with the same bits are the same
 pub same_number : (len n m : ℕ) → n < 2 ^ len → m < 2 ^ len → code_bits len n ≡ code_bits len m → n ≡ m

@@ -1,10 +1,9 @@
 -- The index arrays hold the places of the code tables.
 use Rattle.std.proofs.lemmas.Grind.{common_steps}
-use Rattle.std.proofs.Common.{◌≡◌, ℕ, zero, suc, ◌+◌, ◌-◌, ◌/◌, ◌^◌, ◌<◌, ◌≤◌, List, map, get_or, true, refl, ap, sym, ◌∙◌, subst, arith}
+use Rattle.std.proofs.Common.{◌≡◌, ℕ, ◌+◌, ◌-◌, ◌/◌, ◌^◌, ◌<◌, ◌≤◌, List, map, get_or, true, refl, sym, ◌∙◌, subst, arith}
 use Rattle.std.specs.List.{range_with_len}
 use Rattle.std.proofs.lemmas.List.FromFn.{get_or-map-range_with_len}
 use Rattle.std.proofs.lemmas.Nat.{shr_below}
-use Rattle.std.proofs.lemmas.Bool.{cases_lt}
 use Rattle.fax_bits.specs.declared.codes.CodeEntry.{CodeEntry}
 use Rattle.fax_bits.specs.declared.indexes.TheConstants.{WHITE_SHORT, WHITE_LONG, BLACK_SHORT, BLACK_LONG, MODE_PLACES}
 use Rattle.fax_bits.specs.code.Places.{place_of}
@@ -39,8 +38,7 @@ mode_places_is = refl
 place_at : {M : Type 0} (array : List ℕ) (table : List (CodeEntry M)) (width count number : ℕ) → array ≡ places table width count
     → number < count
     → get_or array number 0 ≡ place_of table width number
-place_at array table width count number is within =
-    ap (λ xs. get_or xs number 0) is ∙ get_or-map-range_with_len (place_of table width) 0 count number number 0 within (omega arith)
+place_at array table width count number is within = grind (arith, get_or-map-range_with_len)
 
 -- in an array of the short codes, for a number of 13 bits
 short_place_at : {M : Type 0} (array : List ℕ) (table : List (CodeEntry M)) (short low number : ℕ) → array ≡ places table short (2 ^ short)
@@ -80,25 +78,10 @@ black_long_place number below = place_at BLACK_LONG black_runs 13 512 number bla
 pub mode_place : (number : ℕ) → number < 2 ^ 13 → get_or MODE_PLACES (number / 2 ^ 6) 0 ≡ place_of modes 13 number
 mode_place number within = short_place_at MODE_PLACES modes 7 0 number mode_places_is (omega arith) mode_long_codes within (omega arith)
 
--- where the codes are long, the arrays of the short ones hold no place of a code of a run
-white_long_first : (i : ℕ) → i < 4 → 104 ≤ get_or WHITE_SHORT i 0
-white_long_first zero within = let e : get_or WHITE_SHORT 0 0 ≡ 105 = refl in omega (arith, e)
-white_long_first (suc zero) within = let e : get_or WHITE_SHORT 1 0 ≡ 104 = refl in omega (arith, e)
-white_long_first (suc (suc zero)) within = let e : get_or WHITE_SHORT 2 0 ≡ 105 = refl in omega (arith, e)
-white_long_first (suc (suc (suc zero))) within = let e : get_or WHITE_SHORT 3 0 ≡ 105 = refl in omega (arith, e)
-white_long_first (suc (suc (suc (suc i)))) within = absurd (omega arith)
-
-black_long_first : (i : ℕ) → i < 4 → 104 ≤ get_or BLACK_SHORT i 0
-black_long_first zero within = let e : get_or BLACK_SHORT 0 0 ≡ 105 = refl in omega (arith, e)
-black_long_first (suc zero) within = let e : get_or BLACK_SHORT 1 0 ≡ 105 = refl in omega (arith, e)
-black_long_first (suc (suc zero)) within = let e : get_or BLACK_SHORT 2 0 ≡ 105 = refl in omega (arith, e)
-black_long_first (suc (suc (suc zero))) within = let e : get_or BLACK_SHORT 3 0 ≡ 105 = refl in omega (arith, e)
-black_long_first (suc (suc (suc (suc i)))) within = absurd (omega arith)
-
 pub white_short_place : (number : ℕ) → number < 2 ^ 13 → get_or WHITE_SHORT (number / 2 ^ 4) 0 < 104
     → get_or WHITE_SHORT (number / 2 ^ 4) 0 ≡ place_of white_runs 13 number
-white_short_place number within few = grind (arith, common_steps, cases_lt, white_long_first, white_place)
+white_short_place number within few = grind (arith, common_steps, white_place)
 
 pub black_short_place : (number : ℕ) → number < 2 ^ 13 → get_or BLACK_SHORT (number / 2 ^ 7) 0 < 104
     → get_or BLACK_SHORT (number / 2 ^ 7) 0 ≡ place_of black_runs 13 number
-black_short_place number within few = grind (arith, common_steps, cases_lt, black_long_first, black_place)
+black_short_place number within few = grind (arith, common_steps, black_place)

@@ -41,8 +41,7 @@ each_turned : (or and right left : ℕ → ℕ → ℕ) (n : ℕ) (v : List ℕ)
 each_turned or and right left zero [] len = refl
 each_turned or and right left zero (x ∷ v) len = absurd (omega arith)
 each_turned or and right left (suc n) [] len = absurd (omega arith)
-each_turned or and right left (suc n) (x ∷ v) len =
-    ap (λ more. turned_by or and right left x ∷ more) (each_turned or and right left n v (omega arith))
+each_turned or and right left (suc n) (x ∷ v) len = grind (arith, each_turned or and right left n v (omega arith))
 
 each_same : (f g : ℕ → ℕ) → same_below f g 256 ≡ true → (v : List ℕ) → Each1 (Fits w8) v → map f v ≡ map g v
 each_same f g all [] fits = refl

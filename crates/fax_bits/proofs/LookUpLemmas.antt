@@ -1,6 +1,6 @@
 -- What one look-up finds, and what was read then.
 use Rattle.std.proofs.Common.{◌≡◌, ℕ, ◌+◌, ◌*◌, ◌/◌, ◌%◌, ◌^◌, ◌≤◌, List, [], ◌++◌, length, Bool, refl, ap, sym, ◌∙◌, arith, rules}
-use Rattle.std.proofs.Common.{append_assoc, append-nil, length-append}
+use Rattle.std.proofs.Common.{append-nil, length-append}
 use Rattle.std.proofs.lemmas.Grind.{common_steps}
 use Rattle.fax_bits.specs.declared.codes.CodeEntry.{CodeEntry}
 use Rattle.fax_bits.specs.declared.pairs.Pair.{Pair}
@@ -135,4 +135,4 @@ pair_begins b len pair found = grind (arith, length-code_bits)
 -- and are read
 pub pair_taken : (front left : List Bool) (pair : Pair) (rest : List Bool) → AreTwoRuns front pair → left ≡ front ++ rest
     → IsPairRead left pair rest
-pair_taken front left pair rest are is = grind (arith, common_steps, append_assoc, run_bits_are_read)
+pair_taken front left pair rest are is = grind (arith, common_steps, run_bits_are_read)

@@ -1,11 +1,10 @@
 -- The codes of modes by their places in the mode table.
-use Rattle.std.proofs.Common.{◌≡◌, List, ◌++◌, Bool, lit<, ℕ, zero, suc, ◌-◌, ◌/◌, ◌^◌, ◌<◌, ◌≤◌, ℤ, pos, negsuc, unsigned_abs, get_or}
+use Rattle.std.proofs.Common.{◌≡◌, List, ◌++◌, Bool, ℕ, zero, suc, ◌-◌, ◌/◌, ◌^◌, ◌<◌, ◌≤◌, ℤ, pos, negsuc, unsigned_abs, get_or}
 use Rattle.std.proofs.lemmas.Grind.{common_steps}
 use Rattle.std.proofs.Common.{map, to_z, of_z, w8, w32, refl, ap, sym, ◌∙◌, arith}
 use Rattle.std.specs.Prelude.{Option, None, Some, slice_get, nat_abs, ◌+ℤ◌}
 use Rattle.fax_bits.specs.declared.indexes.TheConstants.{MODE_PLACES, VERTICAL_MODES}
 use Rattle.fax_bits.specs.declared.put.TheConstants.{VERTICAL_CODES}
-use Rattle.std.proofs.lemmas.Int.{ints}
 use Rattle.std.proofs.lemmas.List.{get_or-map}
 use Rattle.fax_bits.specs.declared.codes.CodeEntry.{CodeEntry}
 use Rattle.fax_bits.specs.declared.modes.ModeCode.{ModeCode}
@@ -24,8 +23,7 @@ use Rattle.fax_bits.proofs.TableLemmas.{listed}
 
 -- a mode that is written has a distance of at most 3
 few : (d : ℤ) → IsWritten (Vertical d) → unsigned_abs d < 4
-few (pos n) written = omega (arith, ints, written.1)
-few (negsuc n) written = omega (arith, ints, written.0)
+few d written = grind arith
 
 -- where the code of a distance stands, as the program finds it
 abbrev place_of_distance : ℤ → ℕ
@@ -41,15 +39,7 @@ pub record HasCode (d : ℤ) : Type 0 where
 
 pub has_code : (d : ℤ) → IsWritten (Vertical d) → HasCode d
 unfolding modes mode_bits code_bits
-has_code (pos zero) written = record { distance_is = refl; short = lit< tt; fits = lit< tt; bits = refl }
-has_code (pos (suc zero)) written = record { distance_is = refl; short = lit< tt; fits = lit< tt; bits = refl }
-has_code (pos (suc (suc zero))) written = record { distance_is = refl; short = lit< tt; fits = lit< tt; bits = refl }
-has_code (pos (suc (suc (suc zero)))) written = record { distance_is = refl; short = lit< tt; fits = lit< tt; bits = refl }
-has_code (pos (suc (suc (suc (suc n))))) written = absurd (omega (arith, few (pos (suc (suc (suc (suc n))))) written))
-has_code (negsuc zero) written = record { distance_is = refl; short = lit< tt; fits = lit< tt; bits = refl }
-has_code (negsuc (suc zero)) written = record { distance_is = refl; short = lit< tt; fits = lit< tt; bits = refl }
-has_code (negsuc (suc (suc zero))) written = record { distance_is = refl; short = lit< tt; fits = lit< tt; bits = refl }
-has_code (negsuc (suc (suc (suc n)))) written = absurd (omega (arith, few (negsuc (suc (suc (suc n)))) written))
+has_code d written = grind (arith, common_steps)
 
 -- a mode that is written is read again
 takes_mode : (place : ℕ) (entry : CodeEntry ModeCode) (more : List Bool) → slice_get modes place ≡ Some entry
@@ -64,8 +54,7 @@ mode_bits_are_read (Vertical (pos zero)) more written = takes_mode 2 _ more refl
 mode_bits_are_read (Vertical (pos (suc zero))) more written = takes_mode 3 _ more refl refl
 mode_bits_are_read (Vertical (pos (suc (suc zero)))) more written = takes_mode 4 _ more refl refl
 mode_bits_are_read (Vertical (pos (suc (suc (suc zero))))) more written = takes_mode 5 _ more refl refl
-mode_bits_are_read (Vertical (pos (suc (suc (suc (suc n)))))) more written =
-    absurd (omega (arith, few (pos (suc (suc (suc (suc n))))) written))
+mode_bits_are_read (Vertical (pos (suc (suc (suc (suc n)))))) more written = grind arith
 mode_bits_are_read (Vertical (negsuc zero)) more written = takes_mode 6 _ more refl refl
 mode_bits_are_read (Vertical (negsuc (suc zero))) more written = takes_mode 7 _ more refl refl
 mode_bits_are_read (Vertical (negsuc (suc (suc zero)))) more written = takes_mode 8 _ more refl refl
@@ -111,8 +100,7 @@ shifts_are = refl
 vertical_begins : (number place : ℕ) (found : Option (CodeEntry ModeCode)) → place ≡ place_of modes 13 number
     → slice_get modes place ≡ found → 0 < len_at found
     → HasCodeAhead modes (code_bits 13 number) (len_at found) (Vertical (shift_at found))
-vertical_begins number place None place_is is some = absurd (omega arith)
-vertical_begins number place (Some entry) place_is is some = grind (arith, found_at_place)
+vertical_begins number place found place_is is some = grind (arith, found_at_place)
 
 -- a vertical mode that the arrays have begins thirteen bits
 pub vertical_is_ahead : (number : ℕ) → number < 2 ^ 13 → 0 < get_or VERTICAL_MODES.lens (number / 2 ^ 6) 0

@@ -1,13 +1,12 @@
 -- The bytes of bits.
 use Rattle.std.proofs.Common.{◌≡◌, ℕ, zero, suc, ◌+◌, ◌-◌, ◌*◌, ◌/◌, ◌<◌, ◌≤◌, List, [], ◌∷◌, ◌++◌, length, take, drop, map, replicate}
 use Rattle.std.proofs.Common.{Bool, false, refl, ap, sym, ◌∙◌, subst, arith, append_assoc, length-append, length-drop}
-use Rattle.std.specs.Prelude.{reverse, All}
+use Rattle.std.specs.Prelude.{All}
 use Rattle.std.specs.Simd.{first_chunks}
 use Rattle.std.proofs.lemmas.List.{length-replicate, length-reverse, reverse-reverse, length-take-le, take-replicate}
 use Rattle.std.proofs.lemmas.List.{replicate-append-replicate}
 use Rattle.std.proofs.Math.Seq.{take-add, take-append-add, take-append_seam, drop-append_seam}
 use Rattle.fax_bits.specs.declared.FillOrder.{FillOrder}
-use Rattle.fax_bits.specs.declared.FillOrder.TheVariants.{MsbFirst, LsbFirst}
 use Rattle.fax_bits.specs.Bits.{bits, byte_bits, byte_of, packed}
 use Rattle.fax_bits.specs.laws.Codes.{PackedBitsArePadded, PaddedBytesArePacked}
 use Rattle.fax_bits.proofs.NumberLemmas.{byte_bits-number, number-byte_bits}
@@ -16,15 +15,12 @@ use Rattle.fax_bits.proofs.SourceLemmas.{length-bits, length-byte_bits}
 -- the byte of eight bits holds them
 byte_bits-byte_of : (order : FillOrder) (eight : List Bool) → length eight ≡ 8 → byte_bits order (byte_of order eight) ≡ eight
 unfolding byte_bits
-byte_bits-byte_of MsbFirst eight len = byte_bits-number eight len
-byte_bits-byte_of LsbFirst eight len =
-    ap (λ (b : List Bool). reverse b) (byte_bits-number (reverse eight) (length-reverse eight ∙ len)) ∙ reverse-reverse eight
+byte_bits-byte_of order eight len = grind (arith, byte_bits-number, length-reverse, reverse-reverse)
 
 -- and is the byte of its bits
 byte_of-byte_bits : (order : FillOrder) (byte : ℕ) → byte < 256 → byte_of order (byte_bits order byte) ≡ byte
 unfolding byte_bits
-byte_of-byte_bits MsbFirst byte fits = number-byte_bits byte fits
-byte_of-byte_bits LsbFirst byte fits = ap (byte_of MsbFirst) (reverse-reverse (byte_bits MsbFirst byte)) ∙ number-byte_bits byte fits
+byte_of-byte_bits order byte fits = grind (arith, number-byte_bits, reverse-reverse)
 
 -- the bits of the bytes of chunks
 bits-chunks : (order : FillOrder) (n : ℕ) (b : List Bool) → 8 * n ≤ length b
@@ -57,7 +53,7 @@ chunks-bits order (byte ∷ bytes) more fit =
     ap (λ (b : List Bool). map (byte_of order) (first_chunks 8 (length bytes) (drop 8 b))) all
     ∙ ap (λ (b : List Bool). map (byte_of order) (first_chunks 8 (length bytes) b)) rest
     ∙ chunks-bits order bytes more (λ j d h. fit (suc j) d (omega (arith, h))) in
-    cc (first, others)
+    cc
 
 pub packed-padded : PackedBitsArePadded
 unfolding packed

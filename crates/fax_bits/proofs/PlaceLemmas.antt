@@ -3,9 +3,9 @@ use Rattle.std.proofs.lemmas.Grind.{common_steps}
 use Rattle.std.proofs.Common.{◌≡◌, ℕ, zero, suc, ◌+◌, ◌-◌, ◌*◌, ◌/◌, ◌%◌, ◌^◌, ◌<◌, ◌≤◌, List, [], ◌∷◌, ◌++◌, length, get_or, Bool, true}
 use Rattle.std.proofs.Common.{false, refl, ap, sym, ◌∙◌, subst, arith, inl, inr, append_assoc, length-append}
 use Rattle.std.specs.Prelude.{◌&&◌, ◌||◌, Option, Some, None, MatchOption, slice_get, Contains, nat_le}
-use Rattle.std.proofs.lemmas.Bool.{and_parts, cases_Bool, leb-true}
+use Rattle.std.proofs.lemmas.Bool.{and_parts, cases_Bool}
 use Rattle.std.proofs.lemmas.Nat.{pow-add, pow_pos, shl_below, shl-shr}
-use Rattle.std.proofs.Math.Nat.{div-div-eq-div-mul, lt-div-mul-add}
+use Rattle.std.proofs.Math.Nat.{div-div-eq-div-mul}
 use Rattle.fax_bits.specs.declared.codes.CodeEntry.{CodeEntry}
 use Rattle.fax_bits.specs.Bits.{code_bits, BeginsWith}
 use Rattle.fax_bits.specs.Codes.{bits_of, HasNoCode}
@@ -38,16 +38,7 @@ later_place first table width number h = ap (λ b. place_after b (place_of table
 place_begins : {M : Type 0} (table : List (CodeEntry M)) (width number : ℕ) (entry : CodeEntry M)
     → slice_get table (place_of table width number) ≡ Some entry → begins entry width number ≡ true
 place_begins [] width number entry at = cc
-place_begins (first ∷ table) width number entry at =
-    elim (cases_Bool (begins first width number)) [
-      | inl begun ↦
-          let here : Some first ≡ Some entry = ap (slice_get (first ∷ table)) (sym (first_place first table width number begun)) ∙ at in
-          let same : first ≡ entry = cc in
-          ap (λ (e : CodeEntry _). begins e width number) (sym same) ∙ begun
-      | inr other ↦
-          place_begins table width number entry
-          (ap (slice_get (first ∷ table)) (sym (later_place first table width number other)) ∙ at)
-    ]
+place_begins (first ∷ table) width number entry at = grind (arith, place_begins table width number entry)
 
 -- a code that begins thirteen bits, by its place
 pub found_at_place : {M : Type 0} (table : List (CodeEntry M)) (number place : ℕ) (entry : CodeEntry M) → place ≡ place_of table 13 number
@@ -82,11 +73,6 @@ long_codes_test short low (entry ∷ table) =
     (nat_le entry.len 13 && (nat_le entry.len short || nat_le ((entry.code + 1) * 2 ^ (13 - entry.len)) low))
     && long_codes_test short low table
 
-same_test : (a b : Bool) → (a ≡ true → b ≡ true) → (b ≡ true → a ≡ true) → a ≡ b
-same_test true b there back = sym (there refl)
-same_test false true there back = back refl
-same_test false false there back = refl
-
 -- the first bits of the first bits
 first_of_first : (number width short len : ℕ) → len ≤ short → short ≤ width
     → number / 2 ^ (width - short) / 2 ^ (short - len) ≡ number / 2 ^ (width - len)
@@ -97,13 +83,13 @@ first_of_first number width short len in_short in_width =
 
 long_is_low : {M : Type 0} (entry : CodeEntry M) (low number : ℕ) → low ≤ number → (entry.code + 1) * 2 ^ (13 - entry.len) ≤ low
     → number / 2 ^ (13 - entry.len) ≡ entry.code → ⊥
-long_is_low entry low number above below is = grind (arith, common_steps, lt-div-mul-add, pow_pos)
+long_is_low entry low number above below is = grind (arith, common_steps, pow_pos)
 
 -- the test of one entry
 same_begins : {M : Type 0} (entry : CodeEntry M) (short low number : ℕ) → short ≤ 13 → low ≤ number
     → (nat_le entry.len 13 && (nat_le entry.len short || nat_le ((entry.code + 1) * 2 ^ (13 - entry.len)) low)) ≡ true
     → begins entry short (number / 2 ^ (13 - short)) ≡ begins entry 13 number
-same_begins entry short low number few above test = grind (arith, common_steps, and_parts, leb-true, same_test, first_of_first, long_is_low)
+same_begins entry short low number few above test = grind (arith, common_steps, first_of_first, long_is_low)
 
 -- the first `short` bits of 13 tell as much, where they are no beginning of a long code
 pub short_place : {M : Type 0} (table : List (CodeEntry M)) (short low number : ℕ) → short ≤ 13 → long_codes_test short low table ≡ true

@@ -1,7 +1,7 @@
 -- Codes that are put one after another.
 use Rattle.std.proofs.lemmas.Grind.{common_steps}
 use Rattle.std.proofs.Common.{◌≡◌, ℕ, ◌+◌, ◌-◌, ◌*◌, ◌/◌, ◌%◌, ◌<◌, ◌≤◌, List, ◌++◌, replicate, ap, sym, ◌∙◌, arith, append_assoc}
-use Rattle.std.specs.Prelude.{flat_map, Result, Ok, Err, OnErr}
+use Rattle.std.specs.Prelude.{flat_map, Result, OnErr}
 use Rattle.std.proofs.lemmas.List.{replicate-append-replicate}
 use Rattle.fax_bits.specs.declared.Colour.{Colour}
 use Rattle.fax_bits.specs.declared.runs.RunCode.{RunCode}
@@ -48,5 +48,4 @@ unfolding run_bits
 long_bits colour n long short = grind (arith, common_steps)
 
 pub on_err-of : {T E P : Type 0} (result : Result T E) → P → OnErr result P
-on_err-of (Ok x) p = tt
-on_err-of (Err e) p = p
+on_err-of result p = grind arith

@@ -1,16 +1,13 @@
 -- Runs that are written are read again, and as nothing else.
 use Rattle.std.proofs.lemmas.Grind.{common_steps}
-use Rattle.std.proofs.Common.{◌≡◌, ℕ, zero, suc, ◌+◌, ◌*◌, ◌/◌, ◌%◌, ◌<◌, ◌≤◌, List, [], ◌∷◌, ◌++◌, map, replicate, Bool, false, nat_eq}
+use Rattle.std.proofs.Common.{◌≡◌, ℕ, zero, suc, ◌+◌, ◌*◌, ◌/◌, ◌%◌, ◌<◌, ◌≤◌, List, [], ◌∷◌, ◌++◌, map, replicate, Bool}
 use Rattle.std.proofs.Common.{refl, ap, sym, ◌∙◌, subst, arith, append_assoc, append-nil}
 use Rattle.std.specs.Prelude.{sum, flat_map}
-use Rattle.std.proofs.lemmas.List.Concat.{flat_map-append}
-use Rattle.std.proofs.lemmas.Bool.Decides.{nat_tests}
-use Rattle.std.proofs.lemmas.List.{map-append}
 use Rattle.fax_bits.specs.declared.codes.CodeEntry.{CodeEntry}
 use Rattle.fax_bits.specs.declared.Colour.{Colour}
 use Rattle.fax_bits.specs.declared.runs.RunCode.{RunCode}
 use Rattle.fax_bits.specs.declared.runs.RunCode.TheVariants.{Terminating, MakeUp}
-use Rattle.fax_bits.specs.Codes.{Takes, Spells, IsRun}
+use Rattle.fax_bits.specs.Codes.{Spells, IsRun}
 use Rattle.fax_bits.specs.laws.Codes.{HasOneAnswer, RunBitsAreRead, RunBitsAreOneRun}
 use Rattle.fax_bits.specs.Written.{run_code_bits, run_codes, run_bits}
 use Rattle.fax_bits.specs.code.Codes.{one_make_up, run_meaning}
@@ -29,8 +26,7 @@ spells-append table b middle rest (code ∷ codes) others first second =
 
 spells_one : (colour : Colour) (place : ℕ) (code : RunCode) (more : List Bool) → place < 105 → run_meaning place ≡ code
     → Spells (run_table colour) (run_code_bits colour code ++ more) (code ∷ []) more
-spells_one colour place code more within is =
-    (more, subst (λ c. Takes (run_table colour) (run_code_bits colour c ++ more) c more) is (takes_run_code colour place more within), refl)
+spells_one colour place code more within is = grind (arith, takes_run_code)
 
 spells_terminating : (colour : Colour) (n : ℕ) (more : List Bool) → n < 64
     → Spells (run_table colour) (run_code_bits colour (Terminating n) ++ more) (Terminating n ∷ []) more
@@ -54,9 +50,6 @@ spells_often colour (suc q) more =
     (spells-append (run_table colour) (f (MakeUp 2560) ++ rest) rest more (MakeUp 2560 ∷ []) (replicate q (MakeUp 2560)) first
     (spells_often colour q more))
 
-pub one_make_up-suc : (k : ℕ) → one_make_up (suc k) ≡ MakeUp (64 * suc k) ∷ []
-one_make_up-suc k = let some : nat_eq (suc k) 0 ≡ false = grind (arith, nat_tests) in rw some
-
 spells_rest : (colour : Colour) (steps : ℕ) (more : List Bool) → steps ≤ 40
     → Spells (run_table colour) (flat_map (run_code_bits colour) (one_make_up steps) ++ more) (one_make_up steps) more
 spells_rest colour zero more few = refl
@@ -68,7 +61,7 @@ SpelledByOwn colour codes = (more : List Bool) → Spells (run_table colour) (fl
 
 spelled-both : (colour : Colour) (codes others : List RunCode) → SpelledByOwn colour codes → SpelledByOwn colour others
     → SpelledByOwn colour (codes ++ others)
-spelled-both colour codes others first second more = grind (arith, common_steps, flat_map-append, append_assoc, spells-append)
+spelled-both colour codes others first second more = grind (arith, common_steps, spells-append)
 
 spelled-terminating : (colour : Colour) (n : ℕ) → n < 64 → SpelledByOwn colour (Terminating n ∷ [])
 spelled-terminating colour n short more =
@@ -83,16 +76,12 @@ abbrev rest_pels : ℕ → List ℕ
 rest_pels zero = []
 rest_pels (suc k) = 64 * suc k ∷ []
 
-map-rest_pels : (steps : ℕ) → map MakeUp (rest_pels steps) ≡ one_make_up steps
-map-rest_pels zero = refl
-map-rest_pels (suc k) = sym (one_make_up-suc k)
-
 map-replicate : (q pels : ℕ) → map MakeUp (replicate q pels) ≡ replicate q (MakeUp pels)
 map-replicate zero pels = refl
 map-replicate (suc q) pels = ap (λ codes. MakeUp pels ∷ codes) (map-replicate q pels)
 
 codes_are : (n : ℕ) → map MakeUp (replicate (n / 2560) 2560 ++ rest_pels (n % 2560 / 64)) ++ Terminating (n % 64) ∷ [] ≡ run_codes n
-codes_are n = grind (arith, common_steps, map-append, map-replicate, map-rest_pels)
+codes_are n = grind (arith, common_steps, map-replicate)
 
 pels_are : (n : ℕ) → sum (replicate (n / 2560) 2560 ++ rest_pels (n % 2560 / 64)) + n % 64 ≡ n
 pels_are n = grind (arith, common_steps)

@@ -1,5 +1,5 @@
 -- Bits begin with a code of a table, or they have one fault.
-use Rattle.std.proofs.Common.{◌≡◌, ℕ, zero, suc, ◌<◌, List, [], ◌∷◌, ◌++◌, length, length-append, ap, get_or, Bool, true, false, refl, sym, subst, arith, inl, inr}
+use Rattle.std.proofs.Common.{◌≡◌, ℕ, suc, ◌<◌, List, [], ◌∷◌, ◌++◌, length, length-append, ap, get_or, Bool, refl, sym, subst, arith, inl, inr}
 use Rattle.std.specs.Prelude.{◌⊎◌, Contains}
 use Rattle.fax_bits.specs.declared.codes.CodeEntry.{CodeEntry}
 use Rattle.fax_bits.specs.declared.codes.CodeFault.TheVariants.{DataEnds, BadCode}
@@ -16,10 +16,7 @@ cut_by code b ([], is) short = absurd (omega (arith, ap length is, length-append
 cut_by code b (missing ∷ more, is) short = (missing, more, sym is)
 
 same_bit : (a b : Bool) → (a ≡ b) ⊎ (a ≡ b → ⊥)
-same_bit true true = inl refl
-same_bit false false = inl refl
-same_bit true false = inr (λ e. cc)
-same_bit false true = inr (λ e. cc)
+same_bit a b = grind arith
 
 decide_ahead : (code b : List Bool) → BeginsWith b code ⊎ (BeginsWith b code → ⊥)
 decide_ahead [] b = inl (b, refl)
@@ -48,8 +45,7 @@ decide_cut (c ∷ code) (x ∷ b) =
 
 listed_cases : {M : Type 0} (first entry : CodeEntry M) (table : List (CodeEntry M)) (k : ℕ) → k < length (first ∷ table)
     → get_or (first ∷ table) k entry ≡ entry → (first ≡ entry) ⊎ Contains table entry
-listed_cases first entry table zero within is = inl is
-listed_cases first entry table (suc k) within is = inr (k, omega arith, is)
+listed_cases first entry table k within is = grind arith
 
 -- some entry of the table has a property that can be tested, or none has
 decide_listed : {M : Type 0} (P : CodeEntry M → Type 0) → ((entry : CodeEntry M) → P entry ⊎ (P entry → ⊥)) → (table : List (CodeEntry M))
@@ -85,7 +81,4 @@ taken_has_no_fault table b meaning rest BadCode takes fault = fault.0 takes.entr
 
 pub has_one_fault : {M : Type 0} (table : List (CodeEntry M)) (b : List Bool) (fault other : CodeFault) → IsFaultOf table b fault
     → IsFaultOf table b other → fault ≡ other
-has_one_fault table b DataEnds DataEnds first second = refl
-has_one_fault table b BadCode BadCode first second = refl
-has_one_fault table b DataEnds BadCode first second = absurd (second.1 first.1)
-has_one_fault table b BadCode DataEnds first second = absurd (first.1 second.1)
+has_one_fault table b fault other first second = grind arith

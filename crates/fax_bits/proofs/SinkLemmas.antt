@@ -1,8 +1,8 @@
 -- Bits that are put after others: into the pending bits, and from there into bytes.
 use Rattle.std.proofs.lemmas.Grind.{common_steps}
 use Rattle.std.proofs.Common.{◌≡◌, ℕ, ◌+◌, ◌-◌, ◌*◌, ◌/◌, ◌%◌, ◌^◌, ◌<◌, ◌≤◌, List, [], ◌∷◌, ◌++◌, length, map, take, drop, replicate, Bool}
-use Rattle.std.proofs.Common.{true, false, refl, ap, sym, ◌∙◌, arith, append_assoc, append-nil, add-zero, length-append}
-use Rattle.std.specs.Prelude.{bit_and, bit_or, Result, Ok, Err, OnOk, is_ok}
+use Rattle.std.proofs.Common.{false, refl, ap, sym, ◌∙◌, arith, append_assoc, append-nil, add-zero}
+use Rattle.std.specs.Prelude.{bit_and, bit_or}
 use Rattle.std.proofs.lemmas.List.{take_at}
 use Rattle.std.proofs.lemmas.List.Concat.{flat_map-append}
 use Rattle.fax_bits.proofs.WordLemmas.{be_bits}
@@ -76,7 +76,7 @@ written_over len new old same = take_at new (drop (length new) old) len same
 pub pushed_bits : (order : FillOrder) (bytes pushed : List ℕ) (byte n : ℕ) (all rest : List Bool) → pushed ≡ bytes ++ byte ∷ []
     → byte_bits order byte ≡ code_bits 8 n
     → all ≡ code_bits 8 n ++ rest → bits order pushed ++ rest ≡ bits order bytes ++ all
-pushed_bits order bytes pushed byte n all rest pushed_is byte_is all_is = grind (arith, common_steps, bits-push, append_assoc)
+pushed_bits order bytes pushed byte n all rest pushed_is byte_is all_is = grind (arith, common_steps, bits-push)
 
 -- bytes that are pushed
 pub bits-append : (order : FillOrder) (bytes xs : List ℕ) → bits order (bytes ++ xs) ≡ bits order bytes ++ bits order xs
@@ -90,7 +90,7 @@ be_coded n fits = grind (arith, be_bits, from_be_bytes-to_be_bytes_4)
 -- how many bits a sink has
 pub length-sink : (order : FillOrder) (bytes : List ℕ) (count pending : ℕ) (sink : Sink) → sink_of order bytes count pending ≡ sink
     → length sink.bits ≡ 8 * length bytes + count
-length-sink order bytes count pending sink is = grind (arith, common_steps, length-append, length-bits, length-code_bits)
+length-sink order bytes count pending sink is = grind (arith, common_steps, length-bits, length-code_bits)
 
 -- a sink with no pending bits
 pub none_pending : (order : FillOrder) (bytes : List ℕ) (count pending : ℕ) → count ≡ 0 → bits order bytes ++ code_bits count pending
@@ -119,14 +119,14 @@ pub put_after : (order : FillOrder) (bytes : List ℕ) (count pending len number
     → sink_of order bytes count pending ≡ old
     → sink_of order bytes (count + len) (bit_or (pending * 2 ^ len % 2 ^ 64) number)
     ≡ record { order = old.order; bits = old.bits ++ code_bits len number }
-put_after order bytes count pending len number old fits number_fits short old_is = grind (arith, common_steps, joined_bits, append_assoc)
+put_after order bytes count pending len number old fits number_fits short old_is = grind (arith, common_steps, joined_bits)
 
 -- the first 32 of the pending bits are stored
 pub word_stored : (order : FillOrder) (bytes pushed : List ℕ) (count pending : ℕ) (sink : Sink) → 32 ≤ count → count ≤ 64
     → pending < 2 ^ count
     → sink_of order bytes count pending ≡ sink → bits MsbFirst pushed ≡ bits MsbFirst bytes ++ code_bits 32 (pending / 2 ^ (count - 32))
     → sink_of order pushed (count - 32) (bit_and pending (1 * 2 ^ (count - 32) % 2 ^ 64 - 1)) ≡ sink
-word_stored order bytes pushed count pending sink whole short fits is pushed_is = grind (arith, common_steps, append_assoc, split_bits)
+word_stored order bytes pushed count pending sink whole short fits is pushed_is = grind (arith, common_steps, split_bits)
 
 -- pending bits with zeros after them, up to a whole byte
 padded_bits : (count pending zeros : ℕ) → pending < 2 ^ count → count + zeros ≤ 64

@@ -1,6 +1,6 @@
 -- Codes of a table, by the entries gone through so far.
 use Rattle.std.proofs.lemmas.Grind.{common_steps}
-use Rattle.std.proofs.Common.{◌≡◌, ℕ, ◌+◌, ◌<◌, ◌≤◌, List, ◌++◌, length, drop, Bool, refl, sym, arith}
+use Rattle.std.proofs.Common.{◌≡◌, ℕ, ◌+◌, ◌<◌, ◌≤◌, List, ◌++◌, length, drop, Bool, arith}
 use Rattle.std.specs.Prelude.{Some, slice_get, Contains}
 use Rattle.std.proofs.lemmas.Option.{slice_get_within, get_or_from_slice_get, slice_get_read}
 use Rattle.fax_bits.specs.declared.codes.CodeEntry.{CodeEntry}
@@ -18,8 +18,7 @@ each_below_more P table i entry below found here = grind (arith, common_steps)
 
 pub each-from_below : {M : Type 0} (P : CodeEntry M → Type 0) (table : List (CodeEntry M)) (i : ℕ)
     → length table ≤ i → EachBelow P table i → (entry : CodeEntry M) → Contains table entry → P entry
-each-from_below P table i all below entry at =
-    below at.0 (omega arith) entry (slice_get_read table (length table) at.0 entry refl at.1 (sym at.2))
+each-from_below P table i all below entry at = grind (arith, slice_get_read)
 
 -- the bits after a code that was skipped
 pub left_after : (left code rest : List Bool) (n : ℕ) → left ≡ code ++ rest → length code ≡ n → left ≡ code ++ drop n left

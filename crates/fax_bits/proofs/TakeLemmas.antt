@@ -1,13 +1,13 @@
 -- Bits that stand next in a source.
 use Rattle.std.proofs.lemmas.Grind.{common_steps}
 use Rattle.std.proofs.Common.{◌≡◌, ℕ, suc, ◌+◌, ◌-◌, ◌*◌, ◌/◌, ◌%◌, ◌^◌, ◌<◌, ◌≤◌, subst, List, ◌∷◌, ◌++◌, length, take, drop, replicate}
-use Rattle.std.proofs.Common.{get_or, Bool, true, false, ◌↔◌, IsTrue, add-one, refl, ap, sym, ◌∙◌, arith, append_assoc, length-append}
+use Rattle.std.proofs.Common.{get_or, Bool, false, ◌↔◌, IsTrue, ap, sym, ◌∙◌, arith, append_assoc, length-append}
 use Rattle.std.proofs.Common.{drop-cons}
 use Rattle.std.specs.Prelude.{bit_and}
 use Rattle.std.proofs.lemmas.Nat.{one_shl, and_mask, shr_below, shr_split, mod_below, pow_pos}
 use Rattle.fax_bits.proofs.CodeBitsLemmas.{code_bits-add, length-code_bits}
 use Rattle.std.proofs.lemmas.List.{append_cancel_left, take-append-le, take-append-drop, length-take-le}
-use Rattle.std.proofs.Math.Seq.{take-append_seam, take-length, take-suc}
+use Rattle.std.proofs.Math.Seq.{take-length}
 use Rattle.std.proofs.lemmas.List.Concat.{flat_map-append}
 use Rattle.fax_bits.specs.declared.FillOrder.TheVariants.{MsbFirst}
 use Rattle.fax_bits.specs.Bits.{bits, byte_bits, code_bits, BeginsWith, bits_number}
@@ -29,20 +29,18 @@ spelled b len number enough spells =
 
 -- bits that begin with those of a number are as many, and spell it
 pub as_many : (b : List Bool) (len number : ℕ) → BeginsWith b (code_bits len number) → len ≤ length b
-as_many b len number begins =
-    omega (arith, ap length begins.1, length-append (code_bits len number) begins.0, length-code_bits len number)
+as_many b len number begins = grind (arith, length-append, length-code_bits)
 
 pub spells_it : (b : List Bool) (len number : ℕ) → number < 2 ^ len → BeginsWith b (code_bits len number)
     → bits_number (take len (padded b len)) ≡ number
-spells_it b len number fits begins = grind (arith, common_steps, length-code_bits, take-append-le, as_many, take-append_seam, number-code_bits)
+spells_it b len number fits begins = grind (arith, common_steps, length-code_bits, number-code_bits)
 
 -- whether bits begin with these, after those that both begin with
 pub begins_after : (b c front more : List Bool) → b ≡ front ++ c → BeginsWith c more ↔ BeginsWith b (front ++ more)
-begins_after b c front more is = grind (arith, common_steps, append_assoc, append_cancel_left)
+begins_after b c front more is = grind (arith, common_steps, append_cancel_left)
 
 pub taken_iff : (front b : List Bool) (result : Bool) (rest : List Bool) → IsTaken front b result rest → IsTrue result ↔ BeginsWith b front
-taken_iff front b true rest taken = (λ is. (rest, taken), λ begins. refl)
-taken_iff front b false rest taken = (λ is. absurd (cc is), λ begins. absurd (taken.1 begins))
+taken_iff front b result rest taken = grind arith
 
 -- whether bits begin with two parts, the first of which stands next
 pub both_taken : (b middle front back : List Bool) (result : Bool) (rest : List Bool) → b ≡ front ++ middle
@@ -88,7 +86,7 @@ bits-cons byte bytes = ap (λ b. b ++ bits MsbFirst bytes) (byte_bits-msb byte)
 module _ (bytes : List ℕ) (i : ℕ) (source ahead : List Bool) (so_far : source ≡ bits MsbFirst (take i bytes) ++ ahead) where
   pub next_byte : (byte : ℕ) (rest : List Bool) → i < length bytes → byte ≡ get_or bytes i 0 → ahead ≡ code_bits 8 byte ++ rest
       → source ≡ bits MsbFirst (take (i + 1) bytes) ++ rest
-  next_byte byte rest within byte_is taken = grind (arith, common_steps, append_assoc, byte_bits-msb, bits-push, add-one, take-suc)
+  next_byte byte rest within byte_is taken = grind (arith, common_steps, byte_bits-msb, bits-push)
 
   pub other_byte : (byte : ℕ) (pending : List Bool) → i < length bytes → byte ≡ get_or bytes i 0
       → (BeginsWith ahead (code_bits 8 byte) → ⊥) → BeginsWith source (bits MsbFirst bytes ++ pending) → ⊥

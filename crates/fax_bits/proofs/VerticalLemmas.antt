@@ -2,11 +2,10 @@
 use Rattle.std.proofs.lemmas.Bool.{and_parts}
 use Rattle.std.proofs.lemmas.Grind.{common_steps}
 use Rattle.std.proofs.Common.{◌≡◌, ℕ, zero, suc, ◌+◌, ◌-◌, ◌*◌, ◌/◌, ◌^◌, ◌<◌, ◌≤◌, List, [], ◌∷◌, ◌++◌, map, length, take, get_or, Bool, true}
-use Rattle.std.proofs.Common.{false, if◌then◌else◌, refl, ap, sym, ◌∙◌, subst, arith, append_assoc, zero-add, lit<}
+use Rattle.std.proofs.Common.{false, if◌then◌else◌, refl, ap, sym, ◌∙◌, subst, arith, append_assoc, zero-add}
 use Rattle.std.specs.Prelude.{◌&&◌, nat_lt, nat_le, nat_eq, flat_map, All, pos, negsuc, ◌≤ℤ◌}
 use Rattle.std.specs.Int.{to_le_bytes, w32}
 use Rattle.std.proofs.lemmas.Int.{ints}
-use Rattle.std.proofs.lemmas.Bool.Decides.{nat_tests}
 use Rattle.std.proofs.lemmas.List.Elements.{All-nil, All-cons, All-head, All-tail}
 use Rattle.std.proofs.lemmas.Nat.{mul-add-lt, pow-add}
 use Rattle.std.proofs.Math.Nat.{div-div-eq-div-mul, pow-succ'}
@@ -76,7 +75,7 @@ vertical_at number (len ∷ lens) (count ∷ counts) (four ∷ raises) (suc i) a
     (and_parts (if nat_eq len 0 then true else is_several number len count (to_le_bytes w32 four)) _ are).1 (omega arith) some)
 
 lt-from_test : (n m : ℕ) → nat_lt n m ≡ true → n < m
-lt-from_test n m h = grind (arith, nat_tests)
+lt-from_test n m h = grind arith
 
 near_from_test : (raises : List ℕ) → are_near raises ≡ true → All (λ raised. raised < 7) raises
 near_from_test [] h = All-nil (λ raised. raised < 7)
@@ -87,24 +86,10 @@ near_from_test (raised ∷ raises) h =
 -- each code is that of its mode, and fits
 one_vertical : (raised : ℕ) → raised < 7 → code_bits (get_or code_lens raised 0) (get_or codes raised 0) ≡ mode_bits (vertical raised)
 unfolding modes mode_bits code_bits
-one_vertical zero h = refl
-one_vertical (suc zero) h = refl
-one_vertical (suc (suc zero)) h = refl
-one_vertical (suc (suc (suc zero))) h = refl
-one_vertical (suc (suc (suc (suc zero)))) h = refl
-one_vertical (suc (suc (suc (suc (suc zero))))) h = refl
-one_vertical (suc (suc (suc (suc (suc (suc zero)))))) h = refl
-one_vertical (suc (suc (suc (suc (suc (suc (suc n))))))) h = absurd (omega arith)
+one_vertical raised h = grind arith
 
 one_fits : (raised : ℕ) → raised < 7 → get_or codes raised 0 < 2 ^ get_or code_lens raised 0
-one_fits zero h = lit< tt
-one_fits (suc zero) h = lit< tt
-one_fits (suc (suc zero)) h = lit< tt
-one_fits (suc (suc (suc zero))) h = lit< tt
-one_fits (suc (suc (suc (suc zero)))) h = lit< tt
-one_fits (suc (suc (suc (suc (suc zero))))) h = lit< tt
-one_fits (suc (suc (suc (suc (suc (suc zero)))))) h = lit< tt
-one_fits (suc (suc (suc (suc (suc (suc (suc n))))))) h = absurd (omega arith)
+one_fits raised h = grind arith
 
 all_fit : (raises : List ℕ) → are_near raises ≡ true → code_of raises < 2 ^ len_of raises
 all_fit [] near = omega arith

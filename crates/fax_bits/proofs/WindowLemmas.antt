@@ -5,7 +5,7 @@ use Rattle.std.proofs.Common.{◌≡◌, ℕ, zero, suc, ◌+◌, ◌-◌, ◌*�
 use Rattle.std.proofs.Common.{get_or, Bool, true, false, nat_eq, refl, append_assoc, ap, sym, ◌∙◌, subst, arith, add-zero}
 use Rattle.std.specs.Prelude.{bit_or}
 use Rattle.std.specs.Int.{bit_at}
-use Rattle.std.proofs.Math.Nat.{add-mul, div-div-eq-div-mul, mul_assoc, mul-mod_left}
+use Rattle.std.proofs.Math.Nat.{add-mul, div-div-eq-div-mul, mul-mod_left}
 use Rattle.std.proofs.Math.Seq.{drop-append_seam, take-append_seam}
 use Rattle.std.proofs.lemmas.List.{take-append-le, take-append-drop, take-replicate, replicate-append-replicate}
 use lib.Count.{count_leading_zeros}
@@ -28,8 +28,7 @@ word_is count word zeros = omega (arith, shr_split word (64 - count), zeros)
 
 -- a power that is moved over
 moved : (number j k m : ℕ) → j + k ≡ m → number * 2 ^ j * 2 ^ k ≡ number * 2 ^ m
-moved number j k m places =
-    mul_assoc number (2 ^ j) (2 ^ k) ∙ ap (λ p. number * p) (sym (pow-add 2 j k)) ∙ ap (λ n. number * 2 ^ n) places
+moved number j k m places = grind (arith, pow-add)
 
 -- a word that is shifted by n of its bits
 module _ (count word n left : ℕ) (few : count ≤ 64) (zeros : word % 2 ^ (64 - count) ≡ 0) (parts : left + n ≡ count) where

@@ -14,8 +14,7 @@ module _ (count pending : ℕ) (short : count + 32 ≤ 64) (fits : pending < 2 ^
   left_are = omega arith
 
   pub high_word-lt : pending / 2 ^ count < 2 ^ 32
-  high_word-lt =
-      subst (λ n. pending / 2 ^ n < 2 ^ 32) left_are (first_part-lt 32 (count + 32) pending (omega arith) (omega arith) short fits)
+  high_word-lt = grind (arith, left_are, first_part-lt)
 
 -- its first 32 bits are stored
 pub word_put : (order : FillOrder) (bytes pushed : List ℕ) (count pending : ℕ) (sink : Sink) → count + 32 ≤ 64

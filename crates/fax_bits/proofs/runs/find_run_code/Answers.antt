@@ -7,4 +7,4 @@ use Rattle.fax_bits.proofs.runs.find_run_code.Goals.{then-place-ge-EXTENSION+els
 use Rattle.fax_bits.proofs.runs.find_run_code.Goals.{in-White, in-Black}
 
 pub returns : goal.returns
-returns c = grind (arith, common_steps, in-White, white_short_place, black_short_place, found_at_place)
+returns c = grind (arith, common_steps, white_short_place, black_short_place, found_at_place)
