@@ -1,4 +1,5 @@
 -- A long cursor's text is cut at its colons and commas, and its numbers are read.
+use Rattle.std.proofs.lemmas.Grind.{common_steps}
 use Rattle.std.proofs.Common.{◌≡◌, ◌≢◌, ℕ, ◌^◌, ◌<◌, ◌-◌, List, [], ◌∷◌, ◌++◌, length, get_or, ap, sym, ◌∙◌, append_assoc}
 use Rattle.std.proofs.Common.{length-append, Result, Ok, Err, arith}
 use Rattle.std.specs.Prelude.{Option, MatchOption, OnOk, Some, None, decimal, flat_map, ⊤}
@@ -39,10 +40,7 @@ runs_text-push (run ∷ runs) last = grind (arith, after_first, append_assoc)
 more_cut : (runs : List ℕ) (run : ℕ) (rest : List ℕ)
     → flat_map run_and (runs ++ run ∷ []) ++ rest ≡ flat_map run_and runs ++ (decimal run ++ 44 ∷ rest)
 more_cut [] run rest = grind (arith, append-nil, append_assoc)
-more_cut (first ∷ runs) run rest =
-    append_assoc (run_and first) (flat_map run_and (runs ++ run ∷ [])) rest
-    ∙ ap (λ more. run_and first ++ more) (more_cut runs run rest)
-    ∙ sym (append_assoc (run_and first) (flat_map run_and runs) (decimal run ++ 44 ∷ rest))
+more_cut (first ∷ runs) run rest = grind (arith, common_steps, append_assoc)
 
 -- this is the text of some runs (this project's profile)
 pub record IsRunsText (text : List ℕ) : Type 0 where

@@ -99,13 +99,6 @@ ends_later file begun given told chain (Ok due) untold sound after = after
 ends_later file begun given told chain (Err end) untold sound after =
     (ended_after file begun given chain.given end sound.0 (rw (sound.1.file_is) at after), no_other told end untold)
 
--- the pages end before the first one
-pub ends_first : (file : List ℕ) (begun : Cursor) (given : ℕ) (told : Option End) (result : Result PageDue End) → told ≡ None → given ≡ 0
-    → IfErr result (IsFormTail file begun [])
-    → IfErr result (EndsNow (record { file = file; begun = begun; given = given; told = told }))
-ends_first file begun given told (Ok due) untold none tail = tail
-ends_first file begun given told (Err end) untold none tail = (([], tail, sym none), no_other told end untold)
-
 -- the pages have ended
 pub ends_again : (file : List ℕ) (begun : Cursor) (given : ℕ) (told : Option End) (end : End) → told ≡ Some end
     → EndsAfter (IsFormTail file begun) given end

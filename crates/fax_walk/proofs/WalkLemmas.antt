@@ -25,9 +25,9 @@ use Rattle.fax_walk.specs.Items.{IsRow, IsTailFrom, RowItem, RowPlace, begun_cur
 use Rattle.fax_walk.specs.code.Places.{cursor_at}
 use Rattle.fax_walk.specs.laws.Tails.{BeginningsHaveOneTail}
 use Rattle.fax_walk.specs.code.Stages.{GivesNone, GivesRow, IsOpen, IsOpenedAt, PageState, place_of, row_of, skipped}
-use Rattle.fax_walk.specs.code.Walk.{IsAdvance, answer_of, GoesOnFrom, HasCome, HasEndedOn, HasReadTo, IsAfterItem, IsEntered, IsOpenOrNone}
+use Rattle.fax_walk.specs.code.Walk.{IsAdvance, answer_of, GoesOnFrom, HasCome, HasEndedOn, HasReadTo, IsAfterItem, IsEntered}
 use Rattle.fax_walk.specs.code.Walk.{IsOpenedFirst}
-use Rattle.fax_walk.specs.code.Walk.{IsDueOn, IsReadNext, IsShown, IsSound, StandsAt, cursor_on}
+use Rattle.fax_walk.specs.code.Walk.{IsReadNext, IsShown, IsSound, StandsAt, cursor_on}
 use Rattle.fax_walk.proofs.LeftLemmas.{left_after, left_ended}
 use Rattle.fax_walk.proofs.InOrderLemmas.{IsListed, joined, leads_both, number_dropped}
 use Rattle.fax_walk.proofs.OpenPageLemmas.{at_end}
@@ -79,13 +79,6 @@ pub refused_next : (file : List ℕ) (begun : Begun) (old new : Option PageState
     → IsEntered file begun old (Err fault) new → IsReadNext file begun old (Err fault) new
 refused_next file begun old new Memory is = grind arith
 refused_next file begun old new (Ended end) is = λ given cursor from. refused file begun given cursor old new end is from
-
--- the same, where the walk goes on from a page that it had open at first, or that has a row which is due
-pub refused_later : (file : List ℕ) (begun : Begun) (first on new : Option PageState) (fault : OpenFault)
-    → IsEntered file begun on (Err fault) new → (on ≡ first) ⊎ IsDueOn on → IsReadNext file begun first (Err fault) new
-refused_later file begun first on new fault is (inl same) = grind (arith, refused_next)
-refused_later file begun first None new fault is (inr due) = absurd due
-refused_later file begun first (Some on) new fault is (inr due) = absurd (omega (arith, is.0, due))
 
 module _ (by_place : AreBitsByPlace) (lines_read : LinesAreRead) (chains : FilesHaveOneChain) (forms : FormsAreWhole) (file : List ℕ)
     (begun : Begun) (given : ℕ) (cursor : Cursor) where
@@ -314,12 +307,6 @@ module _ (walk : WalkView) (cursor : Cursor) (page : Option PageState) where
       by_told (Some end) told =
           let ends = ended walk.told end told sound in
           ([], end, rw told (left_ended (IsTailFrom file begun) walk.given end (ends_after file begun walk.given cursor page end ends)))
-
--- where the next row is read
-pub open_or_none : (file : List ℕ) (begun : Begun) (given : ℕ) (cursor : Cursor) (page : Option PageState)
-    → GoesOnFrom file begun given cursor page → IsOpenOrNone page
-open_or_none _ _ given cursor None from = tt
-open_or_none _ _ given cursor (Some page) from = from.0
 
 -- the rows have ended so
 pub advance_ends : (old new : WalkView) (end : End) → HasEndedAs IsTailFrom old end new → IsAdvance old (answer_of end) new
