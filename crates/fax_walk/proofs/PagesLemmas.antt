@@ -99,12 +99,6 @@ ends_later file begun given told chain (Ok due) untold sound after = after
 ends_later file begun given told chain (Err end) untold sound after =
     (ended_after file begun given chain.given end sound.0 (rw (sound.1.file_is) at after), no_other told end untold)
 
--- the pages have ended
-pub ends_again : (file : List ℕ) (begun : Cursor) (given : ℕ) (told : Option End) (end : End) → told ≡ Some end
-    → EndsAfter (IsFormTail file begun) given end
-    → EndsNow (record { file = file; begun = begun; given = given; told = told }) end
-ends_again file begun given told end is after = (after, rw is refl)
-
 -- what is handed out from a page on
 module _ (tails : CursorsHaveOneFormTail) (of_page : FormTailOfPage) where
   forms_on : (file : List ℕ) (p : ℕ) → (forms : List FormItem) × (end : End) × AreFrom (IsForm file) p forms end

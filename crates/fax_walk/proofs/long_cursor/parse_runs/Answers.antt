@@ -2,7 +2,7 @@ use Rattle.std.proofs.Common.{arith}
 use Rattle.std.proofs.Common.{◌<◌, ◌^◌, rules}
 use Rattle.std.proofs.lemmas.List.Elements.{All-push}
 use Rattle.std.proofs.lemmas.Result.{err_from_is_err_and}
-use Rattle.fax_walk.proofs.LongCursorLemmas.{run_cut, all_cut, run_before, run_left}
+use Rattle.fax_walk.proofs.LongCursorLemmas.{run_cut, runs_text-push, run_before, run_left}
 use Rattle.fax_walk.proofs.long_cursor.parse_runs.Goals as goal
 
 pub loop-run-preserved : goal.loop-run-preserved
@@ -18,7 +18,7 @@ loop-run-preserved c =
     }
 
 pub returns-clause-ok : goal.returns-clause-ok
-returns-clause-ok c = grind (arith, all_cut)
+returns-clause-ok c = grind (arith, runs_text-push)
 
 pub returns-in_err-push_run-clause-err : goal.returns-in_err-push_run-clause-err
 returns-in_err-push_run-clause-err c =
