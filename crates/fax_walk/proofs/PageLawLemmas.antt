@@ -155,15 +155,12 @@ module _ (chains : FilesHaveOneChain) (file : List ℕ) where
   pub single_on_page : {A : Type 0} (at : Cursor) (asked : FilePage → A → Type 0) (ended : End → A)
       → ((here : FilePage) → IsSingle (asked here)) → IsSingle (λ (x : A). IsOnPage file at (λ here. asked here x) (λ end. x ≡ ended end))
   single_on_page at asked ended single x y (found, page, is) (other, page', is') =
-      by_page found other (same_answer (one_page at) other found page' page) is is'
+      let same = same_answer (one_page at) other found page' page in by_page found is (rw same at is')
     where
-      by_page : (found other : Result FilePage End) → other ≡ found → MatchResult found (λ here. asked here x) (λ end. x ≡ ended end)
-          → MatchResult other (λ here. asked here y) (λ end. y ≡ ended end) → x ≡ y
-      by_page (Err end) (Err other) same is is' = let ends : other ≡ end = cc in is ∙ sym (is' ∙ ap ended ends)
-      by_page (Err end) (Ok there) same is is' = absurd cc
-      by_page (Ok here) (Err other) same is is' = absurd cc
-      by_page (Ok here) (Ok there) same is is' =
-          let pages : there ≡ here = cc in single here x y is (subst (λ (h : FilePage). asked h y) pages is')
+      by_page : (found : Result FilePage End) → MatchResult found (λ here. asked here x) (λ end. x ≡ ended end)
+          → MatchResult found (λ here. asked here y) (λ end. y ≡ ended end) → x ≡ y
+      by_page (Err end) is is' = is ∙ sym is'
+      by_page (Ok here) is is' = single here x y is is'
 
   -- what has one answer on each page has one on the page that a cursor names
   pub one_on_page : {A : Type 0} (at : Cursor) (asked : FilePage → A → Type 0) (ended : End → A)

@@ -126,7 +126,7 @@ module _ (by_place : AreBitsByPlace) (lines_read : LinesAreRead) where
             → other ≡ ends_as (Fault at.page at.row (Strip fault))
         only_stop (ends_as end) (another, stop_too, end_is) =
             let same = (lines_read strip i reference).one_fault b another fault stop_too stop in
-            ap (λ (e : End). ends_as e) (end_is ∙ ap (λ (f : StripFault). Fault at.page at.row (Strip f)) same)
+            cc
         only_stop (goes_on another to) is_too =
             absurd ((lines_read strip i reference).answer_has_no_fault b _ _ fault is_too.3 stop)
 

@@ -1,12 +1,10 @@
 -- A walk that goes on, or ends.
 use Rattle.std.proofs.Common.{◌≡◌, ℕ, ◌+◌, ◌<◌, ◌⊎◌, inl, inr, List, [], ◌∷◌, ◌++◌, length, drop, Option, Some}
-use Rattle.std.proofs.Common.{None, Ok, Err, refl, sym, ap, ◌∙◌, subst, arith, length-append, length-drop, append_assoc, append-nil}
+use Rattle.std.proofs.Common.{None, Ok, Err, refl, sym, ap, ◌∙◌, arith, length-append, length-drop, append_assoc, append-nil}
 use Rattle.std.proofs.lemmas.Bool.{cases_lt}
 use Rattle.std.specs.Prelude.{slice_get}
 use Rattle.fax_bits.specs.laws.Codes.{AreBitsByPlace}
 use Rattle.fax_files.specs.laws.Files.{FilesHaveOneChain, FormsAreWhole}
-use Rattle.fax_files.specs.declared.PageForm.{PageForm}
-use Rattle.fax_files.specs.views.Tiff.{TiffDirectory}
 use Rattle.fax_walk.specs.declared.begun.Begun.{Begun}
 use Rattle.fax_walk.specs.declared.cursor.Cursor.{Cursor}
 use Rattle.fax_walk.specs.declared.end.End.{End}
@@ -22,7 +20,7 @@ use Rattle.fax_walk.specs.views.Walk.{WalkView}
 use Rattle.fax_walk.specs.Items.{IsRow, IsTailFrom, RowItem, RowPlace, begun_cursor, cursor_after, long_at}
 use Rattle.fax_walk.specs.code.Places.{cursor_at}
 use Rattle.fax_walk.specs.laws.Tails.{BeginningsHaveOneTail}
-use Rattle.fax_walk.specs.code.Stages.{GivesNone, GivesRow, PageState, place_of, row_of, skipped}
+use Rattle.fax_walk.specs.code.Stages.{GivesNone, GivesRow, PageState, place_of, skipped}
 use Rattle.fax_walk.specs.code.Walk.{IsAdvance, answer_of, GoesOnFrom, HasCome, HasEndedOn, HasReadTo, IsAfterItem}
 use Rattle.fax_walk.specs.code.Walk.{IsReadNext, IsShown, IsSound, StandsAt, cursor_on}
 use Rattle.fax_walk.proofs.LeftLemmas.{left_after, left_ended}
@@ -78,16 +76,10 @@ module _ (by_place : AreBitsByPlace) (lines_read : LinesAreRead) (chains : Files
       item = gives.item;
       count = refl;
       number = number;
-      within = subst (λ (f : PageForm). gives.item.row < f.rows) (sym form_same) gives.within;
-      cursor_is =
-          let rows : row_of new ≡ gives.item.row + 1 = gives.next_row ∙ ap (λ (i : RowItem). i.row + 1) (sym gives.item_is) in
-          let pages : new.page ≡ gives.item.page = gives.same.page ∙ ap (λ (i : RowItem). i.page) (sym gives.item_is) in
-          rw (rows, pages) refl;
+      within = grind arith;
+      cursor_is = grind arith;
       to_is = gives.after;
     }
-      where
-        form_same : gives.item.form ≡ old.form
-        form_same = ap (λ (i : RowItem). i.form) gives.item_is
 
     pub gone_on : GoesOnFrom file begun (given + 1) (cursor_on new) (Some new) × IsShown file begun (given + 1) (cursor_on new) new
     unfolding last
@@ -95,7 +87,7 @@ module _ (by_place : AreBitsByPlace) (lines_read : LinesAreRead) (chains : Files
       (
         gives.still_open,
         record {
-          file_is = ap (λ (d : TiffDirectory). d.file) gives.same.directory ∙ reads.file_is;
+          file_is = grind arith;
           come = record {
             first = come.first;
             dropped = come.dropped;
@@ -112,8 +104,8 @@ module _ (by_place : AreBitsByPlace) (lines_read : LinesAreRead) (chains : Files
       ),
       record {
         last = last;
-        pels = ap (λ (i : RowItem). i.pels) gives.item_is;
-        form = ap (λ (i : RowItem). i.form) gives.item_is ∙ sym gives.same.form;
+        pels = grind arith;
+        form = grind arith;
         few = omega (arith, come.total, gives.read, gives.few);
       },
     )
@@ -154,16 +146,10 @@ module _ (file : List ℕ) (begun : Begun) (given : ℕ) (cursor : Cursor) where
       let come = reads.come in
       let is : AreFrom (IsRow file) come.first (come.items ++ []) end =
       joined (IsRow file) come.first (place_of page) come.items [] end come.lead stop in
-      let count = come.count in
-      let total = come.total in
-      let none_left = come.none_left in
       let all = ap (λ (l : List RowItem). length l) (append-nil come.items) in (
         drop come.dropped (come.items ++ []),
         (Ok (come.first, come.dropped), come.begins, (come.items ++ [], is, refl)),
-        length-drop come.dropped (come.items ++ []) ∙ (elim (cases_lt 0 given) [
-          | inl some ↦ let none = none_left some in omega (arith, all, count, total, none)
-          | inr none ↦ omega (arith, all, count, total, none)
-        ]),
+        grind (arith, length-drop come.dropped (come.items ++ []), all, come.count, come.total, come.none_left),
       )
 
 -- what a walk's contracts say of it
