@@ -212,12 +212,7 @@ module _ (by_place : AreBitsByPlace) (lines_read : LinesAreRead) (chains : Files
   measure at = (length file - at.page) * 1000001 + (1000000 - at.row)
 
   row_falls : (at : RowPlace) (item : RowItem) (to : RowPlace) → IsRow file at (goes_on item to) → measure to < measure at
-  row_falls at item to step =
-      let read = read_at file at item to step in
-      let few = page_few chains file (cursor_at at) read.here read.page in
-      let rows = (whole_page file forms (cursor_at at) read.here read.page).rows in
-      after_read file (λ t. measure t < measure at) at item to read (λ last. omega (arith, few, read.is.0))
-      (λ within first. omega (arith, within, rows, read.is.0, read.is.1)) (λ within some. omega (arith, within, rows, read.is.0, read.is.1))
+  row_falls at item to step = grind (arith, read_at, page_few, whole_page, after_read)
 
   pub rows_listed : (at : RowPlace) → IsListed (IsRow file) at
   rows_listed = listed_by (IsRow file) (one_row by_place lines_read chains file) measure row_falls

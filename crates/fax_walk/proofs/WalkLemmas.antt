@@ -71,15 +71,7 @@ module _ (by_place : AreBitsByPlace) (lines_read : LinesAreRead) (chains : Files
     all_count = grind (arith, length-append)
 
     last : IsAfterItem file begun (given + 1) (cursor_on new) (place_of new)
-    last = record {
-      before = given;
-      item = gives.item;
-      count = refl;
-      number = number;
-      within = grind arith;
-      cursor_is = grind arith;
-      to_is = gives.after;
-    }
+    last = grind (arith, number)
 
     pub gone_on : GoesOnFrom file begun (given + 1) (cursor_on new) (Some new) × IsShown file begun (given + 1) (cursor_on new) new
     unfolding last
