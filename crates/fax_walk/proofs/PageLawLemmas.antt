@@ -1,10 +1,10 @@
 -- What is asked of a file's pages has one answer, and so have its forms.
 use Rattle.std.proofs.Common.{◌-◌, ◌<◌, ◌≤◌, ◌⊎◌, inl, inr, ◌≡◌, ℕ, zero, suc, ◌+◌, List, [], ◌∷◌, length, drop, Option, Some, None, Result, Ok, Err, refl, sym}
 use Rattle.std.proofs.Common.{ap, ◌∙◌}
-use Rattle.std.proofs.Common.{subst, arith, Bool, true, false}
+use Rattle.std.proofs.Common.{subst, arith, true}
 use Rattle.std.proofs.lemmas.List.{drop-drop}
 use Rattle.std.proofs.lemmas.Option.{slice_get_cases, slice_get_within}
-use Rattle.std.specs.Prelude.{MatchResult, slice_get, ◌==◌, ◌&&◌, nat_le, if◌then◌else◌}
+use Rattle.std.specs.Prelude.{MatchResult, slice_get, ◌==◌, nat_le, if◌then◌else◌}
 use Rattle.std.proofs.lemmas.Bool.Decides.{nat_tests}
 use Rattle.fax_files.specs.declared.FileFault.{FileFault}
 use Rattle.fax_files.specs.declared.Cause.{Cause}
@@ -107,11 +107,7 @@ in_chain file at here is = elim (chained file at (Ok here) is) [
 proper_past : (n pages : ℕ) (fault : Option FileFault) → Proper ≡ end_past_chain pages fault (record { page = n; row = 0 })
     → (fault ≡ None) × (n ≡ pages)
 proper_past n pages (Some met) e = absurd cc
-proper_past n pages None e = (refl, by_test (n == pages) refl e)
-  where
-    by_test : (test : Bool) → (n == pages) ≡ test → Proper ≡ (if test && (0 == 0) then Proper else Outside) → n ≡ pages
-    by_test true is e = grind (arith, nat_tests, is)
-    by_test false is e = absurd cc
+proper_past n pages None e = grind (arith, nat_tests)
 
 -- the proper end is after the last page of the chain, which has no fault
 pub proper_after : (file : List ℕ) (n : ℕ) → IsPageAt file (record { page = n; row = 0 }) (Err Proper)

@@ -6,7 +6,6 @@ use Rattle.std.proofs.lemmas.Slice.Eq.{bytes_eq-Decides}
 use Rattle.std.specs.Bool.{Decides}
 use Rattle.std.specs.Str.{bytes_eq}
 use Rattle.std.proofs.lemmas.Bool.Decides.{nat_tests}
-use Rattle.std.specs.Prelude.{if◌then◌else◌}
 use Rattle.fax_bits.specs.declared.Colour.{Colour}
 use Rattle.fax_bits.specs.declared.Colour.TheVariants.{White, Black}
 use Rattle.fax_bits.specs.Bits.{bits}
@@ -52,13 +51,8 @@ other_twice [] = refl
 other_twice (White ∷ row) = ap (λ (l : List Colour). White ∷ l) (other_twice row)
 other_twice (Black ∷ row) = ap (λ (l : List Colour). Black ∷ l) (other_twice row)
 
-by_exchange : (exchange : Bool) (row : List Colour)
-    → (if exchange then map other (if exchange then map other row else row) else (if exchange then map other row else row)) ≡ row
-by_exchange true row = other_twice row
-by_exchange false row = refl
-
 pub exchanged_twice : (form : PageForm) (row : List Colour) → exchanged form (exchanged form row) ≡ row
-exchanged_twice form row = by_exchange form.exchanged row
+exchanged_twice form row = grind (arith, other_twice)
 
 same_items : (item another : RowItem) → item.page ≡ another.page → item.form ≡ another.form → item.row ≡ another.row → item.pels ≡ another.pels
     → item.bits ≡ another.bits
