@@ -1,12 +1,11 @@
 -- What is converted has one output or one fault, and what is checked has one report.
 use Rattle.std.proofs.Common.{arith}
-use Rattle.std.proofs.Common.{◌≡◌, ℕ, ◌+◌, ◌*◌, List, length, Option, Some, None, Err, Bool}
+use Rattle.std.proofs.Common.{◌≡◌, ℕ, List, length, Option, Some, None, Err, Bool}
 use Rattle.std.proofs.Common.{refl, ap, sym, ◌∙◌, subst, inl, inr, codes}
 use Rattle.std.specs.Prelude.{flat_map, not}
 use Rattle.fax_bits.specs.Bits.{bits, BeginsWith}
 use Rattle.fax_bits.specs.declared.Colour.{Colour}
 use Rattle.fax_files.specs.declared.Cause.{Cause}
-use Rattle.fax_files.specs.declared.Cause.TheVariants.{Strip}
 use Rattle.fax_files.specs.declared.PageForm.{PageForm}
 use Rattle.fax_files.specs.declared.pbm.PbmFault.{PbmFault}
 use Rattle.fax_files.specs.Directory.{entries, ascend}
@@ -28,7 +27,7 @@ use Rattle.fax_walk.specs.declared.options.Options.{Options}
 use Rattle.fax_walk.specs.declared.walk.Place.{Place}
 use Rattle.fax_walk.specs.Converted.{IsConverted, IsNotConverted, IsSource, IsTiff, IsTooLarge, SourcePage, pages_of, target_bytes}
 use Rattle.fax_walk.specs.Pages.{AreFrom}
-use Rattle.fax_walk.specs.Report.{IsNoted, IsReportedEnd, IsStripNoted, notes_on_strip, note_if}
+use Rattle.fax_walk.specs.Report.{IsNoted, IsReportedEnd, IsStripNoted, note_if}
 use Rattle.fax_walk.specs.Items.{AreItems, RowItem}
 use Rattle.fax_walk.specs.laws.Answers.{BytesAreConvertedInOneWay, FilesHaveOneReport}
 use Rattle.fax_walk.specs.laws.Tails.{FilesHaveOneForms, FilesHaveOneItems}
@@ -155,9 +154,7 @@ module _ (strips_once : (form : StripForm) → ReadsStripsOneWay form) (noted_on
   single_strip form p s (Some bytes) (goes_on notes to) (goes_on others place) (rows, found, noted, is, to_is)
       (rows', found', noted', is', to_is') =
       let same = noted_once (strip_form form s) (bits form.order bytes) rows rows' found found' noted noted' in
-      let lists : notes ≡ others = is ∙ ap (notes_on_strip p s) same ∙ sym is' in
-      let places : to ≡ place = to_is ∙ sym to_is' in
-      ap (λ l. goes_on l to) lists ∙ ap (λ t. goes_on others t) places
+      cc
   single_strip form p s (Some bytes) (goes_on notes to) (ends_as end) (rows, found, noted, is, to_is) (rows', fault, left, lines, is') =
       absurd (noted_or_fault (strip_form form s) (bits form.order bytes) rows rows' found fault noted (record { left = left; lines = lines }))
   single_strip form p s (Some bytes) (ends_as end) (goes_on others place) (rows', fault, left, lines, is') (rows, found, noted, is, to_is) =
@@ -168,10 +165,7 @@ module _ (strips_once : (form : StripForm) → ReadsStripsOneWay form) (noted_on
       let strip' : IsStrip (strip_form form s) b rows' (Some fault') = record { left = left'; lines = lines' } in
       let same = two_of (strips_once (strip_form form s) b) rows rows' (Some fault) (Some fault') strip strip' in
       let faults : fault ≡ fault' = cc (same.1) in
-      let ends : end ≡ other =
-      is ∙ ap (λ (l : List (List Colour)). Fault p (s * form.rows_per_strip + length l) (Strip fault)) same.0
-      ∙ ap (λ f. Fault p (s * form.rows_per_strip + length rows') (Strip f)) faults ∙ sym is' in
-      ap (λ e. ends_as e) ends
+      cc (same.0)
 
   module _ (chains : FilesHaveOneChain) (file : List ℕ) where
     single_noted : (at : ℕ × Option ℕ) → IsSingle (IsNoted file at)

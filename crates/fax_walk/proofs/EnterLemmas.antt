@@ -4,7 +4,7 @@ use Rattle.std.proofs.Common.{◌∙◌, arith}
 use Rattle.std.proofs.Math.Nat.{div-add-mod}
 use Rattle.std.proofs.Math.Seq.{drop-nil}
 use Rattle.std.proofs.lemmas.Bool.{cases_lt}
-use Rattle.std.specs.Prelude.{IfOk, IfErr, OnOk}
+use Rattle.std.specs.Prelude.{IfOk, IfErr}
 use Rattle.fax_walk.specs.declared.begun.Begun.{Begun}
 use Rattle.fax_walk.specs.declared.begun.Begun.TheVariants.{At, Inside}
 use Rattle.fax_walk.specs.declared.cursor.Cursor.{Cursor}
@@ -109,15 +109,9 @@ module _ (file : List ℕ) (place : LongPlace) where
   no_page_inside end ends = no_beginning file (Inside place) end (ends_inside end ends)
 
   module _ (due : PageDue) (named : IsNamed file place.at (Some due)) where
-    begun_place : IsInnerOn due.directory.file (page_with due.directory due.form) place → Begins file (Inside place)
+    pub begun_place : IsInnerOn due.directory.file (page_with due.directory due.form) place → Begins file (Inside place)
         (Ok (inner_at place, 0))
     begun_place inner = (Ok (page_with due.directory due.form), named.3, inl (rw (named.0) at inner, refl))
-
-    pub opened_inside : (result : Result PageState OpenFault) → IfOk result (IsOpenedAt due.directory.file (inner_at place) 0 0)
-        → OnOk result (IsInnerOn due.directory.file (page_with due.directory due.form) place) → IfOk result
-        (IsOpenedFirst file (Inside place))
-    opened_inside (Ok page) opened inner = grind (arith, begun_place)
-    opened_inside (Err fault) opened inner = opened
 
     pub refused_inside : (result : Result PageState OpenFault) → IfErr result (IsRefusal (IsNoInner due place))
         → IfErr result (IsRefusal (HasNoRows file (Inside place)))

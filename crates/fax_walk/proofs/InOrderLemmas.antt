@@ -101,17 +101,16 @@ module _ {S A : Type 0} (next : S → Step A S → Type 0) where
       let later = split_at place before after end rest in
       (later.0, (place, step, later.1), later.2)
 
-  -- one more item
-  pub leads_on : (at to : S) (items : List A) (item : A) (later : S) → LeadTo next at items to → next to (goes_on item later)
-      → LeadTo next at (items ++ item ∷ []) later
-  leads_on at to [] item later to_is step = (later, rw (← to_is) step, refl)
-  leads_on at to (x ∷ items) item later (place, first, leads) step = (place, first, leads_on place to items item later leads step)
-
   -- items that lead to a place, and then those that lead on from there
   pub leads_both : (at to : S) (items more : List A) (later : S) → LeadTo next at items to → LeadTo next to more later
       → LeadTo next at (items ++ more) later
   leads_both at to [] more later to_is rest = subst (λ (s : S). LeadTo next s more later) to_is rest
   leads_both at to (x ∷ items) more later (place, step, leads) rest = (place, step, leads_both place to items more later leads rest)
+
+  -- one more item
+  pub leads_on : (at to : S) (items : List A) (item : A) (later : S) → LeadTo next at items to → next to (goes_on item later)
+      → LeadTo next at (items ++ item ∷ []) later
+  leads_on at to items item later leads step = leads_both at to items (item ∷ []) later leads (later, step, refl)
 
   -- items that lead to a place, and then what is handed out from there
   pub joined : (at to : S) (items after : List A) (end : End) → LeadTo next at items to → AreFrom next to after end

@@ -1,7 +1,8 @@
 -- A long cursor's text is cut at its colons and commas, and its numbers are read.
+use Rattle.std.proofs.lemmas.Grind.{common_steps}
 use Rattle.std.proofs.Common.{◌≡◌, ◌≢◌, ℕ, ◌^◌, ◌<◌, ◌-◌, List, [], ◌∷◌, ◌++◌, length, get_or, ap, sym, ◌∙◌, append_assoc}
 use Rattle.std.proofs.Common.{length-append, Result, Ok, Err, arith}
-use Rattle.std.specs.Prelude.{Option, MatchOption, OnOk, Some, None, decimal, flat_map, ⊤}
+use Rattle.std.specs.Prelude.{OnOk, Some, None, decimal, flat_map, ⊤}
 use Rattle.std.specs.Borrow.{Bor}
 use Rattle.std.specs.List.{All}
 use Rattle.std.proofs.lemmas.Fmt.{digits_decimal, decimal_injective, decimal_digit}
@@ -39,10 +40,7 @@ runs_text-push (run ∷ runs) last = grind (arith, after_first, append_assoc)
 more_cut : (runs : List ℕ) (run : ℕ) (rest : List ℕ)
     → flat_map run_and (runs ++ run ∷ []) ++ rest ≡ flat_map run_and runs ++ (decimal run ++ 44 ∷ rest)
 more_cut [] run rest = grind (arith, append-nil, append_assoc)
-more_cut (first ∷ runs) run rest =
-    append_assoc (run_and first) (flat_map run_and (runs ++ run ∷ [])) rest
-    ∙ ap (λ more. run_and first ++ more) (more_cut runs run rest)
-    ∙ sym (append_assoc (run_and first) (flat_map run_and runs) (decimal run ++ 44 ∷ rest))
+more_cut (first ∷ runs) run rest = grind (arith, common_steps, append_assoc)
 
 -- this is the text of some runs (this project's profile)
 pub record IsRunsText (text : List ℕ) : Type 0 where
@@ -122,10 +120,6 @@ run_cut text runs rest run after n so_far cut is = record {
     parts : (rest ≡ run.now ++ 44 ∷ after.now) × ((i : ℕ) → i < length run.now → get_or run.now i 0 ≢ 44)
     parts = split_parts 44 rest (Some (run, after)) cut (omega arith)
 
--- the last run is read
-pub all_cut : (text runs rest : List ℕ) (n : ℕ) → AreRunsCut text runs rest → rest ≡ decimal n → text ≡ runs_text (runs ++ n ∷ [])
-all_cut text runs rest n so_far is = grind (arith, runs_text-push)
-
 -- a text without a colon begins with no number and a colon
 pub none_before_colon : (text : List ℕ) → IsSplitOnceResult 58 text None → IsNumberCut text None
 none_before_colon text cut = λ number rest small is.
@@ -147,12 +141,6 @@ number_before text digits after n cut small is = (
       let parts = split_after 58 text (decimal number) rest (Some (digits, after)) cut (omega arith) text_is (no_colon number short) in
       (decimal_injective number n (omega arith) (omega arith) (sym parts.0 ∙ is), sym parts.1),
 )
-
--- where a text begins with this number and a colon, they are cut
-pub cut_so : (text : List ℕ) (r : Option (ℕ × Bor (List ℕ))) → IsNumberCut text r → (number : ℕ) (rest : List ℕ) → number < 2 ^ 32
-    → text ≡ number_and number rest → MatchOption r ⊥ (λ parts. (number ≡ parts.0) × (rest ≡ parts.1.now))
-cut_so text None cut number rest small is = cut number rest small is
-cut_so text (Some parts) cut number rest small is = cut.1 number rest small is
 
 -- the version's number
 two : decimal 2 ≡ 50 ∷ []

@@ -52,12 +52,9 @@ one_number n m small short e = decimal_injective n m (omega arith) (omega arith)
 before_colon : (n m : ℕ) (us vs : List ℕ) → n < 2 ^ 32 → m < 2 ^ 32 → number_and n us ≡ number_and m vs → (n ≡ m) × (us ≡ vs)
 before_colon n m us vs small short e = grind (arith, cut_at, no_colon, one_number)
 
-one_cursor : (at other : Cursor) → at.page ≡ other.page → at.row ≡ other.row → at ≡ other
-one_cursor at other pages rows = grind arith
-
 -- the texts of cursors differ
 cursors : (at other : Cursor) → IsCursor at → IsCursor other → cursor_text at ≡ cursor_text other → at ≡ other
-cursors at other is is_too e = grind (arith, append_assoc, before_colon, one_cursor, one_number)
+cursors at other is is_too e = grind (arith, append_assoc, before_colon, one_number)
 
 -- a run before others
 first_and_others : (n m : ℕ) (runs others : List ℕ) → n < 2 ^ 32 → m < 2 ^ 32 → All (λ run. run < 2 ^ 32) runs
@@ -91,7 +88,7 @@ one_place place other ats bits runs = grind arith
 -- the texts of long cursors differ
 places : (place other : LongPlace) → IsLongCursor place → IsLongCursor other → long_cursor_text place ≡ long_cursor_text other
     → place ≡ other
-places place other is is_too e = grind (arith, text_by_numbers, before_colon, one_place, one_cursor, one_runs)
+places place other is is_too e = grind (arith, text_by_numbers, before_colon, one_place, one_runs)
 
 apart : (at : Cursor) (place : LongPlace) → cursor_text at ≡ long_cursor_text place → ⊥
 apart at place e = let first : ◌≡◌ {A = ℕ} 49 50 = ap (λ (l : List ℕ). get_or l 0 0) e in omega arith

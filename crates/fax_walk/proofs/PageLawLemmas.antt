@@ -1,10 +1,10 @@
 -- What is asked of a file's pages has one answer, and so have its forms.
 use Rattle.std.proofs.Common.{◌-◌, ◌<◌, ◌≤◌, ◌⊎◌, inl, inr, ◌≡◌, ℕ, zero, suc, ◌+◌, List, [], ◌∷◌, length, drop, Option, Some, None, Result, Ok, Err, refl, sym}
 use Rattle.std.proofs.Common.{ap, ◌∙◌}
-use Rattle.std.proofs.Common.{subst, arith, Bool, true, false}
+use Rattle.std.proofs.Common.{subst, arith, true}
 use Rattle.std.proofs.lemmas.List.{drop-drop}
 use Rattle.std.proofs.lemmas.Option.{slice_get_cases, slice_get_within}
-use Rattle.std.specs.Prelude.{MatchResult, slice_get, ◌==◌, ◌&&◌, nat_le, if◌then◌else◌}
+use Rattle.std.specs.Prelude.{MatchResult, slice_get, ◌==◌, nat_le, if◌then◌else◌}
 use Rattle.std.proofs.lemmas.Bool.Decides.{nat_tests}
 use Rattle.fax_files.specs.declared.FileFault.{FileFault}
 use Rattle.fax_files.specs.declared.Cause.{Cause}
@@ -107,11 +107,7 @@ in_chain file at here is = elim (chained file at (Ok here) is) [
 proper_past : (n pages : ℕ) (fault : Option FileFault) → Proper ≡ end_past_chain pages fault (record { page = n; row = 0 })
     → (fault ≡ None) × (n ≡ pages)
 proper_past n pages (Some met) e = absurd cc
-proper_past n pages None e = (refl, by_test (n == pages) refl e)
-  where
-    by_test : (test : Bool) → (n == pages) ≡ test → Proper ≡ (if test && (0 == 0) then Proper else Outside) → n ≡ pages
-    by_test true is e = grind (arith, nat_tests, is)
-    by_test false is e = absurd cc
+proper_past n pages None e = grind (arith, nat_tests)
 
 -- the proper end is after the last page of the chain, which has no fault
 pub proper_after : (file : List ℕ) (n : ℕ) → IsPageAt file (record { page = n; row = 0 }) (Err Proper)
@@ -155,15 +151,12 @@ module _ (chains : FilesHaveOneChain) (file : List ℕ) where
   pub single_on_page : {A : Type 0} (at : Cursor) (asked : FilePage → A → Type 0) (ended : End → A)
       → ((here : FilePage) → IsSingle (asked here)) → IsSingle (λ (x : A). IsOnPage file at (λ here. asked here x) (λ end. x ≡ ended end))
   single_on_page at asked ended single x y (found, page, is) (other, page', is') =
-      by_page found other (same_answer (one_page at) other found page' page) is is'
+      let same = same_answer (one_page at) other found page' page in by_page found is (rw same at is')
     where
-      by_page : (found other : Result FilePage End) → other ≡ found → MatchResult found (λ here. asked here x) (λ end. x ≡ ended end)
-          → MatchResult other (λ here. asked here y) (λ end. y ≡ ended end) → x ≡ y
-      by_page (Err end) (Err other) same is is' = let ends : other ≡ end = cc in is ∙ sym (is' ∙ ap ended ends)
-      by_page (Err end) (Ok there) same is is' = absurd cc
-      by_page (Ok here) (Err other) same is is' = absurd cc
-      by_page (Ok here) (Ok there) same is is' =
-          let pages : there ≡ here = cc in single here x y is (subst (λ (h : FilePage). asked h y) pages is')
+      by_page : (found : Result FilePage End) → MatchResult found (λ here. asked here x) (λ end. x ≡ ended end)
+          → MatchResult found (λ here. asked here y) (λ end. y ≡ ended end) → x ≡ y
+      by_page (Err end) is is' = is ∙ sym is'
+      by_page (Ok here) is is' = single here x y is is'
 
   -- what has one answer on each page has one on the page that a cursor names
   pub one_on_page : {A : Type 0} (at : Cursor) (asked : FilePage → A → Type 0) (ended : End → A)

@@ -13,7 +13,7 @@ use Rattle.fax_walk.specs.declared.end.End.{End}
 use Rattle.fax_walk.specs.Pages.{AreFrom, FormItem, IsForm, IsFormTail}
 use Rattle.fax_walk.specs.code.Pages.{told_of, IsSoundReader, GoesOnAt, HasGiven, IsPageAfter, IsFirstDue, IsDueIn}
 use Rattle.fax_walk.specs.code.Pages.{EndsNow}
-use Rattle.fax_walk.specs.views.InOrder.{EndsAfter, HasEndedAs, HasToldNoOther}
+use Rattle.fax_walk.specs.views.InOrder.{EndsAfter, HasEndedAs}
 use Rattle.fax_walk.specs.declared.end.End.TheVariants.{Fault, Outside, Proper}
 use Rattle.fax_walk.specs.declared.end.WalkFault.{WalkFault}
 use Rattle.fax_walk.specs.declared.end.WalkFault.TheVariants.{CursorOutside}
@@ -80,10 +80,6 @@ no_forms file at end (inr (here, page, above, end_is)) =
     let near : nat_le at.row here.form.rows ≡ false = grind (arith, nat_tests, above) in
     (Err end, (Ok here, page, rw (first, near, end_is) refl), (refl, refl))
 
-no_other : (told : Option End) (end : End) → told ≡ None → HasToldNoOther told end
-no_other None end e = tt
-no_other (Some told) end e = absurd cc
-
 -- after the forms that lead to a page the pages end
 ended_after : (file : List ℕ) (begun : Cursor) (given p : ℕ) (end : End) → HasGiven file begun given p → IsForm file p (ends_as end)
     → EndsAfter (IsFormTail file begun) given end
@@ -97,20 +93,7 @@ pub ends_later : (file : List ℕ) (begun : Cursor) (given : ℕ) (told : Option
     → IfErr result (EndsNow (record { file = file; begun = begun; given = given; told = told }))
 ends_later file begun given told chain (Ok due) untold sound after = after
 ends_later file begun given told chain (Err end) untold sound after =
-    (ended_after file begun given chain.given end sound.0 (rw (sound.1.file_is) at after), no_other told end untold)
-
--- the pages end before the first one
-pub ends_first : (file : List ℕ) (begun : Cursor) (given : ℕ) (told : Option End) (result : Result PageDue End) → told ≡ None → given ≡ 0
-    → IfErr result (IsFormTail file begun [])
-    → IfErr result (EndsNow (record { file = file; begun = begun; given = given; told = told }))
-ends_first file begun given told (Ok due) untold none tail = tail
-ends_first file begun given told (Err end) untold none tail = (([], tail, sym none), no_other told end untold)
-
--- the pages have ended
-pub ends_again : (file : List ℕ) (begun : Cursor) (given : ℕ) (told : Option End) (end : End) → told ≡ Some end
-    → EndsAfter (IsFormTail file begun) given end
-    → EndsNow (record { file = file; begun = begun; given = given; told = told }) end
-ends_again file begun given told end is after = (after, rw is refl)
+    (ended_after file begun given chain.given end sound.0 (rw (sound.1.file_is) at after), rw untold tt)
 
 -- what is handed out from a page on
 module _ (tails : CursorsHaveOneFormTail) (of_page : FormTailOfPage) where

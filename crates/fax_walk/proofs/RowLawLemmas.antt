@@ -6,7 +6,6 @@ use Rattle.std.proofs.lemmas.Slice.Eq.{bytes_eq-Decides}
 use Rattle.std.specs.Bool.{Decides}
 use Rattle.std.specs.Str.{bytes_eq}
 use Rattle.std.proofs.lemmas.Bool.Decides.{nat_tests}
-use Rattle.std.specs.Prelude.{if◌then◌else◌}
 use Rattle.fax_bits.specs.declared.Colour.{Colour}
 use Rattle.fax_bits.specs.declared.Colour.TheVariants.{White, Black}
 use Rattle.fax_bits.specs.Bits.{bits}
@@ -51,13 +50,8 @@ other_twice [] = refl
 other_twice (White ∷ row) = ap (λ (l : List Colour). White ∷ l) (other_twice row)
 other_twice (Black ∷ row) = ap (λ (l : List Colour). Black ∷ l) (other_twice row)
 
-by_exchange : (exchange : Bool) (row : List Colour)
-    → (if exchange then map other (if exchange then map other row else row) else (if exchange then map other row else row)) ≡ row
-by_exchange true row = other_twice row
-by_exchange false row = refl
-
 pub exchanged_twice : (form : PageForm) (row : List Colour) → exchanged form (exchanged form row) ≡ row
-exchanged_twice form row = by_exchange form.exchanged row
+exchanged_twice form row = grind (arith, other_twice)
 
 same_items : (item another : RowItem) → item.page ≡ another.page → item.form ≡ another.form → item.row ≡ another.row → item.pels ≡ another.pels
     → item.bits ≡ another.bits
@@ -125,7 +119,7 @@ module _ (by_place : AreBitsByPlace) (lines_read : LinesAreRead) where
             → other ≡ ends_as (Fault at.page at.row (Strip fault))
         only_stop (ends_as end) (another, stop_too, end_is) =
             let same = (lines_read strip i reference).line.one_fault b another fault stop_too stop in
-            ap (λ (e : End). ends_as e) (end_is ∙ ap (λ (f : StripFault). Fault at.page at.row (Strip f)) same)
+            cc
         only_stop (goes_on another to) is_too =
             absurd ((lines_read strip i reference).line.answer_has_no_fault b _ _ fault is_too.3 stop)
 
@@ -211,12 +205,7 @@ module _ (by_place : AreBitsByPlace) (lines_read : LinesAreRead) (chains : Files
   measure at = (length file - at.page) * 1000001 + (1000000 - at.row)
 
   row_falls : (at : RowPlace) (item : RowItem) (to : RowPlace) → IsRow file at (goes_on item to) → measure to < measure at
-  row_falls at item to step =
-      let read = read_at file at item to step in
-      let few = page_few chains file (cursor_at at) read.here read.page in
-      let rows = (whole_page file forms (cursor_at at) read.here read.page).rows in
-      after_read file (λ t. measure t < measure at) at item to read (λ last. omega (arith, few, read.is.0))
-      (λ within first. omega (arith, within, rows, read.is.0, read.is.1)) (λ within some. omega (arith, within, rows, read.is.0, read.is.1))
+  row_falls at item to step = grind (arith, read_at, page_few, whole_page, after_read)
 
   pub rows_listed : (at : RowPlace) → IsListed (IsRow file) at
   rows_listed = listed_by (IsRow file) (one_row by_place lines_read chains file) measure row_falls

@@ -1,4 +1,5 @@
 -- The runs of a row.
+use Rattle.std.proofs.lemmas.Grind.{common_steps}
 use Rattle.std.proofs.Common.{◌≡◌, ℕ, zero, suc, ◌+◌, List, [], ◌∷◌, ◌++◌, replicate, refl, ap, ◌∙◌, arith}
 use Rattle.fax_bits.specs.declared.Colour.{Colour}
 use Rattle.fax_bits.specs.declared.Colour.TheVariants.{White, Black}
@@ -6,9 +7,7 @@ use Rattle.fax_rows.specs.Rows.{pels_of, runs_after}
 
 replicate_more : (n : ℕ) (colour : Colour) (pels : List Colour) → replicate (n + 1) colour ++ pels ≡ replicate n colour ++ colour ∷ pels
 replicate_more zero colour pels = refl
-replicate_more (suc n) colour pels =
-    let e : suc n + 1 ≡ suc (n + 1) = omega arith in
-    rw e (ap (λ (l : List Colour). colour ∷ l) (replicate_more n colour pels))
+replicate_more (suc n) colour pels = grind (arith, common_steps)
 
 -- the pels of a row's runs are the row
 pub pels_after : (colour : Colour) (n : ℕ) (row : List Colour) → pels_of colour (runs_after colour n row) ≡ replicate n colour ++ row

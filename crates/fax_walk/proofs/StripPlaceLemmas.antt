@@ -1,11 +1,9 @@
 -- Rows of a page in their strips, and as they are handed out.
-use Rattle.std.proofs.Common.{◌≡◌, ℕ, ◌+◌, ◌*◌, ◌/◌, ◌%◌, ◌<◌, Bool, true, false, List, [], ◌∷◌, map, length, Option, Some, None, refl}
+use Rattle.std.proofs.Common.{◌≡◌, ℕ, ◌+◌, ◌*◌, ◌/◌, ◌%◌, ◌<◌, Bool, List, [], ◌∷◌, length, Option, Some, None}
 use Rattle.std.proofs.Common.{subst, arith}
 use Rattle.std.proofs.lemmas.Nat.{div-mul-add, mod-mul-add}
 use Rattle.std.proofs.lemmas.List.{length-map}
-use Rattle.std.specs.Prelude.{if◌then◌else◌}
 use Rattle.fax_bits.specs.declared.Colour.{Colour}
-use Rattle.fax_rows.specs.Rows.{other}
 use Rattle.fax_page.specs.declared.StripForm.{StripForm}
 use Rattle.fax_page.specs.declared.StripFault.{StripFault}
 use Rattle.fax_page.specs.Strip.{AreLines}
@@ -19,27 +17,14 @@ pub in_strip : (m s k e : ℕ) → k < m → e ≡ s * m + k → (e / m ≡ s) �
 in_strip m s k e less is = (rw is (div-mul-add s m k less), rw is (mod-mul-add s m k less))
 
 pub shown_none : (form : PageForm) → shown form [] ≡ []
-shown_none form = by_test form.exchanged
-  where
-    by_test : (b : Bool) → (let rows : List (List Colour) = [] in if b then map (map other) rows else rows) ≡ []
-    by_test true = refl
-    by_test false = refl
+shown_none form = grind arith
 
 pub shown_row : (form : PageForm) (row : List Colour) (rows : List (List Colour))
     → shown form (row ∷ rows) ≡ exchanged form row ∷ shown form rows
-shown_row form row rows = by_test form.exchanged
-  where
-    by_test : (b : Bool) → (if b then map (map other) (row ∷ rows) else (row ∷ rows)) ≡ (if b then map other row else row)
-        ∷ (if b then map (map other) rows else rows)
-    by_test true = refl
-    by_test false = refl
+shown_row form row rows = grind arith
 
 pub shown_length : (form : PageForm) (rows : List (List Colour)) → length (shown form rows) ≡ length rows
-shown_length form rows = by_test form.exchanged
-  where
-    by_test : (b : Bool) → length (if b then map (map other) rows else rows) ≡ length rows
-    by_test true = length-map rows (map other)
-    by_test false = refl
+shown_length form rows = grind (arith, length-map)
 
 -- all of so many are there, or where there is a fault fewer
 abbrev pub IsCount : Option StripFault → ℕ → ℕ → Type 0

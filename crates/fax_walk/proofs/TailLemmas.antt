@@ -1,8 +1,8 @@
 -- Where a walk from a cursor begins.
-use Rattle.std.proofs.Common.{◌≡◌, ℕ, ◌+◌, ◌*◌, ◌<◌, ◌⊎◌, inl, inr, Bool, true, false, List, Result, Ok, Err, refl, ap}
+use Rattle.std.proofs.Common.{◌≡◌, ℕ, ◌+◌, ◌*◌, ◌<◌, ◌⊎◌, true, false, List, Result, Ok, Err, refl, ap}
 use Rattle.std.proofs.Common.{arith}
 use Rattle.std.proofs.lemmas.Bool.Decides.{nat_tests}
-use Rattle.std.specs.Prelude.{if◌then◌else◌, nat_lt, ◌==◌}
+use Rattle.std.specs.Prelude.{nat_lt, ◌==◌}
 use Rattle.fax_walk.specs.declared.begun.Begun.TheVariants.{At}
 use Rattle.fax_walk.specs.declared.cursor.Cursor.{Cursor}
 use Rattle.fax_walk.specs.declared.end.End.{End}
@@ -41,16 +41,4 @@ same_place from at k n e = let both : ◌≡◌ {A = RowPlace × ℕ} (from, k) 
 pub begun_cases : (file : List ℕ) (at : Cursor) (here : FilePage) (from : RowPlace) (k : ℕ) → IsBegunOn file (At at) here (Ok (from, k))
     → ((at.row < here.form.rows) × (from ≡ first_at at.page (strip_at here.form at.row * here.form.rows_per_strip)))
     ⊎ (from ≡ first_at (at.page + 1) 0)
-begun_cases file at here from k is = by_test (nat_lt at.row here.form.rows) refl (at.row == here.form.rows) is
-  where
-    strip_of_cursor : RowPlace
-    strip_of_cursor = first_at at.page (strip_at here.form at.row * here.form.rows_per_strip)
-
-    by_test : (below : Bool) → nat_lt at.row here.form.rows ≡ below → (last : Bool)
-        → ◌≡◌ {A = Result (RowPlace × ℕ) End} (Ok (from, k))
-        (if below then Ok (strip_of_cursor, row_in_strip here.form at.row)
-        else (if last then Ok (first_at (at.page + 1) 0, 0) else Err Outside))
-        → ((at.row < here.form.rows) × (from ≡ strip_of_cursor)) ⊎ (from ≡ first_at (at.page + 1) 0)
-    by_test true below last e = inl (grind (arith, nat_tests, below), same_place _ _ _ _ e)
-    by_test false below true e = inr (same_place _ _ _ _ e)
-    by_test false below false e = absurd cc
+begun_cases file at here from k is = grind (arith, nat_tests)

@@ -1,91 +1,31 @@
 -- A walk that goes on, or ends.
-use Rattle.std.proofs.Common.{◌≡◌, ℕ, ◌+◌, ◌-◌, ◌<◌, ◌⊎◌, inl, inr, true, List, [], ◌∷◌, ◌++◌, length, drop, Option, Some}
-use Rattle.std.proofs.Common.{None, Ok, Err, refl, sym, ap, ◌∙◌, subst, arith, length-append, length-drop, append_assoc, append-nil}
+use Rattle.std.proofs.Common.{◌≡◌, ℕ, ◌+◌, ◌<◌, ◌⊎◌, inl, inr, List, [], ◌∷◌, ◌++◌, length, drop, Option, Some}
+use Rattle.std.proofs.Common.{None, Ok, Err, refl, sym, ap, ◌∙◌, arith, length-append, length-drop, append_assoc, append-nil}
 use Rattle.std.proofs.lemmas.Bool.{cases_lt}
 use Rattle.std.specs.Prelude.{slice_get}
-use Rattle.fax_bits.specs.declared.Colour.{Colour}
 use Rattle.fax_bits.specs.laws.Codes.{AreBitsByPlace}
 use Rattle.fax_files.specs.laws.Files.{FilesHaveOneChain, FormsAreWhole}
-use Rattle.fax_files.specs.declared.PageForm.{PageForm}
-use Rattle.fax_files.specs.views.Tiff.{TiffDirectory}
 use Rattle.fax_walk.specs.declared.begun.Begun.{Begun}
 use Rattle.fax_walk.specs.declared.cursor.Cursor.{Cursor}
 use Rattle.fax_walk.specs.declared.end.End.{End}
 use Rattle.fax_walk.specs.declared.end.End.TheVariants.{Proper, Fault, Outside}
-use Rattle.fax_walk.specs.declared.opening.OpenFault.{OpenFault}
-use Rattle.fax_walk.specs.declared.opening.OpenFault.TheVariants.{Memory, Ended}
+use Rattle.fax_walk.specs.declared.opening.OpenFault.TheVariants.{Ended}
 use Rattle.fax_walk.specs.Pages.{AreFrom}
-use Rattle.fax_walk.specs.views.InOrder.{EndsAfter, HandsOut, HasEndedAs, HasToldNoOther}
+use Rattle.fax_walk.specs.views.InOrder.{EndsAfter, HasEndedAs, HasToldNoOther}
 use Rattle.fax_walk.specs.laws.InOrder.{LeadTo}
 use Rattle.fax_walk.specs.Pages.{LongPlace}
-use Rattle.fax_walk.specs.views.Walk.{AreRead, dropped, EndsBefore, EntersPage, IsCursorOf, IsItemNumber, IsLongOf, row_limit}
+use Rattle.fax_walk.specs.views.Walk.{AreRead, dropped, EndsBefore, IsCursorOf, IsItemNumber, IsLongOf}
 use Rattle.fax_walk.specs.laws.Left.{IsLeft}
 use Rattle.fax_walk.specs.views.Walk.{WalkView}
-use Rattle.fax_walk.specs.Items.{IsRow, IsTailFrom, RowItem, RowPlace, begun_cursor, cursor_after, long_after, long_at, place_after}
+use Rattle.fax_walk.specs.Items.{IsRow, IsTailFrom, RowItem, RowPlace, begun_cursor, cursor_after, long_at}
 use Rattle.fax_walk.specs.code.Places.{cursor_at}
 use Rattle.fax_walk.specs.laws.Tails.{BeginningsHaveOneTail}
-use Rattle.fax_walk.specs.code.Stages.{GivesNone, GivesRow, IsOpen, IsOpenedAt, PageState, place_of, row_of, skipped}
-use Rattle.fax_walk.specs.code.Walk.{IsAdvance, answer_of, GoesOnFrom, HasCome, HasEndedOn, HasReadTo, IsAfterItem, IsEntered, IsOpenOrNone}
-use Rattle.fax_walk.specs.code.Walk.{IsOpenedFirst}
-use Rattle.fax_walk.specs.code.Walk.{IsDueOn, IsReadNext, IsShown, IsSound, StandsAt, cursor_on}
+use Rattle.fax_walk.specs.code.Stages.{GivesNone, GivesRow, PageState, place_of, skipped}
+use Rattle.fax_walk.specs.code.Walk.{IsAdvance, answer_of, GoesOnFrom, HasCome, HasEndedOn, HasReadTo, IsAfterItem}
+use Rattle.fax_walk.specs.code.Walk.{IsReadNext, IsShown, IsSound, StandsAt, cursor_on}
 use Rattle.fax_walk.proofs.LeftLemmas.{left_after, left_ended}
 use Rattle.fax_walk.proofs.InOrderLemmas.{IsListed, joined, leads_both, number_dropped}
-use Rattle.fax_walk.proofs.OpenPageLemmas.{at_end}
 use Rattle.fax_walk.proofs.RowLawLemmas.{LinesAreRead, cases_after, rows_listed}
-
-module _ (file : List ℕ) (begun : Begun) (given : ℕ) (cursor : Cursor) where
-  -- the first page is open
-  pub goes_first : (page : PageState) → (given ≡ 0) × (cursor ≡ begun_cursor begun) → IsOpenedFirst file begun page
-      → GoesOnFrom file begun given cursor (Some page)
-  goes_first page (none, at_is) first = grind arith
-
-  -- nothing is skipped on a page that is read to its end
-  none_skipped : (old : PageState) → IsOpen old → row_of old ≡ old.form.rows → skipped old ≡ 0
-  none_skipped old is_open all = let first = is_open.first in omega (arith, all, first)
-
-  -- the next page is open
-  pub goes_next : (old page : PageState) → GoesOnFrom file begun given cursor (Some old) → row_of old ≡ old.form.rows
-      → IsOpenedAt old.directory.file (place_of old) 0 old.read page → GoesOnFrom file begun given cursor (Some page)
-  goes_next old page (is_open, reads) all opened = grind (arith, none_skipped)
-
-  -- the page of the row that is due is open
-  pub entered : (old : Option PageState) (page : PageState) → IsEntered file begun old (Ok tt) (Some page)
-      → GoesOnFrom file begun given cursor old → GoesOnFrom file begun given cursor (Some page)
-  entered None page first from = goes_first page from first
-  entered (Some old) page (all, opened) from = goes_next old page from all opened
-
-  -- there is none
-  pub refused : (old new : Option PageState) (end : End) → IsEntered file begun old (Err (Ended end)) new
-      → GoesOnFrom file begun given cursor old → HasEndedOn file begun given cursor new end
-  refused None new end (none, new_is) from = rw new_is (from.0, from.1, none)
-  refused (Some old) new end (all, stop, there, new_is) (is_open, reads) = grind (arith, none_skipped)
-
-  -- memory was refused for it
-  at_page_end : (old : PageState) (last : IsAfterItem file begun given cursor (place_of old)) → row_of old ≡ old.form.rows
-      → (last.item.row + 1 ≡ last.item.form.rows) × (old.page + 1 ≡ last.item.page + 1)
-  at_page_end old last all = grind (arith, at_end, cases_after)
-
-  pub enters : (old new : Option PageState) → IsEntered file begun old (Err Memory) new → GoesOnFrom file begun given cursor old
-      → EntersPage file begun given
-  enters None new refused from = inl from.0
-  enters (Some old) new (all, refused, there, same) (is_open, reads) = grind (arith, at_page_end)
-
-  pub same_page : (old new : Option PageState) → IsEntered file begun old (Err Memory) new → new ≡ old
-  same_page None new refused = refused.1
-  same_page (Some old) new refused = refused.3
-
--- no page was entered
-pub refused_next : (file : List ℕ) (begun : Begun) (old new : Option PageState) (fault : OpenFault)
-    → IsEntered file begun old (Err fault) new → IsReadNext file begun old (Err fault) new
-refused_next file begun old new Memory is = grind arith
-refused_next file begun old new (Ended end) is = λ given cursor from. refused file begun given cursor old new end is from
-
--- the same, where the walk goes on from a page that it had open at first, or that has a row which is due
-pub refused_later : (file : List ℕ) (begun : Begun) (first on new : Option PageState) (fault : OpenFault)
-    → IsEntered file begun on (Err fault) new → (on ≡ first) ⊎ IsDueOn on → IsReadNext file begun first (Err fault) new
-refused_later file begun first on new fault is (inl same) = grind (arith, refused_next)
-refused_later file begun first None new fault is (inr due) = absurd due
-refused_later file begun first (Some on) new fault is (inr due) = absurd (omega (arith, is.0, due))
 
 module _ (by_place : AreBitsByPlace) (lines_read : LinesAreRead) (chains : FilesHaveOneChain) (forms : FormsAreWhole) (file : List ℕ)
     (begun : Begun) (given : ℕ) (cursor : Cursor) where
@@ -131,21 +71,7 @@ module _ (by_place : AreBitsByPlace) (lines_read : LinesAreRead) (chains : Files
     all_count = grind (arith, length-append)
 
     last : IsAfterItem file begun (given + 1) (cursor_on new) (place_of new)
-    last = record {
-      before = given;
-      item = gives.item;
-      count = refl;
-      number = number;
-      within = subst (λ (f : PageForm). gives.item.row < f.rows) (sym form_same) gives.within;
-      cursor_is =
-          let rows : row_of new ≡ gives.item.row + 1 = gives.next_row ∙ ap (λ (i : RowItem). i.row + 1) (sym gives.item_is) in
-          let pages : new.page ≡ gives.item.page = gives.same.page ∙ ap (λ (i : RowItem). i.page) (sym gives.item_is) in
-          rw (rows, pages) refl;
-      to_is = gives.after;
-    }
-      where
-        form_same : gives.item.form ≡ old.form
-        form_same = ap (λ (i : RowItem). i.form) gives.item_is
+    last = grind (arith, number)
 
     pub gone_on : GoesOnFrom file begun (given + 1) (cursor_on new) (Some new) × IsShown file begun (given + 1) (cursor_on new) new
     unfolding last
@@ -153,7 +79,7 @@ module _ (by_place : AreBitsByPlace) (lines_read : LinesAreRead) (chains : Files
       (
         gives.still_open,
         record {
-          file_is = ap (λ (d : TiffDirectory). d.file) gives.same.directory ∙ reads.file_is;
+          file_is = grind arith;
           come = record {
             first = come.first;
             dropped = come.dropped;
@@ -170,8 +96,8 @@ module _ (by_place : AreBitsByPlace) (lines_read : LinesAreRead) (chains : Files
       ),
       record {
         last = last;
-        pels = ap (λ (i : RowItem). i.pels) gives.item_is;
-        form = ap (λ (i : RowItem). i.form) gives.item_is ∙ sym gives.same.form;
+        pels = grind arith;
+        form = grind arith;
         few = omega (arith, come.total, gives.read, gives.few);
       },
     )
@@ -200,11 +126,8 @@ module _ (file : List ℕ) (begun : Begun) (given : ℕ) (cursor : Cursor) (old 
   still_stands (inl first) = inl first
   still_stands (inr last) = grind (arith, no_items, left)
 
-  named_on : 0 < skipped new → (new.page ≡ (begun_cursor begun).page) × (new.first ≡ (begun_cursor begun).row)
-  named_on some = grind (arith, left)
-
   pub ended_on : HasEndedOn file begun given cursor (Some new) end
-  ended_on = grind (arith, ended_lead, length-append, left, still_stands, named_on, cases_lt)
+  ended_on = grind (arith, ended_lead, length-append, left, still_stands, cases_lt)
 
 -- what a walk that has ended tells
 module _ (file : List ℕ) (begun : Begun) (given : ℕ) (cursor : Cursor) where
@@ -215,16 +138,10 @@ module _ (file : List ℕ) (begun : Begun) (given : ℕ) (cursor : Cursor) where
       let come = reads.come in
       let is : AreFrom (IsRow file) come.first (come.items ++ []) end =
       joined (IsRow file) come.first (place_of page) come.items [] end come.lead stop in
-      let count = come.count in
-      let total = come.total in
-      let none_left = come.none_left in
       let all = ap (λ (l : List RowItem). length l) (append-nil come.items) in (
         drop come.dropped (come.items ++ []),
         (Ok (come.first, come.dropped), come.begins, (come.items ++ [], is, refl)),
-        length-drop come.dropped (come.items ++ []) ∙ (elim (cases_lt 0 given) [
-          | inl some ↦ let none = none_left some in omega (arith, all, count, total, none)
-          | inr none ↦ omega (arith, all, count, total, none)
-        ]),
+        grind (arith, length-drop come.dropped (come.items ++ []), all, come.count, come.total, come.none_left),
       )
 
 -- what a walk's contracts say of it
@@ -253,13 +170,9 @@ module _ (walk : WalkView) (cursor : Cursor) (page : Option PageState) where
   pub cursor_is : Sound walk.told → IsCursorOf walk cursor
   cursor_is sound = grind (arith, stands_on)
 
-  -- the place inside a strip
-  long_at_after : (item : RowItem) → long_at (cursor_at (place_after item)) (place_after item).inner ≡ long_after item
-  long_at_after item = grind (arith, cases_after)
-
   pub long_is : Sound walk.told → 0 < walk.given → (at : PageState) → page ≡ Some at → (place : Option LongPlace)
       → place ≡ (let to = place_of at in long_at (cursor_at to) to.inner) → IsLongOf walk place
-  long_is sound some at page_is place place_is = grind (arith, stands_on, long_at_after)
+  long_is sound some at page_is place place_is = grind (arith, stands_on, cases_after)
 
   -- how many rows were read
   read_on : (at : PageState) (told : Option End) → IsSound file begun walk.given cursor (Some at) told
@@ -315,12 +228,6 @@ module _ (walk : WalkView) (cursor : Cursor) (page : Option PageState) where
           let ends = ended walk.told end told sound in
           ([], end, rw told (left_ended (IsTailFrom file begun) walk.given end (ends_after file begun walk.given cursor page end ends)))
 
--- where the next row is read
-pub open_or_none : (file : List ℕ) (begun : Begun) (given : ℕ) (cursor : Cursor) (page : Option PageState)
-    → GoesOnFrom file begun given cursor page → IsOpenOrNone page
-open_or_none _ _ given cursor None from = tt
-open_or_none _ _ given cursor (Some page) from = from.0
-
 -- the rows have ended so
 pub advance_ends : (old new : WalkView) (end : End) → HasEndedAs IsTailFrom old end new → IsAdvance old (answer_of end) new
 advance_ends old new Proper ended = ended
@@ -335,10 +242,3 @@ pub ends_now : (walk : WalkView) (cursor : Cursor) (old new : Option PageState) 
     → IsSound walk.file walk.begun walk.given cursor old walk.told → IsReadNext walk.file walk.begun old (Err (Ended end)) new
     → HasEndedAs IsTailFrom walk end (record walk { told = Some end })
 ends_now walk cursor old new end untold sound next = grind (arith, has_ended)
-
--- the row that a walk went to is lent with its place
-pub lent : (old walk : WalkView) (cursor : Cursor) (page : Option PageState) → IsAdvance old (Ok true) walk → (at : PageState)
-    → page ≡ Some at → IsSound walk.file walk.begun walk.given cursor page walk.told → (row : List Colour) → row ≡ at.shown
-    → (item : RowItem) × HandsOut IsTailFrom row_limit old item walk
-    × ((item.page ≡ cursor.page) × (item.row ≡ cursor.row - 1) × (item.pels ≡ row))
-lent old walk cursor page (untold, few, new_is) at page_is sound row row_is = grind arith

@@ -1,7 +1,8 @@
+use Rattle.std.proofs.Common.{arith}
 use Rattle.std.proofs.Common.{◌<◌, ◌^◌, rules}
 use Rattle.std.proofs.lemmas.List.Elements.{All-push}
 use Rattle.std.proofs.lemmas.Result.{err_from_is_err_and}
-use Rattle.fax_walk.proofs.LongCursorLemmas.{run_cut, all_cut, run_before, run_left}
+use Rattle.fax_walk.proofs.LongCursorLemmas.{run_cut, runs_text-push, run_before, run_left}
 use Rattle.fax_walk.proofs.long_cursor.parse_runs.Goals as goal
 
 pub loop-run-preserved : goal.loop-run-preserved
@@ -17,10 +18,7 @@ loop-run-preserved c =
     }
 
 pub returns-clause-ok : goal.returns-clause-ok
-returns-clause-ok c =
-    let pushed = c.in_ok-push_run-2.ensures.ok in
-    rw pushed.2
-    (all_cut c.args.text.now c.loop-run.runs.items c.loop-run.rest.now pushed.0 c.loop-run.invariant.cut pushed.1)
+returns-clause-ok c = grind (arith, runs_text-push)
 
 pub returns-in_err-push_run-clause-err : goal.returns-in_err-push_run-clause-err
 returns-in_err-push_run-clause-err c =

@@ -1,7 +1,8 @@
+use Rattle.std.proofs.Common.{arith}
 use Rattle.std.proofs.Common.{Some, None, inl}
 use Rattle.std.proofs.lemmas.Result.{err_from_is_err_and}
 use Rattle.fax_walk.specs.code.Opening.{EndsAt, IsNamed}
-use Rattle.fax_walk.proofs.EnterLemmas.{no_page_inside, opened_inside, refused_inside}
+use Rattle.fax_walk.proofs.EnterLemmas.{no_page_inside, begun_place, refused_inside}
 use Rattle.fax_walk.proofs.walk.open_at_place.Goals as goal
 
 pub returns-in_err-due-clause-refused : goal.returns-in_err-due-clause-refused
@@ -16,11 +17,7 @@ returns-in_default-clause-refused c =
     no_page_inside c.args.file.now c.args.place.now _ (inl none)
 
 pub returns-clause-opened : goal.returns-clause-opened
-returns-clause-opened c =
-    let named : IsNamed c.args.file.now c.args.place.now.at (Some c.in-Some.due) =
-    rw (← c.place.view_is) (rw c.in-Some.is at c.in_ok-due.ensures.ok) in
-    opened_inside c.args.file.now c.args.place.now c.in-Some.due named c.open_inside.result c.open_inside.ensures.opened
-    c.open_inside.ensures.inner
+returns-clause-opened c = grind (arith, begun_place)
 
 pub returns-clause-refused : goal.returns-clause-refused
 returns-clause-refused c =

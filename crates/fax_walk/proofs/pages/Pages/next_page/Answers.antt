@@ -22,12 +22,7 @@ invariant_of-self c =
     }
 
 pub returns-in-Ok : goal.returns-in-Ok
-returns-in-Ok c =
-    let laws = c.form_tails_are_one.ensures in
-    let due = rw (sym c.page.view_is, sym c.self.view_is) at c.in-Ok.ensures.ok in
-    let after : c.given.result ≡ c.page.inside.page + 1 = c.given.ensures ∙ c.page.invariant.its.after.given in
-    let short : c.page.inside.page + 1 < 2 ^ 32 = omega (arith, after, c.given.type_inv) in
-    rw (← c.self.view_is) (page_given laws.one laws.first _ _ due c.page.invariant.its c.page.invariant.limits short)
+returns-in-Ok c = grind (arith, page_given)
 
 pub returns-in_ok-answer-in-Err : goal.returns-in_ok-answer-in-Err
 returns-in_ok-answer-in-Err c =
@@ -36,8 +31,4 @@ returns-in_ok-answer-in-Err c =
     c.in_ok-answer-in-Err.ensures)
 
 pub returns-in_err-answer-in-Err : goal.returns-in_err-answer-in-Err
-returns-in_err-answer-in-Err c =
-    let p = err_from_is_err_and c.from_residual.result c.from_residual.ensures.1 in
-    let ends = rw (sym c.self.view_is) at c.in-Err.ensures.err in
-    rw (← c.self.view_is, p.1, p.2) (ended_so _ _ c.in-Err.end _ (ends.0, ends.1, refl)
-    c.in_err-answer-in-Err.ensures)
+returns-in_err-answer-in-Err c = grind (arith, err_from_is_err_and, ended_so)
