@@ -1,21 +1,18 @@
 -- Images that are written are read back.
-use Rattle.std.proofs.Common.{◌≡◌, ◌≢◌, ℕ, zero, suc, ◌+◌, ◌-◌, ◌*◌, ◌/◌, ◌%◌, ◌^◌, ◌<◌, ◌≤◌, inl, Bool, true, false, ◌&&◌, List, [], ◌∷◌}
+use Rattle.std.proofs.Common.{◌≡◌, ◌≢◌, ℕ, suc, ◌+◌, ◌-◌, ◌*◌, ◌/◌, ◌%◌, ◌^◌, ◌<◌, ◌≤◌, inl, true, ◌&&◌, List, [], ◌∷◌}
 use Rattle.std.proofs.Common.{◌++◌, length, take}
-use Rattle.std.proofs.Common.{drop, map, replicate, None, refl, sym, ap, ◌∙◌, arith, append_assoc}
+use Rattle.std.proofs.Common.{drop, None, refl, sym, ap, ◌∙◌, arith, append_assoc}
 use Rattle.std.specs.Prelude.{codes, decimal}
 use Rattle.std.specs.List.{list_all, flat_map}
 use Rattle.std.proofs.lemmas.Bool.{and_from}
 use Rattle.std.proofs.lemmas.Bool.Decides.{nat_tests}
 use Rattle.std.proofs.lemmas.Fmt.{decimal_by_steps}
-use Rattle.std.proofs.lemmas.List.{length-append, length-map}
+use Rattle.std.proofs.lemmas.List.{length-append}
 use Rattle.std.proofs.lemmas.List.Folds.{list_all-append}
 use Rattle.std.proofs.lemmas.List.Sums.{fold-append}
 use Rattle.std.proofs.Math.Seq.{take-append_seam, drop-append_seam}
-use Rattle.std.specs.Simd.{first_chunks}
-use Rattle.fax_bits.specs.Bits.{byte_of, packed}
-use Rattle.fax_bits.specs.declared.FillOrder.TheVariants.{MsbFirst}
 use Rattle.fax_bits.specs.declared.Colour.{Colour}
-use Rattle.fax_rows.specs.Coded.{is_black, packed_len, packed_row, unpacked_row}
+use Rattle.fax_rows.specs.Coded.{packed_len, packed_row, unpacked_row}
 use Rattle.fax_rows.specs.laws.Packed.{PackingUndoesUnpacking}
 use Rattle.fax_files.specs.Pbm.{Image, IsHead, IsImage, SpellsNumber, AreImages, is_within_limits}
 use Rattle.fax_files.specs.code.Pbm.{is_digit, spelled_number}
@@ -70,26 +67,13 @@ head_written width height rest width_small height_small = record {
 within_is_small : (width height : ℕ) → is_within_limits width height ≡ true → (width < 2 ^ 64) × (height < 2 ^ 64)
 within_is_small width height within = grind (arith, nat_tests)
 
--- as many chunks as are asked for
-chunk_count : (n : ℕ) (b : List Bool) → length (first_chunks 8 n b) ≡ n
-chunk_count zero b = refl
-chunk_count (suc n) b = ap (λ (k : ℕ). suc k) (chunk_count n (drop 8 b))
-
-length-packed_row : (row : List Colour) → length (packed_row row) ≡ packed_len (length row)
-unfolding packed_row packed
-length-packed_row row =
-    let b = map is_black row ++ replicate 7 false in
-    length-map (first_chunks 8 ((length (map is_black row) + 7) / 8) b) (byte_of MsbFirst)
-    ∙ chunk_count ((length (map is_black row) + 7) / 8) b
-    ∙ ap (λ (n : ℕ). (n + 7) / 8) (length-map row is_black)
-
 -- the rows of a raster as it is written
 module _ (law : PackingUndoesUnpacking) where
   row_read : (width : ℕ) (row : List Colour) → length row ≡ width → unpacked_row width (packed_row row) ≡ row
   row_read width row is = rw (sym is) (law.read_back row)
 
   row_len : (width : ℕ) (row : List Colour) → length row ≡ width → length (packed_row row) ≡ packed_len width
-  row_len width row is = length-packed_row row ∙ ap packed_len is
+  row_len width row is = law.packed_count row ∙ ap packed_len is
 
   raster_read : (width : ℕ) (rows : List (List Colour)) → AreOfWidth width rows
       → rows ≡ raster_rows width (length rows) (flat_map packed_row rows)
