@@ -39,7 +39,8 @@ raster_next width (suc n) bytes =
     (drop-drop (n * len) len bytes ∙ ap (λ (i : ℕ). drop i bytes) place)
 
 -- the rows of a raster are as wide as its image
-pub raster_widths : PackingUndoesUnpacking → (width n : ℕ) (bytes : List ℕ) → n * packed_len width ≤ length bytes → AreOfWidth width (raster_rows width n bytes)
+pub raster_widths : PackingUndoesUnpacking → (width n : ℕ) (bytes : List ℕ) → n * packed_len width ≤ length bytes
+    → AreOfWidth width (raster_rows width n bytes)
 raster_widths packs width zero bytes enough = tt
 raster_widths packs width (suc n) bytes enough =
     let first : length (take (packed_len width) bytes) ≡ packed_len width = omega (arith, length-take (packed_len width) bytes) in

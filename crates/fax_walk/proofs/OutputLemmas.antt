@@ -111,8 +111,8 @@ image_begun at sheet old new has new_is fits = record {
 }
 
 -- a row is put after the others of its image
-pub image_row : PackingUndoesUnpacking → (part : Part) (row : List Colour) (old new : List ℕ) → HasImageRows old part → length part.rows < part.sheet.rows
-    → length row ≡ part.sheet.width → new ≡ old ++ packed_row row → HasImageRows new (with_row part row)
+pub image_row : PackingUndoesUnpacking → (part : Part) (row : List Colour) (old new : List ℕ) → HasImageRows old part
+    → length part.rows < part.sheet.rows → length row ≡ part.sheet.width → new ≡ old ++ packed_row row → HasImageRows new (with_row part row)
 image_row packs part row old new has due width new_is =
     let before = pbm_of (map (λ page. page.image) part.at.pages) in
     let head = head_bytes part.sheet.width part.sheet.rows in

@@ -76,7 +76,8 @@ image_page_writable image writable = record {
   unit = omega arith;
 }
 
-images_writable : PackingUndoesUnpacking → (bytes : List ℕ) (images : List Image) → AreImages bytes images None → All IsWritableSource (map page_of_image images)
+images_writable : PackingUndoesUnpacking → (bytes : List ℕ) (images : List Image) → AreImages bytes images None
+    → All IsWritableSource (map page_of_image images)
 images_writable packs bytes [] are = All-nil IsWritableSource
 images_writable packs bytes (image ∷ images) (rest, is, are) =
     All-cons IsWritableSource (page_of_image image) (map page_of_image images) (image_page_writable image (image_writable packs bytes image rest is))
@@ -175,7 +176,8 @@ module _ (written : CodedFilesAreWalked) (images : WrittenImagesAreRead) (option
   read_back To.Mmr target_is output output_is fits =
       read_in Mmr To.Mmr (λ is. cc) (λ aligned is. options.aligned_is_no_mmr aligned target_is) output output_is fits
 
-pub conversions_are_read_back : PackingUndoesUnpacking → FilesArePaged → FormsAreWithinLimits → CodedFilesAreWalked → WrittenImagesAreRead → ConversionsAreReadBack
+pub conversions_are_read_back : PackingUndoesUnpacking → FilesArePaged → FormsAreWithinLimits → CodedFilesAreWalked → WrittenImagesAreRead
+    → ConversionsAreReadBack
 conversions_are_read_back packs paged within written images bytes options output are_bytes converted =
     let found = source_writable packs paged within bytes are_bytes converted.pages converted.source in
     read_back written images options converted.pages found.0 found.1 options.target refl output converted.output_is converted.fits
