@@ -205,10 +205,6 @@ module _ (start total added : ℕ) (form : PageForm) (strips : List (Vec ℕ Glo
     laid_there : IsLayout at form.strips (length front) end added total
     laid_there = subst (λ n. IsLayout at form.strips n end added total) (sym front_len) laid
 
-    pub page_place : at.directory ≡ directory_place start (contents strips)
-    page_place = subst (λ n. at.directory ≡ directory_place n (contents strips)) front_len
-        (place_is front 0 total added end form strips room limits exchanged counted there at laid_there)
-
     pub whole_page : (tail bytes : List ℕ) → tail ≡ tail_bytes end (laid_out_fields at form) form start (contents strips)
         → bytes ≡ joined_strips (contents strips) ++ tail → bytes ≡ page_bytes start total added form (contents strips)
     whole_page tail bytes tail_is bytes_are =

@@ -205,24 +205,6 @@ abbrev pub offsets_of : Written → ℕ → ℕ → List WrittenPage → List �
 offsets_of old total k [] = []
 offsets_of old total k (written ∷ pages) = place_of old written ∷ offsets_of (with_written old total k written) total (k + 1) pages
 
--- they ascend
-abbrev pub AscendFrom : ℕ → List ℕ → Type 0
-AscendFrom low [] = Unit {0}
-AscendFrom low (q ∷ offsets) = low ≤ q × AscendFrom (q + 1) offsets
-
-ascend_lower : (low high : ℕ) (offsets : List ℕ) → low ≤ high → AscendFrom high offsets → AscendFrom low offsets
-ascend_lower low high [] le a = tt
-ascend_lower low high (q ∷ offsets) le a = (omega (arith, le, a.0), a.1)
-
-pub offsets_ascend : (old : Written) (total k : ℕ) (pages : List WrittenPage) → HasOpenLink old → AreWritable pages
-    → AscendFrom (length old.bytes) (offsets_of old total k pages)
-offsets_ascend old total k [] open' w = tt
-offsets_ascend old total k (written ∷ pages) open' w =
-    let one = is_appended old total k written open' w.0 in
-    let new = with_written old total k written in
-    let longer : place_of old written + 1 ≤ length new.bytes = omega (arith, at_inside (four 0) one.is_open, one.new_link) in
-    (omega arith, ascend_lower _ _ (offsets_of new total (k + 1) pages) longer (offsets_ascend new total (k + 1) pages one.is_open w.1))
-
 -- the file with them
 abbrev with_all : Written → ℕ → ℕ → List WrittenPage → List ℕ
 with_all old total k pages = (with_pages old total k pages).bytes

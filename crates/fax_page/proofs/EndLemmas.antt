@@ -96,27 +96,23 @@ pub end_found : (coding : Coding) (left after : List Bool) (zeros : Option ℕ) 
     → IsEndMark coding left after
     → MatchOption zeros (IsAllZeros after) (HasZerosAhead after) → more ≡ is_some zeros → found ≡ (true, more)
     → IsEndFound coding left found.0 found.1
-end_found coding left after zeros more found mark ahead more_is found_is =
-    subst (λ (pair : Bool × Bool). IsEndFound coding left pair.0 pair.1) (sym found_is)
-    (record {
-      after = after;
-      after_end = inl mark;
-      mark = (λ is. (after, mark), λ has. refl);
-      one = subst (λ m. IsTrue m ↔ Contains after true) (sym more_is) (one_found after zeros ahead);
-    })
+end_found coding left after zeros more found mark ahead more_is found_is = rw (found_is, more_is) (record {
+  after = after;
+  after_end = inl mark;
+  mark = (λ is. (after, mark), λ has. refl);
+  one = one_found after zeros ahead;
+})
 
 -- or after the last row
 pub no_end_found : (coding : Coding) (left : List Bool) (zeros : Option ℕ) (more : Bool) (found : Bool × Bool)
     → ((rest : List Bool) → IsEndMark coding left rest → ⊥) → MatchOption zeros (IsAllZeros left) (HasZerosAhead left)
     → more ≡ is_some zeros → found ≡ (false, more) → IsEndFound coding left found.0 found.1
-no_end_found coding left zeros more found none ahead more_is found_is =
-    subst (λ (pair : Bool × Bool). IsEndFound coding left pair.0 pair.1) (sym found_is)
-    (record {
-      after = left;
-      after_end = inr (λ has. none has.0 has.1, refl);
-      mark = (λ is. absurd (cc is), λ has. absurd (none has.0 has.1));
-      one = subst (λ m. IsTrue m ↔ Contains left true) (sym more_is) (one_found left zeros ahead);
-    })
+no_end_found coding left zeros more found none ahead more_is found_is = rw (found_is, more_is) (record {
+  after = left;
+  after_end = inr (λ has. none has.0 has.1, refl);
+  mark = (λ is. absurd (cc is), λ has. absurd (none has.0 has.1));
+  one = one_found left zeros ahead;
+})
 
 is_not : (ended : Bool) (P : Type 0) → IsTrue ended ↔ P → IsTrue (not ended) ↔ (P → ⊥)
 is_not true P same = (λ is. absurd (cc is), λ none. absurd (none (same.0 refl)))

@@ -28,9 +28,7 @@ pub line_put : (form : StripForm) (k before i : ℕ) (reference row : List Colou
     → Appends old (start_bits form.coding form.aligned before dimension ++ row_bits dimension reference row) new
     → new.bits ≡ old.bits ++ coded_line form k before i reference row
 unfolding coded_line
-line_put form k before i reference row dimension old new written put =
-    ap (λ (s : Sink). s.bits) put
-    ∙ ap (λ d. old.bits ++ (start_bits form.coding form.aligned before d ++ row_bits d reference row)) written
+line_put form k before i reference row dimension old new written put = rw (put, written) refl
 
 -- a strip that is finished: what stands after its last row, and zeros
 pub finished : (order : FillOrder) (start middle padded : Sink) (end : List Bool) (bytes : List ℕ) → PacksOneWay → start.order ≡ order

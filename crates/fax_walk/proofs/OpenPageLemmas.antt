@@ -2,7 +2,7 @@
 use Rattle.std.proofs.Common.{◌≡◌, ℕ, ◌+◌, ◌-◌, ◌*◌, ◌<◌, ◌≤◌, ◌⊎◌, inl, inr, min, true, false, List, [], ◌∷◌, ◌++◌, length, drop, Option}
 use Rattle.std.proofs.Common.{Some, None}
 use Rattle.std.proofs.Common.{Result, Ok, Err, refl, sym, ap, ◌∙◌, subst, arith, add-mul, length-append, ◌^◌}
-use Rattle.std.proofs.Math.Nat.{mul-le-mul_right, mod-eq-sub-div-mul, div-add-mod, zero-div}
+use Rattle.std.proofs.Math.Nat.{mul-le-mul_right, div-add-mod, zero-div}
 use Rattle.std.proofs.lemmas.Bool.{cases_lt}
 use Rattle.std.proofs.lemmas.Bool.Decides.{nat_tests}
 use Rattle.std.proofs.lemmas.Grind.{div_ceil_times}
@@ -369,9 +369,6 @@ module _ (due : PageDue) (first : ℕ) (its : IsFilePage due.page due.chain due.
   begin_numbers : (strip_at due.form begins ≡ number) × (row_in_strip due.form begins ≡ 0)
   begin_numbers = in_strip due.form.rows_per_strip number 0 begins limits.some_rows_per_strip (omega arith)
 
-  begins_below : begins ≤ first
-  begins_below = let parts = div-add-mod first due.form.rows_per_strip in omega (arith, parts)
-
   pub refused_strip : bytes_of due.directory number ≡ None → IsNoStrip due first (Fault due.page begins (File StripOutside))
   refused_strip outside = record {
     stop = (
@@ -382,21 +379,6 @@ module _ (due : PageDue) (first : ℕ) (its : IsFilePage due.page due.chain due.
     cause = File StripOutside;
     told = refl;
   }
-
-  pub is_opened : (strip : StripState) (shown : List Colour) (before : ℕ) → strip.row ≡ 0 → strip.fault ≡ None → strip.read ≡ 0
-      → IsOpenedAt due.directory.file (first_at due.page begins) (row_in_strip due.form first) before
-      (state due.page due.chain due.directory due.form first number strip shown (before + strip.read))
-  is_opened strip shown before none no_fault unread =
-      let at : begins + strip.row ≡ begins = omega (arith, none) in
-      let below : begins + strip.row < due.form.rows = omega (arith, at, begins_below, there) in
-      record {
-        is_open = record { no_fault = no_fault; first = there };
-        file_is = refl;
-        row_due = below;
-        place_is = rw at (at_first due.form due.page begins _ (omega (arith, begins_below, there)) begin_numbers.1);
-        skips = ap (λ (r : ℕ). first - r) at ∙ sym (mod-eq-sub-div-mul first due.form.rows_per_strip);
-        read_is = omega (arith, unread);
-      }
 
 -- the first row of a page is that of its first strip
 pub page_first : (due : PageDue) (p : ℕ) → due.page ≡ p → first_at due.page (strip_at due.form 0 * due.form.rows_per_strip) ≡ first_at p 0
