@@ -1,17 +1,15 @@
 -- Images that are written are read back.
 use Rattle.std.proofs.lemmas.Grind.{common_steps}
-use Rattle.std.proofs.Common.{◌≡◌, ◌≢◌, ℕ, zero, suc, ◌+◌, ◌/◌, ◌%◌, ◌^◌, ◌<◌, ◌≤◌, inl, Bool, List, [], ◌∷◌}
+use Rattle.std.proofs.Common.{◌≡◌, ◌≢◌, ℕ, suc, ◌+◌, ◌/◌, ◌%◌, ◌^◌, ◌<◌, ◌≤◌, inl, List, [], ◌∷◌}
 use Rattle.std.proofs.Common.{◌++◌, length}
 use Rattle.std.proofs.Common.{drop, None, refl, sym, ap, ◌∙◌, arith, append_assoc}
 use Rattle.std.specs.Prelude.{codes, decimal}
 use Rattle.std.specs.List.{flat_map}
 use Rattle.std.proofs.lemmas.Fmt.{decimal_by_steps}
-use Rattle.std.proofs.lemmas.List.{length-append, length-map}
+use Rattle.std.proofs.lemmas.List.{length-append}
 use Rattle.std.proofs.lemmas.List.Folds.{list_all-append}
 use Rattle.std.proofs.lemmas.List.Sums.{fold-append}
 use Rattle.std.proofs.Math.Seq.{take-append_seam, drop-append_seam}
-use Rattle.std.specs.Simd.{first_chunks}
-use Rattle.fax_bits.specs.Bits.{packed}
 use Rattle.fax_bits.specs.declared.Colour.{Colour}
 use Rattle.fax_rows.specs.Coded.{packed_len, packed_row, unpacked_row}
 use Rattle.fax_rows.specs.laws.Packed.{PackingUndoesUnpacking}
@@ -54,14 +52,6 @@ head_written width height rest width_small height_small = record {
   spelled = regroup (codes "P4\n") (decimal width) (codes " ") (decimal height) (codes "\n") rest;
 }
 
--- as many chunks as are asked for
-chunk_count : (n : ℕ) (b : List Bool) → length (first_chunks 8 n b) ≡ n
-chunk_count zero b = refl
-chunk_count (suc n) b = ap (λ (k : ℕ). suc k) (chunk_count n (drop 8 b))
-
-length-packed_row : (row : List Colour) → length (packed_row row) ≡ packed_len (length row)
-unfolding packed_row packed
-length-packed_row row = grind (arith, length-map, chunk_count)
 
 -- the rows of a raster as it is written
 module _ (law : PackingUndoesUnpacking) where
@@ -69,7 +59,7 @@ module _ (law : PackingUndoesUnpacking) where
   row_read width row is = rw (sym is) (law.read_back row)
 
   row_len : (width : ℕ) (row : List Colour) → length row ≡ width → length (packed_row row) ≡ packed_len width
-  row_len width row is = length-packed_row row ∙ ap packed_len is
+  row_len width row is = law.packed_count row ∙ ap packed_len is
 
   raster_read : (width : ℕ) (rows : List (List Colour)) → AreOfWidth width rows
       → rows ≡ raster_rows width (length rows) (flat_map packed_row rows)

@@ -153,11 +153,6 @@ abbrev pub offsets_of : Written → ℕ → ℕ → List WrittenPage → List �
 offsets_of old total k [] = []
 offsets_of old total k (written ∷ pages) = place_of old written ∷ offsets_of (with_written old total k written) total (k + 1) pages
 
--- they ascend
-abbrev pub AscendFrom : ℕ → List ℕ → Type 0
-AscendFrom low [] = Unit {0}
-AscendFrom low (q ∷ offsets) = low ≤ q × AscendFrom (q + 1) offsets
-
 -- the file with them
 abbrev with_all : Written → ℕ → ℕ → List WrittenPage → List ℕ
 with_all old total k pages = (with_pages old total k pages).bytes

@@ -96,14 +96,12 @@ end_found coding left after zeros more found mark ahead more_is found_is = grind
 pub no_end_found : (coding : Coding) (left : List Bool) (zeros : Option ℕ) (more : Bool) (found : Bool × Bool)
     → ((rest : List Bool) → IsEndMark coding left rest → ⊥) → MatchOption zeros (IsAllZeros left) (HasZerosAhead left)
     → more ≡ is_some zeros → found ≡ (false, more) → IsEndFound coding left found.0 found.1
-no_end_found coding left zeros more found none ahead more_is found_is =
-    subst (λ (pair : Bool × Bool). IsEndFound coding left pair.0 pair.1) (sym found_is)
-    (record {
-      after = left;
-      after_end = inr (λ has. none has.0 has.1, refl);
-      mark = (λ is. absurd (cc is), λ has. absurd (none has.0 has.1));
-      one = subst (λ m. IsTrue m ↔ Contains left true) (sym more_is) (one_found left zeros ahead);
-    })
+no_end_found coding left zeros more found none ahead more_is found_is = rw (found_is, more_is) (record {
+  after = left;
+  after_end = inr (λ has. none has.0 has.1, refl);
+  mark = (λ is. absurd (cc is), λ has. absurd (none has.0 has.1));
+  one = one_found left zeros ahead;
+})
 
 abbrev pub IsMhOrMr : Coding → Type 0
 IsMhOrMr coding = (coding ≡ Mh) ⊎ (coding ≡ Mr)

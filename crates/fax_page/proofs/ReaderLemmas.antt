@@ -22,9 +22,8 @@ stopped_on : (start : StripState) (rows : List (List Colour)) (state : StripStat
     → EndsAt start.form state.row state.reference (bits_left state) end
     → AreLines start.form start.row start.reference (bits_left start) rows end (bits_left state)
 stopped_on start rows state end so_far stop =
-    subst (λ them. AreLines start.form start.row start.reference (bits_left start) them end (bits_left state)) (append-nil rows)
-    (so_far.followed [] end (bits_left state)
-    (no_rows start.form state.row state.reference (bits_left state) end stop))
+    rw append-nil at
+    (so_far.followed [] end (bits_left state) (no_rows start.form state.row state.reference (bits_left state) end stop))
 
 ended_before : (start : StripState) (rows : List (List Colour)) (old new : StripState) → HasReadFrom start rows old → IsAtEnd old new
     → AreLines start.form start.row start.reference (bits_left start) rows None (bits_left old)
@@ -37,16 +36,12 @@ fault_before start rows old new fault so_far meets = grind (arith, stopped_on)
 
 ended_on : (start : StripState) (rows : List (List Colour)) (old new : StripState) → HasReadFrom start rows old → IsAtEnd old new
     → AreLines start.form start.row start.reference (bits_left start) rows None (bits_left new)
-ended_on start rows old new so_far at_end =
-    subst (λ state. AreLines start.form start.row start.reference (bits_left start) rows None (bits_left state)) (sym at_end.unchanged)
-    (ended_before start rows old new so_far at_end)
+ended_on start rows old new so_far at_end = rw at_end.unchanged (ended_before start rows old new so_far at_end)
 
 fault_met_on : (start : StripState) (rows : List (List Colour)) (old new : StripState) (fault : StripFault)
     → HasReadFrom start rows old → MeetsFault old fault new
     → AreLines start.form start.row start.reference (bits_left start) rows (Some fault) (bits_left new)
-fault_met_on start rows old new fault so_far meets =
-    subst (λ state. AreLines start.form start.row start.reference (bits_left start) rows (Some fault) (bits_left state)) (sym meets.told)
-    (fault_before start rows old new fault so_far meets)
+fault_met_on start rows old new fault so_far meets = rw meets.told (fault_before start rows old new fault so_far meets)
 
 -- a fault leaves the reader where it was
 stays_there : (old new : StripState) (fault : StripFault) → IsAdvance old (Err fault) new

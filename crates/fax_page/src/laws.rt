@@ -7,8 +7,8 @@ ghost use Rattle.fax_page.specs.laws.Reader.{ReadsRowByRow, ReadsOn};
 ghost use Rattle.fax_page.specs.laws.Writer.{WritesRowByRow};
 
 /// Bits are read in one way as a row of a strip, in any coding: they begin with one row and one
-/// rest follows it, or one fault is in its way, never both. The rest is the end of the bits, and the
-/// row is as wide as its reference.
+/// rest follows it, or one fault is in its way, never both. The rest is the end of the bits, and
+/// the row is as wide as its reference.
 pub fn lines_are_read_in_one_way()
     ensures { (form : StripForm) (i : ℕ) (reference : List Colour)
         → Law.ReadsLinesOneWay form i reference }

@@ -44,4 +44,10 @@ module _ (places : AreBitsByPlace) (one_way : PacksOneWay) where
   packed_back width bytes whole = grind (arith, common_steps, bits_of_pels, bits_of_unpacked)
 
   pub packing_undoes_unpacking : PackingUndoesUnpacking
-  packing_undoes_unpacking = record { bits_of_pels = bits_of_pels; read_back = read_back; packed_back = packed_back }
+  packing_undoes_unpacking = record {
+    packed_count = length-packed_row;
+    unpacked_count = length-unpacked_row;
+    bits_of_pels = bits_of_pels;
+    read_back = read_back;
+    packed_back = packed_back;
+  }

@@ -63,7 +63,8 @@ pub fn two_dimensional_rows_are_read_as_nothing_else()
 }
 
 /// A packed row is read back, and bytes whose row is packed again are as they were but for the
-/// padding, which is zeros (the netpbm format, P4).
+/// padding, which is zeros (the netpbm format, P4). A row of a width has so many bytes, and so many
+/// bytes a row of it.
 pub fn packing_undoes_unpacking()
     ensures { PackingUndoesUnpacking }
 {

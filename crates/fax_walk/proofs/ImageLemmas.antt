@@ -1,12 +1,12 @@
 -- Images that are converted.
 use Rattle.std.proofs.Common.{◌≡◌, ◌≢◌, ℕ, zero, suc, ◌+◌, ◌*◌, ◌≤◌, inl, inr, List, [], ◌∷◌, ◌++◌, length, map, take, drop, Some}
 use Rattle.std.proofs.Common.{None, refl, sym, ap, ◌∙◌, subst, arith, append_assoc, append-nil, length-append, length-take, length-drop}
-use Rattle.std.specs.Prelude.{codes, flat_map}
+use Rattle.std.specs.Prelude.{codes}
 use Rattle.std.proofs.lemmas.List.{length-map, drop-drop, map-append}
-use Rattle.fax_bits.specs.Bits.{BeginsWith, bits, byte_bits, code_bits}
-use Rattle.fax_bits.specs.declared.FillOrder.TheVariants.{MsbFirst}
+use Rattle.fax_bits.specs.Bits.{BeginsWith}
 use Rattle.fax_bits.specs.declared.Colour.{Colour}
-use Rattle.fax_rows.specs.Coded.{packed_len, unpacked_row, colour_of_bit}
+use Rattle.fax_rows.specs.laws.Packed.{PackingUndoesUnpacking}
+use Rattle.fax_rows.specs.Coded.{packed_len, unpacked_row}
 use Rattle.fax_files.specs.declared.pbm.PbmFault.{PbmFault}
 use Rattle.fax_files.specs.Pbm.{Image, IsImage, IsImageFault, AreImages, raster_rows}
 use Rattle.fax_files.specs.laws.Pbm.{AreOfWidth, ImagesAreReadInOneWay, ImagesBeginInOneWay}
@@ -38,27 +38,16 @@ raster_next width (suc n) bytes =
     ∷ (raster_rows width n (drop len bytes) ++ unpacked_row width (take len l) ∷ []))
     (drop-drop (n * len) len bytes ∙ ap (λ (i : ℕ). drop i bytes) place)
 
-bits_count : (bytes : List ℕ) → length (bits MsbFirst bytes) ≡ 8 * length bytes
-unfolding bits byte_bits code_bits
-bits_count [] = refl
-bits_count (byte ∷ bytes) =
-    let first : length (byte_bits MsbFirst byte) ≡ 8 = refl in
-    let later = bits_count bytes in
-    let parts = length-append (byte_bits MsbFirst byte) (flat_map (byte_bits MsbFirst) bytes) in
-    omega (arith, parts, first, later)
-
-row_width : (width : ℕ) (bytes : List ℕ) → packed_len width ≤ length bytes → length (unpacked_row width bytes) ≡ width
-unfolding unpacked_row
-row_width width bytes enough =
-    omega (arith, length-take {A = Colour}, length-map (bits MsbFirst bytes) colour_of_bit, bits_count bytes)
-
 -- the rows of a raster are as wide as its image
-pub raster_widths : (width n : ℕ) (bytes : List ℕ) → n * packed_len width ≤ length bytes → AreOfWidth width (raster_rows width n bytes)
-raster_widths width zero bytes enough = tt
-raster_widths width (suc n) bytes enough =
-    let first : packed_len width ≤ length (take (packed_len width) bytes) = omega (arith, length-take (packed_len width) bytes) in
-    let rest : n * packed_len width ≤ length (drop (packed_len width) bytes) = omega (arith, length-drop (packed_len width) bytes) in
-    (row_width width (take (packed_len width) bytes) first, raster_widths width n (drop (packed_len width) bytes) rest)
+pub raster_widths : PackingUndoesUnpacking → (width n : ℕ) (bytes : List ℕ) → n * packed_len width ≤ length bytes
+    → AreOfWidth width (raster_rows width n bytes)
+raster_widths packs width zero bytes enough = tt
+raster_widths packs width (suc n) bytes enough =
+    let first : length (take (packed_len width) bytes) ≡ packed_len width = omega (arith, length-take (packed_len width) bytes) in
+    let rest : n * packed_len width ≤ length (drop (packed_len width) bytes) = omega (arith, length-drop (packed_len width) bytes) in (
+      packs.unpacked_count width (take (packed_len width) bytes) first,
+      raster_widths packs width n (drop (packed_len width) bytes) rest,
+    )
 
 -- no image stands in no bytes
 no_bytes : (image : Image) (rest : List ℕ) → IsImage [] image rest → ⊥

@@ -2,7 +2,7 @@
 use Rattle.std.proofs.Common.{◌≡◌, ℕ, ◌+◌, ◌-◌, ◌*◌, ◌<◌, ◌≤◌, ◌⊎◌, inl, inr, min, true, false, List, [], ◌∷◌, ◌++◌, length, drop, Option}
 use Rattle.std.proofs.Common.{Some, None}
 use Rattle.std.proofs.Common.{Result, Ok, Err, refl, sym, ap, ◌∙◌, subst, arith, add-mul, length-append, ◌^◌}
-use Rattle.std.proofs.Math.Nat.{mul-le-mul_right, mod-eq-sub-div-mul, div-add-mod, zero-div}
+use Rattle.std.proofs.Math.Nat.{mul-le-mul_right, div-add-mod, zero-div}
 use Rattle.std.proofs.lemmas.Bool.{cases_lt}
 use Rattle.std.proofs.lemmas.Bool.Decides.{nat_tests}
 use Rattle.std.proofs.lemmas.Grind.{div_ceil_times}
@@ -84,44 +84,45 @@ at_end form p r inner last =
     let test : nat_lt r form.rows ≡ false = grind (arith, nat_tests, last) in
     rw test refl
 
--- a place on a page where this is the row before, and so many bits of the strip stand before
-pub record IsInnerOf (page : PageState) : Type 0 where
-  pub inner : Option Inner
-  pub place_is : place_of page ≡ record { page = page.page; row = row_of page; inner = inner }
-  pub bits_are : (before page.form.width inner).bits ≡ page.strip.place
-  pub reference_is : (before page.form.width inner).reference ≡ page.strip.reference
+-- row i of strip s is due, after which so many bits and this row stand before it
+module _ (form : PageForm) (p s i r : ℕ) (inner : Inner) (r_is : r ≡ s * form.rows_per_strip + i) (due : i < (strip_form form s).rows) where
+  pub row_below : r < form.rows
+  row_below = omega (arith, r_is, due)
+
+  pub numbers : (strip_at form r ≡ s) × (row_in_strip form r ≡ i)
+  numbers = in_strip form.rows_per_strip s i r (omega (arith, due)) r_is
+
+  pub due_at : (i ≡ 0 → inner ≡ before form.width None)
+      → (o : Option Inner) × (place_on form p r inner ≡ record { page = p; row = r; inner = o }) × (before form.width o ≡ inner)
+  due_at first = elim (cases_lt 0 i) [
+    | inl some ↦ (Some inner, at_inner form p r inner row_below (omega (arith, some, numbers.1)), refl)
+    | inr none ↦ (None, at_first form p r inner row_below (omega (arith, none, numbers.1)), sym (first (omega (arith, none))))
+  ]
 
 module _ (page : PageState) (limits : IsPageForm page.form) (strip_is : IsStripOf page.form page.directory page.number page.strip) where
   abbrev n : ℕ
   n = page.form.rows_per_strip
 
+  abbrev before_row : Inner
+  before_row = record { bits = page.strip.place; reference = page.strip.reference }
+
   strip_rows : page.strip.form.rows ≡ min n (page.form.rows - page.number * n)
   strip_rows = ap (λ (f : StripForm). f.rows) strip_is.form_is
 
   module _ (due : page.strip.row < page.strip.form.rows) where
-    numbers : (strip_at page.form (row_of page) ≡ page.number) × (row_in_strip page.form (row_of page) ≡ page.strip.row)
-    numbers = in_strip n page.number page.strip.row (row_of page) (omega (arith, due, strip_rows)) refl
+    due_now : page.strip.row < (strip_form page.form page.number).rows
+    due_now = omega (arith, due, strip_rows)
 
-    pub row_below : row_of page < page.form.rows
-    row_below = omega (arith, due, strip_rows)
+    pub is_below : row_of page < page.form.rows
+    is_below = row_below page.form page.page page.number page.strip.row (row_of page) before_row refl due_now
 
-    pub stands : IsInnerOf page
-    stands = elim (cases_lt 0 page.strip.row) [
-      | inl some ↦ record {
-        inner = Some (record { bits = page.strip.place; reference = page.strip.reference });
-        place_is = at_inner page.form page.page (row_of page) _ row_below (omega (arith, some, numbers.1));
-        bits_are = refl;
-        reference_is = refl;
-      }
-      | inr none ↦
-          let first = strip_is.first (omega (arith, none)) in
-          record {
-            inner = None;
-            place_is = at_first page.form page.page (row_of page) _ row_below (omega (arith, none, numbers.1));
-            bits_are = sym first.0;
-            reference_is = sym first.1;
-          }
-    ]
+    pub numbered : (strip_at page.form (row_of page) ≡ page.number) × (row_in_strip page.form (row_of page) ≡ page.strip.row)
+    numbered = numbers page.form page.page page.number page.strip.row (row_of page) before_row refl due_now
+
+    stands : (o : Option Inner) × (place_of page ≡ record { page = page.page; row = row_of page; inner = o })
+        × (before page.form.width o ≡ before_row)
+    stands = due_at page.form page.page page.number page.strip.row (row_of page) before_row refl due_now
+        (λ none. rw ((strip_is.first none).0, (strip_is.first none).1) refl)
 
     module _ (its : IsFilePage page.page page.chain page.directory page.form) where
       -- the row that is due is read
@@ -140,14 +141,14 @@ module _ (page : PageState) (limits : IsPageForm page.form) (strip_is : IsStripO
         line = rw (reads.same_form, reads.same_bytes, strip_is.form_is) at reads.line
 
         pub row_read : IsRow page.directory.file (place_of page) (goes_on item (place_after item))
-        row_read = rw stands.place_is (
+        row_read = rw stands.1 (
           Ok (page_with page.directory page.form),
           its.here (row_of page),
-          rw (numbers.0, strip_is.bytes_are) (
+          rw (numbered.0, strip_is.bytes_are) (
             refl,
             refl,
             rw reads.same_bytes at within,
-            rw (numbers.0, numbers.1, stands.bits_are, stands.reference_is, twice) line,
+            rw (numbered.0, numbered.1, stands.2, twice) line,
             refl,
             refl,
           ),
@@ -163,12 +164,12 @@ module _ (page : PageState) (limits : IsPageForm page.form) (strip_is : IsStripO
       -- it is not there
       pub row_fault : (fault : StripFault) (strip : StripState) → MeetsFault page.strip fault strip
           → IsRow page.directory.file (place_of page) (ends_as (Fault page.page (row_of page) (Strip fault)))
-      row_fault fault strip meets = rw stands.place_is (
+      row_fault fault strip meets = rw stands.1 (
         Ok (page_with page.directory page.form),
         its.here (row_of page),
-        rw (numbers.0, strip_is.bytes_are) (
+        rw (numbered.0, strip_is.bytes_are) (
           fault,
-          rw (numbers.1, stands.bits_are, stands.reference_is) (rw strip_is.form_is at meets.cause),
+          rw (numbered.1, stands.2) (rw strip_is.form_is at meets.cause),
           refl,
         ),
       )
@@ -269,7 +270,7 @@ module _ (old page : PageState) (keeps : KeepsPlace old page) where
       let read : IsRow page.directory.file (place_of page) (goes_on its_item (place_of new)) =
       rw (← item_is, after) step in
       record {
-        due = subst (λ (f : PageForm). row_of old < f.rows) same.form (rw keeps.row at (row_below page limits strip_is due));
+        due = subst (λ (f : PageForm). row_of old < f.rows) same.form (rw keeps.row at (is_below page limits strip_is due));
         same = record { page = same.page; form = same.form; first = same.first; directory = same.directory };
         still_open = record { no_fault = reads.still_no_fault; first = rw (same.first, same.form) is_open.first };
         step = subst (λ (d : TiffDirectory). IsRow d.file (place_of old) (goes_on its_item (place_of new))) same.directory
@@ -368,9 +369,6 @@ module _ (due : PageDue) (first : ℕ) (its : IsFilePage due.page due.chain due.
   begin_numbers : (strip_at due.form begins ≡ number) × (row_in_strip due.form begins ≡ 0)
   begin_numbers = in_strip due.form.rows_per_strip number 0 begins limits.some_rows_per_strip (omega arith)
 
-  begins_below : begins ≤ first
-  begins_below = let parts = div-add-mod first due.form.rows_per_strip in omega (arith, parts)
-
   pub refused_strip : bytes_of due.directory number ≡ None → IsNoStrip due first (Fault due.page begins (File StripOutside))
   refused_strip outside = record {
     stop = (
@@ -381,21 +379,6 @@ module _ (due : PageDue) (first : ℕ) (its : IsFilePage due.page due.chain due.
     cause = File StripOutside;
     told = refl;
   }
-
-  pub is_opened : (strip : StripState) (shown : List Colour) (before : ℕ) → strip.row ≡ 0 → strip.fault ≡ None → strip.read ≡ 0
-      → IsOpenedAt due.directory.file (first_at due.page begins) (row_in_strip due.form first) before
-      (state due.page due.chain due.directory due.form first number strip shown (before + strip.read))
-  is_opened strip shown before none no_fault unread =
-      let at : begins + strip.row ≡ begins = omega (arith, none) in
-      let below : begins + strip.row < due.form.rows = omega (arith, at, begins_below, there) in
-      record {
-        is_open = record { no_fault = no_fault; first = there };
-        file_is = refl;
-        row_due = below;
-        place_is = rw at (at_first due.form due.page begins _ (omega (arith, begins_below, there)) begin_numbers.1);
-        skips = ap (λ (r : ℕ). first - r) at ∙ sym (mod-eq-sub-div-mul first due.form.rows_per_strip);
-        read_is = omega (arith, unread);
-      }
 
 -- the first row of a page is that of its first strip
 pub page_first : (due : PageDue) (p : ℕ) → due.page ≡ p → first_at due.page (strip_at due.form 0 * due.form.rows_per_strip) ≡ first_at p 0
@@ -501,8 +484,8 @@ module _ (page : PageState) (limits : IsPageForm page.form) (within : page.numbe
               (record { bits = page.strip.place; reference = page.strip.reference });
         }
     inside =
-        at_inner page.form page.page (row_of page) _ (row_below page limits strip_is due)
-        (omega (arith, some, (numbers page limits strip_is due).1))
+        at_inner page.form page.page (row_of page) _ (is_below page limits strip_is due)
+        (omega (arith, some, (numbered page limits strip_is due).1))
 
     pub long_some : (bits : ℕ) → bits ≡ page.strip.place → bits ≤ 4294967295
         → Some (record { at = record { page = page.page; row = row_of page }; bits = bits; runs = runs_of page.strip.reference }) ≡ long_of

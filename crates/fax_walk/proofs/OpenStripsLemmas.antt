@@ -1,5 +1,5 @@
 -- Rows that are put on a page, strip by strip.
-use Rattle.std.proofs.Common.{◌≡◌, ◌⊎◌, ℕ, zero, suc, ◌+◌, ◌*◌, ◌<◌, ◌≤◌, inl, inr, min, List, [], ◌∷◌, ◌++◌, length, take, drop, Option, Some}
+use Rattle.std.proofs.Common.{◌≡◌, ℕ, zero, suc, ◌+◌, ◌*◌, ◌<◌, ◌≤◌, inl, inr, min, List, [], ◌∷◌, ◌++◌, length, take, drop, Option, Some}
 use Rattle.std.specs.List.{range_with_len}
 use Rattle.std.proofs.Common.{map, None, Vec, refl, sym, ap, ◌∙◌, arith, length-drop}
 use Rattle.std.specs.declared.alloc.Global.{Global}
@@ -16,7 +16,7 @@ use Rattle.fax_files.specs.Page.{strip_form}
 use Rattle.fax_files.specs.views.Writing.{contents}
 use Rattle.fax_walk.proofs.OpenPageLemmas.{whole_of}
 use Rattle.fax_walk.specs.declared.open_strips.OpenStrips.{OpenStrips}
-use Rattle.fax_walk.specs.code.OpenStrips.{coded_of, with_writer, AreInStrip, BeginsStrip, HasPutRows}
+use Rattle.fax_walk.specs.code.OpenStrips.{coded_of, AreInStrip, HasPutRows}
 
 -- rows after n strips do not change them
 strips_more : (form : PageForm) (k n : ℕ) (rows more : List (List Colour)) → n * form.rows_per_strip ≤ length rows
@@ -88,21 +88,6 @@ module _ (writes : WritesRowByRow) (form : PageForm) (k : ℕ) (rows : List (Lis
       let whole = rw none at put.in_strip in
       let nothing : drop (n * in_strip) rows ≡ [] = drop_all (n * in_strip) rows (omega arith) in
       rw (nothing, is, put.form_is, put.k_is) (writes.begins (strip_form form n) k)
-
-  -- the page once a strip is open
-  abbrev pub IsOpened : OpenStrips → Type 0
-  IsOpened opened = (opened ≡ page) ⊎ ((page.writer ≡ None) × BeginsStrip (strip_form page.form n) page opened)
-
-  pub ready_opened : (opened : OpenStrips) (writer : WriterState) → IsOpened opened → opened.writer ≡ Some writer
-      → IsReady writer × (opened ≡ with_writer page page.rows (Some writer))
-  ready_opened opened writer (inl same) is =
-      let here : page.writer ≡ Some writer = ap (λ (p : OpenStrips). p.writer) (sym same) ∙ is in
-      (ready_started writer here, same ∙ ap (with_writer page page.rows) here)
-  ready_opened opened writer (inr (none, begun)) is =
-      let beginning : WriterState = writer_beginning (strip_form page.form n) page.k in
-      let here : Some beginning ≡ Some writer = sym (ap (λ (p : OpenStrips). p.writer) begun) ∙ is in
-      let writer_is : writer ≡ beginning = cc here in
-      (ready_new writer none writer_is, begun ∙ ap (with_writer page page.rows) here)
 
   module _ (row : List Colour) (old new : WriterState) (ready : IsReady old) (puts : PutsRow old row new) where
     abbrev more : List (List Colour)

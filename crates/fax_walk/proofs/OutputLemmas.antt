@@ -1,18 +1,16 @@
 -- An output that is written page by page.
-use Rattle.std.proofs.Common.{◌≡◌, ℕ, zero, suc, ◌+◌, ◌-◌, ◌*◌, ◌/◌, ◌<◌, ◌≤◌, inl, inr, List, [], ◌∷◌, ◌++◌, length, map, take, drop}
+use Rattle.std.proofs.Common.{◌≡◌, ℕ, suc, ◌+◌, ◌-◌, ◌*◌, ◌<◌, ◌≤◌, inl, inr, List, [], ◌∷◌, ◌++◌, length, map, take, drop}
 use Rattle.std.proofs.Common.{Option, Some}
 use Rattle.std.proofs.Common.{None, Result, Ok, Err, refl, sym, ap, ◌∙◌, subst, arith, append_assoc, append-nil, length-append, length-take}
-use Rattle.std.proofs.Common.{length-drop, Bool, false, replicate}
+use Rattle.std.proofs.Common.{length-drop}
 use Rattle.std.specs.Prelude.{flat_map, OnOk}
 use Rattle.std.proofs.lemmas.Bool.{cases_lt}
 use Rattle.std.proofs.lemmas.List.{length_push, flat_map_more, length-map}
 use Rattle.std.proofs.lemmas.List.{map-append}
 use Rattle.std.proofs.lemmas.List.Concat.{flat_map-append}
-use Rattle.std.specs.Simd.{first_chunks}
-use Rattle.fax_bits.specs.Bits.{byte_of, packed}
-use Rattle.fax_bits.specs.declared.FillOrder.TheVariants.{MsbFirst}
 use Rattle.fax_bits.specs.declared.Colour.{Colour}
-use Rattle.fax_rows.specs.Coded.{is_black, packed_len, packed_row}
+use Rattle.fax_rows.specs.laws.Packed.{PackingUndoesUnpacking}
+use Rattle.fax_rows.specs.Coded.{packed_len, packed_row}
 use Rattle.fax_page.specs.declared.Coding.{Coding}
 use Rattle.fax_page.specs.declared.Coding.TheVariants.{Mh, Mr, Mmr}
 use Rattle.fax_page.specs.views.Writer.{WriterState}
@@ -48,26 +46,13 @@ pub widths_more : (width : ℕ) (rows : List (List Colour)) (row : List Colour) 
 widths_more width [] row are is = (is, tt)
 widths_more width (first ∷ rows) row are is = (are.0, widths_more width rows row are.1 is)
 
--- as many chunks as are asked for
-chunk_count : (n : ℕ) (b : List Bool) → length (first_chunks 8 n b) ≡ n
-chunk_count zero b = refl
-chunk_count (suc n) b = ap (λ (k : ℕ). suc k) (chunk_count n (drop 8 b))
-
-packed_length : (row : List Colour) → length (packed_row row) ≡ packed_len (length row)
-unfolding packed_row packed
-packed_length row =
-    let b = map is_black row ++ replicate 7 false in
-    length-map (first_chunks 8 ((length (map is_black row) + 7) / 8) b) (byte_of MsbFirst)
-    ∙ chunk_count ((length (map is_black row) + 7) / 8) b
-    ∙ ap (λ (n : ℕ). (n + 7) / 8) (length-map row is_black)
-
 -- how many bytes rows of one width take
-rows_length : (width : ℕ) (rows : List (List Colour)) → AreOfWidth width rows
+rows_length : PackingUndoesUnpacking → (width : ℕ) (rows : List (List Colour)) → AreOfWidth width rows
     → length (flat_map packed_row rows) ≡ length rows * packed_len width
-rows_length width [] are = omega arith
-rows_length width (row ∷ rows) are =
-    let len : length (packed_row row) ≡ packed_len width = packed_length row ∙ ap packed_len are.0 in
-    omega (arith, length-append {A = ℕ}, len, rows_length width rows are.1)
+rows_length packs width [] are = omega arith
+rows_length packs width (row ∷ rows) are =
+    let len : length (packed_row row) ≡ packed_len width = packs.packed_count row ∙ ap packed_len are.0 in
+    omega (arith, length-append {A = ℕ}, len, rows_length packs width rows are.1)
 
 image_of : SourcePage → Image
 image_of page = page.image
@@ -89,7 +74,7 @@ images_too_large : (target : Target) (options : Options) (pages : List SourcePag
     → max_file < length (pbm_of (map (λ page. page.image) pages)) → IsTooLarge target pages (target_bytes target options pages)
 images_too_large target options pages is long = subst (λ t. IsTooLarge t pages (target_bytes t options pages)) (sym is) (inl long)
 
-module _ (at : Progress) (sheet : Sheet) (target : at.options.target ≡ Pbm) where
+module _ (packs : PackingUndoesUnpacking) (at : Progress) (sheet : Sheet) (target : at.options.target ≡ Pbm) where
   abbrev done : List ℕ
   done = pbm_of (map (λ page. page.image) at.pages)
 
@@ -100,7 +85,7 @@ module _ (at : Progress) (sheet : Sheet) (target : at.options.target ≡ Pbm) wh
       let page = page_of sheet rows in
       let head = ap (λ (n : ℕ). length (head_bytes sheet.width n)) count in
       let raster : length (flat_map packed_row rows) ≡ sheet.rows * packed_len sheet.width =
-      rows_length sheet.width rows widths ∙ ap (λ (n : ℕ). n * packed_len sheet.width) count in
+      rows_length packs sheet.width rows widths ∙ ap (λ (n : ℕ). n * packed_len sheet.width) count in
       let long : max_file < length (pbm_of (map (λ page. page.image) ((at.pages ++ page ∷ []) ++ more))) =
       omega (
         arith,
@@ -126,15 +111,15 @@ image_begun at sheet old new has new_is fits = record {
 }
 
 -- a row is put after the others of its image
-pub image_row : (part : Part) (row : List Colour) (old new : List ℕ) → HasImageRows old part → length part.rows < part.sheet.rows
-    → length row ≡ part.sheet.width → new ≡ old ++ packed_row row → HasImageRows new (with_row part row)
-image_row part row old new has due width new_is =
+pub image_row : PackingUndoesUnpacking → (part : Part) (row : List Colour) (old new : List ℕ) → HasImageRows old part
+    → length part.rows < part.sheet.rows → length row ≡ part.sheet.width → new ≡ old ++ packed_row row → HasImageRows new (with_row part row)
+image_row packs part row old new has due width new_is =
     let before = pbm_of (map (λ page. page.image) part.at.pages) in
     let head = head_bytes part.sheet.width part.sheet.rows in
     let rows = flat_map packed_row part.rows in
     let some : 0 < has.left = omega (arith, has.left_is) in
     let one : has.left ≡ has.left - 1 + 1 = omega arith in
-    let len : length (packed_row row) ≡ packed_len part.sheet.width = packed_length row ∙ ap packed_len width in
+    let len : length (packed_row row) ≡ packed_len part.sheet.width = packs.packed_count row ∙ ap packed_len width in
     let size : length new ≡ length old + packed_len part.sheet.width =
     ap length new_is ∙ length-append old (packed_row row) ∙ ap (λ (n : ℕ). length old + n) len in
     let room : has.left * packed_len part.sheet.width ≡ (has.left - 1) * packed_len part.sheet.width + packed_len part.sheet.width =

@@ -24,6 +24,7 @@ use Rattle.fax_walk.specs.declared.options.Target.{Target}
 use Rattle.fax_walk.specs.declared.options.Target.TheVariants as To
 use Rattle.fax_walk.specs.Pages.{AreFrom, FilePage, FormItem, IsForm, IsPageAt}
 use Rattle.fax_walk.specs.Items.{AreItems, RowItem}
+use Rattle.fax_rows.specs.laws.Packed.{PackingUndoesUnpacking}
 use Rattle.fax_walk.specs.Converted.{IsSource, IsTiff, IsTooLarge, SourcePage, pages_of, target_bytes}
 use Rattle.fax_walk.specs.code.Output.{form_sheet, page_of}
 use Rattle.fax_walk.specs.code.Sources.{ArePaged, AreRowsOn, FilesArePaged, page_of_image, pels_of}
@@ -56,14 +57,14 @@ page_writable form own limits count wide =
     }
 
 -- an image that was read can be written
-image_writable : (left : List ℕ) (image : Image) (rest : List ℕ) → IsImage left image rest → IsWritableImage image
-image_writable left image rest is =
+image_writable : PackingUndoesUnpacking → (left : List ℕ) (image : Image) (rest : List ℕ) → IsImage left image rest → IsWritableImage image
+image_writable packs left image rest is =
     let count : length image.rows ≡ is.height =
     ap (λ (l : List (List Colour)). length l) is.rows_are ∙ raster_count image.width is.height is.raster in
     let whole = is.whole in
     record {
       within = subst (λ (n : ℕ). IsTrue (is_within_limits image.width n)) (sym count) is.within;
-      rows = subst (AreOfWidth image.width) (sym is.rows_are) (raster_widths image.width is.height is.raster (omega (arith, whole)));
+      rows = subst (AreOfWidth image.width) (sym is.rows_are) (raster_widths packs image.width is.height is.raster (omega (arith, whole)));
     }
 
 image_page_writable : (image : Image) → IsWritableImage image → IsWritableSource (page_of_image image)
@@ -75,11 +76,12 @@ image_page_writable image writable = record {
   unit = omega arith;
 }
 
-images_writable : (bytes : List ℕ) (images : List Image) → AreImages bytes images None → All IsWritableSource (map page_of_image images)
-images_writable bytes [] are = All-nil IsWritableSource
-images_writable bytes (image ∷ images) (rest, is, are) =
-    All-cons IsWritableSource (page_of_image image) (map page_of_image images) (image_page_writable image (image_writable bytes image rest is))
-    (images_writable rest images are)
+images_writable : PackingUndoesUnpacking → (bytes : List ℕ) (images : List Image) → AreImages bytes images None
+    → All IsWritableSource (map page_of_image images)
+images_writable packs bytes [] are = All-nil IsWritableSource
+images_writable packs bytes (image ∷ images) (rest, is, are) =
+    All-cons IsWritableSource (page_of_image image) (map page_of_image images) (image_page_writable image (image_writable packs bytes image rest is))
+    (images_writable packs rest images are)
 
 -- a file of images that begins as one has one
 some_images : (bytes : List ℕ) (images : List Image) → BeginsWith bytes (codes "P4") → AreImages bytes images None → 1 ≤ length images
@@ -111,7 +113,7 @@ items_kept (one ∷ forms) p items (own, others, items_are, are, inl whole) =
     ap (λ (l : List SourcePage). rows_of p (map (λ source. source.image.rows) l)) (first_page one forms items own others items_are whole.0)
     ∙ rw (← rows_numbered p one.form 0 own are, items_kept forms (p + 1) others whole.2, items_are, map-append walked own others) refl
 
-module _ (paged : FilesArePaged) (within_limits : FormsAreWithinLimits) where
+module _ (packs : PackingUndoesUnpacking) (paged : FilesArePaged) (within_limits : FormsAreWithinLimits) where
   page_limits : (file : List ℕ) → All (λ byte. byte < 256) file → (at : Cursor) (here : FilePage) → IsPageAt file at (Ok here)
       → IsPageForm here.form
   page_limits file bytes at here is =
@@ -138,7 +140,7 @@ module _ (paged : FilesArePaged) (within_limits : FormsAreWithinLimits) where
       let some = some_images bytes images begins are in
       let count : length pages ≡ length images =
       ap (λ (l : List SourcePage). length l) pages_are ∙ length-map images page_of_image in
-      (subst (All IsWritableSource) (sym pages_are) (images_writable bytes images are), omega (arith, some, count))
+      (subst (All IsWritableSource) (sym pages_are) (images_writable packs bytes images are), omega (arith, some, count))
   source_writable bytes are_bytes pages (inr (tiff, forms, items, forms_are, items_are, pages_are)) =
       let some = some_pages bytes forms forms_are in
       let count : length pages ≡ length forms = ap (λ (l : List SourcePage). length l) pages_are ∙ pages_counted forms items in (
@@ -174,9 +176,10 @@ module _ (written : CodedFilesAreWalked) (images : WrittenImagesAreRead) (option
   read_back To.Mmr target_is output output_is fits =
       read_in Mmr To.Mmr (λ is. cc) (λ aligned is. options.aligned_is_no_mmr aligned target_is) output output_is fits
 
-pub conversions_are_read_back : FilesArePaged → FormsAreWithinLimits → CodedFilesAreWalked → WrittenImagesAreRead → ConversionsAreReadBack
-conversions_are_read_back paged within written images bytes options output are_bytes converted =
-    let found = source_writable paged within bytes are_bytes converted.pages converted.source in
+pub conversions_are_read_back : PackingUndoesUnpacking → FilesArePaged → FormsAreWithinLimits → CodedFilesAreWalked → WrittenImagesAreRead
+    → ConversionsAreReadBack
+conversions_are_read_back packs paged within written images bytes options output are_bytes converted =
+    let found = source_writable packs paged within bytes are_bytes converted.pages converted.source in
     read_back written images options converted.pages found.0 found.1 options.target refl output converted.output_is converted.fits
 
 -- a TIFF file does not begin as images do

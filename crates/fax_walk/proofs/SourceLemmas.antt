@@ -66,26 +66,6 @@ module _ (by_place : AreBitsByPlace) (lines_read : LinesAreRead) (file : List �
     ends = inr (omega (arith, less), (p, n, cause, is));
   }
 
-  -- a row, and those after it
-  one_more : (r : ℕ) (inner : Option Inner) (item : RowItem) (to : RowPlace) → IsRow file (place_at r inner) (goes_on item to)
-      → (item.page ≡ p) × (item.form ≡ form) × (item.row ≡ r) × (length item.pels ≡ form.width) → Rows (r + 1) to
-      → Rows r (place_at r inner)
-  one_more r inner item to step is rest = record {
-    own = item ∷ rest.own;
-    to = rest.to;
-    lead = (to, step, rest.lead);
-    are = (is.0, is.1, is.2, is.3, rest.are);
-    ends = elim rest.ends [
-      | inl all ↦ inl (omega (arith, all.0), all.1)
-      | inr stop ↦ inr (omega (arith, stop.0), stop.1)
-    ];
-  }
-
-  item_wide : (r : ℕ) (inner : Option Inner) (bytes : List ℕ) (item : RowItem) (to : RowPlace) → IsWide inner
-      → IsInStrip form (place_at r inner) (Some bytes) (goes_on item to) → length (exchanged form item.pels) ≡ form.width
-  item_wide r inner bytes item to wide is =
-      (lines_read _ _ (before form.width inner).reference).width _ (exchanged form item.pels) _ wide is.3
-
   -- the rows from row r on, where those after it are known
   module _ (r : ℕ) (due : r < form.rows)
       (next : (inner : Option Inner) → IsWide inner → r + 1 < form.rows → Rows (r + 1) (place_at (r + 1) inner)) where
@@ -112,9 +92,18 @@ module _ (by_place : AreBitsByPlace) (lines_read : LinesAreRead) (file : List �
     by_found inner wide (Some bytes) (ends_as end) (fault, stop, end_is) row =
         stops r inner r (Strip fault) due (subst (λ (e : End). IsRow file (place_at r inner) (ends_as e)) end_is row)
     by_found inner wide (Some bytes) (goes_on item to) is row =
-        let item_is = item_wide r inner bytes item to wide is in
-        one_more r inner item to row (is.0, is.5, is.1, sym (exchanged_length form item.pels) ∙ item_is)
-        (rw is.4 (after item is.0 is.1 is.5 item_is))
+        let item_is = (lines_read _ _ (before form.width inner).reference).width _ (exchanged form item.pels) _ wide is.3 in
+        let rest : Rows (r + 1) to = rw is.4 (after item is.0 is.1 is.5 item_is) in
+        record {
+          own = item ∷ rest.own;
+          to = rest.to;
+          lead = (to, row, rest.lead);
+          are = (is.0, is.5, is.1, sym (exchanged_length form item.pels) ∙ item_is, rest.are);
+          ends = elim rest.ends [
+            | inl all ↦ inl (omega (arith, all.0), all.1)
+            | inr stop ↦ inr (omega (arith, stop.0), stop.1)
+          ];
+        }
 
   -- from a place on, where so many rows are left
   rows_on : (left r : ℕ) (inner : Option Inner) → r + left ≡ form.rows → IsWide inner → r < form.rows → Rows r (place_at r inner)

@@ -3,7 +3,7 @@ use Rattle.std.proofs.Common.{◌≡◌, ℕ, ◌+◌, ◌*◌, ◌<◌, List, [
 use Rattle.std.proofs.Common.{sym, ap, ◌∙◌}
 use Rattle.std.proofs.Common.{subst, arith, append_assoc, append-nil}
 use Rattle.std.proofs.lemmas.Bool.Decides.{nat_tests}
-use Rattle.std.specs.Prelude.{nat_lt, ◌==◌, if◌then◌else◌, Option}
+use Rattle.std.specs.Prelude.{nat_lt, ◌==◌, Option}
 use Rattle.fax_bits.specs.declared.Colour.{Colour}
 use Rattle.fax_bits.specs.Bits.{bits}
 use Rattle.fax_bits.specs.laws.Codes.{AreBitsByPlace}
@@ -90,31 +90,6 @@ module _ (directory : TiffDirectory) (form : PageForm) (p : ℕ) (on : IsPageToC
       → IsStripNoted form p s (bytes_of directory s) answer → IsNoted file ((p, Some s)) answer
   noted_on s answer is = (Ok _, page 0, is)
 
-  -- one strip is whole
-  strip_checked : (s : ℕ) (bytes : List ℕ) (rows : List (List Colour)) (found : StripNotes) → s < form.strips
-      → bytes_of directory s ≡ Some bytes → IsNotedAs (strip_form form s) (bits form.order bytes) rows found
-      → HasChecked file (before_strip form p s) (before_strip form p (s + 1)) (notes_on_strip p s found) (length rows)
-  strip_checked s bytes rows found due there is =
-      let strip : IsStrip (strip_form form s) (bits form.order bytes) rows None = record { left = is.left; lines = is.lines } in
-      let read =
-      strip_rows on.by_place on.lines_read file directory.endian directory.offset form p page whole s (whole.needed s due) bytes there rows None
-      strip in
-      let count = strip_count (strip_form form s) (bits form.order bytes) rows None strip in
-      let total : s * n + length rows ≡ min ((s + 1) * n) form.rows = omega (arith, count, whole.needed s due) in
-      let to = rw total at read.there in
-      rw (at_strip s due) (record {
-        found = notes_on_strip p s found ∷ [];
-        lead = (
-          (if s + 1 == form.strips then (p + 1, None) else (p, Some (s + 1))),
-          noted_on s _ (rw there (rows, found, is, refl, refl)),
-          refl,
-        );
-        notes_are = sym (append-nil (notes_on_strip p s found));
-        items = read.items;
-        lead_rows = subst (λ (a : RowPlace). LeadTo (IsRow file) (first_at p (s * n)) read.items a) to read.lead;
-        count = sym (walked_length file p (first_at p (s * n)) (s * n) (shown form rows) _ read ∙ shown_length form rows);
-      })
-
   -- one more strip is whole
   pub strip_after : (s : ℕ) (old middle new : List Note) (bytes : List ℕ) (rows : List (List Colour)) (found : StripNotes)
       → s < form.strips → Checks s old middle → bytes_of directory s ≡ Some bytes
@@ -122,17 +97,28 @@ module _ (directory : TiffDirectory) (form : PageForm) (p : ℕ) (on : IsPageToC
       → Checks (s + 1) old new
   strip_after s old middle new bytes rows found due so_far there is new_is =
       let strip : IsStrip (strip_form form s) (bits form.order bytes) rows None = record { left = is.left; lines = is.lines } in
+      let below = whole.needed s due in
       let count = strip_count (strip_form form s) (bits form.order bytes) rows None strip in
-      let total : min (s * n) form.rows + length rows ≡ min ((s + 1) * n) form.rows = omega (arith, count, whole.needed s due) in
+      let total : min (s * n) form.rows + length rows ≡ min ((s + 1) * n) form.rows = omega (arith, count, below) in
+      let place : s * n + length rows ≡ min ((s + 1) * n) form.rows = omega (arith, count, below) in
+      let read =
+      strip_rows on.by_place on.lines_read file directory.endian directory.offset form p page whole s below bytes there rows None strip in
+      let to = rw place at read.there in
+      let this : HasChecked file (before_strip form p s) (before_strip form p (s + 1)) (notes_on_strip p s found) (length rows) =
+      rw (at_strip s due) (record {
+        found = notes_on_strip p s found ∷ [];
+        lead = ((before_strip form p (s + 1)).next, noted_on s _ (rw there (rows, found, is, refl, refl)), refl);
+        notes_are = sym (append-nil (notes_on_strip p s found));
+        items = read.items;
+        lead_rows = rw to at read.lead;
+        count = sym (walked_length file p (first_at p (s * n)) (s * n) (shown form rows) _ read ∙ shown_length form rows);
+      }) in
       record {
         noted = so_far.noted ++ notes_on_strip p s found;
-        notes_are =
-            new_is ∙ ap (λ (l : List Note). l ++ notes_on_strip p s found) so_far.notes_are
-            ∙ append_assoc old so_far.noted (notes_on_strip p s found);
+        notes_are = rw (new_is, so_far.notes_are, append_assoc old so_far.noted (notes_on_strip p s found)) refl;
         is = rw total at
             (checked_on file (before_strip form p 0) (before_strip form p s) (before_strip form p (s + 1)) so_far.noted
-            (notes_on_strip p s found) (min (s * n) form.rows) (length rows) so_far.is
-            (strip_checked s bytes rows found due there is));
+            (notes_on_strip p s found) (min (s * n) form.rows) (length rows) so_far.is this);
       }
 
   -- the rest of the page, from its first strip on
@@ -198,20 +184,7 @@ module _ (directory : TiffDirectory) (form : PageForm) (p : ℕ) (on : IsPageToC
   inside_page s bytes rows fault due strip =
       omega (arith, whole.needed s due, strip_count (strip_form form s) (bits form.order bytes) rows (Some fault) strip)
 
-  -- a row of a strip cannot be read
-  strip_refused : (s : ℕ) (old new : List Note) (bytes : List ℕ) (rows : List (List Colour)) (fault : StripFault)
-      → s < form.strips → Checks s old new → bytes_of directory s ≡ Some bytes
-      → IsStrip (strip_form form s) (bits form.order bytes) rows (Some fault)
-      → Rest old new (record { rows = s * n + length rows; fault = Some (Strip fault) })
-  strip_refused s old new bytes rows fault due so_far there strip =
-      let read =
-      strip_rows on.by_place on.lines_read file directory.endian directory.offset form p page whole s (whole.needed s due) bytes there rows
-      (Some fault) strip in
-      fault_after s (length rows) (Strip fault) old new due (inside_page s bytes rows fault due strip) so_far read.to read.items read.lead
-      (sym (walked_length file p (first_at p (s * n)) (s * n) (shown form rows) _ read ∙ shown_length form rows))
-      (rw there (rows, fault, strip.left, strip.lines, refl)) read.there
-
-  -- the same where the strip has no notes
+  -- a row of a strip cannot be read, and the strip has no notes
   pub row_inside : (s : ℕ) (b : List ℕ) (fault : NotesFault) → s < form.strips
       → IsNotesFault (strip_form form s) (bits form.order b) fault → IsRowInside (s * n) fault
   row_inside s b Memory due refused = tt
@@ -222,4 +195,10 @@ module _ (directory : TiffDirectory) (form : PageForm) (p : ℕ) (on : IsPageToC
       → IsNotesFault (strip_form form s) (bits form.order b) fault → IsReadTo (s * n) fault read → Rest old new read
   strip_fault s old new b Memory read due so_far there refused none = absurd none
   strip_fault s old new b (RowOfStrip row fault) read due so_far there (rows, row_is, strip) read_is =
-      rw (read_is, ← row_is) (strip_refused s old new b rows fault due so_far there strip)
+      let rows_read =
+      strip_rows on.by_place on.lines_read file directory.endian directory.offset form p page whole s (whole.needed s due) b there rows
+      (Some fault) strip in
+      rw (read_is, ← row_is)
+      (fault_after s (length rows) (Strip fault) old new due (inside_page s b rows fault due strip) so_far rows_read.to rows_read.items
+      rows_read.lead (sym (walked_length file p (first_at p (s * n)) (s * n) (shown form rows) _ rows_read ∙ shown_length form rows))
+      (rw there (rows, fault, strip.left, strip.lines, refl)) rows_read.there)

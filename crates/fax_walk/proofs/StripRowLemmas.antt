@@ -1,5 +1,5 @@
 -- The rows of a strip are rows that a walk hands out, one after another.
-use Rattle.std.proofs.Common.{◌≡◌, ℕ, zero, suc, ◌+◌, ◌*◌, ◌<◌, ◌≤◌, inl, inr, Bool, true, false, List, [], ◌∷◌, map, length, drop, Option, Some, None}
+use Rattle.std.proofs.Common.{◌≡◌, ℕ, ◌+◌, ◌*◌, ◌<◌, ◌≤◌, inl, inr, Bool, true, false, List, [], ◌∷◌, map, length, drop, Option, Some, None}
 use Rattle.std.proofs.Common.{Ok, refl, sym}
 use Rattle.std.proofs.Common.{ap, ◌∙◌, subst, arith}
 use Rattle.std.proofs.lemmas.Bool.{cases_lt}
@@ -23,11 +23,11 @@ use Rattle.fax_walk.specs.declared.end.End.TheVariants.{Fault}
 use Rattle.fax_walk.specs.laws.InOrder.{LeadTo}
 use Rattle.fax_walk.specs.Pages.{IsPageAt}
 use Rattle.fax_walk.specs.Items.{RowItem, Inner, RowPlace, first_at, exchanged, before}
-use Rattle.fax_walk.specs.code.Places.{first_on, place_on, strip_at, row_in_strip}
+use Rattle.fax_walk.specs.code.Places.{first_on, place_on, strip_at}
 use Rattle.fax_walk.specs.Items.{IsInStrip, IsRow, place_after}
 use Rattle.fax_walk.specs.laws.Written.{WalkedRow, walked, numbered}
 use Rattle.fax_walk.proofs.RowLawLemmas.{LinesAreRead, exchanged_twice}
-use Rattle.fax_walk.proofs.OpenPageLemmas.{at_first, at_inner, at_end}
+use Rattle.fax_walk.proofs.OpenPageLemmas.{at_first, at_end, due_at, numbers}
 use Rattle.fax_walk.proofs.StripPlaceLemmas.{in_strip, shown_none, shown_row}
 use Rattle.fax_walk.specs.Pages.{Step, goes_on, ends_as}
 
@@ -81,20 +81,9 @@ module _ (by_place : AreBitsByPlace) (lines_read : LinesAreRead) (file : List �
     abbrev all : List Bool
     all = bits form.order bytes
 
-    numbers : (r i : ℕ) → r ≡ s * n + i → i < strip.rows → (strip_at form r ≡ s) × (row_in_strip form r ≡ i)
-    numbers r i r_is within = in_strip n s i r (omega (arith, within)) r_is
-
     -- before the strip's first row
     abbrev first : Inner
     first = before form.width None
-
-    -- the place of a row that is due in the strip
-    due_at : (inner : Inner) (r i : ℕ) → r ≡ s * n + i → i < strip.rows → (i ≡ 0 → inner ≡ first)
-        → (o : Option Inner) × (place_on form p r inner ≡ place_at r o) × (before form.width o ≡ inner)
-    due_at inner r zero r_is within begins =
-        (None, at_first form p r inner (omega arith) (numbers r 0 r_is within).1, sym (begins refl))
-    due_at inner r (suc i) r_is within begins =
-        (Some inner, at_inner form p r inner (omega arith) (omega (arith, (numbers r (suc i) r_is within).1)), refl)
 
     -- after the strip's last row
     after_strip : (inner : Inner) (r : ℕ) → r ≡ s * n + strip.rows → place_on form p r inner ≡ first_on form p r
@@ -116,15 +105,15 @@ module _ (by_place : AreBitsByPlace) (lines_read : LinesAreRead) (file : List �
         let none : r + 0 ≡ r = omega arith in
         none_read file p form _ r (Reaches None (r + 0)) (rw none (after_strip inner r (omega (arith, lines.1))))
     lines_from inner r i [] (Some fault) left r_is within begins lines =
-        let number = numbers r i r_is lines.1 in
-        let at = due_at inner r i r_is lines.1 begins in
+        let number = numbers form p s i r inner r_is lines.1 in
+        let at = due_at form p s i r inner r_is lines.1 begins in
         let none : r + 0 ≡ r = omega arith in
         none_read file p form _ r (Reaches (Some fault) (r + 0))
         (rw (none, at.1) (row_at r at.0 (Some bytes) (ends_as (Fault p r (Strip fault))) (rw number.0 bytes_are)
         (fault, rw (number.1, at.2) lines.2, refl)))
     lines_from inner r i (row ∷ rows) stop left r_is within begins (rest, due, line, more) =
-        let number = numbers r i r_is due in
-        let at = due_at inner r i r_is due begins in
+        let number = numbers form p s i r inner r_is due in
+        let at = due_at form p s i r inner r_is due begins in
         let from = (lines_read strip i inner.reference).rest all inner.bits row rest line in
         let item : RowItem = record { page = p; form = form; row = r; pels = exchanged form row; bits = from.0 } in
         let twice = exchanged_twice form row in
@@ -147,6 +136,6 @@ module _ (by_place : AreBitsByPlace) (lines_read : LinesAreRead) (file : List �
     pub strip_rows : (rows : List (List Colour)) (stop : Option StripFault) → IsStrip strip all rows stop
         → AreRead file p (first_at p (s * n)) (s * n) (shown form rows) (Reaches stop (s * n + length rows))
     strip_rows rows stop is =
-        let number = numbers (s * n) 0 (omega arith) (omega (arith, whole.some_in_strip)) in
+        let number = in_strip n s 0 (s * n) whole.some_in_strip (omega arith) in
         rw (at_first form p (s * n) first below number.1) at
         (lines_from first (s * n) 0 rows stop is.left (omega arith) (omega arith) (λ none. refl) is.lines)

@@ -47,6 +47,7 @@ fn convert_image(
         (Reads.PutsImage options.now output.old image.now.width image.now.rows image.now.raster.now
         output.new) }
 {
+    fax_rows::laws::packing_undoes_unpacking();
     output.begin(alloc, options, &Sheet::of_image(image))?;
     if let Output::TooLarge = output {
         return Ok(());

@@ -54,6 +54,7 @@ pub fn conversions_are_read_back()
     ensures back { ReadBackLaws.ConversionsAreReadBack }
     ensures same { ReadBackLaws.ConversionsKeepItems }
 {
+    fax_rows::laws::packing_undoes_unpacking();
     files_are_paged();
     fax_files::laws::forms_are_within_limits();
     fax_files::laws::written_images_are_read();

@@ -50,6 +50,21 @@ impl OpenStrips {
         Ok(())
     }
 
+    /// Begins the next strip, which has this number, where none is open.
+    #[inline(always)]
+    fn open_strip(&mut self, strip: u32) -> Result<(), Memory>
+        requires number { strip ≡ length self.old.done.items }
+        requires due { (row : List Colour) × Spec.TakesRow self.old row }
+        ensures { OnOk result (Spec.OpensStrip self.old self.new) }
+    {
+        fax_page::laws::strips_are_written_row_by_row();
+        if let Some(_) = self.writer {
+            return Ok(());
+        }
+        let form = self.form.strip_form(strip);
+        self.begin_strip(form)
+    }
+
     /// Writes the strip that is open, all rows of which were put.
     #[inline(never)]
     fn end_strip(&mut self) -> Result<(), Memory>
@@ -71,10 +86,7 @@ impl OpenStrips {
     {
         fax_page::laws::strips_are_written_row_by_row();
         let strip = self.done.len() as u32;
-        if let None = self.writer {
-            let form = self.form.strip_form(strip);
-            self.begin_strip(form)?;
-        }
+        self.open_strip(strip)?;
         let Some(writer) = &mut self.writer else {
             unreachable!();
         };

@@ -56,6 +56,7 @@ impl Output {
         requires due { (at : Progress) × Spec.IsPageDue options.now self.old at }
         ensures { OnOk result (Spec.BeginsPage options.now self.old sheet.now self.new) }
     {
+        fax_rows::laws::packing_undoes_unpacking();
         match self {
             Output::Images(bytes) => {
                 put_pbm_head(bytes, sheet.width, sheet.rows)?;
@@ -79,6 +80,7 @@ impl Output {
         requires { Spec.TakesRow self.old row.now }
         ensures { OnOk result (Spec.PutsRow self.old row.now self.new) }
     {
+        fax_rows::laws::packing_undoes_unpacking();
         match self {
             Output::Images(bytes) => put_pbm_row(bytes, row),
             Output::File(_, _, Some(page)) => page.put_row(row),

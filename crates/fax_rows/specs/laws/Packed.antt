@@ -25,8 +25,11 @@ IsPackedBack =
     → bits MsbFirst (packed_row (unpacked_row width bytes))
     ≡ take width (bits MsbFirst bytes) ++ replicate (8 * packed_len width - width) false
 
--- packing and unpacking undo one another
+-- packing and unpacking undo one another, and a row of a width has so many bytes
 pub record PackingUndoesUnpacking : Type 0 where
+  pub packed_count : (row : List Colour) → length (packed_row row) ≡ packed_len (length row)
+  pub unpacked_count : (width : ℕ) (bytes : List ℕ) → length bytes ≡ packed_len width
+      → length (unpacked_row width bytes) ≡ width
   pub bits_of_pels : HasBitsOfPels
   pub read_back : IsReadBack
   pub packed_back : IsPackedBack

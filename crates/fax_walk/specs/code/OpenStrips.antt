@@ -58,6 +58,16 @@ with_writer page rows writer = record page { rows = rows; writer = writer }
 abbrev pub BeginsStrip : StripForm → OpenStrips → OpenStrips → Type 0
 BeginsStrip form old new = new ≡ with_writer old old.rows (Some (writer_beginning form old.k))
 
+-- the next row of a page can be put to the strip that is open, and nothing but its writer is
+-- changed
+abbrev pub OpensStrip : OpenStrips → OpenStrips → Type 0
+OpensStrip old new =
+    (form : PageForm) (k : ℕ) (rows : List (List Colour)) → HasPutRows form k rows old
+    → length rows < form.rows
+    → (writer : WriterState) × (new ≡ with_writer old old.rows (Some writer))
+    × HasPut (strip_form form (length old.done.items)) k
+    (drop (length old.done.items * form.rows_per_strip) rows) writer
+
 -- a strip is open, and all its rows were put
 pub record HasWholeStrip (page : OpenStrips) : Type 0 where
   pub writer : WriterState

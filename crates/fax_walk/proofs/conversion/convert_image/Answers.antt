@@ -16,7 +16,8 @@ returns-in-TooLarge c = λ at due.
     let begun = subst (λ s. IsPartWritten c.begin.new.self (no_rows at s)) c.of_image.ensures.exact (c.in_ok-begin.ensures at due) in
     let large : BecomesTooLarge (no_rows at (image_sheet width height)) = rw c.in-TooLarge.is at begun.has in
     rw c.in-TooLarge.is
-    (large (raster_rows width height raster) (raster_count width height raster) (raster_widths width height raster enough))
+    (large (raster_rows width height raster) (raster_count width height raster)
+    (raster_widths c.packing_undoes_unpacking.ensures width height raster enough))
 
 pub put_row-requires : goal.put_row-requires
 put_row-requires c =

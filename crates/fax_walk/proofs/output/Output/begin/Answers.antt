@@ -14,7 +14,7 @@ returns-then-len-raster-gt-MAX_OUTPUT c = λ at due.
     let len : c.len.result ≡ length c.put_pbm_head.new.out.items = omega (arith, c.len.ensures) in
     record {
       widths = tt;
-      has = image_too_large at c.args.sheet.now has.target
+      has = image_too_large c.packing_undoes_unpacking.ensures at c.args.sheet.now has.target
           (omega (arith, c.if-len-raster-gt-MAX_OUTPUT.true, len, ap length new_is, ap length has.bytes_are, parts, raster));
     }
 

@@ -5,7 +5,9 @@ use Rattle.fax_walk.proofs.output.Output.put_row.Goals as goal
 pub returns-in-Images : goal.returns-in-Images
 returns-in-Images c = on_ok c.put_pbm_row.result c.put_pbm_row.ensures.ok (λ put part written due width. record {
   widths = widths_more part.sheet.width part.rows c.args.row.now written.widths width;
-  has = image_row part c.args.row.now c.in-Images.bytes.items c.put_pbm_row.new.out.items (rw c.in-Images.is at written.has) due width put;
+  has =
+      image_row c.packing_undoes_unpacking.ensures part c.args.row.now c.in-Images.bytes.items c.put_pbm_row.new.out.items
+      (rw c.in-Images.is at written.has) due width put;
 })
 
 pub returns-in-File-default-default-Some : goal.returns-in-File-default-default-Some
