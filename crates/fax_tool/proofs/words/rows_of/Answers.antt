@@ -1,8 +1,7 @@
 use Rattle.std.proofs.Common.{◌∙◌, ◌⊎◌, ap, codes, inl, inr, lit<, subst, sym, Option}
 use Rattle.clap.specs.Matches.{found_of}
 use Rattle.clap.specs.Walk.{Text, first_of}
-use Rattle.std.specs.Prelude.{IfSome}
-use Rattle.fax_walk.specs.Pages.{cursor_text, IsLongCursor, LongPlace}
+use Rattle.fax_walk.specs.Pages.{cursor_text, LongPlace}
 use Rattle.fax_walk.specs.declared.cursor.Cursor.{Cursor}
 use Rattle.fax_tool.specs.code.Entries.{entries_of}
 use Rattle.fax_tool.proofs.BeginLemmas.{BeginsAt, BeginsInside, begins_by}
@@ -53,11 +52,3 @@ returns-clause-ok c =
       long_is = flag_read (found_of c.args.matches.now) (codes "long") c.get_flag.result c.requires.long
           c.get_flag.ensures.none c.get_flag.ensures.value c.get_flag.ensures.other;
     }
-
-pub returns-clause-from : goal.returns-clause-from
-returns-clause-from c = elim c.match-get_str.branch [
-  | in-Some+in-Ok w ↦ subst (λ (q : Cursor × Option LongPlace). IfSome q.1 IsLongCursor) (sym w.from-is) tt
-  | in-Some+in-Err+in_ok-from-in-Err w ↦
-      subst (λ (q : Cursor × Option LongPlace). IfSome q.1 IsLongCursor) (sym w.from-is) w.in_ok-from-in-Err.ensures.range
-  | in-None w ↦ subst (λ (q : Cursor × Option LongPlace). IfSome q.1 IsLongCursor) (sym w.from-is) tt
-]

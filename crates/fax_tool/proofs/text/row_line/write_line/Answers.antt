@@ -5,9 +5,6 @@ use Rattle.fax_tool.specs.Text.{and_number, row_line_of}
 use Rattle.fax_tool.proofs.NumberLemmas.{line_is, one, three}
 use Rattle.fax_tool.proofs.text.row_line.write_line.Goals as goal
 
-pub write_number-page_end-requires : goal.write_number-page_end-requires
-write_number-page_end-requires c = omega (arith, length-set {A = ℕ}, c.requires)
-
 pub write_number-row_end-requires : goal.write_number-row_end-requires
 write_number-row_end-requires c = omega (arith, length-set {A = ℕ})
 
