@@ -26,6 +26,5 @@ pub mod PrintLemmas
 pub mod TextLemmas
 pub mod CommandLemmas
 pub mod WholeLemmas
-pub mod ReportLemmas
 pub mod RunLemmas
 mod TextLawLemmas
