@@ -1,6 +1,7 @@
 -- Lines that are printed, one after another.
 use Rattle.std.proofs.Common.{◌≡◌, ℕ, ◌+◌, ◌-◌, ◌<◌, ◌≤◌, List, [], ◌∷◌, ◌++◌, length, take, ap, sym, ◌∙◌, append_assoc, append-nil}
 use Rattle.std.proofs.Common.{arith, ◌↔◌, ◌⊎◌, inl, inr, subst, Bool, Result, Ok, Err}
+use Rattle.std.proofs.lemmas.Grind.{flat_map-append}
 use Rattle.std.proofs.lemmas.Option.{slice_get_within}
 use Rattle.std.specs.Prelude.{Option, Some, None, IfSome, option_map, false, slice_get, IfErr}
 use Rattle.std.specs.Io.KnownBytes.{Appends}
@@ -41,9 +42,8 @@ pub record PrintsSome (tail now : List Line → End → Type 0) (given : ℕ) (m
   pub collected : texts_of (take given lines) ≡ sent ++ text
 
 texts_of-push : (lines : List Line) (line : Line) → texts_of (lines ++ line ∷ []) ≡ texts_of lines ++ line.text
-texts_of-push [] line = append-nil line.text
-texts_of-push (first ∷ lines) line =
-    ap (λ text. first.text ++ text) (texts_of-push lines line) ∙ sym (append_assoc first.text (texts_of lines) line.text)
+texts_of-push lines line =
+    flat_map-append (λ line. line.text) lines (line ∷ []) ∙ ap (λ text. texts_of lines ++ text) (append-nil line.text)
 
 one_less_left : (max left : Option ℕ) (count : ℕ) → IsLeftOf max left count → IfSome left (λ n. 0 < n)
     → IsLeftOf max (option_map (λ n. n - 1) left) (count + 1)
