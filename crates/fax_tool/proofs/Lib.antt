@@ -2,7 +2,6 @@ pub mod TransferLemmas
 mod NumberLemmas
 mod RunTextLemmas
 mod RememberedLemmas
-mod BuildLemmas
 mod BeginLemmas
 mod EntryLemmas
 mod EntryReadLemmas
