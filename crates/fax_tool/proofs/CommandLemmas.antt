@@ -1,6 +1,6 @@
 -- How commands end, by what was read and what was written.
 use Rattle.std.proofs.Common.{◌≡◌, ◌≢◌, ℕ, ◌≤◌, List, [], inl, refl, arith, ◌∙◌, sym}
-use Rattle.std.specs.Prelude.{Option, Some, None, IfSome, IfOk, IfErr, OnOk, Result, Ok, Err}
+use Rattle.std.specs.Prelude.{Option, Some, None, IfSome}
 use Rattle.std.specs.Io.KnownBytes.{Appends}
 use Rattle.std.proofs.KnownBytes.{Appends-nil}
 use Rattle.fax_walk.specs.declared.begun.Begun.{Begun}
@@ -18,7 +18,7 @@ use Rattle.fax_tool.specs.Run.{IsTextAfterMemory, IsTextOf, IsTextOfFirst, begun
 use Rattle.fax_tool.specs.Streams.{input_after, output_after}
 use Rattle.fax_tool.specs.Text.{Line, Printed, next_line}
 use Rattle.fax_tool.specs.code.Outcome.{HasPrintReason, HasReadReason, IsDone, IsStopped, StopsAtBeginning, StopsPrinting, StopsWith}
-use Rattle.fax_tool.specs.code.Outcome.{WritesOutput, error_of, status_of}
+use Rattle.fax_tool.specs.code.Outcome.{error_of, status_of}
 use Rattle.fax_tool.specs.code.Transfers.{IsGivenInPart}
 use Rattle.fax_tool.proofs.LineLemmas.{one_pages, one_rows}
 use Rattle.fax_tool.proofs.StopLemmas.{NoText, leaves_more, of_some_file, stops_in_part}
@@ -69,24 +69,12 @@ module _ (command : Command) (bytes : Option (List ℕ)) (taken : ℕ) (counts :
   }
 
   module _ (file : List ℕ) (same : IfSome bytes (λ b. file ≡ b)) (read : IsRead input) where
-    pub command_done : (answer : Result (Option (List ℕ)) Refusal) → IfOk answer (WritesOutput (IsTextOf command file) output)
-        → OnOk answer (HasWorked output.counts) → IfOk answer (IsDone command input output)
-    command_done (Err refusal) writes worked = tt
-    command_done (Ok line) writes worked =
-        record { read = read; written = worked; writes = (file, same, writes) }
-
     pub command_stops : (refusal : Refusal)
         → StopsPrinting (IsTextOf command file) (IsTextAfterMemory command file) refusal output → IsStopped command refusal input output
     command_stops refusal stops = record {
       reason = reason_of refusal input output read stops.reason;
       leaves = (file, same, stops.leaves);
     }
-
-    pub command_stopped : (answer : Result (Option (List ℕ)) Refusal)
-        → IfErr answer (λ refusal. StopsPrinting (IsTextOf command file) (IsTextAfterMemory command file) refusal output)
-        → IfErr answer (λ refusal. IsStopped command refusal input output)
-    command_stopped (Ok line) stops = tt
-    command_stopped (Err refusal) stops = command_stops refusal stops
 
 -- rows were not read, and where to go on was to be written
 pub rows_unread : BeginningsHaveOneTail → (part : Part) (refusal : Refusal) (bytes : Option (List ℕ)) (taken : ℕ) (counts : Counts)

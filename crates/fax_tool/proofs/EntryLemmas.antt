@@ -21,7 +21,7 @@ use Rattle.fax_tool.specs.code.Entries.{HasEntries, HasFlag, HasNumber}
 use Rattle.fax_tool.proofs.RuleLemmas.{items_at, rule_of, rules_of}
 use Rattle.fax_tool.proofs.UseLemmas.{row_of}
 use Rattle.fax_tool.proofs.RowLemmas.{default_row, filled_rows, flag_default, is_flag, same_either}
-use Rattle.fax_tool.proofs.ReadLemmas.{IsReadAs, items_of}
+use Rattle.fax_tool.proofs.ReadLemmas.{IsOwn, IsReadAs, own_commands}
 use Rattle.fax_tool.proofs.ShapeLemmas.{read_is_of_command}
 
 -- the text of a number has no minus
@@ -222,15 +222,11 @@ have_entries = All-from_recursion HasItsEntries commands (
   ),
 )
 
-own_items : All (λ command. items_of command.0 ≡ command.1) commands
-unfolding clap_on_literals
-own_items = All-from_recursion (λ command. items_of command.0 ≡ command.1) commands (refl, (refl, (refl, (refl, tt))))
-
 -- the entries after a command are read as they stand
 pub taken_entries : (words : List Text) (name : Text) (entries : List Row) → All IsUtf8 words → IsReadAs words name entries
     → HasEntries name entries
 taken_entries words name entries utf8 (uses, reads, agrees, entries_are) =
     let named = read_is_of_command words name uses utf8 reads in
-    let own = All-contains (λ command. items_of command.0 ≡ command.1) commands (name, named.items) own_items named.known in
+    let own = (All-contains IsOwn commands (name, named.items) own_commands named.known).items_are in
     let has = All-contains HasItsEntries commands (name, named.items) have_entries named.known uses named.others named.written in
     subst (HasEntries name) (sym (entries_are ∙ ap (λ items. filled_rows items uses) own)) has

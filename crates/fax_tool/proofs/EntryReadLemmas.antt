@@ -1,6 +1,6 @@
 -- What getters read of the entries of a number and of a flag.
 use Rattle.std.proofs.Common.{◌≡◌, ◌∙◌, ◌<◌, ◌≤◌, ◌^◌, ap, arith, codes, inl, inr, sym, refl, Bool, true, false, ℕ}
-use Rattle.std.proofs.Common.{List, Option, Some, None, Result, Ok, Err}
+use Rattle.std.proofs.Common.{List, Option, Some, None, Result}
 use Rattle.std.specs.Prelude.{option_map, unwrap_or}
 use Rattle.std.specs.Option.{option_map_or}
 use Rattle.std.specs.Str.{bytes_eq}
@@ -15,32 +15,26 @@ use Rattle.fax_tool.specs.code.Entries.{HasFlag, HasNumber, given_by}
 use Rattle.fax_tool.specs.Grammar.{IsNumberText}
 use Rattle.fax_tool.specs.Job.{is_set, number_in}
 
--- what a typed getter reads of a number
-pub number_read : (E : Type 0) (G : Text → Result ℕ E → Type 0) (f : Found) (name : Text) (most : ℕ) (r : Option ℕ)
-    → ((u : Text) (x : Result ℕ E) → G u x → ParsesUnsigned 32 10 u x) → HasNumber name most (rows_of f) → most < 2 ^ 32
-    → (one_text f name ≡ None → r ≡ None) → ((t : Text) → one_text f name ≡ Some t → ReadsOne G t r)
+-- what a getter of numbers of 32 bits may answer of a text
+abbrev Parses : Text → Result ℕ ParseIntError → Type 0
+Parses text answer = ParsesUnsigned 32 10 text answer × ExplainsUnsignedError 10 text answer × HasUnsignedDigitsIfOk text answer
+
+-- what it reads of a number
+pub u32_read : (f : Found) (name : Text) (most : ℕ) (r : Option ℕ) → HasNumber name most (rows_of f) → most < 2 ^ 32
+    → (one_text f name ≡ None → r ≡ None) → ((t : Text) → one_text f name ≡ Some t → ReadsOne Parses t r)
     → r ≡ number_in name (given_by (rows_of f))
-number_read E G f name most r only has fits none value = go (first_of name (rows_of f)) refl
+u32_read f name most r has fits none value = go (first_of name (rows_of f)) refl
   where
     read : one_text f name ≡ first_of name (rows_of f)
     read = one_text-rows f name ∙ has.read
 
-    some : (t : Text) → IsNumberText most t → (o : Option ℕ) → ReadsOne G t o → o ≡ Some (digits_value 10 (without_leading_plus t))
-    some t is (Some n) h = ap Some (only t (Ok n) h).1
-    some t is None h = absurd (only t (Err h.0) h.1 (is.digits, (let within = is.within in omega arith)))
+    some : (t : Text) → IsNumberText most t → (o : Option ℕ) → ReadsOne Parses t o → o ≡ Some (digits_value 10 (without_leading_plus t))
+    some t is (Some n) h = ap Some h.0.1
+    some t is None h = absurd (h.1.0 (is.digits, (let within = is.within in omega arith)))
 
     go : (o : Option Text) → first_of name (rows_of f) ≡ o → r ≡ number_in name (given_by (rows_of f))
     go None is = none (read ∙ is) ∙ sym (ap (option_map (λ t. digits_value 10 (without_leading_plus t))) is)
     go (Some t) is = some t (has.is t is) r (value t (read ∙ is)) ∙ sym (ap (option_map (λ t. digits_value 10 (without_leading_plus t))) is)
-
-pub u32_read : (f : Found) (name : Text) (most : ℕ) (r : Option ℕ) → HasNumber name most (rows_of f) → most < 2 ^ 32
-    → (one_text f name ≡ None → r ≡ None)
-    → ((t : Text) → one_text f name ≡ Some t
-    → ReadsOne (λ bs r. ParsesUnsigned 32 10 bs r × ExplainsUnsignedError 10 bs r × HasUnsignedDigitsIfOk bs r) t r)
-    → r ≡ number_in name (given_by (rows_of f))
-u32_read f name most r has fits none value =
-    number_read ParseIntError (λ bs r. ParsesUnsigned 32 10 bs r × ExplainsUnsignedError 10 bs r × HasUnsignedDigitsIfOk bs r)
-    f name most r (λ u x g. g.0) has fits none value
 
 -- the number of such an entry is in its range
 pub in_range : (name : Text) (most : ℕ) (entries : List Row) → HasNumber name most entries → (n : ℕ)

@@ -2,7 +2,6 @@ pub mod TransferLemmas
 mod NumberLemmas
 mod RunTextLemmas
 mod RememberedLemmas
-mod BuildLemmas
 mod BeginLemmas
 mod EntryLemmas
 mod EntryReadLemmas
@@ -26,6 +25,5 @@ pub mod PrintLemmas
 pub mod TextLemmas
 pub mod CommandLemmas
 pub mod WholeLemmas
-pub mod ReportLemmas
 pub mod RunLemmas
 mod TextLawLemmas

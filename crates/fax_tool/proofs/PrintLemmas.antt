@@ -1,15 +1,16 @@
 -- Lines that are printed, one after another.
-use Rattle.std.proofs.Common.{◌≡◌, ℕ, ◌+◌, ◌-◌, ◌<◌, ◌≤◌, List, [], ◌∷◌, ◌++◌, length, take, refl, ap, sym, ◌∙◌, append_assoc, append-nil}
+use Rattle.std.proofs.Common.{◌≡◌, ℕ, ◌+◌, ◌-◌, ◌<◌, ◌≤◌, List, [], ◌∷◌, ◌++◌, length, take, ap, sym, ◌∙◌, append_assoc, append-nil}
 use Rattle.std.proofs.Common.{arith, ◌↔◌, ◌⊎◌, inl, inr, subst, Bool, Result, Ok, Err}
+use Rattle.std.proofs.lemmas.Grind.{flat_map-append}
 use Rattle.std.proofs.lemmas.Option.{slice_get_within}
 use Rattle.std.specs.Prelude.{Option, Some, None, IfSome, option_map, false, slice_get, IfErr}
 use Rattle.std.specs.Io.KnownBytes.{Appends}
-use Rattle.std.proofs.KnownBytes.{Appends-nil, Appends-trans}
+use Rattle.std.proofs.KnownBytes.{Appends-trans}
 use Rattle.fax_walk.specs.declared.begun.Begun.{Begun}
 use Rattle.fax_walk.specs.declared.begun.Begun.TheVariants.{At}
 use Rattle.fax_walk.specs.declared.cursor.Cursor.{Cursor}
 use Rattle.fax_walk.specs.declared.end.End.{End}
-use Rattle.fax_walk.specs.views.InOrder.{IsNumber, EndsAfter}
+use Rattle.fax_walk.specs.views.InOrder.{IsNumber}
 use Rattle.fax_bits.specs.laws.Codes.{IsOne}
 use Rattle.fax_walk.specs.Items.{begun_cursor}
 use Rattle.fax_tool.specs.declared.refusal.Refusal.{Refusal}
@@ -17,7 +18,7 @@ use Rattle.fax_tool.specs.Run.{Counts, IsTextOfFirst}
 use Rattle.fax_tool.specs.Streams.{output_after}
 use Rattle.fax_tool.specs.Text.{Line, named, next_after, next_line, texts_of}
 use Rattle.fax_tool.specs.code.Outcome.{StopsPrinting, StopsWith}
-use Rattle.fax_tool.specs.code.Printing.{IsLastLine, IsNextAfter, IsNextLine, PrintsLines}
+use Rattle.fax_tool.specs.code.Printing.{IsLastLine, IsNextAfter, IsNextLine}
 use Rattle.fax_tool.specs.code.Transfers.{IsGivenInPart, SendsPart}
 use Rattle.fax_tool.proofs.LineLemmas.{take_at}
 use Rattle.fax_tool.proofs.StopLemmas.{NoText, stops_after, stops_at, stops_in_front, stops_in_part, stops_more}
@@ -40,38 +41,15 @@ pub record PrintsSome (tail now : List Line → End → Type 0) (given : ℕ) (m
   pub printed : Appends output written sent
   pub collected : texts_of (take given lines) ≡ sent ++ text
 
-all_left : (max : Option ℕ) → IsLeftOf max max 0
-all_left None = refl
-all_left (Some limit) = let same : limit ≡ limit + 0 = omega arith in ap Some same
-
-pub none_printed : (tail : List Line → End → Type 0) (given : ℕ) (max : Option ℕ) (output : Option (List ℕ)) → IsOne tail → given ≡ 0
-    → PrintsSome tail tail given max max output output []
-none_printed tail given max output one none = rw none (record {
-  lines = one.items;
-  end = one.end;
-  is = one.is;
-  same = λ all end. (λ is. is, λ is. is);
-  within = omega arith;
-  limit = all_left max;
-  sent = [];
-  printed = Appends-nil output;
-  collected = refl;
-})
-
 texts_of-push : (lines : List Line) (line : Line) → texts_of (lines ++ line ∷ []) ≡ texts_of lines ++ line.text
-texts_of-push [] line = append-nil line.text
-texts_of-push (first ∷ lines) line =
-    ap (λ text. first.text ++ text) (texts_of-push lines line) ∙ sym (append_assoc first.text (texts_of lines) line.text)
+texts_of-push lines line =
+    flat_map-append (λ line. line.text) lines (line ∷ []) ∙ ap (λ text. texts_of lines ++ text) (append-nil line.text)
 
 one_less_left : (max left : Option ℕ) (count : ℕ) → IsLeftOf max left count → IfSome left (λ n. 0 < n)
     → IsLeftOf max (option_map (λ n. n - 1) left) (count + 1)
 one_less_left max None count is some = is
 one_less_left max (Some left) count is some =
     let same : left + count ≡ (left - 1) + (count + 1) = omega arith in is ∙ ap Some same
-
-below_limit : (max left : Option ℕ) (count : ℕ) → IsLeftOf max left count → IfSome left (λ n. 0 < n) → IfSome max (λ limit. count < limit)
-below_limit max None count is above = rw is tt
-below_limit max (Some left) count is above = rw is (omega arith)
 
 within_limit : (max left : Option ℕ) (count : ℕ) → IsLeftOf max left count → IfSome max (λ limit. count ≤ limit)
 within_limit max None count is = rw is tt
@@ -119,25 +97,6 @@ module _ {tail now : List Line → End → Type 0} (one : IsOne tail) {given : �
         collected = ap texts_of (take_at some.lines given line here) ∙ texts_of-push (take given some.lines) line
             ∙ ap (λ xs. xs ++ line.text) some.collected ∙ append_assoc some.sent text line.text
             ∙ ap (λ xs. some.sent ++ xs) (sym grown);
-      })
-
-  -- all of the lines' text is written
-  all_written : (new_written : Option (List ℕ)) → Appends written new_written text
-      → Appends output new_written (texts_of (take given some.lines))
-  all_written new_written moved =
-      rw some.collected (Appends-trans output written new_written some.sent text some.printed moved)
-
-  pub ended_at_end : (end : End) (new_given : ℕ) (new_written : Option (List ℕ)) (new_text : List ℕ) → IfSome left (λ n. 0 < n)
-      → EndsAfter now given end → new_given ≡ given → new_text ≡ text → Appends written new_written new_text
-      → PrintsLines tail max (Some end) new_given output new_written
-  ended_at_end end new_given new_written new_text above (all, is, count) still same moved =
-      let are = lines_are all end is in
-      rw still (record {
-        lines = some.lines;
-        end = some.end;
-        is = some.is;
-        ends = (sym are.1, sym count ∙ ap (λ (l : List Line). length l) are.0, below_limit max left given some.limit above);
-        printed = all_written new_written (rw same at moved);
       })
 
   module _ (begun : Begun) where

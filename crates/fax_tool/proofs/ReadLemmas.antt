@@ -215,10 +215,10 @@ abbrev pub ReadsUntaken : List Text → Type 0
 ReadsUntaken words = (AreTaken words → ⊥) → IsUnread words
 
 -- what is known of a command
-record IsOwn (command : Text × List Item) : Type 0 where
+pub record IsOwn (command : Text × List Item) : Type 0 where
   met : subcommand_met (names_of program) idle command.0 ≡ Some command.0
   named : find (λ s. answers_to command.0 (label_of s)) program.subs ≡ Some (leaf command.0 command.1)
-  items_are : items_of command.0 ≡ command.1
+  pub items_are : items_of command.0 ≡ command.1
   is_level : IsLevel command.0 command.1
   agrees : (uses : List Use) → Agrees (filled_rows command.1 uses) uses
   target : (uses : List Use) → lacks command.1 (filled_rows command.1 uses) ≡ true → LacksTarget command.0 uses
@@ -241,7 +241,7 @@ lacks_target uses lacking = go (text_in uses (codes "o")) (given_filled (codes "
     go (Some t) given true is lacking = cc
     go (Some t) given false is lacking = cc
 
-own_commands : All IsOwn commands
+pub own_commands : All IsOwn commands
 unfolding clap_on_literals
 own_commands = All-from_recursion IsOwn commands (
   record {

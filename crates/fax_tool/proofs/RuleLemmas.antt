@@ -7,9 +7,9 @@ use Rattle.std.specs.Prelude.{find, not, option_map}
 use Rattle.std.specs.Str.{bytes_eq}
 use Rattle.clap.specs.Walk.{Rule, arg_by_long, arg_by_short}
 use Rattle.clap.specs.Walk.{has_long as rule_has_long, has_short}
-use Rattle.clap.specs.Simple.{Shape, built, filled, new_shape, with_index}
+use Rattle.clap.specs.Simple.{filled, with_index}
 use Rattle.std.specs.List.{Contains, slice_index_or}
-use Rattle.fax_tool.specs.code.CommandLine.{faxpages_app, file_rule, flag_rule, number_rule, text_rule}
+use Rattle.fax_tool.specs.code.CommandLine.{file_rule, flag_rule, number_rule, text_rule}
 use Rattle.fax_tool.specs.Grammar.{Item, Text, commands, file, flag, letter, name_of, number, text}
 use Rattle.fax_tool.specs.code.Scan.{has_letter, has_long}
 use Rattle.clap.specs.Simple.{new_rule}
@@ -30,9 +30,6 @@ rules_of = map rule_of
 
 abbrev pub items_at : ℕ → List Item
 items_at i = (slice_index_or commands i ([], [])).1
-
-abbrev pub sub_at : ℕ → Shape
-sub_at i = slice_index_or (built faxpages_app).subs i (new_shape [])
 
 -- what is found is among the list, and passes
 pub found : {A : Type 0} (test : A → Bool) (xs : List A) (x : A) → find test xs ≡ Some x → Contains xs x × (test x ≡ true)

@@ -1,21 +1,7 @@
 -- Runs that are written, and those that are due.
-use Rattle.std.proofs.Common.{◌≡◌, ℕ, ◌≤◌, List, [], ◌∷◌, ◌++◌, length, get_or, take, drop, ap, sym, ◌∙◌, append_assoc, append-nil, arith}
+use Rattle.std.proofs.Common.{◌≡◌, ℕ, List, [], ◌∷◌, ◌++◌, length, get_or, ap, sym, ◌∙◌, append_assoc, append-nil, arith}
 use Rattle.std.specs.Prelude.{flat_map}
-use Rattle.std.proofs.lemmas.Grind.{flat_map-append}
-use Rattle.std.proofs.lemmas.List.{take-take, take-append-drop}
 use Rattle.fax_tool.specs.Text.{and_number}
-
--- what is written of the first runs, and what is due
-pub first_runs : (text before runs eight left : List ℕ) (n : ℕ) → n ≤ 8 → eight ≡ take 8 runs → left ≡ drop n runs
-    → text ≡ before ++ flat_map and_number (take n eight) → text ++ flat_map and_number left ≡ before ++ flat_map and_number runs
-first_runs text before runs eight left n few eight_are left_are is =
-    let firsts : take n eight ≡ take n runs = ap (take n) eight_are ∙ take-take n 8 runs few in
-    ap (λ xs. xs ++ flat_map and_number left) is
-    ∙ append_assoc before (flat_map and_number (take n eight)) (flat_map and_number left)
-    ∙ ap (λ xs. before ++ (flat_map and_number xs ++ flat_map and_number left)) firsts
-    ∙ ap (λ xs. before ++ (flat_map and_number (take n runs) ++ flat_map and_number xs)) left_are
-    ∙ ap (λ xs. before ++ xs) (sym (flat_map-append and_number (take n runs) (drop n runs)))
-    ∙ ap (λ xs. before ++ flat_map and_number xs) (take-append-drop n runs)
 
 -- one run more
 pub next_run : (text more runs left : List ℕ) (run : ℕ) → runs ≡ run ∷ left → more ≡ text ++ and_number run

@@ -93,28 +93,21 @@ letter_read items x of (b ∷ bs) is = of b bs ∙ ap (λ v. option_word v (lett
 abbrev IsReadOf : List Item → Type 0
 IsReadOf items = (uses : List Use) (words : List Text) → AreSpelled items uses words → uses_from items None words ≡ Some uses
 
-list_read : IsReadOf (items_at 0)
-unfolding chars
-list_read = spelled (items_at 0) (each_read (items_at 0) ((λ value. refl, refl), ((λ value. refl, refl), (tt, tt))))
-
-rows_read : IsReadOf (items_at 1)
-unfolding chars
-rows_read = spelled (items_at 1) (each_read (items_at 1) ((λ value. refl, refl), ((λ value. refl, refl), (tt, (refl, tt)))))
-
-convert_read : IsReadOf (items_at 2)
-unfolding chars
-convert_read = spelled (items_at 2) (each_read (items_at 2) (
-  (λ value. refl, letter_read (items_at 2) 111 (λ b bs. refl), refl),
-  ((λ value. refl, refl), ((λ value. refl, refl), ((λ value. refl, refl), (refl, (tt, tt))))),
-))
-
-check_read : IsReadOf (items_at 3)
-unfolding chars
-check_read = spelled (items_at 3) (each_read (items_at 3) (tt, tt))
-
 spelled_words_are_read : All (λ command. IsReadOf command.1) commands
-spelled_words_are_read =
-    All-from_recursion (λ command. IsReadOf command.1) commands (list_read, (rows_read, (convert_read, (check_read, tt))))
+unfolding chars
+spelled_words_are_read = All-from_recursion (λ command. IsReadOf command.1) commands (
+  spelled (items_at 0) (each_read (items_at 0) ((λ value. refl, refl), ((λ value. refl, refl), (tt, tt)))),
+  (
+    spelled (items_at 1) (each_read (items_at 1) ((λ value. refl, refl), ((λ value. refl, refl), (tt, (refl, tt))))),
+    (
+      spelled (items_at 2) (each_read (items_at 2) (
+        (λ value. refl, letter_read (items_at 2) 111 (λ b bs. refl), refl),
+        ((λ value. refl, refl), ((λ value. refl, refl), ((λ value. refl, refl), (refl, (tt, tt))))),
+      )),
+      (spelled (items_at 3) (each_read (items_at 3) (tt, tt)), tt),
+    ),
+  ),
+)
 
 -- and each text is one that its item takes
 use_taken : (item : Item) (value : Text) (own : List Text) → IsSpelled item value own → takes item value ≡ true

@@ -23,15 +23,12 @@ pub all_taken : {A : Type 0} (n : ℕ) (xs : List A) → length xs ≤ n → tak
 all_taken n xs within =
     sym (append-nil (take n xs)) ∙ ap (λ l. take n xs ++ l) (sym (drop_all n xs within)) ∙ take-append-drop n xs
 
-error_is : (end : End) (next : Begun) → (end_text (Some end) next).error ≡ error_of (end_line (Some end))
-error_is Proper next = refl
-error_is (Fault page row cause) next = refl
-error_is Outside next = refl
-
-status_is : (end : End) (next : Begun) → (end_text (Some end) next).status ≡ status_of (end_line (Some end))
-status_is Proper next = refl
-status_is (Fault page row cause) next = refl
-status_is Outside next = refl
+-- the error line of an end, and its status
+end_is : (end : End) (next : Begun) → ((end_text (Some end) next).error ≡ error_of (end_line (Some end)))
+    × ((end_text (Some end) next).status ≡ status_of (end_line (Some end)))
+end_is Proper next = (refl, refl)
+end_is (Fault page row cause) next = (refl, refl)
+end_is Outside next = (refl, refl)
 
 -- the text up to a limit that cuts the lines
 pub first_text : (begun : Begun) (count : ℕ) (lines : List Line) (end : End) → count ≤ length lines
@@ -58,8 +55,8 @@ whole_ended : (lines : List Line) (end : End) (long : Bool) (max : Option ℕ) (
     → IsEndedText lines end (length lines) long max begun (Some end)
 whole_ended lines end long None begun few = record {
   output = rw take-length refl;
-  error = error_is end (named long (next_after begun lines));
-  status = status_is end (named long (next_after begun lines));
+  error = (end_is end (named long (next_after begun lines))).0;
+  status = (end_is end (named long (next_after begun lines))).1;
   within = tt;
   some = omega arith;
 }
@@ -68,8 +65,8 @@ whole_ended lines end long (Some limit) begun few =
     let all : take limit lines ≡ lines = all_taken limit lines (omega arith) in
     record {
       output = rw (no, all, take-length) refl;
-      error = rw (no, all) (error_is end (named long (next_after begun lines)));
-      status = rw (no, all) (status_is end (named long (next_after begun lines)));
+      error = rw (no, all) (end_is end (named long (next_after begun lines))).0;
+      status = rw (no, all) (end_is end (named long (next_after begun lines))).1;
       within = omega arith;
       some = omega arith;
     }

@@ -1,16 +1,14 @@
 -- Bytes that move in several calls.
-use Rattle.std.proofs.Common.{◌≡◌, ℕ, ◌+◌, ◌-◌, ◌≤◌, arith, List, ◌++◌}
-use Rattle.std.proofs.Common.{refl, length, take, drop, ap, sym, ◌∙◌, append_assoc, length-drop}
+use Rattle.std.proofs.Common.{◌≡◌, ℕ, ◌-◌, List, ◌++◌}
+use Rattle.std.proofs.Common.{length, take, drop, ap, sym, ◌∙◌, append_assoc, length-drop}
 use Rattle.std.proofs.Common.{take-append-drop}
 use Rattle.std.proofs.Math.Seq.{take-length}
 use Rattle.std.proofs.KnownBytes.{Appends-trans}
 use Rattle.std.specs.Prelude.{Option, Result, Ok, Err, IfErr, ⊤}
 use Rattle.std.specs.Io.KnownBytes.{Appends}
 use Rattle.fax_tool.specs.declared.refusal.Refusal.{Refusal}
-use Rattle.fax_tool.specs.Run.{Counts, IsRead, most_interrupted}
-use Rattle.fax_files.specs.Directory.{max_file}
-use Rattle.fax_tool.specs.Streams.{capped_sum, input_after}
-use Rattle.fax_tool.specs.code.Transfers.{counted, IsGivenInPart}
+use Rattle.fax_tool.specs.Run.{Counts}
+use Rattle.fax_tool.specs.code.Transfers.{IsGivenInPart}
 
 -- some front of the bytes is written
 pub record IsPartWritten (old new : Option (List ℕ)) (bytes rest : List ℕ) : Type 0 where
@@ -69,10 +67,3 @@ pub second_given_err : (old mid new : Option (List ℕ)) (first second : List �
 second_given_err old mid new first second counts (Ok done) given is = tt
 second_given_err old mid new first second counts (Err refusal) given is =
     second_given_in_part old mid new first second counts refusal given is
-
--- an input of which so much was taken has worked
-pub still_read : (bytes : Option (List ℕ)) (new old : Counts) (interruptions taken more new_taken : ℕ) → interruptions ≤ most_interrupted
-    → old ≡ counted interruptions → new ≡ old → new_taken ≡ capped_sum taken more → taken + more ≤ max_file
-    → IsRead (input_after bytes new_taken new)
-still_read bytes new old interruptions taken more new_taken few is same taken_is within =
-    (rw (same, is) (few, refl), omega (arith, taken_is, within))

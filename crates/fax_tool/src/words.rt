@@ -17,8 +17,8 @@ ghost use Rattle.fax_tool.specs.Run.{HasFailed};
 ghost use Rattle.fax_tool.specs.Streams.{no_faults};
 ghost use Rattle.fax_tool.specs.Words.{words_status, words_text};
 ghost use Rattle.fax_tool.specs.code.Entries.{HasEntries, HasFlag, HasNumber, HasOptions};
-ghost use Rattle.fax_tool.specs.code.CommandLine.{check_app, convert_app, faxpages_app};
-ghost use Rattle.fax_tool.specs.code.CommandLine.{printing_app, rows_app, value_rule};
+ghost use Rattle.fax_tool.specs.code.CommandLine.{check_app, coding_app, convert_app, faxpages_app};
+ghost use Rattle.fax_tool.specs.code.CommandLine.{printers_app, printing_app, rows_app, value_rule};
 ghost use Rattle.fax_tool.specs.code.Entries.{IsApp, IsCommandFault, IsNoCursor, IsNoLongCursor};
 ghost use Rattle.fax_tool.specs.code.Entries.{entries_of, given_by};
 
@@ -238,19 +238,26 @@ fn number<'a>(alloc: Global, name: &'a str, parser: ValueParser<'a>) -> Arg<'a>
     Arg::new(alloc, name).long(name).value_parser(parser)
 }
 
-/// The command that writes pages in another form.
-fn converting<'a>(alloc: Global) -> Result<clap::Command<'a>, AllocError>
-    ensures { IfOk result (λ c. IsApp c convert_app) }
+/// The command that writes pages in another form, with the options that say how rows are coded.
+fn coding<'a>(alloc: Global) -> Result<clap::Command<'a>, AllocError>
+    ensures { IfOk result (λ c. IsApp c coding_app) }
 {
     let target = Arg::new(alloc, "o").short('o').required(true);
-    let align = Arg::new(alloc, "align")
-        .long("align")
-        .action(ArgAction::SetTrue);
     clap::Command::new(alloc, "convert")
         .disable_help_flag(true)
         .arg(target)?
         .arg(number(alloc, "order", value_parser!(u32).range(1..=2)))?
-        .arg(number(alloc, "k", value_parser!(u32).range(1..=MOST_ROWS)))?
+        .arg(number(alloc, "k", value_parser!(u32).range(1..=MOST_ROWS)))
+}
+
+/// The command that writes pages in another form.
+fn converting<'a>(alloc: Global) -> Result<clap::Command<'a>, AllocError>
+    ensures { IfOk result (λ c. IsApp c convert_app) }
+{
+    let align = Arg::new(alloc, "align")
+        .long("align")
+        .action(ArgAction::SetTrue);
+    coding(alloc)?
         .arg(number(alloc, "strip", value_parser!(u32).range(1..=MOST_ROWS)))?
         .arg(align)?
         .arg(Arg::new(alloc, "FILE"))
@@ -265,16 +272,23 @@ fn checking<'a>(alloc: Global) -> Result<clap::Command<'a>, AllocError>
         .arg(Arg::new(alloc, "FILE"))
 }
 
-/// The command line of the program.
-fn command_line<'a>(alloc: Global) -> Result<clap::Command<'a>, AllocError>
-    ensures { IfOk result (λ c. IsApp c faxpages_app) }
+/// The program, with the commands that print a part of a file.
+fn printers<'a>(alloc: Global) -> Result<clap::Command<'a>, AllocError>
+    ensures { IfOk result (λ c. IsApp c printers_app) }
 {
     clap::Command::new(alloc, "faxpages")
         .disable_help_flag(true)
         .disable_help_subcommand(true)
         .subcommand_required(true)
         .subcommand(printing(alloc, "list")?)?
-        .subcommand(printing_rows(alloc)?)?
+        .subcommand(printing_rows(alloc)?)
+}
+
+/// The command line of the program.
+fn command_line<'a>(alloc: Global) -> Result<clap::Command<'a>, AllocError>
+    ensures { IfOk result (λ c. IsApp c faxpages_app) }
+{
+    printers(alloc)?
         .subcommand(converting(alloc)?)?
         .subcommand(checking(alloc)?)
 }

@@ -45,21 +45,28 @@ printing_app name = with_rule (with_rule (with_rule (bare_app name)
 abbrev pub rows_app : App
 rows_app = with_rule (printing_app (codes "rows")) (flag_rule (codes "long"))
 
+-- `convert` with the options that say how rows are coded
+abbrev pub coding_app : App
+coding_app = with_rule (with_rule (with_rule (bare_app (codes "convert")) target_rule)
+    (number_rule (codes "order") 2)) (number_rule (codes "k") most_rows)
+
 abbrev pub convert_app : App
-convert_app = with_rule (with_rule (with_rule (with_rule (with_rule (with_rule
-    (bare_app (codes "convert")) target_rule) (number_rule (codes "order") 2))
-    (number_rule (codes "k") most_rows)) (number_rule (codes "strip") most_rows))
+convert_app = with_rule (with_rule (with_rule coding_app (number_rule (codes "strip") most_rows))
     (flag_rule (codes "align"))) file_rule
 
 abbrev pub check_app : App
 check_app = with_rule (bare_app (codes "check")) file_rule
 
--- the program: one of four commands
-abbrev pub faxpages_app : App
-faxpages_app = with_subcommand (with_subcommand (with_subcommand (with_subcommand
+-- the program with the commands that print a part of a file
+abbrev pub printers_app : App
+printers_app = with_subcommand (with_subcommand
     (on_top (λ s. record s {
       disable_help_flag = true;
       disable_help_subcommand = true;
       subcommand_required = true;
     }) (new_app (codes "faxpages")))
-    (printing_app (codes "list")).top) rows_app.top) convert_app.top) check_app.top
+    (printing_app (codes "list")).top) rows_app.top
+
+-- the program: one of four commands
+abbrev pub faxpages_app : App
+faxpages_app = with_subcommand (with_subcommand printers_app convert_app.top) check_app.top

@@ -1,8 +1,9 @@
-use Rattle.std.proofs.Common.{◌≡◌, ◌∙◌, ap, inl, inr, refl, rules, subst, sym, List, [], Some}
+use Rattle.std.proofs.Common.{◌≡◌, ◌∙◌, ap, inl, inr, refl, rules, subst, List, [], Some}
 use Rattle.std.specs.Prelude.{◌≢◌, option_and_then, Err, IfErr, Ok, Result}
 use Rattle.std.specs.List.{All}
 use Rattle.std.specs.Result.{IsErrAnd}
 use Rattle.std.specs.Str.{IsUtf8}
+use Rattle.clap.proofs.TakesLemmas.{passed_up}
 use Rattle.clap.specs.Walk.{Row}
 use Rattle.clap.specs.Faults.{fault_of}
 use Rattle.clap.specs.Kinds.{HasKind, IsAmong, Kinds}
@@ -52,17 +53,12 @@ refused words name entries NotACursor utf8 of is =
     record { name = name; uses = of.0; named = named; command = fault_agrees entries of.0 of.2 name NotACursor is }
 refused words name entries Memory utf8 of is = tt
 
-fault_up : {T : Type 0} (r : Result T WordsFault) (fault : WordsFault) (words : List Text) → IsErrAnd r (λ y. y ≡ fault)
-    → IsFault words fault
-    → IfErr r (IsFault words)
-fault_up (Ok x) fault words same is = tt
-fault_up (Err y) fault words same is = subst (IsFault words) (sym same) is
-
 pub returns-in_err-command_of-clause-fault : goal.returns-in_err-command_of-clause-fault
 returns-in_err-command_of-clause-fault c =
     let at = (goal.at.returns-in_err-command_of-clause-fault c).In-Some in
     let words = texts c.args.words.now in
-    fault_up c.from_residual-in_err-command_of.result c.in_err-command_of.field-0.0 words c.from_residual-in_err-command_of.ensures.1
+    passed_up c.from_residual-in_err-command_of.result c.in_err-command_of.field-0.0 (IsFault words)
+    c.from_residual-in_err-command_of.ensures.1
     (refused words c.in-Some.name.now (entries_of c.in-Some.of_command.now) c.in_err-command_of.field-0.0 (utf8 at) (of_words at)
     c.in_err-command_of.ensures.fault)
 

@@ -1,11 +1,9 @@
-use Rattle.std.proofs.Common.{◌∙◌, ◌⊎◌, ap, codes, inl, inr, lit<, subst, sym, Option}
+use Rattle.std.proofs.Common.{ap, codes, lit<, refl, subst, sym, Option}
 use Rattle.clap.specs.Matches.{found_of}
 use Rattle.clap.specs.Walk.{Text, first_of}
-use Rattle.std.specs.Prelude.{IfSome}
-use Rattle.fax_walk.specs.Pages.{cursor_text, IsLongCursor, LongPlace}
-use Rattle.fax_walk.specs.declared.cursor.Cursor.{Cursor}
+use Rattle.fax_walk.specs.Pages.{LongPlace}
 use Rattle.fax_tool.specs.code.Entries.{entries_of}
-use Rattle.fax_tool.proofs.BeginLemmas.{BeginsAt, BeginsInside, begins_by}
+use Rattle.fax_tool.proofs.BeginLemmas.{Begins}
 use Rattle.fax_tool.proofs.EntryReadLemmas.{flag_read, u32_read}
 use Rattle.fax_tool.proofs.GetterLemmas.{long_err, none_given, text_given}
 use Rattle.fax_tool.proofs.words.rows_of.Goals as goal
@@ -21,30 +19,18 @@ pub returns-clause-ok : goal.returns-clause-ok
 returns-clause-ok c =
     let entries = entries_of c.args.matches.now in
     let q = c.match-get_str.from in
-    let begins : BeginsAt (first_of (codes "cursor") entries) q.0 q.1
-    ⊎ BeginsInside (first_of (codes "cursor") entries) q.0 q.1 = elim c.match-get_str.branch [
+    let begun : Begins (first_of (codes "cursor") entries) q.0 q.1 = elim c.match-get_str.branch [
       | in-Some+in-Ok w ↦
           let given = text_given (found_of c.args.matches.now) (codes "cursor") _ w.in-Some.text c.get_str.ensures w.in-Some.is in
-          inl (subst (λ (o : Option Text). BeginsAt o q.0 q.1) (sym given) (
-            w.in-Ok.ensures.ok ∙ ap (λ (q : Cursor × Option LongPlace). cursor_text q.0) (sym w.from-is),
-            ap
-                (λ (q : Cursor × Option LongPlace). q.1) w.from-is,
-          ))
+          subst (λ (o : Option Text). Begins o q.0 q.1) (sym given) (rw w.from-is (w.in-Ok.ensures.ok, refl))
       | in-Some+in-Err+in_ok-from-in-Err w ↦
           let given = text_given (found_of c.args.matches.now) (codes "cursor") _ w.in-Some.text c.get_str.ensures w.in-Some.is in
-          inr (subst (λ (o : Option Text). BeginsInside o q.0 q.1) (sym given) (
-            w.in_ok-from-in-Err.from,
-            w.in_ok-from-in-Err.ensures.ok,
-            ap (λ (q : Cursor × Option LongPlace). q.0) w.from-is
-                ∙ ap (λ (place : LongPlace). place.at) w.from.view_is,
-            ap (λ (q : Cursor × Option LongPlace). q.1) w.from-is,
-          ))
+          subst (λ (o : Option Text). Begins o q.0 q.1) (sym given)
+          (rw w.from-is (w.in_ok-from-in-Err.ensures.ok, ap (λ (place : LongPlace). place.at) w.from.view_is))
       | in-None w ↦
           let given = none_given (found_of c.args.matches.now) (codes "cursor") _ c.get_str.ensures w.in-None.is in
-          inl (subst (λ (o : Option Text). BeginsAt o q.0 q.1) (sym given)
-          (ap (λ (q : Cursor × Option LongPlace). q.0) w.from-is, ap (λ (q : Cursor × Option LongPlace). q.1) w.from-is))
+          subst (λ (o : Option Text). Begins o q.0 q.1) (sym given) (rw w.from-is (refl, refl))
     ] in
-    let begun = begins_by (first_of (codes "cursor") entries) q.0 q.1 begins in
     record {
       begins = begun.0;
       cursor = begun.1;
@@ -53,11 +39,3 @@ returns-clause-ok c =
       long_is = flag_read (found_of c.args.matches.now) (codes "long") c.get_flag.result c.requires.long
           c.get_flag.ensures.none c.get_flag.ensures.value c.get_flag.ensures.other;
     }
-
-pub returns-clause-from : goal.returns-clause-from
-returns-clause-from c = elim c.match-get_str.branch [
-  | in-Some+in-Ok w ↦ subst (λ (q : Cursor × Option LongPlace). IfSome q.1 IsLongCursor) (sym w.from-is) tt
-  | in-Some+in-Err+in_ok-from-in-Err w ↦
-      subst (λ (q : Cursor × Option LongPlace). IfSome q.1 IsLongCursor) (sym w.from-is) w.in_ok-from-in-Err.ensures.range
-  | in-None w ↦ subst (λ (q : Cursor × Option LongPlace). IfSome q.1 IsLongCursor) (sym w.from-is) tt
-]

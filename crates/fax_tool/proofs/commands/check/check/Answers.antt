@@ -1,7 +1,7 @@
 use Rattle.std.proofs.Common.{◌∙◌, refl, rules}
 use Rattle.clap.proofs.TakesLemmas.{passed_up}
 use Rattle.fax_tool.specs.declared.words.Command.TheVariants.{Check}
-use Rattle.fax_tool.proofs.CommandLemmas.{whole_unread, without_memory}
+use Rattle.fax_tool.proofs.CommandLemmas.{whole_unread}
 use Rattle.fax_tool.proofs.WholeLemmas.{checked, check_stopped}
 use Rattle.fax_tool.proofs.commands.check.check.Goals as goal
 
@@ -10,18 +10,6 @@ returns-in_err-file-clause-err g c =
     passed_up c.from_residual.result _ _ c.from_residual.ensures.1
     (whole_unread Check (λ file. refl) (g.R.Source.left c.args.input.now) _ _ (g.W.Sink.written c.args.out.now) _
     (rw c.requires.counts (search rules)) _ c.in_err-file.ensures.reason)
-
-pub returns-in_err-report-clause-err : goal.returns-in_err-report-clause-err
-returns-in_err-report-clause-err g c =
-    passed_up c.from_residual-in_err-report.result _ _ c.from_residual-in_err-report.ensures.1
-    (without_memory Check (λ file. refl) (g.R.Source.left c.args.input.now) _ _ (g.W.Sink.written c.args.out.now) _
-    (rw c.requires.counts (search rules)) c.in_ok-file.ensures.read)
-
-pub returns-in_err-text-clause-err : goal.returns-in_err-text-clause-err
-returns-in_err-text-clause-err g c =
-    passed_up c.from_residual-in_err-text.result _ _ c.from_residual-in_err-text.ensures.1
-    (without_memory Check (λ file. refl) (g.R.Source.left c.args.input.now) _ _ (g.W.Sink.written c.args.out.now) _
-    (rw c.requires.counts (search rules)) c.in_ok-file.ensures.read)
 
 pub returns-in_err-give_all-clause-err : goal.returns-in_err-give_all-clause-err
 returns-in_err-give_all-clause-err g c =

@@ -1,16 +1,7 @@
-use Rattle.std.proofs.Common.{◌∙◌, refl, rules}
+use Rattle.std.proofs.Common.{◌∙◌, rules}
 use Rattle.clap.proofs.TakesLemmas.{passed_up}
-use Rattle.fax_tool.proofs.PrintLemmas.{none_printed, one_more, part_sent, ended_at_end, stopped_for_memory, stopped_for_write}
+use Rattle.fax_tool.proofs.PrintLemmas.{one_more, part_sent, stopped_for_memory, stopped_for_write}
 use Rattle.fax_tool.proofs.commands.print.print_lines.Goals as goal
-
-pub loop-left-init : goal.loop-left-init
-loop-left-init g c = record {
-  one = c.are_one.ensures;
-  some = rw c.new-text.ensures (none_printed (g.L.Lines.tail c.args.lines.now) (g.L.Lines.given c.args.lines.now) c.args.max
-      (g.W.Sink.written c.args.out.now) c.are_one.ensures c.requires.fresh);
-  begun = refl;
-  counts = c.requires.counts;
-}
 
 pub returns-in_err-write_out-clause-err : goal.returns-in_err-write_out-clause-err
 returns-in_err-write_out-clause-err g c =
@@ -44,15 +35,6 @@ returns-in_err-write_out-in-Ok-Some-clause-err g c =
     passed_up c.from_residual-in_err-write_out-in-Ok-Some.result _ _ c.from_residual-in_err-write_out-in-Ok-Some.ensures.1
     (stopped_for_write c.loop-left.invariant.one sent (g.L.Lines.begun c.args.lines.now) _ _ _
     (rw put.2 at c.in_err-write_out-in-Ok-Some.ensures.err))
-
-pub returns-in-Ok-Some-clause-ok : goal.returns-in-Ok-Some-clause-ok
-returns-in-Ok-Some-clause-ok g c =
-    let put = rw c.in-Ok-Some.field-0-is at c.in-Ok-Some.ensures.put in
-    let sent = part_sent c.loop-left.invariant.one c.loop-left.invariant.some (g.W.Sink.written c.write_where_long.new.out) c.write_where_long.new.text
-    c.in_ok-write_where_long.ensures.ok in
-    rw c.in-Ok-Some.end-is
-    (ended_at_end c.loop-left.invariant.one sent _ (g.L.Lines.given c.put_next.new.self) _ _
-    (search rules) put.0 put.1 put.2 c.in_ok-write_out-in-Ok-Some.ensures.ok)
 
 pub returns-in-Err-clause-err : goal.returns-in-Err-clause-err
 returns-in-Err-clause-err g c =

@@ -1,7 +1,6 @@
 use Rattle.std.proofs.Common.{rules}
 use Rattle.clap.proofs.TakesLemmas.{passed_up}
-use Rattle.fax_tool.specs.declared.words.Command.TheVariants.{Rows}
-use Rattle.fax_tool.proofs.CommandLemmas.{command_done, command_stopped, rows_unbegun, rows_unread}
+use Rattle.fax_tool.proofs.CommandLemmas.{rows_unbegun, rows_unread}
 use Rattle.fax_tool.proofs.commands.print.rows.Goals as goal
 
 pub returns-in_err-begun-clause-err : goal.returns-in_err-begun-clause-err
@@ -15,29 +14,3 @@ returns-in_err-file-clause-err g c =
     let stops = rw (c.begin.ensures, c.in_ok-begun.ensures.unwritten) at c.in_err-file.ensures.err in
     passed_up c.from_residual-in_err-file.result _ _ c.from_residual-in_err-file.ensures.1
     (rows_unread c.beginnings_have_one_tail.ensures c.args.part.now _ (g.R.Source.left c.args.input.now) _ _ _ stops)
-
-pub returns-clause-ok : goal.returns-clause-ok
-returns-clause-ok g c =
-    let prints = rw (
-      c.begin-walk.ensures,
-      c.deref.ensures.value,
-      c.in_ok-begun.ensures.ok,
-      c.in_ok-file.ensures.unwritten,
-      c.in_ok-begun.ensures.unwritten,
-    ) at
-    c.print_all.ensures.ok in
-    command_done (Rows c.args.part.now) (g.R.Source.left c.args.input.now) _ _ _ c.in_ok-file.file.items c.in_ok-file.ensures.whole
-    c.in_ok-file.ensures.read c.print_all.result prints c.print_all.ensures.worked
-
-pub returns-clause-err : goal.returns-clause-err
-returns-clause-err g c =
-    let stops = rw (
-      c.begin-walk.ensures,
-      c.deref.ensures.value,
-      c.in_ok-begun.ensures.ok,
-      c.in_ok-file.ensures.unwritten,
-      c.in_ok-begun.ensures.unwritten,
-    ) at
-    c.print_all.ensures.err in
-    command_stopped (Rows c.args.part.now) (g.R.Source.left c.args.input.now) _ _ _ c.in_ok-file.file.items c.in_ok-file.ensures.whole
-    c.in_ok-file.ensures.read c.print_all.result stops

@@ -1,4 +1,4 @@
-use Rattle.std.proofs.Common.{◌∙◌, refl}
+use Rattle.std.proofs.Common.{◌∙◌}
 use Rattle.fax_tool.proofs.TransferLemmas.{more_written}
 use Rattle.fax_tool.proofs.streams.transfer.give_all.Goals as goal
 
@@ -7,6 +7,3 @@ loop-rest-preserved-in-Ok g c = record {
   part = more_written _ (g.W.Sink.written c.loop-rest.out) _ _ _ c.in-Ok.count c.loop-rest.invariant.part c.in-Ok.ensures.bytes;
   counts = c.in-Ok.ensures.counts ∙ c.loop-rest.invariant.counts;
 }
-
-pub returns-clause-worked : goal.returns-clause-worked
-returns-clause-worked g c = rw c.loop-rest.invariant.counts (c.are_few.ensures, refl)

@@ -5,18 +5,6 @@ use Rattle.fax_tool.specs.Text.{and_number, row_line_of}
 use Rattle.fax_tool.proofs.NumberLemmas.{line_is, one, three}
 use Rattle.fax_tool.proofs.text.row_line.write_line.Goals as goal
 
-pub write_number-page_end-requires : goal.write_number-page_end-requires
-write_number-page_end-requires c = omega (arith, length-set {A = ℕ}, c.requires)
-
-pub write_number-row_end-requires : goal.write_number-row_end-requires
-write_number-row_end-requires c = omega (arith, length-set {A = ℕ})
-
-pub write_runs-end-requires : goal.write_runs-end-requires
-write_runs-end-requires c = omega (arith, length-set {A = ℕ})
-
-pub bounds-bytes-end : goal.bounds-bytes-end
-bounds-bytes-end c = omega (arith, length-set {A = ℕ})
-
 pub returns-clause-written : goal.returns-clause-written
 unfolding row_line_of
 returns-clause-written c =
@@ -26,6 +14,3 @@ returns-clause-written c =
     c.write_number-page_end.ensures.written c.write_number-row_end.ensures.written c.write_runs-end.ensures.written
     (one c.write_runs-end.new.bytes c.write_runs-end.result 10
     (omega (arith, length-set {A = ℕ})))
-
-pub returns-clause-within : goal.returns-clause-within
-returns-clause-within c = omega (arith, length-set {A = ℕ})

@@ -3,11 +3,6 @@ use Rattle.fax_tool.proofs.RunTextLemmas.{next_run}
 use Rattle.fax_tool.proofs.NumberLemmas.{length_short}
 use Rattle.fax_tool.proofs.text.row_line.write_rest.Goals as goal
 
-pub write_number-end-requires : goal.write_number-end-requires
-write_number-end-requires c =
-    let next = c.in-Some.ensures in
-    omega (arith, ap length next.first, length_short c.in-Some.run' next.short)
-
 pub loop-run-preserved : goal.loop-run-preserved
 loop-run-preserved c =
     let next = c.in-Some.ensures in

@@ -1,5 +1,3 @@
-use Rattle.std.proofs.Common.{ap, arith}
-use Rattle.fax_walk.specs.views.Walk.{WalkView}
 use Rattle.fax_walk.specs.Items.{IsTailFrom}
 use Rattle.fax_tool.specs.Text.{line_of_row}
 use Rattle.fax_tool.proofs.LineLemmas.{line_put, lines_ended, rows_refused}
@@ -11,30 +9,10 @@ returns-in_ok-put_row_line-in-Ok-Some-clause-put c =
     line_put line_of_row IsTailFrom _ c.args.self.now _ next.0 c.args.text.now _ next.1
     (rw (next.2.0, next.2.1, next.2.2) c.in_ok-put_row_line-in-Ok-Some.ensures.ok)
 
-pub returns-in_ok-put_row_line-in-Ok-Some-clause-tail : goal.returns-in_ok-put_row_line-in-Ok-Some-clause-tail
-returns-in_ok-put_row_line-in-Ok-Some-clause-tail c =
-    let next = rw (c.in-Ok-Some.is, c.in-Ok-Some.field-0-is) at c.next_row.follows.holds-at-none in
-    λ lines end. rw next.1.new_is (λ are. are, λ are. are)
-
-pub returns-in_ok-put_row_line-in-Ok-Some-clause-begun : goal.returns-in_ok-put_row_line-in-Ok-Some-clause-begun
-returns-in_ok-put_row_line-in-Ok-Some-clause-begun c =
-    let next = rw (c.in-Ok-Some.is, c.in-Ok-Some.field-0-is) at c.next_row.follows.holds-at-none in
-    ap (λ (w : WalkView). w.begun) next.1.new_is
-
-pub returns-in_ok-put_row_line-in-Ok-Some-clause-fewer : goal.returns-in_ok-put_row_line-in-Ok-Some-clause-fewer
-returns-in_ok-put_row_line-in-Ok-Some-clause-fewer c =
-    let next = rw (c.in-Ok-Some.is, c.in-Ok-Some.field-0-is) at c.next_row.follows.holds-at-none in
-    λ none. omega (arith, next.1.few, ap (λ (w : WalkView). w.given) next.1.new_is)
-
 pub returns-in-Ok-None-clause-put : goal.returns-in-Ok-None-clause-put
 returns-in-Ok-None-clause-put c =
     let ended = rw (c.in-Ok-None.is, c.in-Ok-None.field-0-is) at c.next_row.follows.holds-at-none in
     lines_ended line_of_row IsTailFrom c.args.self.now _ _ c.args.text.now ended
-
-pub returns-in-Ok-None-clause-tail : goal.returns-in-Ok-None-clause-tail
-returns-in-Ok-None-clause-tail c =
-    let ended = rw (c.in-Ok-None.is, c.in-Ok-None.field-0-is) at c.next_row.follows.holds-at-none in
-    λ lines end. rw ended.2 (λ are. are, λ are. are)
 
 pub returns-in_ok-end_of-in-Err-clause-put : goal.returns-in_ok-end_of-in-Err-clause-put
 returns-in_ok-end_of-in-Err-clause-put c =
@@ -47,9 +25,3 @@ returns-in_ok-end_of-in-Err-clause-tail c =
     let next = rw c.in-Err.is at c.next_row.follows.holds-at-none in
     let ended = rows_refused c.args.self.now c.next_row.follows.lender-at-none c.in-Err.fault _ next c.in_ok-end_of-in-Err.ensures in
     λ lines end. rw ended.2 (λ are. are, λ are. are)
-
-pub returns-in_ok-end_of-in-Err-clause-begun : goal.returns-in_ok-end_of-in-Err-clause-begun
-returns-in_ok-end_of-in-Err-clause-begun c =
-    let next = rw c.in-Err.is at c.next_row.follows.holds-at-none in
-    let ended = rows_refused c.args.self.now c.next_row.follows.lender-at-none c.in-Err.fault _ next c.in_ok-end_of-in-Err.ensures in
-    ap (λ (w : WalkView). w.begun) ended.2

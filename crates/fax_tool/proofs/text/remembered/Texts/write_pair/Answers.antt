@@ -3,16 +3,6 @@ use Rattle.fax_tool.proofs.NumberLemmas.{length_short}
 use Rattle.fax_tool.proofs.RememberedLemmas.{pairs_put}
 use Rattle.fax_tool.proofs.text.remembered.Texts.write_pair.Goals as goal
 
-pub write_number-requires : goal.write_number-requires
-write_number-requires c =
-    omega (
-      arith,
-      c.requires,
-      length_short c.from-first.result (omega (arith, c.from-first.ensures)),
-      c.write_number-end.ensures.end,
-      c.write_number-end.ensures.same_len,
-    )
-
 pub returns-then-first-ge-PAIRED-clause-within : goal.returns-then-first-ge-PAIRED-clause-within
 returns-then-first-ge-PAIRED-clause-within c =
     omega (
