@@ -40,6 +40,10 @@ module _ (places : AreBitsByPlace) (one_way : PacksOneWay) where
   unfolding unpacked_row
   bits_of_unpacked width bytes = grind (arith, take-map, black_of_bits)
 
+  length-unpacked_row : (width : ℕ) (bytes : List ℕ) → length bytes ≡ packed_len width → length (unpacked_row width bytes) ≡ width
+  unfolding unpacked_row
+  length-unpacked_row width bytes whole = grind (arith, common_steps)
+
   packed_back : IsPackedBack
   packed_back width bytes whole = grind (arith, common_steps, bits_of_pels, bits_of_unpacked)
 
