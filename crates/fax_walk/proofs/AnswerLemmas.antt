@@ -59,8 +59,7 @@ module _ (images_once : ImagesAreReadInOneWay) (one_forms : FilesHaveOneForms) (
   -- bytes with a fault are no source
   no_pbm_source : (bytes : List ℕ) (images : List Image) (fault : PbmFault) (pages : List SourcePage) → BeginsWith bytes (codes "P4")
       → AreImages bytes images (Some fault) → IsSource bytes pages → ⊥
-  no_pbm_source bytes images fault pages begins are (inl (begins', images', are', is')) = grind arith
-  no_pbm_source bytes images fault pages begins are (inr (tiff, forms, items, forms_are, items_are, is)) = not_both bytes begins tiff
+  no_pbm_source bytes images fault pages begins are is = grind (arith, not_both)
 
   no_tiff_source : (bytes : List ℕ) (items : List RowItem) (p r : ℕ) (cause : Cause) (pages : List SourcePage) → IsTiff bytes
       → AreItems bytes items (Fault p r cause) → IsSource bytes pages → ⊥
@@ -70,8 +69,7 @@ module _ (images_once : ImagesAreReadInOneWay) (one_forms : FilesHaveOneForms) (
 
   no_source : (bytes : List ℕ) (pages : List SourcePage) → (BeginsWith bytes (codes "P4") → ⊥) → (IsTiff bytes → ⊥)
       → IsSource bytes pages → ⊥
-  no_source bytes pages no_pbm no_tiff (inl (begins, images, are, is)) = no_pbm begins
-  no_source bytes pages no_pbm no_tiff (inr (tiff, forms, items, forms_are, items_are, is)) = no_tiff tiff
+  no_source bytes pages no_pbm no_tiff is = grind arith
 
   one_output : (bytes : List ℕ) (options : Options) (output other : List ℕ) → IsConverted bytes options output
       → IsConverted bytes options other → output ≡ other
