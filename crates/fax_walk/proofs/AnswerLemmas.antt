@@ -48,8 +48,10 @@ module _ (images_once : ImagesAreReadInOneWay) (one_forms : FilesHaveOneForms) (
   -- a source has one list of pages
   one_source : (bytes : List ℕ) (pages others : List SourcePage) → IsSource bytes pages → IsSource bytes others → pages ≡ others
   one_source bytes pages others (inl (begins, images, are, is)) (inl (begins', images', are', is')) = grind arith
-  one_source bytes pages others (inl (begins, images, are, is)) (inr (tiff, forms, items, forms_are, items_are, is')) = absurd (not_both bytes begins tiff)
-  one_source bytes pages others (inr (tiff, forms, items, forms_are, items_are, is')) (inl (begins, images, are, is)) = absurd (not_both bytes begins tiff)
+  one_source bytes pages others (inl (begins, images, are, is)) (inr (tiff, forms, items, forms_are, items_are, is')) =
+      absurd (not_both bytes begins tiff)
+  one_source bytes pages others (inr (tiff, forms, items, forms_are, items_are, is')) (inl (begins, images, are, is)) =
+      absurd (not_both bytes begins tiff)
   one_source bytes pages others (inr (tiff, forms, items, forms_are, items_are, is))
       (inr (tiff', forms', items', forms_are', items_are', is')) =
       let same_forms = two_of (one_forms bytes) forms forms' Proper Proper forms_are forms_are' in

@@ -99,7 +99,11 @@ pub proper_after : (file : List ℕ) (n : ℕ) → IsPageAt file (record { page 
     → (its : IsChained file (record { page = n; row = 0 }) (Err Proper)) × (its.fault ≡ None) × (n ≡ length its.offsets)
 proper_after file n there = elim (chained file (record { page = n; row = 0 }) (Err Proper) there) [
   | inl (fault, is_head, e) ↦ absurd cc
-  | inr its ↦ elim (over_end its.head.endian file its.offsets its.fault (record { page = n; row = 0 }) Proper (slice_get its.offsets n) its.found_is) [
+  | inr its ↦ elim (over_end its.head.endian file its.offsets its.fault (record {
+    page =
+        n;
+    row = 0;
+  }) Proper (slice_get its.offsets n) its.found_is) [
     | inl (refused, is) ↦ absurd cc
     | inr (none, is) ↦ let past = proper_past n (length its.offsets) its.fault is in (its, past.0, past.1)
   ]
@@ -257,7 +261,8 @@ one_form_tail chains file at =
     (λ here. only_it (first_form at here.form)) in
     by_begin only.it only.is only.one
   where
-    by_begin : (begin : Result ℕ End) → Begins file at begin → ((other : Result ℕ End) → Begins file at other → other ≡ begin) → IsOne (IsFormTail file at)
+    by_begin : (begin : Result ℕ End) → Begins file at begin → ((other : Result ℕ End) → Begins file at other → other ≡ begin)
+        → IsOne (IsFormTail file at)
     by_begin (Err none) is only = record {
       items = [];
       end = none;
