@@ -48,8 +48,10 @@ module _ (images_once : ImagesAreReadInOneWay) (one_forms : FilesHaveOneForms) (
   -- a source has one list of pages
   one_source : (bytes : List ℕ) (pages others : List SourcePage) → IsSource bytes pages → IsSource bytes others → pages ≡ others
   one_source bytes pages others (inl (begins, images, are, is)) (inl (begins', images', are', is')) = grind arith
-  one_source bytes pages others (inl (begins, images, are, is)) (inr (tiff, forms, items, forms_are, items_are, is')) = absurd (not_both bytes begins tiff)
-  one_source bytes pages others (inr (tiff, forms, items, forms_are, items_are, is')) (inl (begins, images, are, is)) = absurd (not_both bytes begins tiff)
+  one_source bytes pages others (inl (begins, images, are, is)) (inr (tiff, forms, items, forms_are, items_are, is')) =
+      absurd (not_both bytes begins tiff)
+  one_source bytes pages others (inr (tiff, forms, items, forms_are, items_are, is')) (inl (begins, images, are, is)) =
+      absurd (not_both bytes begins tiff)
   one_source bytes pages others (inr (tiff, forms, items, forms_are, items_are, is))
       (inr (tiff', forms', items', forms_are', items_are', is')) =
       let same_forms = two_of (one_forms bytes) forms forms' Proper Proper forms_are forms_are' in
@@ -59,8 +61,7 @@ module _ (images_once : ImagesAreReadInOneWay) (one_forms : FilesHaveOneForms) (
   -- bytes with a fault are no source
   no_pbm_source : (bytes : List ℕ) (images : List Image) (fault : PbmFault) (pages : List SourcePage) → BeginsWith bytes (codes "P4")
       → AreImages bytes images (Some fault) → IsSource bytes pages → ⊥
-  no_pbm_source bytes images fault pages begins are (inl (begins', images', are', is')) = grind arith
-  no_pbm_source bytes images fault pages begins are (inr (tiff, forms, items, forms_are, items_are, is)) = not_both bytes begins tiff
+  no_pbm_source bytes images fault pages begins are is = grind (arith, not_both)
 
   no_tiff_source : (bytes : List ℕ) (items : List RowItem) (p r : ℕ) (cause : Cause) (pages : List SourcePage) → IsTiff bytes
       → AreItems bytes items (Fault p r cause) → IsSource bytes pages → ⊥
@@ -70,8 +71,7 @@ module _ (images_once : ImagesAreReadInOneWay) (one_forms : FilesHaveOneForms) (
 
   no_source : (bytes : List ℕ) (pages : List SourcePage) → (BeginsWith bytes (codes "P4") → ⊥) → (IsTiff bytes → ⊥)
       → IsSource bytes pages → ⊥
-  no_source bytes pages no_pbm no_tiff (inl (begins, images, are, is)) = no_pbm begins
-  no_source bytes pages no_pbm no_tiff (inr (tiff, forms, items, forms_are, items_are, is)) = no_tiff tiff
+  no_source bytes pages no_pbm no_tiff is = grind arith
 
   one_output : (bytes : List ℕ) (options : Options) (output other : List ℕ) → IsConverted bytes options output
       → IsConverted bytes options other → output ≡ other

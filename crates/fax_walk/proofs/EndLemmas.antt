@@ -27,8 +27,7 @@ EndsFrom at end =
     (end ≡ Proper) ⊎ ((p r : ℕ) × (cause : Cause) × (end ≡ Fault p r cause) × (at.page ≤ p) × (at.page ≡ p → at.row ≤ r))
 
 inside : (at : RowPlace) (end : End) → EndsFrom at end → end ≡ Outside → ⊥
-inside at end (inl proper) e = cc
-inside at end (inr (p, r, cause, fault, page, row)) e = cc
+inside at end from e = grind arith
 
 -- in a strip they end at the row that is due; where there is no strip, at its first row
 in_strip : (form : PageForm) (at : RowPlace) (found : Option (List ℕ)) (end : End) → IsInStrip form at found (ends_as end)

@@ -90,14 +90,11 @@ module _ (file : List ℕ) (at : Cursor) where
       pub refused_next : due.form.rows ≤ at.row → (result : Result PageState OpenFault)
           → IfErr result (IsRefusal (λ end. IsRow due.chain.tiff.file (first_at due.chain.given 0) (ends_as end)))
           → IfErr result (IsRefusal (HasNoRows file (At at)))
-      refused_next past (Ok page) refused = refused
-      refused_next past (Err Memory) refused = tt
-      refused_next past (Err (Ended end)) refused = grind (arith, no_row, begins_next, its_file)
+      refused_next past result refused = grind (arith, no_row, begins_next, its_file)
 
       pub opened_next : due.form.rows ≤ at.row → (result : Result PageState OpenFault)
           → IfOk result (IsOpenedAt due.chain.tiff.file (first_at due.chain.given 0) 0 0) → IfOk result (IsOpenedFirst file (At at))
-      opened_next past (Ok page) opened = grind (arith, begins_next, its_file)
-      opened_next past (Err fault) opened = opened
+      opened_next past result opened = grind (arith, begins_next, its_file)
 
 module _ (file : List ℕ) (place : LongPlace) where
   ends_inside : (end : End) → EndsAt file place.at end → Begins file (Inside place) (Err end)

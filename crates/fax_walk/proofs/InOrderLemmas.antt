@@ -57,7 +57,8 @@ module _ {S A : Type 0} (next : S → Step A S → Type 0) (answers : (at : S) �
       → (items ≡ others) × (end ≡ other)
   one_from = single_from next (λ at. same_answer (answers at))
 
-  listed_step : (at : S) (answer : Step A S) → next at answer → ((item : A) (to : S) → next at (goes_on item to) → IsListed next to) → IsListed next at
+  listed_step : (at : S) (answer : Step A S) → next at answer → ((item : A) (to : S) → next at (goes_on item to) → IsListed next to)
+      → IsListed next at
   listed_step at (ends_as end) is on = record { items = []; end = end; is = is }
   listed_step at (goes_on item to) is on =
       let rest = on item to is in record { items = item ∷ rest.items; end = rest.end; is = (to, is, rest.is) }

@@ -1,6 +1,6 @@
 -- Pages as a chain hands them out.
 use Rattle.std.proofs.Common.{arith}
-use Rattle.std.proofs.Common.{◌≡◌, ℕ, List, Option, Some, None, Result, Ok, Err, refl, sym, ◌∙◌}
+use Rattle.std.proofs.Common.{◌≡◌, ℕ, List, Option, Some, None, Result, Ok, Err, sym, ◌∙◌}
 use Rattle.std.specs.Prelude.{slice_get}
 use Rattle.fax_files.specs.declared.FileFault.{FileFault}
 use Rattle.fax_files.specs.Directory.{IsChain}
@@ -10,23 +10,17 @@ use Rattle.fax_files.specs.views.Tiff.{TiffFile, TiffDirectory, directory_of}
 -- a directory that is answered stands at the place that is asked for
 answered : (tiff : TiffFile) (place : Option ℕ) (end : Option FileFault) (directory : TiffDirectory)
     → Ok (Some directory) ≡ answer_at tiff place end → (place ≡ Some directory.offset) × (directory ≡ directory_of tiff directory.offset)
-answered tiff (Some q) end directory is = grind arith
-answered tiff None None directory is = absurd (cc is)
-answered tiff None (Some fault) directory is = absurd (cc is)
+answered tiff place end directory is = grind arith
 
 -- no directory is answered where there is none, and the chain ends properly
 none_answered : (tiff : TiffFile) (place : Option ℕ) (end : Option FileFault) → Ok None ≡ answer_at tiff place end
     → (place ≡ None) × (end ≡ None)
-none_answered tiff (Some q) end is = absurd (cc is)
-none_answered tiff None None is = (refl, refl)
-none_answered tiff None (Some fault) is = absurd (cc is)
+none_answered tiff place end is = grind arith
 
 -- a fault is answered where there is no directory, and the chain ends with it
 fault_answered : (tiff : TiffFile) (place : Option ℕ) (end : Option FileFault) (met : FileFault) → Err met ≡ answer_at tiff place end
     → (place ≡ None) × (end ≡ Some met)
-fault_answered tiff (Some q) end met is = absurd (cc is)
-fault_answered tiff None None met is = absurd (cc is)
-fault_answered tiff None (Some fault) met is = (refl, cc is)
+fault_answered tiff place end met is = grind arith
 
 -- what a chain answers
 module _ (chain : ChainState) (answer : Result (Option TiffDirectory) FileFault) (due : IsDueAnswer chain answer) where

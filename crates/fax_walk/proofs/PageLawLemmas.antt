@@ -69,25 +69,11 @@ chained file at found = under (header file) refl
 module _ (endian : Endian) (file offsets : List ℕ) (fault : Option FileFault) (at : Cursor) where
   over_page : (here : FilePage) (found : Option ℕ) → Ok here ≡ page_over endian file offsets fault at found
       → (found ≡ Some here.offset) × (endian ≡ here.endian) × (page here.endian file here.offset ≡ Ok here.form)
-  over_page here None e = absurd cc
-  over_page here (Some q) e = by_fields (page endian file q) refl e
-    where
-      by_fields : (answer : Result PageForm FileFault) → page endian file q ≡ answer → Ok here ≡ page_or_end endian q at.page answer
-          → (Some q ≡ Some here.offset) × (endian ≡ here.endian) × (page here.endian file here.offset ≡ Ok here.form)
-      by_fields (Err refused) is e = absurd cc
-      by_fields (Ok form) is e =
-          let same : record { endian = endian; offset = q; form = form } ≡ here = cc in rw (← same) (refl, refl, is)
+  over_page here found e = grind arith
 
   over_end : (end : End) (found : Option ℕ) → ◌≡◌ {A = Result FilePage End} (Err end) (page_over endian file offsets fault at found)
       → ((refused : FileFault) × (end ≡ Fault at.page 0 (File refused))) ⊎ ((found ≡ None) × (end ≡ end_past_chain (length offsets) fault at))
-  over_end end None e = inr (refl, cc)
-  over_end end (Some q) e = by_fields (page endian file q) e
-    where
-      by_fields : (answer : Result PageForm FileFault) → ◌≡◌ {A = Result FilePage End} (Err end) (page_or_end endian q at.page answer)
-          → ((refused : FileFault) × (end ≡ Fault at.page 0 (File refused)))
-          ⊎ ((Some q ≡ None) × (end ≡ end_past_chain (length offsets) fault at))
-      by_fields (Err refused) e = inl (refused, cc)
-      by_fields (Ok form) e = absurd cc
+  over_end end found e = grind arith
 
 -- the page that a cursor names, in the chain of its file's directories
 pub record IsInChain (file : List ℕ) (at : Cursor) (here : FilePage) : Type 0 where
@@ -106,15 +92,18 @@ in_chain file at here is = elim (chained file at (Ok here) is) [
 
 proper_past : (n pages : ℕ) (fault : Option FileFault) → Proper ≡ end_past_chain pages fault (record { page = n; row = 0 })
     → (fault ≡ None) × (n ≡ pages)
-proper_past n pages (Some met) e = absurd cc
-proper_past n pages None e = grind (arith, nat_tests)
+proper_past n pages fault e = grind (arith, nat_tests)
 
 -- the proper end is after the last page of the chain, which has no fault
 pub proper_after : (file : List ℕ) (n : ℕ) → IsPageAt file (record { page = n; row = 0 }) (Err Proper)
     → (its : IsChained file (record { page = n; row = 0 }) (Err Proper)) × (its.fault ≡ None) × (n ≡ length its.offsets)
 proper_after file n there = elim (chained file (record { page = n; row = 0 }) (Err Proper) there) [
   | inl (fault, is_head, e) ↦ absurd cc
-  | inr its ↦ elim (over_end its.head.endian file its.offsets its.fault (record { page = n; row = 0 }) Proper (slice_get its.offsets n) its.found_is) [
+  | inr its ↦ elim (over_end its.head.endian file its.offsets its.fault (record {
+    page =
+        n;
+    row = 0;
+  }) Proper (slice_get its.offsets n) its.found_is) [
     | inl (refused, is) ↦ absurd cc
     | inr (none, is) ↦ let past = proper_past n (length its.offsets) its.fault is in (its, past.0, past.1)
   ]
@@ -272,7 +261,8 @@ one_form_tail chains file at =
     (λ here. only_it (first_form at here.form)) in
     by_begin only.it only.is only.one
   where
-    by_begin : (begin : Result ℕ End) → Begins file at begin → ((other : Result ℕ End) → Begins file at other → other ≡ begin) → IsOne (IsFormTail file at)
+    by_begin : (begin : Result ℕ End) → Begins file at begin → ((other : Result ℕ End) → Begins file at other → other ≡ begin)
+        → IsOne (IsFormTail file at)
     by_begin (Err none) is only = record {
       items = [];
       end = none;
@@ -327,10 +317,7 @@ form_tail_of_page file p forms end = (to_forms file p forms end, of_forms file p
 
 pub form_tails_go_on : FormTailsGoOn
 form_tails_go_on file at all end n item (Err none, begins, is) there =
-    absurd (nothing (subst (λ (l : List FormItem). slice_get l n ≡ Some item) is.0 there))
-  where
-    nothing : (let forms : List FormItem = [] in slice_get forms n) ≡ Some item → ⊥
-    nothing e = cc
+    let nothing : ◌≡◌ {A = Option FormItem} None (Some item) = rw is.0 at there in absurd cc
 form_tails_go_on file at all end n item (Ok from, begins, are) there =
     let split = split_at_number (IsForm file) from 0 all all end n item are refl there in
     let next = form_page file split.at item split.to split.step in

@@ -14,9 +14,8 @@ use Rattle.fax_walk.specs.Pages.{AreFrom, FormItem, IsForm, IsFormTail}
 use Rattle.fax_walk.specs.code.Pages.{told_of, IsSoundReader, GoesOnAt, HasGiven, IsPageAfter, IsFirstDue, IsDueIn}
 use Rattle.fax_walk.specs.code.Pages.{EndsNow}
 use Rattle.fax_walk.specs.views.InOrder.{EndsAfter, HasEndedAs}
-use Rattle.fax_walk.specs.declared.end.End.TheVariants.{Fault, Outside, Proper}
+use Rattle.fax_walk.specs.declared.end.End.TheVariants.{Proper}
 use Rattle.fax_walk.specs.declared.end.WalkFault.{WalkFault}
-use Rattle.fax_walk.specs.declared.end.WalkFault.TheVariants.{CursorOutside}
 use Rattle.fax_walk.specs.code.Walk.{answer_of}
 use Rattle.fax_walk.specs.views.Pages.{IsCursorOf, PagesView, HandsOutPage, IsNextPage}
 use Rattle.fax_walk.specs.laws.Forms.{AreFormsLeft}
@@ -166,12 +165,8 @@ given_more file begun given due come file_is its = (
 -- what is answered where the pages have ended
 pub ended_properly : (old new : PagesView) (end : End) (more : Bool) → HasEndedAs IsFormTail old end new → Ok more ≡ answer_of end
     → HasEndedAs IsFormTail old Proper new
-ended_properly old new Proper more ended is = ended
-ended_properly old new (Fault page row cause) more ended is = absurd cc
-ended_properly old new Outside more ended is = absurd cc
+ended_properly old new end more ended is = grind arith
 
 pub ended_so : (old new : PagesView) (end : End) (fault : WalkFault) → HasEndedAs IsFormTail old end new → Err fault ≡ answer_of end
     → IsNextPage old (Err fault) new
-ended_so old new Proper fault ended is = absurd cc
-ended_so old new (Fault page row cause) fault ended is = grind arith
-ended_so old new Outside fault ended is = let same : fault ≡ CursorOutside = cc in rw same ended
+ended_so old new end fault ended is = grind arith

@@ -8,7 +8,6 @@ use Rattle.fax_files.specs.laws.Files.{FilesHaveOneChain, FormsAreWhole}
 use Rattle.fax_walk.specs.declared.begun.Begun.{Begun}
 use Rattle.fax_walk.specs.declared.cursor.Cursor.{Cursor}
 use Rattle.fax_walk.specs.declared.end.End.{End}
-use Rattle.fax_walk.specs.declared.end.End.TheVariants.{Proper, Fault, Outside}
 use Rattle.fax_walk.specs.declared.opening.OpenFault.TheVariants.{Ended}
 use Rattle.fax_walk.specs.Pages.{AreFrom}
 use Rattle.fax_walk.specs.views.InOrder.{EndsAfter, HasEndedAs, HasToldNoOther}
@@ -162,10 +161,7 @@ module _ (walk : WalkView) (cursor : Cursor) (page : Option PageState) where
   stands_on : (page : Option PageState) (told : Option End) → IsSound file begun walk.given cursor page told
       → ((walk.given ≡ 0) × (cursor ≡ begun_cursor begun))
       ⊎ ((at : PageState) × (page ≡ Some at) × IsAfterItem file begun walk.given cursor (place_of at))
-  stands_on None None sound = inl sound.0
-  stands_on None (Some end) sound = inl (sound.0, sound.1)
-  stands_on (Some at) None sound = elim sound.0.1.stands [ inl first ↦ inl first | inr last ↦ inr (at, refl, last) ]
-  stands_on (Some at) (Some end) sound = elim sound.0.stands [ inl first ↦ inl first | inr last ↦ inr (at, refl, last) ]
+  stands_on page told sound = grind arith
 
   pub cursor_is : Sound walk.told → IsCursorOf walk cursor
   cursor_is sound = grind (arith, stands_on)
@@ -178,8 +174,7 @@ module _ (walk : WalkView) (cursor : Cursor) (page : Option PageState) where
   read_on : (at : PageState) (told : Option End) → IsSound file begun walk.given cursor (Some at) told
       → HasReadTo file begun walk.given cursor at
       × ((end : End) → told ≡ Some end → (skipped at ≡ 0) ⊎ EndsBefore end (begun_cursor begun))
-  read_on at None sound = (sound.0.1, λ end is. absurd cc)
-  read_on at (Some told) sound = grind arith
+  read_on at told sound = grind arith
 
   pub are_read : (at : PageState) → page ≡ Some at → Sound walk.told → AreRead walk at.read
   are_read at page_is sound =
@@ -230,9 +225,7 @@ module _ (walk : WalkView) (cursor : Cursor) (page : Option PageState) where
 
 -- the rows have ended so
 pub advance_ends : (old new : WalkView) (end : End) → HasEndedAs IsTailFrom old end new → IsAdvance old (answer_of end) new
-advance_ends old new Proper ended = ended
-advance_ends old new (Fault page row cause) ended = ended
-advance_ends old new Outside ended = ended
+advance_ends old new end ended = grind arith
 
 pub ends_again : (walk : WalkView) (cursor : Cursor) (page : Option PageState) (end : End) → walk.told ≡ Some end
     → IsSound walk.file walk.begun walk.given cursor page walk.told → HasEndedAs IsTailFrom walk end (record walk { told = Some end })
