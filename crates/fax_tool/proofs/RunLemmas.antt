@@ -87,14 +87,16 @@ as_one_after long begun xs ys end first others rows last cut first_is all =
     named_after long (next_after begun xs) ys ∙ ap (named long) (sym (next_after-append begun xs ys)) in
     record {
       more = all.more;
-      beginning = flat_map-append (λ line. line.text) xs ys ∙ ap (λ text. text ++ texts_of ys) (sym first_is) ∙ ap (λ text. first ++ text) all.beginning
+      beginning = flat_map-append (λ line. line.text) xs ys ∙ ap (λ text. text ++ texts_of ys) (sym first_is)
+          ∙ ap (λ text. first ++ text) all.beginning
           ∙ sym (append_assoc first (others ++ rows) all.more) ∙ ap (λ text. text ++ all.more) (sym (append_assoc first others rows));
       output = λ no.
           append_assoc first others last.output ∙ ap (λ text. first ++ text) (all.output no)
           ∙ ap (λ (b : Begun). first ++ (texts_of ys ++ last_line end b)) next
           ∙ sym (append_assoc first (texts_of ys) (last_line end (named long (next_after begun (xs ++ ys)))))
           ∙ ap (λ (text : List ℕ). (text ++ texts_of ys) ++ last_line end (named long (next_after begun (xs ++ ys)))) first_is
-          ∙ ap (λ (text : List ℕ). text ++ last_line end (named long (next_after begun (xs ++ ys)))) (sym (flat_map-append (λ line. line.text) xs ys));
+          ∙ ap (λ (text : List ℕ). text ++ last_line end (named long (next_after begun (xs ++ ys))))
+          (sym (flat_map-append (λ line. line.text) xs ys));
       error = λ no. all.error no ∙ ap (λ (b : Begun). (end_text (Some end) b).error) next;
       status = λ no. all.status no ∙ ap (λ (b : Begun). (end_text (Some end) b).status) next;
     }

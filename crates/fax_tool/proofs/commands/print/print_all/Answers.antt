@@ -11,10 +11,12 @@ returns-in_err-ending-clause-err g c =
 pub returns-in_err-give_last_line-clause-err : goal.returns-in_err-give_last_line-clause-err
 returns-in_err-give_last_line-clause-err g c =
     passed_up c.from_residual-in_err-give_last_line.result _ _ c.from_residual-in_err-give_last_line.ensures.1
-    (stopped_at_last c.are_one.ensures c.in_ok-ending.ensures.tail c.in_ok-ending.ensures.begun c.args.long c.in_ok-ending.ensures.ok _ _ _ c.in_err-give_last_line.ensures.err)
+    (stopped_at_last c.are_one.ensures c.in_ok-ending.ensures.tail c.in_ok-ending.ensures.begun c.args.long
+    c.in_ok-ending.ensures.ok _ _ _ c.in_err-give_last_line.ensures.err)
 
 pub returns-clause-ok : goal.returns-clause-ok
 returns-clause-ok g c =
     let last = c.in_ok-give_last_line.ensures.ok in
     rw c.end_line.ensures
-    (all_printed c.are_one.ensures c.in_ok-ending.ensures.tail c.in_ok-ending.ensures.begun c.args.long c.in_ok-ending.ensures.ok _ _ last.0 last.1 last.2)
+    (all_printed c.are_one.ensures c.in_ok-ending.ensures.tail c.in_ok-ending.ensures.begun c.args.long
+    c.in_ok-ending.ensures.ok _ _ last.0 last.1 last.2)

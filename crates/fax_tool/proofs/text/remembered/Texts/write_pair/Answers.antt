@@ -19,7 +19,8 @@ put_short-requires-clause-few c =
 
 pub returns-in-Some-clause-within : goal.returns-in-Some-clause-within
 returns-in-Some-clause-within c =
-    let text = c.self.invariant.1 c.from-first.result c.from-second.result c.in-Some.text (omega (arith, c.if-second-ge-PAIRED.false)) c.in-Some.ensures in
+    let text = c.self.invariant.1 c.from-first.result c.from-second.result c.in-Some.text
+    (omega (arith, c.if-second-ge-PAIRED.false)) c.in-Some.ensures in
     omega (arith, c.put_short.ensures.end, text.few)
 
 pub invariant_of-self : goal.invariant_of-self
