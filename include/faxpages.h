@@ -395,7 +395,7 @@ size_t faxpages_fault_name(uint32_t number, uint8_t *name, size_t name_room);
 size_t faxpages_status_name(uint32_t status, uint8_t *name, size_t name_room);
 size_t faxpages_note_name(uint32_t kind, uint8_t *name, size_t name_room);
 
-/* The version as a number, 10401 for 1.4.1; and as text, as faxpages_fault_name writes names. */
+/* The version as a number, 10402 for 1.4.2; and as text, as faxpages_fault_name writes names. */
 uint32_t faxpages_version(void);
 size_t faxpages_version_text(uint8_t *text, size_t text_room);
 

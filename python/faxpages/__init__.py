@@ -90,7 +90,7 @@ __all__ = [
 
 
 def version() -> str:
-    """The version of libfaxpages, as "1.4.1".
+    """The version of libfaxpages, as "1.4.2".
 
     >>> faxpages.version().count(".")
     2

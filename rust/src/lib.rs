@@ -542,7 +542,7 @@ pub fn convert(file: &[u8], options: &Options) -> Result<Vec<u8>, Error> {
     }
 }
 
-/// The version of libfaxpages, as 10401 for 1.4.1.
+/// The version of libfaxpages, as 10402 for 1.4.2.
 pub fn version() -> u32 {
     // SAFETY: it takes nothing.
     unsafe { calls::faxpages_version() }

@@ -51,7 +51,7 @@ NamesNote number old len new =
 
 -- the version, and its number
 abbrev pub version : List ℕ
-version = codes "1.4.1"
+version = codes "1.4.2"
 
 abbrev pub version_number : ℕ
-version_number = 10401
+version_number = 10402

@@ -1,4 +1,5 @@
 -- What is converted has one output or one fault, and what is checked has one report.
+use Rattle.std.proofs.lemmas.Grind.{common_steps}
 use Rattle.std.proofs.Common.{arith}
 use Rattle.std.proofs.Common.{◌≡◌, ℕ, List, length, Option, Some, None, Err, Bool}
 use Rattle.std.proofs.Common.{refl, ap, sym, ◌∙◌, subst, inl, inr, codes}
@@ -83,7 +84,7 @@ module _ (images_once : ImagesAreReadInOneWay) (one_forms : FilesHaveOneForms) (
   output_has_no_fault : (bytes : List ℕ) (options : Options) (output : List ℕ) (fault : ConvertFault) → IsConverted bytes options output
       → IsNotConverted bytes options fault → ⊥
   output_has_no_fault bytes options output Refused.UnknownInput is none = no_source bytes is.pages none.0 none.1 is.source
-  output_has_no_fault bytes options output (Refused.Pbm image fault) is none = grind (arith, no_pbm_source)
+  output_has_no_fault bytes options output (Refused.Pbm image fault) is none = grind arith
   output_has_no_fault bytes options output (Refused.Source p r cause) is none =
       no_tiff_source bytes none.1 p r cause is.pages none.0 none.2 is.source
   output_has_no_fault bytes options output Refused.OutputTooLarge is none =
@@ -99,21 +100,20 @@ module _ (images_once : ImagesAreReadInOneWay) (one_forms : FilesHaveOneForms) (
   one_fault bytes options Refused.UnknownInput Refused.UnknownInput first second = refl
   one_fault bytes options Refused.UnknownInput (Refused.Pbm image fault) first second = absurd (first.0 second.0)
   one_fault bytes options Refused.UnknownInput (Refused.Source p r cause) first second = absurd (first.1 second.0)
-  one_fault bytes options Refused.UnknownInput Refused.OutputTooLarge first second = grind (arith, no_source)
+  one_fault bytes options Refused.UnknownInput Refused.OutputTooLarge first second = grind arith
   one_fault bytes options (Refused.Pbm image fault) Refused.UnknownInput first second = absurd (second.0 first.0)
   one_fault bytes options (Refused.Pbm image fault) (Refused.Pbm image' fault') first second = grind arith
-  one_fault bytes options (Refused.Pbm image fault) (Refused.Source p r cause) first second = grind (arith, not_both)
-  one_fault bytes options (Refused.Pbm image fault) Refused.OutputTooLarge first second = grind (arith, no_pbm_source)
+  one_fault bytes options (Refused.Pbm image fault) (Refused.Source p r cause) first second = grind arith
+  one_fault bytes options (Refused.Pbm image fault) Refused.OutputTooLarge first second = grind arith
   one_fault bytes options (Refused.Source p r cause) Refused.UnknownInput first second = absurd (second.1 first.0)
-  one_fault bytes options (Refused.Source p r cause) (Refused.Pbm image fault) first second = grind (arith, not_both)
+  one_fault bytes options (Refused.Source p r cause) (Refused.Pbm image fault) first second = grind arith
   one_fault bytes options (Refused.Source p r cause) (Refused.Source p' r' cause') first second =
       let same = (two_of (one_items bytes) first.1 second.1 (Fault p r cause) (Fault p' r' cause') first.2 second.2).1 in
       ap source_fault same
   one_fault bytes options (Refused.Source p r cause) Refused.OutputTooLarge first second =
       absurd (no_tiff_source bytes first.1 p r cause second.0 first.0 first.2 second.1)
-  one_fault bytes options Refused.OutputTooLarge Refused.UnknownInput first second = grind (arith, no_source)
-  one_fault bytes options Refused.OutputTooLarge (Refused.Pbm image fault) first second =
-      absurd (no_pbm_source bytes second.1 fault first.0 second.0 second.2 first.1)
+  one_fault bytes options Refused.OutputTooLarge Refused.UnknownInput first second = grind arith
+  one_fault bytes options Refused.OutputTooLarge (Refused.Pbm image fault) first second = grind (arith, common_steps)
   one_fault bytes options Refused.OutputTooLarge (Refused.Source p r cause) first second =
       absurd (no_tiff_source bytes second.1 p r cause first.0 second.0 second.2 first.1)
   one_fault bytes options Refused.OutputTooLarge Refused.OutputTooLarge first second = refl

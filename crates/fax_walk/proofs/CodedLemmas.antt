@@ -1,4 +1,5 @@
 -- A file of coded strips has the rows and the forms of the pages that it was written of.
+use Rattle.std.proofs.lemmas.Grind.{common_steps}
 use Rattle.std.proofs.Common.{◌≡◌, ◌≢◌, true, ℕ, zero, suc, ◌+◌, ◌*◌, ◌<◌, ◌≤◌, min, List, [], ◌∷◌, ◌++◌, length, map, take, drop}
 use Rattle.std.proofs.Common.{Option, Some, None, refl, sym, ap, ◌∙◌, subst, arith, length-take, length-drop}
 use Rattle.std.specs.Prelude.{All, unwrap_or, IsTrue}
@@ -72,8 +73,7 @@ module _ (law : CodedStripsAreRead) (form : PageForm) (limits : IsPageForm form)
       )
 
 height : (strip : Option ℕ) (rows : ℕ) → ForSome strip (λ n. 0 < n) → 1 ≤ rows → 1 ≤ min (unwrap_or strip rows) rows
-height None rows some any = omega arith
-height (Some n) rows some any = let n_some : 0 < n = some n refl in omega arith
+height strip rows some any = grind arith
 
 within_limits : (width rows : ℕ) → IsTrue (is_within_limits width rows) → (1 ≤ width) × (width ≤ 65535) × (1 ≤ rows) × (rows ≤ 1000000)
 within_limits width rows within = (grind (arith, nat_tests), grind (arith, nat_tests), grind (arith, nat_tests), grind (arith, nat_tests))
@@ -85,29 +85,10 @@ module _ (law : CodedStripsAreRead) (options : Options) (coding : Coding) (some_
     form = (written_page options coding source).form
 
     form_limits : IsPageForm form
-    form_limits =
-        let within = within_limits source.image.width (length source.image.rows) w.image.within in
-        record {
-          some_width = within.0;
-          width = within.1;
-          some_rows = within.2;
-          rows = within.3;
-          some_rows_per_strip = height options.strip (length source.image.rows) some_strip within.2;
-          rows_per_strip = omega arith;
-          strips = refl;
-          x = w.x;
-          y = w.y;
-          some_unit = w.some_unit;
-          unit = w.unit;
-          aligned = has_eols;
-        }
+    form_limits = grind (arith, common_steps)
 
     page_writable : IsWritable (written_page options coding source)
-    page_writable = record {
-      limits = form_limits;
-      exchanged = refl;
-      strips = length-map-range_with_len (coded_of form options.k source.image.rows) 0 form.strips;
-    }
+    page_writable = grind (arith, common_steps, length-map-range_with_len)
 
     page_holds : HoldsRows (written_page options coding source) source.image.rows
     page_holds =

@@ -45,23 +45,15 @@ fault_met bytes left count fault read some is = record {
 
 -- an image has bytes of its own
 pub image_is_long : (bytes : List ℕ) (image : Image) (rest : List ℕ) → IsImage bytes image rest → length rest < length bytes
-image_is_long bytes image rest is =
-    let h = is.head in
-    let spelled = ap length h.spelled in
-    omega (arith, spelled, length-append {A = ℕ})
+image_is_long bytes image rest is = grind (arith, length-append)
 
 -- what the output of all pages of a source is
 module _ (bytes : List ℕ) (at : Progress) (output : Output) (source : IsSource bytes at.pages) (written : IsWrittenTo output at)
     (all : length at.pages ≡ at.total) where
   pub converted : (result : Result (Vec ℕ Global) ConvertFault) → IfOk result (FinishesAs output)
       → IfOk result (λ bytes'. IsConverted bytes at.options bytes'.items)
-  converted (Ok bytes') finishes =
-      let is = finishes at written all in
-      record { pages = at.pages; source = source; output_is = is.bytes_are; fits = is.fits }
-  converted (Err fault) finishes = tt
+  converted result finishes = grind arith
 
   pub refused : (result : Result (Vec ℕ Global) ConvertFault) → IfErr result (IsRefusedAs output)
       → IfErr result (λ fault. fault ≢ Memory → IsNotConverted bytes at.options fault)
-  refused (Ok bytes') large = tt
-  refused (Err fault) (is, large) =
-      λ not_memory. subst (IsNotConverted bytes at.options) (sym is) (at.pages, source, large at written all)
+  refused result large = grind arith

@@ -12,8 +12,7 @@ use Rattle.fax_walk.specs.Pages.{cursor_text, IsCursor}
 
 -- what holds in any case holds where there is an error
 pub held_on_err : {T E : Type 0} (r : Result T E) (P : Type 0) → P → OnErr r P
-held_on_err (Ok x) P h = tt
-held_on_err (Err e) P h = h
+held_on_err r P h = grind arith
 
 pub numerals : IsNumeralModel (AllDigits 10) (digits_value 10)
 numerals = numerals_by_value _ tells_digits
@@ -26,8 +25,7 @@ abbrev version : List ℕ
 version = 49 ∷ []
 
 version_has_no_colon : (i : ℕ) → i < length version → get_or version i 0 ≢ 58
-version_has_no_colon zero within = λ e. omega arith
-version_has_no_colon (suc i) within = absurd (omega arith)
+version_has_no_colon i within = grind arith
 
 -- the text after the first colon of a cursor's
 pub after_version : (text : List ℕ) (at : Cursor) (r : Option (Bor (List ℕ) × Bor (List ℕ))) → IsSplitOnceResult 58 text r

@@ -32,24 +32,17 @@ inside at end from e = grind arith
 -- in a strip they end at the row that is due; where there is no strip, at its first row
 in_strip : (form : PageForm) (at : RowPlace) (found : Option (List ℕ)) (end : End) → IsInStrip form at found (ends_as end)
     → (found ≡ None → at.row ≤ strip_at form at.row * form.rows_per_strip) → EndsFrom at end
-in_strip form at None end stop first = inr (at.page, _, File StripOutside, cc, omega arith, λ same. first refl)
-in_strip form at (Some bytes) end (fault, stop, is) first = inr (at.page, at.row, Strip fault, is, omega arith, λ same. omega arith)
+in_strip form at found end stop first = grind arith
 
 -- the place after an item is below it, or on a page after
 pub follows : (file : List ℕ) (at : RowPlace) (item : RowItem) (to : RowPlace) → IsRow file at (goes_on item to)
     → (item.page ≡ at.page) × (item.row ≡ at.row) × (item.page ≤ to.page) × (to.page ≡ item.page → to.row ≡ item.row + 1)
-follows file at item to step = grind (arith, read_at, after_read)
+follows file at item to step = grind arith
 
 module _ (chains : FilesHaveOneChain) (file : List ℕ) where
   -- on a page that is due
   on_due : (p : ℕ) → IsDue file p → (end : End) → IsRow file (first_at p 0) (ends_as end) → EndsFrom (first_at p 0) end
-  on_due p due end (Err none, page, is) =
-      let same : none ≡ end = cc in
-      elim (end_due chains file p due end (rw same at page)) [
-        | inl proper ↦ inl proper
-        | inr (cause, fault) ↦ inr (p, 0, cause, fault, omega arith, λ same. omega arith)
-      ]
-  on_due p due end (Ok here, page, is) = grind (arith, in_strip)
+  on_due p due end h = grind (arith, end_due)
 
   -- at a row of a page
   on_page : (at : RowPlace) (here : FilePage) → IsPageAt file (cursor_at at) (Ok here)
@@ -90,8 +83,7 @@ items_end_in_the_file chains file items end are outside = grind (arith, never_ou
 
 not_before : (item : RowItem) (to : RowPlace) (end : End) → item.page ≤ to.page → (to.page ≡ item.page → to.row ≡ item.row + 1)
     → EndsFrom to end → EndsBefore end (cursor_after item) → ⊥
-not_before item to end later below (inl proper) before = rw proper at before
-not_before item to end later below (inr (p, r, cause, fault, page, row)) before = grind arith
+not_before item to end later below h before = grind arith
 
 pub tails_end_after : FilesHaveOneChain → TailsEndAfter
 tails_end_after chains file begun all end n item tail there last before =

@@ -25,14 +25,14 @@ outside_past : (pages : ℕ) (at : Cursor) → pages < at.page → end_past_chai
 outside_past pages at past = let e : (at.page == pages) ≡ false = grind (arith, nat_tests, past) in rw e refl
 
 outside_row : (pages : ℕ) (at : Cursor) → 0 < at.row → end_past_chain pages None at ≡ Outside
-outside_row pages at some = grind (arith, nat_tests)
+outside_row pages at some = grind arith
 
 -- a directory stands there
 pub goes_on : (file : List ℕ) (number : ℕ) (chain new : ChainState) (answer : Result (Option TiffDirectory) FileFault)
     (directory : TiffDirectory)
     → IsChainBefore file number chain → IsDueAnswer chain answer → answer ≡ Ok (Some directory) → new ≡ after_answer chain answer
     → IsChainBefore file (number + 1) new
-goes_on file number chain new answer directory before due is counted = grind (arith, due_some, slice_get_within)
+goes_on file number chain new answer directory before due is counted = grind (arith, slice_get_within)
 
 -- a file's chain before a directory, and what it answers for it
 module _ (file : List ℕ) (number : ℕ) (chain : ChainState) (answer : Result (Option TiffDirectory) FileFault)
@@ -46,10 +46,10 @@ module _ (file : List ℕ) (number : ℕ) (chain : ChainState) (answer : Result 
   -- the chain has no page of a later number
   past_chain : (at : Cursor) → slice_get one.offsets chain.given ≡ None → number ≤ at.page
       → IsPageAt file at (Err (end_past_chain (length one.offsets) one.end at))
-  past_chain at none past = grind (arith, none_past, slice_get_past, page_here)
+  past_chain at none past = grind (arith, none_past, slice_get_past)
 
   count_is : slice_get one.offsets chain.given ≡ None → length one.offsets ≡ number
-  count_is none = grind (arith, none_past, is_one)
+  count_is none = grind (arith, none_past)
 
   -- where the chain ends properly, and where it ends with a fault
   ended_at : (at : Cursor) → answer ≡ Ok None → number ≤ at.page → IsPageAt file at (Err (end_past_chain number None at))
@@ -85,7 +85,7 @@ module _ (file : List ℕ) (number : ℕ) (chain : ChainState) (answer : Result 
 
     pub found : (r : ℕ) → IsPageAt directory.file (record { page = number; row = r })
         (page_or_end directory.endian directory.offset number (form_of directory))
-    found r = grind (arith, there, page_here)
+    found r = grind (arith, there)
 
     pub fields_refused : (refused : FileFault) → form_of directory ≡ Err refused → IsNoPage directory.file number
         (Fault number 0 (File refused))

@@ -61,8 +61,7 @@ module _ (file : List ℕ) (at : Cursor) where
         → IfOk result (IsOpenedAt due.directory.file (here at.row) (row_in_strip due.form at.row) 0)
         → IfOk result (λ page. page.page ≡ due.page) → IfOk result (λ page. page.first ≡ at.row)
         → IfOk result (IsOpenedFirst file (At at))
-    opened_on below (Ok page) opened page_is first_is = grind (arith, begins_on)
-    opened_on below (Err fault) opened page_is first_is = opened
+    opened_on below result opened page_is first_is = grind (arith, begins_on)
 
     pub refused_on : at.row < due.form.rows → (result : Result PageState OpenFault) → IfErr result (IsRefusal (IsNoStrip due at.row))
         → IfErr result (IsRefusal (HasNoRows file (At at)))
@@ -114,7 +113,7 @@ module _ (file : List ℕ) (place : LongPlace) where
         → IfErr result (IsRefusal (HasNoRows file (Inside place)))
     refused_inside (Ok page) refused = refused
     refused_inside (Err Memory) refused = tt
-    refused_inside (Err (Ended end)) (inl (inner, stop)) = grind (arith, no_row, begun_place)
+    refused_inside (Err (Ended end)) (inl (inner, stop)) = grind (arith, begun_place)
     refused_inside (Err (Ended end)) (inr (not, end_is)) =
         no_beginning file (Inside place) end
         (Ok (page_with due.directory due.form), named.3, inr (λ inner. not (rw (sym named.0) at inner), rw end_is refl))

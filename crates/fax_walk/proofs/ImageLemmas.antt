@@ -1,4 +1,5 @@
 -- Images that are converted.
+use Rattle.std.proofs.lemmas.Grind.{common_steps}
 use Rattle.std.proofs.Common.{◌≡◌, ◌≢◌, ℕ, zero, suc, ◌+◌, ◌*◌, ◌≤◌, inl, inr, List, [], ◌∷◌, ◌++◌, length, map, take, drop, Some}
 use Rattle.std.proofs.Common.{None, refl, sym, ap, ◌∙◌, subst, arith, append_assoc, append-nil, length-append, length-take, length-drop}
 use Rattle.std.specs.Prelude.{codes}
@@ -25,9 +26,7 @@ raster_count width (suc n) bytes = ap suc (raster_count width n (drop (packed_le
 pub raster_next : (width n : ℕ) (bytes : List ℕ)
     → raster_rows width (n + 1) bytes
     ≡ raster_rows width n bytes ++ unpacked_row width (take (packed_len width) (drop (n * packed_len width) bytes)) ∷ []
-raster_next width zero bytes =
-    let none : 0 ≡ 0 * packed_len width = omega arith in
-    ap (λ (i : ℕ). unpacked_row width (take (packed_len width) (drop i bytes)) ∷ []) none
+raster_next width zero bytes = grind (arith, common_steps)
 raster_next width (suc n) bytes =
     let len = packed_len width in
     let count : suc n + 1 ≡ suc (n + 1) = omega arith in
@@ -91,11 +90,7 @@ module _ (reads : ImagesAreReadInOneWay) (begins : ImagesBeginInOneWay) (bytes l
 
     -- one more image is due
     pub image_due : IsPageDue options output at
-    image_due = record {
-      options_are = refl;
-      fewer = omega (arith, length-append so_far.before so_far.rest, so_far.total_is, ap length read.1, pages_are);
-      written = so_far.written;
-    }
+    image_due = grind (arith, common_steps)
 
     pub image_written : (new : Output) → IsWrittenTo new (with_source_page at (page_of_image image))
         → AreImagesWritten bytes next options total new
@@ -121,10 +116,4 @@ module _ (reads : ImagesAreReadInOneWay) (begins : ImagesBeginInOneWay) (bytes l
     all_written = omega (arith, pages_are, ap length none_left, length-append so_far.before so_far.rest, so_far.total_is)
 
     pub source : BeginsWith bytes (codes "P4") → IsSource bytes at.pages
-    source begins = inl (
-      begins,
-      so_far.before,
-      subst (λ (l : List Image). AreImages bytes l None)
-          (ap (λ (l : List Image). so_far.before ++ l) none_left ∙ append-nil so_far.before) so_far.all,
-      refl,
-    )
+    source begins = grind (arith, common_steps, none_left)

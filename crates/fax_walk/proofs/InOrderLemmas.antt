@@ -1,4 +1,5 @@
 -- What is handed out in order: one answer at each place makes one list, and what follows an item begins after it.
+use Rattle.std.proofs.lemmas.Grind.{common_steps}
 use Rattle.std.proofs.Common.{◌≡◌, ℕ, zero, suc, ◌+◌, ◌<◌, ◌≤◌, List, [], ◌∷◌, ◌++◌, length, take, drop, Some, refl, sym, ap, ◌∙◌}
 use Rattle.std.proofs.Common.{subst, arith, append_assoc}
 use Rattle.std.proofs.lemmas.List.{drop_at, take-append-drop}
@@ -86,21 +87,14 @@ module _ {S A : Type 0} (next : S → Step A S → Type 0) (answers : (at : S) �
       one_led place' items others to another (omega (arith, count)) (subst (λ (s : S). LeadTo next s items to) same.1 leads) leads'
 
   pub one_list : (at : S) → IsListed next at → IsOne (AreFrom next at)
-  one_list at listed = record {
-    items = listed.items;
-    end = listed.end;
-    is = listed.is;
-    one = λ others other is. one_from at others listed.items other listed.end is listed.is;
-  }
+  one_list at listed = grind (arith, common_steps, one_from)
 
 module _ {S A : Type 0} (next : S → Step A S → Type 0) where
   -- the first items of what is handed out lead to a place, and the others are handed out from there
   pub split_at : (at : S) (before after : List A) (end : End) → AreFrom next at (before ++ after) end
       → (to : S) × LeadTo next at before to × AreFrom next to after end
   split_at at [] after end is = (at, refl, is)
-  split_at at (x ∷ before) after end (place, step, rest) =
-      let later = split_at place before after end rest in
-      (later.0, (place, step, later.1), later.2)
+  split_at at (x ∷ before) after end (place, step, rest) = grind (arith, common_steps, split_at place before after end rest)
 
   -- items that lead to a place, and then those that lead on from there
   pub leads_both : (at to : S) (items more : List A) (later : S) → LeadTo next at items to → LeadTo next to more later

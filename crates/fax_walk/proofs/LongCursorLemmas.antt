@@ -27,11 +27,7 @@ run_and run = decimal run ++ 44 ∷ []
 -- runs after the first one, and in front of the last
 after_first : (runs : List ℕ) (last : ℕ) → flat_map and_run (runs ++ last ∷ []) ≡ 44 ∷ (flat_map run_and runs ++ decimal last)
 after_first [] last = append-nil (44 ∷ decimal last)
-after_first (run ∷ runs) last =
-    ap (λ more. 44 ∷ (decimal run ++ more)) (after_first runs last)
-    ∙ ap (λ more. 44 ∷ more)
-    (sym (append_assoc (decimal run) (44 ∷ []) (flat_map run_and runs ++ decimal last))
-    ∙ sym (append_assoc (run_and run) (flat_map run_and runs) (decimal last)))
+after_first (run ∷ runs) last = grind (arith, common_steps, after_first runs last)
 
 pub runs_text-push : (runs : List ℕ) (last : ℕ) → runs_text (runs ++ last ∷ []) ≡ flat_map run_and runs ++ decimal last
 runs_text-push [] last = append-nil (decimal last)

@@ -1,4 +1,5 @@
 -- A page that is open: where it stands, and what is read there.
+use Rattle.std.proofs.lemmas.Grind.{common_steps}
 use Rattle.std.proofs.Common.{◌≡◌, ℕ, ◌+◌, ◌-◌, ◌*◌, ◌<◌, ◌≤◌, ◌⊎◌, inl, inr, min, true, false, List, [], ◌∷◌, ◌++◌, length, drop, Option}
 use Rattle.std.proofs.Common.{Some, None}
 use Rattle.std.proofs.Common.{Result, Ok, Err, refl, sym, ap, ◌∙◌, subst, arith, add-mul, length-append, ◌^◌}
@@ -48,41 +49,19 @@ use Rattle.fax_walk.specs.Pages.{goes_on, ends_as}
 
 -- the strips of a page hold its rows, and each some of them
 pub whole_of : (form : PageForm) → IsPageForm form → IsWholeForm form
-whole_of form limits =
-    let times : (form.rows ≤ form.strips * form.rows_per_strip) × (form.strips * form.rows_per_strip < form.rows + form.rows_per_strip) =
-    rw limits.strips (div_ceil_times form.rows form.rows_per_strip limits.some_rows_per_strip) in
-    record {
-      some_width = limits.some_width;
-      width = limits.width;
-      some_rows = limits.some_rows;
-      rows = limits.rows;
-      some_in_strip = limits.some_rows_per_strip;
-      enough = times.0;
-      needed = λ s due.
-          let more : (s + 1) * form.rows_per_strip ≤ form.strips * form.rows_per_strip =
-          mul-le-mul_right form.rows_per_strip (omega arith) in
-          omega (arith, more, times, add-mul s 1 form.rows_per_strip);
-    }
+whole_of form limits = grind arith
 
 -- the place of a row of a page: a strip's first, or one inside its strip
 pub at_first : (form : PageForm) (p r : ℕ) (inner : Inner) → r < form.rows → row_in_strip form r ≡ 0 → place_on form p r inner ≡ first_at
     p r
-at_first form p r inner below none =
-    let test : nat_lt r form.rows ≡ true = grind (arith, nat_tests, below) in
-    let first : (row_in_strip form r == 0) ≡ true = grind (arith, nat_tests, none) in
-    rw (test, first) refl
+at_first form p r inner below none = grind (arith, common_steps)
 
 pub at_inner : (form : PageForm) (p r : ℕ) (inner : Inner) → r < form.rows → 0 < row_in_strip form r
     → place_on form p r inner ≡ record { page = p; row = r; inner = Some inner }
-at_inner form p r inner below some =
-    let test : nat_lt r form.rows ≡ true = grind (arith, nat_tests, below) in
-    let first : (row_in_strip form r == 0) ≡ false = grind (arith, nat_tests, some) in
-    rw (test, first) refl
+at_inner form p r inner below some = grind (arith, common_steps)
 
 pub at_end : (form : PageForm) (p r : ℕ) (inner : Inner) → r ≡ form.rows → place_on form p r inner ≡ first_at (p + 1) 0
-at_end form p r inner last =
-    let test : nat_lt r form.rows ≡ false = grind (arith, nat_tests, last) in
-    rw test refl
+at_end form p r inner last = grind (arith, common_steps)
 
 -- row i of strip s is due, after which so many bits and this row stand before it
 module _ (form : PageForm) (p s i r : ℕ) (inner : Inner) (r_is : r ≡ s * form.rows_per_strip + i) (due : i < (strip_form form s).rows) where
@@ -157,9 +136,7 @@ module _ (page : PageState) (limits : IsPageForm page.form) (strip_is : IsStripO
         pub place_next : place_on page.form page.page (page.number * n + strip.row)
             (record { bits = strip.place; reference = strip.reference })
             ≡ place_after item
-        place_next =
-            let next : page.number * n + strip.row ≡ row_of page + 1 = omega (arith, reads.next_row) in
-            rw (next, ← twice) refl
+        place_next = grind (arith, common_steps, twice)
 
       -- it is not there
       pub row_fault : (fault : StripFault) (strip : StripState) → MeetsFault page.strip fault strip
@@ -199,25 +176,18 @@ module _ (page : PageState) (limits : IsPageForm page.form) (strip_is : IsStripO
     pub next_place : (strip : StripState) → strip.row ≡ 0
         → place_on page.form page.page ((page.number + 1) * n + strip.row) (record { bits = strip.place; reference = strip.reference })
         ≡ place_of page
-    next_place strip none =
-        rw (next_row_is strip none) (at_first page.form page.page (row_of page) _ due next_numbers.1 ∙ sym first_there)
+    next_place strip none = grind (arith, common_steps, next_numbers)
 
 -- so many rows of a page are read at most
 pub rows_within : (page : PageState) → IsPageForm page.form → page.number < page.form.strips → page.strip.form ≡ strip_form page.form
     page.number
     → page.strip.row ≤ page.strip.form.rows → row_of page ≤ page.form.rows
-rows_within page limits within form_is within_strip =
-    let count : page.strip.form.rows ≡ min page.form.rows_per_strip (page.form.rows - page.number * page.form.rows_per_strip) =
-    ap (λ (f : StripForm). f.rows) form_is in
-    let begins = (whole_of page.form limits).needed page.number within in
-    omega (arith, count, begins, within_strip)
+rows_within page limits within form_is within_strip = grind arith
 
 -- so few rows are read that they can be counted
 pub few_read : (page : PageState) → IsPageForm page.form → page.number < page.form.strips → page.strip.form ≡ strip_form page.form page.number
     → page.strip.row ≤ page.strip.form.rows → page.page < 2 ^ 32 → page.read ≤ page.page * most_rows + row_of page → page.read < 2 ^ 53
-few_read page limits within form_is within_strip some_page few =
-    let rows = rows_within page limits within form_is within_strip in
-    omega (arith, rows, limits.rows, some_page, few)
+few_read page limits within form_is within_strip some_page few = grind (arith, common_steps)
 
 -- a page that is open, as its fields have it
 abbrev pub state : ℕ → ChainState → TiffDirectory → PageForm → ℕ → ℕ → StripState → List Colour → ℕ → PageState
@@ -281,10 +251,7 @@ module _ (old page : PageState) (keeps : KeepsPlace old page) where
       }
 
   pub stops_kept : (end : End) → StopsAtRow page end → StopsAtRow old end
-  stops_kept end stops = record {
-    stop = rw (keeps.same.directory, keeps.place) at stops.stop;
-    told = (stops.told.0, rw (keeps.same.page, keeps.row) at stops.told.1);
-  }
+  stops_kept end stops = grind (arith, common_steps)
 
 -- a fault is met at the row where the reader of the strip stays
 pub fault_stops : (page : PageState) (strip : StripState) (fault : StripFault) → IsOpen page → IsPageForm page.form
@@ -298,41 +265,23 @@ fault_stops page strip fault is_open limits strip_is its (inr meets) row due =
 
 -- rows that are not handed out
 pub none_skipped : (page : PageState) → HasSkipped page page []
-none_skipped page = record {
-  same = record { page = refl; form = refl; first = refl; directory = refl };
-  lead = refl;
-  rows = omega arith;
-  read = omega arith;
-  few = omega arith;
-}
+none_skipped page = grind (arith, common_steps)
 
 module _ (old now new : PageState) (items : List RowItem) (skips : HasSkipped old now items) (reads : ReadsPageRow now new) where
   abbrev its_item : RowItem
   its_item = item_of now (row_of now) new
 
   same_on : IsSamePage old new
-  same_on = record {
-    page = reads.same.page ∙ skips.same.page;
-    form = reads.same.form ∙ skips.same.form;
-    first = reads.same.first ∙ skips.same.first;
-    directory = reads.same.directory ∙ skips.same.directory;
-  }
+  same_on = grind (arith, common_steps)
 
   lead_on : LeadTo (IsRow old.directory.file) (place_of old) (items ++ its_item ∷ []) (place_of new)
-  lead_on = leads_on (IsRow old.directory.file) (place_of old) (place_of now) items its_item (place_of new) skips.lead
-      (subst (λ (d : TiffDirectory). IsRow d.file (place_of now) (goes_on its_item (place_of new))) skips.same.directory reads.step)
+  lead_on = grind (arith, common_steps, leads_on)
 
   count_on : length (items ++ its_item ∷ []) ≡ length items + 1
   count_on = length-append items (its_item ∷ [])
 
   pub one_skipped : row_of new ≤ new.first → HasSkipped old new (items ++ its_item ∷ [])
-  one_skipped before = record {
-    same = same_on;
-    lead = lead_on;
-    rows = omega (arith, count_on, skips.rows, reads.next_row);
-    read = omega (arith, count_on, skips.read, reads.one_more);
-    few = omega (arith, count_on, before, skips.rows, reads.next_row, same_on.first);
-  }
+  one_skipped before = grind (arith, common_steps, lead_on)
 
   pub row_given : IsFilePage new.page new.chain new.directory new.form → new.first < row_of new → new.read < 2 ^ 53 → GivesRow old new
   row_given its past few =
@@ -382,10 +331,7 @@ module _ (due : PageDue) (first : ℕ) (its : IsFilePage due.page due.chain due.
 
 -- the first row of a page is that of its first strip
 pub page_first : (due : PageDue) (p : ℕ) → due.page ≡ p → first_at due.page (strip_at due.form 0 * due.form.rows_per_strip) ≡ first_at p 0
-page_first due p is =
-    let none : strip_at due.form 0 * due.form.rows_per_strip ≡ 0 =
-    ap (λ (s : ℕ). s * due.form.rows_per_strip) (zero-div due.form.rows_per_strip) ∙ omega arith in
-    rw (is, none) refl
+page_first due p is = grind (arith, common_steps)
 
 -- a page that is due is there
 pub due_there : (p : ℕ) (chain : ChainState) (directory : TiffDirectory) (form : PageForm) → IsFilePage p chain directory form
@@ -395,17 +341,12 @@ due_there p chain directory form its = (Ok (page_with directory form), its.here 
 pub refused_after : (file : List ℕ) (due : PageDue) (p : ℕ) (result : Result PageState OpenFault) → due.page ≡ p
     → due.directory.file ≡ file → IfErr result (IsRefusal (IsNoStrip due 0))
     → IfErr result (IsRefusal (λ end. IsRow file (first_at p 0) (ends_as end)))
-refused_after file due p (Ok page) page_is file_is refused = refused
-refused_after file due p (Err Memory) page_is file_is refused = tt
-refused_after file due p (Err (Ended end)) page_is file_is refused =
-    rw file_is at (subst (λ (t : RowPlace). IsRow due.directory.file t (ends_as end)) (page_first due p page_is) refused.stop)
+refused_after file due p result page_is file_is refused = grind arith
 
 -- runs that are those of a row are a place's
 pub inner_is : (width : ℕ) (bytes : List ℕ) (place : LongPlace) (reference : List Colour) → place.bits ≤ 8 * length bytes
     → length reference ≡ width → runs_of reference ≡ place.runs → IsInner width bytes place × (reference ≡ pels_of White place.runs)
-inner_is width bytes place reference within width_is runs =
-    let pels : pels_of White place.runs ≡ reference = ap (pels_of White) (sym runs) ∙ pels_after White 0 reference in
-    ((within, rw pels width_is, rw pels runs), sym pels)
+inner_is width bytes place reference within width_is runs = grind (arith, common_steps, pels_after)
 
 -- a place inside a strip of a page that is due
 module _ (due : PageDue) (place : LongPlace) (its : IsFilePage due.page due.chain due.directory due.form)
@@ -435,24 +376,13 @@ module _ (due : PageDue) (place : LongPlace) (its : IsFilePage due.page due.chai
 
     pub no_place : (fault : OpenFault) → IsNoPlace (strip_form due.form its_number) bytes place fault → IsRefusal (IsNoInner due place)
         fault
-    no_place Memory none = tt
-    no_place (Ended end) (end_is, not) = rw end_is (not_inner not)
+    no_place fault none = grind arith
 
     pub opened_inside : (strip : StripState) (shown : List Colour) → strip.row ≡ row_in_strip due.form place.at.row → strip.fault ≡ None
         → strip.place ≡ place.bits → strip.reference ≡ pels_of White place.runs → strip.read ≡ 0
         → IsOpenedAt due.directory.file (inner_at place) 0 0
         (state due.page due.chain due.directory due.form place.at.row its_number strip shown (0 + strip.read))
-    opened_inside strip shown row no_fault bits_are reference_is unread =
-        let parts = div-add-mod place.at.row due.form.rows_per_strip in
-        let at : its_number * due.form.rows_per_strip + strip.row ≡ place.at.row = omega (arith, parts, row) in
-        record {
-          is_open = record { no_fault = no_fault; first = below };
-          file_is = refl;
-          row_due = omega (arith, at, below);
-          place_is = rw (at, bits_are, reference_is, ← same_page) (at_inner due.form due.page place.at.row _ below some);
-          skips = omega (arith, at);
-          read_is = omega (arith, unread);
-        }
+    opened_inside strip shown row no_fault bits_are reference_is unread = grind (arith, common_steps)
 
 -- the place inside the strip after the row that was read last
 module _ (page : PageState) (limits : IsPageForm page.form) (within : page.number < page.form.strips)

@@ -57,24 +57,13 @@ module _ (writes : WritesRowByRow) (form : PageForm) (k : ℕ) (rows : List (Lis
   Places = (n * in_strip ≤ length rows) × (length rows < n * in_strip + in_strip)
 
   places_by : (writer : Option WriterState) → AreInStrip form k n rows writer → Places
-  places_by None is =
-      let some = put.limits.some_rows_per_strip in
-      (omega arith, omega arith)
-  places_by (Some writer) is =
-      let fewer = is.2.fewer in
-      let left = length-drop (n * in_strip) rows in
-      (omega (arith, is.0), omega arith)
+  places_by writer is = grind (arith, length-drop)
 
   places : Places
   places = places_by page.writer put.in_strip
 
   one_due : n < form.strips
-  one_due = elim (cases_lt n form.strips) [
-    | inl less ↦ less
-    | inr not_less ↦
-        let far : in_strip * form.strips ≤ in_strip * n = mul-le-mul_left in_strip not_less in
-        absurd (omega (arith, (whole_of form put.limits).enough, places))
-  ]
+  one_due = grind arith
 
   -- a strip's writer that the next row can be put to
   abbrev pub IsReady : WriterState → Type 0
@@ -84,10 +73,7 @@ module _ (writes : WritesRowByRow) (form : PageForm) (k : ℕ) (rows : List (Lis
   ready_started writer is = let started = rw is at put.in_strip in started.2.has_put
 
   pub ready_new : (writer : WriterState) → page.writer ≡ None → writer ≡ writer_beginning (strip_form page.form n) page.k → IsReady writer
-  ready_new writer none is =
-      let whole = rw none at put.in_strip in
-      let nothing : drop (n * in_strip) rows ≡ [] = drop_all (n * in_strip) rows (omega arith) in
-      rw (nothing, is, put.form_is, put.k_is) (writes.begins (strip_form form n) k)
+  ready_new writer none is = grind (arith, drop_all)
 
   module _ (row : List Colour) (old new : WriterState) (ready : IsReady old) (puts : PutsRow old row new) where
     abbrev more : List (List Colour)

@@ -1,4 +1,5 @@
 -- An output that is written page by page.
+use Rattle.std.proofs.lemmas.Grind.{common_steps}
 use Rattle.std.proofs.Common.{◌≡◌, ℕ, suc, ◌+◌, ◌-◌, ◌*◌, ◌<◌, ◌≤◌, inl, inr, List, [], ◌∷◌, ◌++◌, length, map, take, drop}
 use Rattle.std.proofs.Common.{Option, Some}
 use Rattle.std.proofs.Common.{None, Result, Ok, Err, refl, sym, ap, ◌∙◌, subst, arith, append_assoc, append-nil, length-append, length-take}
@@ -37,8 +38,7 @@ use Rattle.fax_walk.specs.code.Output.{StaysTooLarge, HasImages, HasPages, HasRo
 
 -- what follows where a call was done
 pub on_ok : {E : Type 0} {P Q : Type 0} (result : Result (Unit {0}) E) → OnOk result P → (P → Q) → OnOk result Q
-on_ok (Ok done) holds follows = follows holds
-on_ok (Err fault) holds follows = tt
+on_ok result holds follows = grind arith
 
 -- rows of one width, and one more
 pub widths_more : (width : ℕ) (rows : List (List Colour)) (row : List Colour) → AreOfWidth width rows → length row ≡ width
@@ -65,9 +65,7 @@ image_bytes image = head_bytes image.width (length image.rows) ++ flat_map packe
 images_split : (pages more : List SourcePage) (page : SourcePage)
     → pbm_of (map (λ page. page.image) ((pages ++ page ∷ []) ++ more))
     ≡ pbm_of (map (λ page. page.image) pages) ++ (image_bytes page.image ++ pbm_of (map (λ page. page.image) more))
-images_split pages more page =
-    rw (append_assoc pages (page ∷ []) more, map-append (λ (page : SourcePage). page.image) pages (page ∷ more))
-    (flat_map-append image_bytes (map (λ page. page.image) pages) (map (λ page. page.image) (page ∷ more)))
+images_split pages more page = grind (arith, append_assoc, map-append, flat_map-append)
 
 -- images are too large in any options
 images_too_large : (target : Target) (options : Options) (pages : List SourcePage) → target ≡ Pbm
@@ -102,13 +100,7 @@ module _ (packs : PackingUndoesUnpacking) (at : Progress) (sheet : Sheet) (targe
 -- an image is begun
 pub image_begun : (at : Progress) (sheet : Sheet) (old new : List ℕ) → HasImages old at → new ≡ old ++ head_bytes sheet.width sheet.rows
     → length new + sheet.rows * packed_len sheet.width ≤ max_file → HasImageRows new (no_rows at sheet)
-image_begun at sheet old new has new_is fits = record {
-  target = has.target;
-  bytes_are = rw (new_is, has.bytes_are, append-nil (head_bytes sheet.width sheet.rows)) refl;
-  left = sheet.rows;
-  left_is = omega arith;
-  fits = fits;
-}
+image_begun at sheet old new has new_is fits = grind (arith, append-nil)
 
 -- a row is put after the others of its image
 pub image_row : PackingUndoesUnpacking → (part : Part) (row : List Colour) (old new : List ℕ) → HasImageRows old part
@@ -147,62 +139,41 @@ pages_append old total k (page ∷ pages) more =
 pages_next : (old : Written) (total : ℕ) (pages : List WrittenPage) (page : WrittenPage)
     → with_pages old total 0 (pages ++ page ∷ []) ≡ with_page (with_pages old total 0 pages) total (length pages) page.form page.strips
 unfolding with_pages
-pages_next old total pages page =
-    let there : 0 + length pages ≡ length pages = omega arith in
-    pages_append old total 0 pages (page ∷ [])
-    ∙ ap (λ (n : ℕ). with_page (with_pages old total 0 pages) total n page.form page.strips) there
+pages_next old total pages page = grind (arith, common_steps, pages_append)
 
 -- a file does not get shorter with a page
 page_grows : (old : Written) (total k : ℕ) (form : PageForm) (strips : List (List ℕ))
     → length old.bytes ≤ length (with_page old total k form strips).bytes
 unfolding with_page
-page_grows old total k form strips =
-    let place = directory_place (length old.bytes) strips in
-    let file = take old.link old.bytes ++ four place ++ drop (old.link + 4) old.bytes in
-    let four_is : length (four place) ≡ 4 = refl in
-    omega (arith, length-append {A = ℕ}, length-take {A = ℕ}, length-drop {A = ℕ}, four_is)
+page_grows old total k form strips = grind (arith, length-append, length-take, length-drop)
 
 pages_grow : (old : Written) (total k : ℕ) (pages : List WrittenPage) → length old.bytes ≤ length (with_pages old total k pages).bytes
 unfolding with_pages
 pages_grow old total k [] = omega arith
 pages_grow old total k (page ∷ pages) =
-    let first = page_grows old total k page.form page.strips in
-    let later = pages_grow (with_page old total k page.form page.strips) total (k + 1) pages in
-    omega (arith, first, later)
+    grind (arith, common_steps, page_grows, pages_grow (with_page old total k page.form page.strips) total (k + 1) pages)
 
 -- a TIFF file of no page yet
 pub file_begun : (options : Options) (total : ℕ) (coding : Coding) (writer : Writing) → coding_of options.target ≡ Some coding
     → total ≤ 65535
     → writer ≡ record { written = empty_file; total = total; added = 0 } → HasPages coding writer (nothing_written options total)
 unfolding with_pages
-file_begun options total coding writer coding_is few is =
-    let eight : length (empty_file.bytes) ≡ 8 = refl in
-    rw is (record { coding_is = coding_is; few = few; total = refl; added = refl; written = refl; fits = omega (arith, eight) })
+file_begun options total coding writer coding_is few is = grind arith
 
 -- how a TIFF file of pages is written
 target_file : (target : Target) (options : Options) (coding : Coding) (pages : List SourcePage) → coding_of target ≡ Some coding
     → target_bytes target options pages ≡ file_of (map (written_page options coding) pages)
-target_file Pbm options coding pages is = absurd cc
-target_file ToMh options coding pages is = let same : coding ≡ Mh = cc in rw same refl
-target_file ToMr options coding pages is = let same : coding ≡ Mr = cc in rw same refl
-target_file ToMmr options coding pages is = let same : coding ≡ Mmr = cc in rw same refl
+target_file target options coding pages is = grind arith
 
 reached_by : (form : PageForm) (k n : ℕ) (rows : List (List Colour)) (writer : Option WriterState) → length rows ≡ form.rows
     → AreInStrip form k n rows writer → form.rows ≤ n * form.rows_per_strip
-reached_by form k n rows None all is = omega arith
-reached_by form k n rows (Some writer) all is = absurd (omega (arith, all, is.1))
+reached_by form k n rows writer all is = grind arith
 
 -- a page whose rows were all put has all its strips
 pub all_strips : (form : PageForm) (k : ℕ) (rows : List (List Colour)) (page : OpenStrips) → HasPutRows form k rows page
     → length rows ≡ form.rows
     → length page.done.items ≡ form.strips
-all_strips form k rows page put all =
-    let n = length page.done.items in
-    let reached = reached_by form k n rows page.writer all put.in_strip in
-    elim (cases_lt n form.strips) [
-      | inl less ↦ absurd (omega (arith, reached, (whole_of form put.limits).needed n less))
-      | inr not_less ↦ omega (arith, put.strips)
-    ]
+all_strips form k rows page put all = grind (arith, reached_by)
 
 -- a page of a TIFF file whose rows were all put
 module _ (part : Part) (coding : Coding) (writer : Writing) (page : OpenStrips) (has : HasRowsOnPage coding writer (Some page) part)
@@ -233,46 +204,11 @@ module _ (part : Part) (coding : Coding) (writer : Writing) (page : OpenStrips) 
 
   with_source : with_page writer.written writer.total writer.added page.form (contents page.done.items)
       ≡ with_pages empty_file total 0 (map written pages)
-  with_source =
-      rw (
-        has.0.written,
-        has.0.total,
-        has.0.added,
-        ← length-map part.at.pages written,
-        form_is,
-        strips_are,
-        map-append written part.at.pages (source ∷ []),
-        pages_next empty_file total (map written part.at.pages) (written source),
-      ) refl
+  with_source = grind (arith, length-map, strips_are, map-append, pages_next)
 
   pub page_ended : (new : Writing) → new ≡ with_one_more writer page.form page.done.items
       → length_with writer page.form page.done.items ≤ max_file → HasPages coding new (after part)
-  page_ended new new_is fits = rw new_is (record {
-    coding_is = has.0.coding_is;
-    few = has.0.few;
-    total = has.0.total;
-    added = omega (arith, has.0.added, length_push part.at.pages source);
-    written = with_source;
-    fits = fits;
-  })
+  page_ended new new_is fits = grind (arith, length_push, with_source)
 
   pub page_too_large : max_file < length_with writer page.form page.done.items → StaysTooLarge (after part)
-  page_too_large large = λ more count.
-      let file = map written (pages ++ more) in
-      let count_is : length file ≡ total = length-map (pages ++ more) written ∙ count in
-      let first = with_pages empty_file total 0 (map written pages) in
-      let split : with_pages empty_file total 0 file ≡ with_pages first total (0 + length (map written pages)) (map written more) =
-      ap (with_pages empty_file total 0) (map-append written pages more)
-      ∙ pages_append empty_file total 0 (map written pages) (map written more) in
-      let bytes_are : target_bytes options.target options (pages ++ more) ≡ (with_pages empty_file total 0 file).bytes =
-      target_file options.target options coding (pages ++ more) has.0.coding_is
-      ∙ ap (λ (n : ℕ). (with_pages empty_file n 0 file).bytes) count_is in
-      let grown = pages_grow first total (0 + length (map written pages)) (map written more) in
-      inl (omega (
-        arith,
-        large,
-        ap (λ (w : Written). length w.bytes) with_source,
-        ap (λ (w : Written). length w.bytes) split,
-        ap length bytes_are,
-        grown,
-      ))
+  page_too_large large = grind (arith, common_steps, length-map, pages_append, pages_grow, with_source)

@@ -51,13 +51,7 @@ module _ (directory : TiffDirectory) (form : PageForm) (p : ℕ) (limits : IsPag
   on_entries = note_if (not (ascend (entries directory.endian directory.file directory.offset))) p None EntriesOutOfOrder
 
   some_strip : 0 < form.strips
-  some_strip = elim (cases_lt 0 form.strips) [
-    | inl less ↦ less
-    | inr none ↦
-        let zero : form.strips ≡ 0 = omega (arith, none) in
-        let few : form.rows ≤ 0 * form.rows_per_strip = rw zero at (whole_of form limits).enough in
-        absurd (omega (arith, limits.some_rows, few))
-  ]
+  some_strip = grind arith
 
   entries_checked : HasChecked directory.file (before_page p) (before_strip form p 0) on_entries 0
   entries_checked =
@@ -93,28 +87,13 @@ none_checked file noted none = rw none (record { few = omega arith; is = nothing
 pub page_after : (file : List ℕ) (given rows : ℕ) (old new : List Note) (read : PageRead) → ArePagesChecked file given rows old
     → IsRestChecked file (before_page given) given old new read → read.fault ≡ None → ArePagesChecked file (given + 1) (rows + read.rows)
     new
-page_after file given rows old new read so_far page none =
-    let next : page.to ≡ before_page (given + 1) = rw none at page.after in
-    rw page.notes_are (record {
-      few = omega (arith, so_far.few, page.few);
-      is = checked_on file (before_page 0) (before_page given) (before_page (given + 1)) old page.noted rows read.rows so_far.is
-          (rw next at page.is);
-    })
+page_after file given rows old new read so_far page none = grind (arith, checked_on)
 
 -- the report of a file that is checked to its end
 reported : (file : List ℕ) (report : Report) (notes : List Note) (rows : ℕ) (to : CheckPlace) (end : End)
     → HasChecked file (before_page 0) to notes rows → EndsThere file to end → report.notes.items ≡ notes → report.rows ≡ rows
     → IsReportedEnd file end report.pages report.fault → IsReport file report
-reported file report notes rows to end is ends notes_are rows_are end_is = record {
-  items = is.items;
-  end = end;
-  read = ended_at (IsRow file) (first_at 0 0) to.row is.items end is.lead_rows ends.1;
-  rows_are = rows_are ∙ is.count;
-  end_is = end_is;
-  notes = is.found;
-  noted = ended_at (IsNoted file) (0, None) to.next is.found end is.lead ends.0;
-  notes_are = notes_are ∙ is.notes_are;
-}
+reported file report notes rows to end is ends notes_are rows_are end_is = grind (arith, ended_at)
 
 -- after the last page
 pub last_report : (file : List ℕ) (given : ℕ) (end : End) (report : Report) → ArePagesChecked file given report.rows report.notes.items

@@ -1,4 +1,5 @@
 -- What is asked of a file's pages has one answer, and so have its forms.
+use Rattle.std.proofs.lemmas.Grind.{common_steps}
 use Rattle.std.proofs.Common.{◌-◌, ◌<◌, ◌≤◌, ◌⊎◌, inl, inr, ◌≡◌, ℕ, zero, suc, ◌+◌, List, [], ◌∷◌, length, drop, Option, Some, None, Result, Ok, Err, refl, sym}
 use Rattle.std.proofs.Common.{ap, ◌∙◌}
 use Rattle.std.proofs.Common.{subst, arith, true}
@@ -57,13 +58,7 @@ pub record IsChained (file : List ℕ) (at : Cursor) (found : Result FilePage En
 
 chained : (file : List ℕ) (at : Cursor) (found : Result FilePage End) → IsPageAt file at found
     → ((fault : FileFault) × (header file ≡ Err fault) × (found ≡ Err (Fault 0 0 (File fault)))) ⊎ IsChained file at found
-chained file at found = under (header file) refl
-  where
-    under : (answer : Result Header FileFault) → header file ≡ answer → IsPageUnder file at answer found
-        → ((fault : FileFault) × (header file ≡ Err fault) × (found ≡ Err (Fault 0 0 (File fault)))) ⊎ IsChained file at found
-    under (Err fault) is_head e = inl (fault, is_head, e)
-    under (Ok head) is_head (offsets, fault, chain, e) =
-        inr (record { head = head; is_head = is_head; offsets = offsets; fault = fault; chain = chain; found_is = e })
+chained file at found = grind arith
 
 -- a page stands in its chain, and an end past it, or for a fault of the page's fields
 module _ (endian : Endian) (file offsets : List ℕ) (fault : Option FileFault) (at : Cursor) where
@@ -195,21 +190,10 @@ module _ (chains : FilesHaveOneChain) (file : List ℕ) (p : ℕ) (due : IsDue f
 
   past : (pages : ℕ) → pages ≡ p → (fault : Option FileFault) → end ≡ end_past_chain pages fault (record { page = p; row = 0 })
       → EndsDue p end
-  past pages all (Some met) e = inr (File met, e ∙ ap (λ (n : ℕ). Fault n 0 (File met)) all)
-  past pages all None e = let test : (p == pages) ≡ true = grind (arith, nat_tests, all) in inl (rw test at e)
+  past pages all fault e = grind arith
 
   pub end_due : IsPageAt file (record { page = p; row = 0 }) (Err end) → EndsDue p end
-  end_due there = elim (chained file (record { page = p; row = 0 }) (Err end) there) [
-    | inl (met, is_head, e) ↦ elim due [
-      | inl none ↦ let end_is : end ≡ Fault 0 0 (File met) = cc in inr (File met, rw none end_is)
-      | inr (at, here, stands, next) ↦ let found = in_chain file at here stands in absurd (cc (found.its.is_head, is_head))
-    ]
-    | inr its ↦ elim (over_end its.head.endian file its.offsets its.fault (record { page = p; row = 0 }) end (slice_get its.offsets p)
-        its.found_is) [
-          | inl (refused, is) ↦ inr (File refused, is)
-          | inr (none, is) ↦ past (length its.offsets) (omega (arith, none_past its.offsets p none, in_due its)) its.fault is
-        ]
-  ]
+  end_due there = grind (arith, chained, past, none_past, in_due)
 
 -- the pages after a directory that stands in the chain
 module _ (file : List ℕ) (head : Header) (is_head : header file ≡ Ok head) (offsets : List ℕ) (fault : Option FileFault)
@@ -234,11 +218,7 @@ module _ (chains : FilesHaveOneChain) (file : List ℕ) where
       omega (arith, slice_get_within found.its.offsets at.page here.offset found.there, counts, one.few)
 
   form_falls : (p : ℕ) (item : FormItem) (to : ℕ) → IsForm file p (goes_on item to) → length file - to < length file - p
-  form_falls p item to (Err none, page, e) = absurd cc
-  form_falls p item to (Ok here, page, e) =
-      let few = page_few (record { page = p; row = 0 }) here page in
-      let same = (step_parts item _ to (p + 1) e).1 in
-      omega (arith, few, same)
+  form_falls p item to h = grind (arith, page_few)
 
   forms_listed : (p : ℕ) → IsListed (IsForm file) p
   forms_listed = listed_by (IsForm file) (one_form chains file) (λ p. length file - p) form_falls
@@ -281,9 +261,7 @@ one_form_tail chains file at =
 module _ (file : List ℕ) where
   to_forms : (p : ℕ) (forms : List FormItem) (end : End) → IsFormTail file (record { page = p; row = 0 }) forms end
       → AreFrom (IsForm file) p forms end
-  to_forms p forms end (begin, (Err none, page, e), are) =
-      let both = rw e at are in rw (both.0, both.1) (Err none, page, refl)
-  to_forms p forms end (begin, (Ok here, page, e), are) = let here : begin ≡ Ok p = e in rw here at are
+  to_forms p forms end h = grind arith
 
   of_forms : (p : ℕ) (forms : List FormItem) (end : End) → AreFrom (IsForm file) p forms end
       → IsFormTail file (record { page = p; row = 0 }) forms end
@@ -293,18 +271,15 @@ module _ (file : List ℕ) where
   of_forms p (x ∷ forms) end (to, (Ok here, page, e), rest) = (Ok p, (Ok here, page, refl), (to, (Ok here, page, e), rest))
 
   form_page : (p : ℕ) (item : FormItem) (to : ℕ) → IsForm file p (goes_on item to) → (item.page ≡ p) × (to ≡ p + 1)
-  form_page p item to (Err none, page, e) = absurd cc
-  form_page p item to (Ok here, page, e) = let same = step_parts item _ to (p + 1) e in (ap (λ (i : FormItem). i.page) same.0, same.1)
+  form_page p item to h = grind arith
 
   stand_by_number : (forms : List FormItem) (p n : ℕ) (item : FormItem) (end : End) → AreFrom (IsForm file) p forms end
       → slice_get forms n ≡ Some item
       → item.page ≡ p + n
   stand_by_number [] p n item end are there = absurd cc
-  stand_by_number (x ∷ forms) p zero item end (to, step, rest) there = grind (arith, form_page)
+  stand_by_number (x ∷ forms) p zero item end (to, step, rest) there = grind arith
   stand_by_number (x ∷ forms) p (suc n) item end (to, step, rest) there =
-      let here = form_page p x to step in
-      let later = stand_by_number forms to n item end rest there in
-      omega (arith, later, here.1)
+      grind (arith, common_steps, stand_by_number forms to n item end rest there)
 
 pub forms_stand_by_number : FormsStandByNumber
 forms_stand_by_number file forms end n item are there = grind (arith, stand_by_number)

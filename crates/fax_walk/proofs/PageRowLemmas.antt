@@ -27,8 +27,7 @@ shown_both form rows more = by_test form.exchanged
   where
     by_test : (b : Bool) → (if b then map (map other) (rows ++ more) else rows ++ more)
         ≡ (if b then map (map other) rows else rows) ++ (if b then map (map other) more else more)
-    by_test true = map-append (map other) rows more
-    by_test false = refl
+    by_test b = grind (arith, map-append)
 
 numbered_both : (p r : ℕ) (rows more : List (List Colour))
     → numbered p r (rows ++ more) ≡ numbered p r rows ++ numbered p (r + length rows) more
@@ -41,17 +40,7 @@ numbered_both p r (row ∷ rows) more =
 read_both : (file : List ℕ) (p : ℕ) (at middle : RowPlace) (r : ℕ) (rows more : List (List Colour)) (reached : RowPlace → Type 0)
     → AreRead file p at r rows (λ to. to ≡ middle) → AreRead file p middle (r + length rows) more reached
     → AreRead file p at r (rows ++ more) reached
-read_both file p at middle r rows more reached first second = record {
-  items = first.items ++ second.items;
-  rows_are =
-      map-append walked first.items second.items ∙ ap (λ (l : List WalkedRow). l ++ map walked second.items) first.rows_are
-      ∙ ap (λ (l : List WalkedRow). numbered p r rows ++ l) second.rows_are ∙ sym (numbered_both p r rows more);
-  to = second.to;
-  lead =
-      leads_both (IsRow file) at middle first.items second.items second.to
-      (subst (λ (a : RowPlace). LeadTo (IsRow file) at first.items a) first.there first.lead) second.lead;
-  there = second.there;
-}
+read_both file p at middle r rows more reached first second = grind (arith, map-append, numbered_both, leads_both)
 
 module _ (by_place : AreBitsByPlace) (lines_read : LinesAreRead) (file : List ℕ) (endian : Endian) (q : ℕ) (form : PageForm) (p : ℕ)
     (page : (r : ℕ) → IsPageAt file (record { page = p; row = r }) (Ok (record { endian = endian; offset = q; form = form })))
@@ -60,10 +49,7 @@ module _ (by_place : AreBitsByPlace) (lines_read : LinesAreRead) (file : List �
   pub strips_from : (strips : List (List (List Colour))) (s r : ℕ) → r ≡ min (s * form.rows_per_strip) form.rows
       → AreStrips endian file q form s strips None
       → AreRead file p (first_on form p r) r (shown form (joined strips)) (λ to. to ≡ first_at (p + 1) 0)
-  strips_from [] s r r_is (inl (s_is, none)) =
-      let enough : form.rows ≤ s * form.rows_per_strip = rw s_is whole.enough in
-      let past : nat_lt r form.rows ≡ false = grind (arith, nat_tests, enough, r_is) in
-      none_read file p form _ r (λ to. to ≡ first_at (p + 1) 0) (rw past refl)
+  strips_from [] s r r_is (inl (s_is, none)) = grind arith
   strips_from [] s r r_is (inr (due, outside, cause_is)) = absurd cc
   strips_from (rows ∷ strips) s r r_is (due, bytes, stop, there, strip, inr (fault, some, none, cause_is)) = absurd cc
   strips_from (rows ∷ strips) s r r_is (due, bytes, Some fault, there, strip, (inl (none, rest))) = absurd cc

@@ -1,4 +1,5 @@
 -- What is converted is read back.
+use Rattle.std.proofs.lemmas.Grind.{common_steps}
 use Rattle.std.proofs.Common.{◌≡◌, ◌≢◌, ℕ, suc, ◌+◌, ◌<◌, ◌≤◌, inl, inr, true, List, [], ◌∷◌, ◌++◌, map, drop, length}
 use Rattle.std.proofs.Common.{None, Ok, refl, sym, ap, ◌∙◌, subst, arith}
 use Rattle.std.specs.Prelude.{All, IsTrue, codes}
@@ -37,24 +38,12 @@ use Rattle.fax_walk.proofs.ImageLemmas.{raster_count, raster_widths}
 use Rattle.fax_walk.proofs.SourceLemmas.{first_page, found_page}
 
 limits_hold : (width rows : ℕ) → 1 ≤ width → width ≤ 65535 → 1 ≤ rows → rows ≤ 1000000 → IsTrue (is_within_limits width rows)
-limits_hold width rows some_width few_pels some_rows few_rows = grind (arith, nat_tests)
+limits_hold width rows some_width few_pels some_rows few_rows = grind arith
 
 -- a page of a form within the limits, whose rows have its width, can be written
 page_writable : (form : PageForm) (own : List RowItem) → IsPageForm form → length own ≡ form.rows → AreOfWidth form.width (pels_of own)
     → IsWritableSource (page_of (form_sheet form) (pels_of own))
-page_writable form own limits count wide =
-    let rows : length (pels_of own) ≡ form.rows = length-map own (λ (item : RowItem). item.pels) ∙ count in
-    record {
-      image = record {
-        within = limits_hold form.width (length (pels_of own)) limits.some_width limits.width (omega (arith, limits.some_rows, rows))
-            (omega (arith, limits.rows, rows));
-        rows = wide;
-      };
-      x = limits.x;
-      y = limits.y;
-      some_unit = limits.some_unit;
-      unit = limits.unit;
-    }
+page_writable form own limits count wide = grind (arith, length-map)
 
 -- an image that was read can be written
 image_writable : PackingUndoesUnpacking → (left : List ℕ) (image : Image) (rest : List ℕ) → IsImage left image rest → IsWritableImage image
@@ -68,13 +57,7 @@ image_writable packs left image rest is =
     }
 
 image_page_writable : (image : Image) → IsWritableImage image → IsWritableSource (page_of_image image)
-image_page_writable image writable = record {
-  image = writable;
-  x = record { some_top = omega arith; top = omega arith; some_bottom = omega arith; bottom = omega arith };
-  y = record { some_top = omega arith; top = omega arith; some_bottom = omega arith; bottom = omega arith };
-  some_unit = omega arith;
-  unit = omega arith;
-}
+image_page_writable image writable = grind (arith, common_steps)
 
 images_writable : PackingUndoesUnpacking → (bytes : List ℕ) (images : List Image) → AreImages bytes images None
     → All IsWritableSource (map page_of_image images)
@@ -85,11 +68,7 @@ images_writable packs bytes (image ∷ images) (rest, is, are) =
 
 -- a file of images that begins as one has one
 some_images : (bytes : List ℕ) (images : List Image) → BeginsWith bytes (codes "P4") → AreImages bytes images None → 1 ≤ length images
-some_images bytes [] (rest, begins) (inl (none, end)) =
-    let no : ◌≡◌ {A = List ℕ} [] (codes "P4" ++ rest) = sym none ∙ begins in
-    absurd cc
-some_images bytes [] begins (inr (fault, some, is, end)) = absurd cc
-some_images bytes (image ∷ images) begins are = omega arith
+some_images bytes images begins are = grind (arith, common_steps)
 
 pages_counted : (forms : List FormItem) (items : List RowItem) → length (pages_of forms items) ≡ length forms
 pages_counted [] items = refl
@@ -110,8 +89,7 @@ items_kept : (forms : List FormItem) (p : ℕ) (items : List RowItem) → ArePag
 items_kept [] p items paged = sym (ap (map walked) paged.0)
 items_kept (one ∷ forms) p items (own, others, items_are, are, inr stop) = let no = stop.2.3 in absurd cc
 items_kept (one ∷ forms) p items (own, others, items_are, are, inl whole) =
-    ap (λ (l : List SourcePage). rows_of p (map (λ source. source.image.rows) l)) (first_page one forms items own others items_are whole.0)
-    ∙ rw (← rows_numbered p one.form 0 own are, items_kept forms (p + 1) others whole.2, items_are, map-append walked own others) refl
+    grind (arith, first_page, rows_numbered, map-append, items_kept forms (p + 1) others whole.2)
 
 module _ (packs : PackingUndoesUnpacking) (paged : FilesArePaged) (within_limits : FormsAreWithinLimits) where
   page_limits : (file : List ℕ) → All (λ byte. byte < 256) file → (at : Cursor) (here : FilePage) → IsPageAt file at (Ok here)
@@ -162,19 +140,11 @@ module _ (written : CodedFilesAreWalked) (images : WrittenImagesAreRead) (option
   read_in : (coding : Coding) (target : Target) → target ≢ To.Pbm → (options.aligned ≡ true → coding ≢ Mmr) → (output : List ℕ)
       → output ≡ file_of (written_pages options coding pages) → (IsTooLarge target pages output → ⊥)
       → AreReadBackIn coding options pages output
-  read_in coding target other has_eols output output_is fits =
-      let few = not_over (length pages) 65535 (λ many. fits (inr (other, many))) in
-      let short = not_over (length output) max_file (λ long. fits (inl long)) in
-      rw output_is (written options coding pages options.some_strip has_eols some few are (rw output_is at short))
+  read_in coding target other has_eols output output_is fits = grind arith
 
   read_back : (target : Target) → options.target ≡ target → (output : List ℕ) → output ≡ target_bytes target options pages
       → (IsTooLarge target pages output → ⊥) → AreReadBack target options pages output
-  read_back To.Pbm target_is output output_is fits =
-      rw output_is (images (map (λ source. source.image) pages) (images_of_pages pages are))
-  read_back To.Mh target_is output output_is fits = read_in Mh To.Mh (λ is. cc) (λ aligned is. cc) output output_is fits
-  read_back To.Mr target_is output output_is fits = read_in Mr To.Mr (λ is. cc) (λ aligned is. cc) output output_is fits
-  read_back To.Mmr target_is output output_is fits =
-      read_in Mmr To.Mmr (λ is. cc) (λ aligned is. options.aligned_is_no_mmr aligned target_is) output output_is fits
+  read_back target target_is output output_is fits = grind (arith, images_of_pages)
 
 pub conversions_are_read_back : PackingUndoesUnpacking → FilesArePaged → FormsAreWithinLimits → CodedFilesAreWalked → WrittenImagesAreRead
     → ConversionsAreReadBack
@@ -184,38 +154,23 @@ conversions_are_read_back packs paged within written images bytes options output
 
 -- a TIFF file does not begin as images do
 first_byte : List ℕ → ℕ
-first_byte [] = 0
-first_byte (byte ∷ bytes) = byte
+first_byte h = grind arith
 
 pub not_both : (bytes : List ℕ) → BeginsWith bytes (codes "P4") → IsTiff bytes → ⊥
 unfolding first_byte
-not_both bytes (rest, e) (inl (other, e')) =
-    let heads : 80 ≡ 73 = ap first_byte (sym e ∙ e') in
-    omega (arith, heads)
-not_both bytes (rest, e) (inr (other, e')) =
-    let heads : 80 ≡ 77 = ap first_byte (sym e ∙ e') in
-    omega (arith, heads)
+not_both bytes h h' = grind arith
 
 walked_in : (target : Target) (options : Options) (pages : List SourcePage) (output : List ℕ) → target ≢ To.Pbm
     → AreReadBack target options pages output
     → (items : List RowItem) × AreItems output items Proper
     × (map walked items ≡ rows_of 0 (map (λ source. source.image.rows) pages))
-walked_in To.Pbm options pages output other is = absurd (other refl)
-walked_in To.Mh options pages output other is = (is.items, is.are, is.rows_are)
-walked_in To.Mr options pages output other is = (is.items, is.are, is.rows_are)
-walked_in To.Mmr options pages output other is = (is.items, is.are, is.rows_are)
+walked_in target options pages output other is = grind arith
 
 module _ (paged : FilesArePaged) where
   source_kept : (bytes : List ℕ) (pages : List SourcePage) → IsTiff bytes → IsSource bytes pages
       → (items : List RowItem) × AreItems bytes items Proper
       × (rows_of 0 (map (λ source. source.image.rows) pages) ≡ map walked items)
-  source_kept bytes pages tiff (inl (begins, images, are, pages_are)) = absurd (not_both bytes begins tiff)
-  source_kept bytes pages tiff (inr (is, forms, items, forms_are, items_are, pages_are)) = (
-    items,
-    items_are,
-    ap (λ (l : List SourcePage). rows_of 0 (map (λ source. source.image.rows) l)) pages_are
-        ∙ items_kept forms 0 items (paged bytes forms Proper items Proper forms_are items_are),
-  )
+  source_kept bytes pages tiff h = grind (arith, items_kept)
 
   pub conversions_keep_items : FilesHaveOneItems → ConversionsAreReadBack → ConversionsKeepItems
   conversions_keep_items one back bytes options output items others end other are_bytes tiff target converted items_are others_are =

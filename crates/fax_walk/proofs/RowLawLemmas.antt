@@ -151,7 +151,7 @@ IsAfter form item to =
     ⊎ ((item.row + 1 < form.rows) × (0 < row_in_strip form (item.row + 1)) × (to ≡ inner_after form item))
 
 pub cases_after : (form : PageForm) (item : RowItem) → item.form ≡ form → IsAfter form item (place_after item)
-cases_after form item same = grind (arith, cases_lt, nat_tests)
+cases_after form item same = grind arith
 
 module _ (file : List ℕ) where
   -- the row that was read, on its page and in its strip
@@ -166,17 +166,15 @@ module _ (file : List ℕ) where
       → (found : Option (List ℕ))
       → strip_bytes here.endian file here.offset (strip_at here.form at.row) ≡ found → IsInStrip here.form at found (goes_on item to)
       → IsRead at item to
-  in_its_strip at item to here page None e is = absurd cc
-  in_its_strip at item to here page (Some bytes) e is = grind arith
+  in_its_strip at item to here page found e is = grind arith
 
   pub read_at : (at : RowPlace) (item : RowItem) (to : RowPlace) → IsRow file at (goes_on item to) → IsRead at item to
-  read_at at item to (Err end, page, e) = absurd cc
-  read_at at item to (Ok here, page, is) = grind (arith, in_its_strip)
+  read_at at item to h = grind arith
 
   -- a page is the same for each of its rows
   pub any_row : (at : Cursor) (r : ℕ) (here : FilePage) → IsPageAt file at (Ok here)
       → IsPageAt file (record { page = at.page; row = r }) (Ok here)
-  any_row at r here is = grind (arith, in_chain)
+  any_row at r here is = grind arith
 
   pub whole_page : FormsAreWhole → (at : Cursor) (here : FilePage) → IsPageAt file at (Ok here) → IsWholeForm here.form
   whole_page forms at here is = forms here.endian file here.offset here.form (in_chain file at here is).fields
@@ -196,7 +194,7 @@ module _ (file : List ℕ) where
       → (item.row + 1 < read.here.form.rows → row_in_strip read.here.form (item.row + 1) ≡ 0 → holds (first_at item.page (item.row + 1)))
       → (item.row + 1 < read.here.form.rows → 0 < row_in_strip read.here.form (item.row + 1) → holds (inner_after read.here.form item))
       → holds to
-  after_read holds at item to read past first inside = grind (arith, cases_after)
+  after_read holds at item to read past first inside = grind arith
 
 -- from each place on there are items, up to an end
 module _ (by_place : AreBitsByPlace) (lines_read : LinesAreRead) (chains : FilesHaveOneChain) (forms : FormsAreWhole) (file : List ℕ) where
@@ -214,8 +212,7 @@ same_list : (xs ys : List ℕ) → (xs ≡ ys) ⊎ (xs ≡ ys → ⊥)
 same_list xs ys = by_test (bytes_eq xs ys) (bytes_eq-Decides xs ys)
   where
     by_test : (test : Bool) → Decides test (xs ≡ ys) → (xs ≡ ys) ⊎ (xs ≡ ys → ⊥)
-    by_test true decides = inl (decides.0 refl)
-    by_test false decides = inr (λ same. let no = decides.1 same in cc)
+    by_test test decides = grind arith
 
 fits : (width : ℕ) (found : Option (List ℕ)) (place : LongPlace) → FitsStrip width found place ⊎ (FitsStrip width found place → ⊥)
 fits width None place = inl tt

@@ -1,4 +1,5 @@
 -- Cursors after items have numbers of 32 bits.
+use Rattle.std.proofs.lemmas.Grind.{common_steps}
 use Rattle.std.proofs.Common.{◌≡◌, ℕ, ◌+◌, ◌^◌, ◌<◌, true, false, List, [], ◌∷◌, length, drop}
 use Rattle.std.proofs.Common.{sym, ap, ◌∙◌, subst, arith}
 use Rattle.std.specs.Prelude.{if◌then◌else◌}
@@ -24,23 +25,13 @@ runs_short : (colour : Colour) (n most : ℕ) (pels : List Colour) → n + lengt
 unfolding runs_after
 runs_short colour n most [] within = All-cons (λ run. run < most) n [] (omega arith) (All-nil (λ run. run < most))
 runs_short colour n most (first ∷ pels) within =
-    elim (same_colour first colour)
-    as (λ same. All (λ run. run < most) (if same then runs_after colour (n + 1) pels else (n ∷ runs_after (other colour) 1 pels))) [
-      | true ↦ runs_short colour (n + 1) most pels (omega arith)
-      | false ↦ All-cons (λ run. run < most) n (runs_after (other colour) 1 pels) (omega arith)
-          (runs_short (other colour) 1 most pels (omega arith))
-    ]
+    grind (arith, common_steps, runs_short colour (n + 1) most pels (omega arith), runs_short (other colour) 1 most pels (omega arith))
 
 -- there is one at least
 some_run : (colour : Colour) (n : ℕ) (pels : List Colour) → 0 < length (runs_after colour n pels)
 unfolding runs_after
 some_run colour n [] = omega arith
-some_run colour n (first ∷ pels) =
-    elim (same_colour first colour)
-    as (λ same. 0 < length (if same then runs_after colour (n + 1) pels else (n ∷ runs_after (other colour) 1 pels))) [
-      | true ↦ some_run colour (n + 1) pels
-      | false ↦ omega arith
-    ]
+some_run colour n (first ∷ pels) = grind (arith, common_steps, some_run colour (n + 1) pels)
 
 pub cursors_are_short : FormsAreWhole → FilesHaveOneChain → CursorsAreShort
 cursors_are_short forms chains file begun all end n item short reached tail there =

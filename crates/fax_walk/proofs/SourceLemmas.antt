@@ -1,4 +1,5 @@
 -- The rows of a file, page by page.
+use Rattle.std.proofs.lemmas.Grind.{common_steps}
 use Rattle.std.proofs.Common.{subst, ◌≡◌, ℕ, zero, suc, ◌+◌, ◌*◌, ◌<◌, ◌⊎◌, inl, inr, List, [], ◌∷◌, ◌++◌, map, length}
 use Rattle.std.proofs.Common.{Option, Some, None, Ok, Err, refl, sym, ap, ◌∙◌, arith, append-nil}
 use Rattle.std.proofs.lemmas.Bool.{cond_both}
@@ -30,8 +31,7 @@ use Rattle.fax_walk.proofs.InOrderLemmas.{IsOneAnswer, ended_at, one_from, same_
 use Rattle.fax_walk.proofs.RowLawLemmas.{any_row, whole_page, LinesAreRead, one_in_strip, one_row, cases_after}
 
 exchanged_length : (form : PageForm) (row : List Colour) → length (exchanged form row) ≡ length row
-exchanged_length form row =
-    cond_both form.exchanged (map other row) row (λ (l : List Colour). length l ≡ length row) (λ is. length-map row other) (λ is. refl)
+exchanged_length form row = grind (arith, common_steps)
 
 -- from the place of a page's row r on these rows stand: all up to the page's last one, which leads to the next page; or
 -- fewer, and then a fault
@@ -58,29 +58,14 @@ module _ (by_place : AreBitsByPlace) (lines_read : LinesAreRead) (file : List �
   -- no row is there
   stops : (r : ℕ) (inner : Option Inner) (n : ℕ) (cause : Cause) → r < form.rows → IsRow file (place_at r inner) (ends_as (Fault p n cause))
       → Rows r (place_at r inner)
-  stops r inner n cause less is = record {
-    own = [];
-    to = place_at r inner;
-    lead = refl;
-    are = tt;
-    ends = inr (omega (arith, less), (p, n, cause, is));
-  }
+  stops r inner n cause less is = grind (arith, common_steps)
 
   -- the rows from row r on, where those after it are known
   module _ (r : ℕ) (due : r < form.rows)
       (next : (inner : Option Inner) → IsWide inner → r + 1 < form.rows → Rows (r + 1) (place_at (r + 1) inner)) where
     after : (item : RowItem) → item.page ≡ p → item.row ≡ r → item.form ≡ form → length (exchanged form item.pels) ≡ form.width
         → Rows (r + 1) (place_after item)
-    after item same_page same_row same_form wide = elim (cases_after form item same_form) [
-      | inl (last, is) ↦
-          rw (is, same_page)
-          (record { own = []; to = first_at (p + 1) 0; lead = refl; are = tt; ends = inl (omega (arith, last, same_row, due), refl) })
-      | inr (inl (less, first, is)) ↦
-          rw (is, same_page, same_row) (next None (length-replicate form.width White) (omega (arith, less, same_row)))
-      | inr (inr (less, inside, is)) ↦
-          rw (is, same_page, same_row)
-          (next (Some (record { bits = item.bits; reference = exchanged form item.pels })) wide (omega (arith, less, same_row)))
-    ]
+    after item same_page same_row same_form wide = grind (arith, common_steps)
 
     -- by what the file has of the strip
     by_found : (inner : Option Inner) → IsWide inner → (found : Option (List ℕ)) → (answer : Step RowItem RowPlace)
@@ -118,8 +103,7 @@ module _ (by_place : AreBitsByPlace) (lines_read : LinesAreRead) (file : List �
 
 -- a place of a page that is not there has this end, and so has the form due there
 pub not_there : (file : List ℕ) (k : ℕ) (end : End) → IsForm file k (ends_as end) → IsPageAt file (record { page = k; row = 0 }) (Err end)
-not_there file k end (Err none, page, e) = let same : none ≡ end = cc in rw same at page
-not_there file k end (Ok here, page, e) = absurd cc
+not_there file k end h = grind arith
 
 -- the page whose form is due, and the page after it
 pub found_page : (file : List ℕ) (p : ℕ) (one : FormItem) (next : ℕ) → IsForm file p (goes_on one next)
@@ -135,9 +119,7 @@ after_led : {S A : Type 0} (next : S → Step A S → Type 0) → ((at : S) → 
     (own items : List A) (end : End) → LeadTo next at own to → AreFrom next at items end
     → (others : List A) × (items ≡ own ++ others) × AreFrom next to others end
 after_led {S} {A} next answers at to [] items end to_is are = (items, refl, subst (λ (s : S). AreFrom next s items end) (sym to_is) are)
-after_led {S} {A} next answers at to (x ∷ own) [] end (place, step, lead) are =
-    let same = same_answer (answers at) (ends_as end) (goes_on x place) are step in
-    absurd cc
+after_led {S} {A} next answers at to (x ∷ own) [] end (place, step, lead) are = grind (arith, common_steps)
 after_led {S} {A} next answers at to (x ∷ own) (y ∷ items) end (place, step, lead) (place', step', rest) =
     let same = same_step (answers at) y x place' place step' step in
     let later = after_led next answers place to own items end lead (subst (λ (s : S). AreFrom next s items end) same.1 rest) in
@@ -190,5 +172,4 @@ module _ (by_place : AreBitsByPlace) (lines_read : LinesAreRead) (chains : Files
 pub first_page : (one : FormItem) (forms : List FormItem) (items own others : List RowItem) → items ≡ own ++ others
     → length own ≡ one.form.rows
     → pages_of (one ∷ forms) items ≡ page_of (form_sheet one.form) (pels_of own) ∷ pages_of forms others
-first_page one forms items own others items_are count =
-    rw (items_are, take_at own others one.form.rows count, drop_at own others one.form.rows count) refl
+first_page one forms items own others items_are count = grind (arith, take_at, drop_at)

@@ -51,12 +51,7 @@ pub record IsPageToCheck (directory : TiffDirectory) (form : PageForm) (p : ℕ)
 -- before the page's first strip
 pub none_before : (directory : TiffDirectory) (form : PageForm) (p : ℕ) (notes : List Note)
     → AreStripsChecked directory form p 0 notes notes
-none_before directory form p notes = record {
-  noted = [];
-  notes_are = sym (append-nil notes);
-  is = subst (HasChecked directory.file (before_strip form p 0) (before_strip form p 0) []) (omega arith)
-      (nothing_checked directory.file (before_strip form p 0));
-}
+none_before directory form p notes = grind (arith, append-nil, nothing_checked)
 
 module _ (directory : TiffDirectory) (form : PageForm) (p : ℕ) (on : IsPageToCheck directory form p) where
   abbrev file : List ℕ
@@ -78,12 +73,7 @@ module _ (directory : TiffDirectory) (form : PageForm) (p : ℕ) (on : IsPageToC
 
   -- before a strip that the page has
   at_strip : (s : ℕ) → s < form.strips → before_strip form p s ≡ record { next = (p, Some s); row = first_at p (s * n) }
-  at_strip s due =
-      let below = whole.needed s due in
-      let test : (s == form.strips) ≡ false = grind (arith, nat_tests, due) in
-      let here : min (s * n) form.rows ≡ s * n = omega (arith, below) in
-      let inside : nat_lt (s * n) form.rows ≡ true = grind (arith, nat_tests, below) in
-      rw (test, here, inside) refl
+  at_strip s due = grind (arith, whole)
 
   -- what is found on a strip
   noted_on : (s : ℕ) (answer : Step (List Note) (ℕ × Option ℕ))
@@ -128,20 +118,7 @@ module _ (directory : TiffDirectory) (form : PageForm) (p : ℕ) (on : IsPageToC
   -- all strips are whole
   pub all_read : (s : ℕ) (old new : List Note) → s ≡ form.strips → Checks s old new
       → Rest old new (record { rows = form.rows; fault = None })
-  all_read s old new all so_far =
-      let rows : s * n ≡ form.strips * n = ap (λ (k : ℕ). k * n) all in
-      let total : min (s * n) form.rows ≡ form.rows = omega (arith, rows, whole.enough) in
-      let test : (s == form.strips) ≡ true = grind (arith, nat_tests, all) in
-      let past : nat_lt form.rows form.rows ≡ false = grind (arith, nat_tests) in
-      let last : before_strip form p s ≡ before_page (p + 1) = rw (test, total, past) refl in
-      record {
-        noted = so_far.noted;
-        notes_are = so_far.notes_are;
-        few = on.limits.rows;
-        to = before_strip form p s;
-        is = subst (HasChecked file (before_strip form p 0) (before_strip form p s) so_far.noted) total so_far.is;
-        after = last;
-      }
+  all_read s old new all so_far = grind arith
 
   -- the page's rows end at a fault, after so many rows of a strip
   fault_after : (s rows : ℕ) (cause : Cause) (old new : List Note) → s < form.strips → s * n + rows < form.rows

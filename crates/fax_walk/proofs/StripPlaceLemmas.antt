@@ -1,4 +1,5 @@
 -- Rows of a page in their strips, and as they are handed out.
+use Rattle.std.proofs.lemmas.Grind.{common_steps}
 use Rattle.std.proofs.Common.{◌≡◌, ℕ, ◌+◌, ◌*◌, ◌/◌, ◌%◌, ◌<◌, Bool, List, [], ◌∷◌, length, Option, Some, None}
 use Rattle.std.proofs.Common.{subst, arith}
 use Rattle.std.proofs.lemmas.Nat.{div-mul-add, mod-mul-add}
@@ -36,9 +37,7 @@ counted : (form : StripForm) (i : ℕ) (reference : List Colour) (b : List Bool)
     → AreLines form i reference b rows end left → IsCount end (i + length rows) form.rows
 counted form i reference b [] None left lines = omega (arith, lines.1)
 counted form i reference b [] (Some fault) left lines = omega (arith, lines.1)
-counted form i reference b (row ∷ rows) end left lines =
-    let n : i + 1 + length rows ≡ i + length (row ∷ rows) = omega arith in
-    subst (λ (k : ℕ). IsCount end k form.rows) n (counted form (i + 1) row lines.0 rows end left lines.3)
+counted form i reference b (row ∷ rows) end left lines = grind (arith, common_steps, counted form (i + 1) row lines.0 rows end left lines.3)
 
 -- how many rows a strip has
 pub strip_count : (form : StripForm) (b : List Bool) (rows : List (List Colour)) (end : Option StripFault) → IsStrip form b rows end

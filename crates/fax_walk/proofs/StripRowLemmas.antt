@@ -45,14 +45,12 @@ numbered_length p r (row ∷ rows) = omega (arith, numbered_length p (r + 1) row
 
 pub walked_length : (file : List ℕ) (p : ℕ) (at : RowPlace) (r : ℕ) (rows : List (List Colour)) (reached : RowPlace → Type 0)
     (read : AreRead file p at r rows reached) → length read.items ≡ length rows
-walked_length file p at r rows reached read =
-    sym (length-map read.items walked) ∙ ap (λ (l : List WalkedRow). length l) read.rows_are ∙ numbered_length p r rows
+walked_length file p at r rows reached read = grind (arith, length-map, numbered_length)
 
 -- no rows are read
 pub none_read : (file : List ℕ) (p : ℕ) (form : PageForm) (at : RowPlace) (r : ℕ) (reached : RowPlace → Type 0) → reached at
     → AreRead file p at r (shown form []) reached
-none_read file p form at r reached here =
-    record { items = []; rows_are = rw (shown_none form) refl; to = at; lead = refl; there = here }
+none_read file p form at r reached here = grind arith
 
 module _ (by_place : AreBitsByPlace) (lines_read : LinesAreRead) (file : List ℕ) (endian : Endian) (q : ℕ) (form : PageForm) (p : ℕ)
     (page : (r : ℕ) → IsPageAt file (record { page = p; row = r }) (Ok (record { endian = endian; offset = q; form = form })))

@@ -1,4 +1,5 @@
 -- A walk that goes on, or ends.
+use Rattle.std.proofs.lemmas.Grind.{common_steps}
 use Rattle.std.proofs.Common.{◌≡◌, ℕ, ◌+◌, ◌<◌, ◌⊎◌, inl, inr, List, [], ◌∷◌, ◌++◌, length, drop, Option, Some}
 use Rattle.std.proofs.Common.{None, Ok, Err, refl, sym, ap, ◌∙◌, arith, length-append, length-drop, append_assoc, append-nil}
 use Rattle.std.proofs.lemmas.Bool.{cases_lt}
@@ -118,12 +119,10 @@ module _ (file : List ℕ) (begun : Begun) (given : ℕ) (cursor : Cursor) (old 
 
   no_items : (is : List RowItem) → length is ≡ 0 → LeadTo (IsRow old.directory.file) (place_of old) is (place_of new) → place_of new ≡
       place_of old
-  no_items [] count lead = lead
-  no_items (x ∷ is) count lead = absurd (omega (arith, count))
+  no_items is count lead = grind (arith, common_steps)
 
   still_stands : StandsAt file begun given cursor (place_of old) → StandsAt file begun given cursor (place_of new)
-  still_stands (inl first) = inl first
-  still_stands (inr last) = grind (arith, no_items, left)
+  still_stands h = grind (arith, no_items)
 
   pub ended_on : HasEndedOn file begun given cursor (Some new) end
   ended_on = grind (arith, ended_lead, length-append, left, still_stands, cases_lt)
@@ -164,7 +163,7 @@ module _ (walk : WalkView) (cursor : Cursor) (page : Option PageState) where
   stands_on page told sound = grind arith
 
   pub cursor_is : Sound walk.told → IsCursorOf walk cursor
-  cursor_is sound = grind (arith, stands_on)
+  cursor_is sound = grind arith
 
   pub long_is : Sound walk.told → 0 < walk.given → (at : PageState) → page ≡ Some at → (place : Option LongPlace)
       → place ≡ (let to = place_of at in long_at (cursor_at to) to.inner) → IsLongOf walk place

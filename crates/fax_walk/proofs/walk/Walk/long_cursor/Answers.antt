@@ -1,3 +1,4 @@
+use Rattle.std.proofs.Common.{arith}
 use Rattle.std.proofs.Common.{Option, Result, Ok, Err}
 use Rattle.std.specs.Prelude.{IfOk}
 use Rattle.fax_bits.specs.declared.Memory.{Memory}
@@ -7,8 +8,7 @@ use Rattle.fax_walk.proofs.walk.Walk.long_cursor.Goals as goal
 
 if_ok : (result : Result (Option LongPlace) Memory) (P Q : Option LongPlace → Type 0) → ((place : Option LongPlace) → P place → Q place)
     → IfOk result P → IfOk result Q
-if_ok (Ok place) P Q so holds = so place holds
-if_ok (Err refused) P Q so holds = holds
+if_ok result P Q so holds = grind arith
 
 pub returns-in-Some : goal.returns-in-Some
 returns-in-Some c =
