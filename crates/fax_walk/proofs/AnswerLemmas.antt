@@ -8,10 +8,8 @@ use Rattle.fax_bits.specs.Bits.{bits, BeginsWith}
 use Rattle.fax_bits.specs.declared.Colour.{Colour}
 use Rattle.fax_files.specs.declared.Cause.{Cause}
 use Rattle.fax_files.specs.declared.PageForm.{PageForm}
-use Rattle.fax_files.specs.declared.pbm.PbmFault.{PbmFault}
 use Rattle.fax_files.specs.Directory.{entries, ascend}
 use Rattle.fax_files.specs.Page.{strip_bytes, strip_form}
-use Rattle.fax_files.specs.Pbm.{AreImages, Image}
 use Rattle.fax_files.specs.laws.Files.{FilesHaveOneChain}
 use Rattle.fax_files.specs.laws.Pbm.{ImagesAreReadInOneWay}
 use Rattle.fax_page.specs.declared.StripFault.{StripFault}
@@ -58,11 +56,6 @@ module _ (images_once : ImagesAreReadInOneWay) (one_forms : FilesHaveOneForms) (
       let same_forms = two_of (one_forms bytes) forms forms' Proper Proper forms_are forms_are' in
       let same_items = two_of (one_items bytes) items items' Proper Proper items_are items_are' in
       is ∙ ap (λ l. pages_of l items) same_forms.0 ∙ ap (pages_of forms') same_items.0 ∙ sym is'
-
-  -- bytes with a fault are no source
-  no_pbm_source : (bytes : List ℕ) (images : List Image) (fault : PbmFault) (pages : List SourcePage) → BeginsWith bytes (codes "P4")
-      → AreImages bytes images (Some fault) → IsSource bytes pages → ⊥
-  no_pbm_source bytes images fault pages begins are is = grind (arith, not_both)
 
   no_tiff_source : (bytes : List ℕ) (items : List RowItem) (p r : ℕ) (cause : Cause) (pages : List SourcePage) → IsTiff bytes
       → AreItems bytes items (Fault p r cause) → IsSource bytes pages → ⊥

@@ -1,6 +1,6 @@
 -- A source that is converted, and the images of a file, counted.
 use Rattle.std.proofs.Common.{◌≡◌, ℕ, ◌+◌, ◌<◌, inl, inr, List, [], ◌∷◌, ◌++◌, length, Some, None, refl, sym, ap, subst, ◌∙◌, arith}
-use Rattle.std.proofs.Common.{append_assoc, append-nil, ◌≢◌, Result, Ok, Err}
+use Rattle.std.proofs.Common.{append_assoc, append-nil, ◌≢◌, Result}
 use Rattle.std.specs.Prelude.{IfErr, IfOk, Vec}
 use Rattle.std.specs.declared.alloc.Global.{Global}
 use Rattle.std.proofs.lemmas.List.{length-append}

@@ -18,7 +18,7 @@ use Rattle.fax_walk.specs.Pages.{IsPageAt}
 use Rattle.fax_walk.specs.code.Opening.{end_past_chain, page_or_end}
 use Rattle.fax_walk.specs.code.Opening.{EndsAt, IsChainBefore, IsFilePage, IsNamed, IsNoPage, IsPageAnswer, PageDue, page_with}
 use Rattle.fax_walk.proofs.OpeningLemmas.{due_some, due_none, due_fault}
-use Rattle.fax_walk.proofs.PageLawLemmas.{none_past, page_here, proper_end}
+use Rattle.fax_walk.proofs.PageLawLemmas.{none_past, proper_end}
 
 -- after more pages than a chain has, all is outside
 outside_past : (pages : ℕ) (at : Cursor) → pages < at.page → end_past_chain pages None at ≡ Outside

@@ -1,13 +1,11 @@
 -- A page that is open: where it stands, and what is read there.
 use Rattle.std.proofs.lemmas.Grind.{common_steps}
-use Rattle.std.proofs.Common.{◌≡◌, ℕ, ◌+◌, ◌-◌, ◌*◌, ◌<◌, ◌≤◌, ◌⊎◌, inl, inr, min, true, false, List, [], ◌∷◌, ◌++◌, length, drop, Option}
+use Rattle.std.proofs.Common.{◌≡◌, ℕ, ◌+◌, ◌-◌, ◌*◌, ◌<◌, ◌≤◌, ◌⊎◌, inl, inr, min, List, [], ◌∷◌, ◌++◌, length, drop, Option}
 use Rattle.std.proofs.Common.{Some, None}
-use Rattle.std.proofs.Common.{Result, Ok, Err, refl, sym, ap, ◌∙◌, subst, arith, add-mul, length-append, ◌^◌}
-use Rattle.std.proofs.Math.Nat.{mul-le-mul_right, div-add-mod, zero-div}
+use Rattle.std.proofs.Common.{Result, Ok, Err, refl, sym, ap, ◌∙◌, subst, arith, add-mul, ◌^◌}
 use Rattle.std.proofs.lemmas.Bool.{cases_lt}
 use Rattle.std.proofs.lemmas.Bool.Decides.{nat_tests}
-use Rattle.std.proofs.lemmas.Grind.{div_ceil_times}
-use Rattle.std.specs.Prelude.{IfErr, nat_lt, ◌==◌}
+use Rattle.std.specs.Prelude.{IfErr}
 use Rattle.fax_bits.specs.declared.Colour.{Colour}
 use Rattle.fax_bits.specs.declared.Colour.TheVariants.{White}
 use Rattle.fax_bits.specs.Bits.{bits}
@@ -25,12 +23,11 @@ use Rattle.fax_files.specs.Page.{most_rows, strip_form}
 use Rattle.fax_files.specs.views.Chain.{ChainState}
 use Rattle.fax_files.specs.views.Tiff.{TiffDirectory, bytes_of}
 use Rattle.fax_walk.specs.declared.end.End.{End}
-use Rattle.fax_walk.specs.declared.end.End.TheVariants.{Fault, Outside}
+use Rattle.fax_walk.specs.declared.end.End.TheVariants.{Fault}
 use Rattle.fax_walk.specs.declared.opening.OpenFault.{OpenFault}
-use Rattle.fax_walk.specs.declared.opening.OpenFault.TheVariants.{Memory, Ended}
 use Rattle.fax_walk.specs.Pages.{LongPlace}
 use Rattle.fax_walk.specs.Items.{Inner, RowItem, RowPlace, IsRow, before, exchanged, first_at}
-use Rattle.fax_walk.specs.Items.{IsInnerOn, inner_at, long_at, place_after}
+use Rattle.fax_walk.specs.Items.{IsInnerOn, long_at, place_after}
 use Rattle.fax_walk.specs.code.Places.{IsInner, cursor_at}
 use Rattle.fax_walk.specs.code.Places.{row_in_strip, strip_at}
 use Rattle.fax_walk.specs.code.Places.{place_on}
@@ -38,7 +35,7 @@ use Rattle.fax_walk.specs.Pages.{IsPageAt}
 use Rattle.fax_walk.specs.laws.InOrder.{LeadTo}
 use Rattle.fax_walk.specs.code.Opening.{IsFilePage, PageDue, page_with}
 use Rattle.fax_walk.specs.views.Walk.{HasPage}
-use Rattle.fax_walk.specs.code.Stages.{GivesRow, HasSkipped, IsNoInner, IsNoPlace, IsNoStrip, IsRefusal, IsOpen, IsOpenedAt, IsSamePage}
+use Rattle.fax_walk.specs.code.Stages.{GivesRow, HasSkipped, IsNoInner, IsNoPlace, IsNoStrip, IsRefusal, IsOpen, IsSamePage}
 use Rattle.fax_walk.specs.code.Stages.{IsStripOf, KeepsPlace}
 use Rattle.fax_walk.specs.code.Stages.{PageState, ReadsPageRow, StopsAtRow, item_of, place_of, row_of, skipped}
 use Rattle.fax_walk.proofs.InOrderLemmas.{leads_on}
@@ -263,10 +260,6 @@ fault_stops page strip fault is_open limits strip_is its (inr meets) row due =
     rw (due, meets.told)
     (record { stop = row_fault page limits strip_is meets.due its fault strip meets; told = (Strip fault, refl) })
 
--- rows that are not handed out
-pub none_skipped : (page : PageState) → HasSkipped page page []
-none_skipped page = grind (arith, common_steps)
-
 module _ (old now new : PageState) (items : List RowItem) (skips : HasSkipped old now items) (reads : ReadsPageRow now new) where
   abbrev its_item : RowItem
   its_item = item_of now (row_of now) new
@@ -276,9 +269,6 @@ module _ (old now new : PageState) (items : List RowItem) (skips : HasSkipped ol
 
   lead_on : LeadTo (IsRow old.directory.file) (place_of old) (items ++ its_item ∷ []) (place_of new)
   lead_on = grind (arith, common_steps, leads_on)
-
-  count_on : length (items ++ its_item ∷ []) ≡ length items + 1
-  count_on = length-append items (its_item ∷ [])
 
   pub one_skipped : row_of new ≤ new.first → HasSkipped old new (items ++ its_item ∷ [])
   one_skipped before = grind (arith, common_steps, lead_on)
@@ -371,18 +361,9 @@ module _ (due : PageDue) (place : LongPlace) (its : IsFilePage due.page due.chai
     pub is_inner : IsInner due.form.width bytes place → IsInnerOn due.directory.file (page_with due.directory due.form) place
     is_inner inner = record { row = below; not_first = some; fits = rw there inner }
 
-    pub not_inner : (IsInner due.form.width bytes place → ⊥) → IsNoInner due place Outside
-    not_inner not = inr (λ inner. not (rw there at inner.fits), refl)
-
     pub no_place : (fault : OpenFault) → IsNoPlace (strip_form due.form its_number) bytes place fault → IsRefusal (IsNoInner due place)
         fault
     no_place fault none = grind arith
-
-    pub opened_inside : (strip : StripState) (shown : List Colour) → strip.row ≡ row_in_strip due.form place.at.row → strip.fault ≡ None
-        → strip.place ≡ place.bits → strip.reference ≡ pels_of White place.runs → strip.read ≡ 0
-        → IsOpenedAt due.directory.file (inner_at place) 0 0
-        (state due.page due.chain due.directory due.form place.at.row its_number strip shown (0 + strip.read))
-    opened_inside strip shown row no_fault bits_are reference_is unread = grind (arith, common_steps)
 
 -- the place inside the strip after the row that was read last
 module _ (page : PageState) (limits : IsPageForm page.form) (within : page.number < page.form.strips)

@@ -1,11 +1,10 @@
 -- An output that is written page by page.
 use Rattle.std.proofs.lemmas.Grind.{common_steps}
-use Rattle.std.proofs.Common.{◌≡◌, ℕ, suc, ◌+◌, ◌-◌, ◌*◌, ◌<◌, ◌≤◌, inl, inr, List, [], ◌∷◌, ◌++◌, length, map, take, drop}
+use Rattle.std.proofs.Common.{◌≡◌, ℕ, suc, ◌+◌, ◌-◌, ◌*◌, ◌<◌, ◌≤◌, inl, List, [], ◌∷◌, ◌++◌, length, map}
 use Rattle.std.proofs.Common.{Option, Some}
-use Rattle.std.proofs.Common.{None, Result, Ok, Err, refl, sym, ap, ◌∙◌, subst, arith, append_assoc, append-nil, length-append, length-take}
+use Rattle.std.proofs.Common.{Result, refl, sym, ap, ◌∙◌, subst, arith, append_assoc, append-nil, length-append, length-take}
 use Rattle.std.proofs.Common.{length-drop}
 use Rattle.std.specs.Prelude.{flat_map, OnOk}
-use Rattle.std.proofs.lemmas.Bool.{cases_lt}
 use Rattle.std.proofs.lemmas.List.{length_push, flat_map_more, length-map}
 use Rattle.std.proofs.lemmas.List.{map-append}
 use Rattle.std.proofs.lemmas.List.Concat.{flat_map-append}
@@ -13,24 +12,22 @@ use Rattle.fax_bits.specs.declared.Colour.{Colour}
 use Rattle.fax_rows.specs.laws.Packed.{PackingUndoesUnpacking}
 use Rattle.fax_rows.specs.Coded.{packed_len, packed_row}
 use Rattle.fax_page.specs.declared.Coding.{Coding}
-use Rattle.fax_page.specs.declared.Coding.TheVariants.{Mh, Mr, Mmr}
 use Rattle.fax_page.specs.views.Writer.{WriterState}
 use Rattle.fax_files.specs.declared.PageForm.{PageForm}
 use Rattle.fax_files.specs.Pbm.{Image, pbm_of}
 use Rattle.fax_files.specs.views.Pbm.{head_bytes}
 use Rattle.fax_files.specs.laws.Pbm.{AreOfWidth}
-use Rattle.fax_files.specs.Layout.{Written, WrittenPage, four}
+use Rattle.fax_files.specs.Layout.{Written, WrittenPage}
 use Rattle.fax_files.specs.views.Writing.{empty_file}
-use Rattle.fax_files.specs.Layout.{directory_place, with_page}
-use Rattle.fax_files.specs.Layout.{with_pages, file_of}
+use Rattle.fax_files.specs.Layout.{with_page}
+use Rattle.fax_files.specs.Layout.{with_pages}
 use Rattle.fax_files.specs.Directory.{max_file}
 use Rattle.fax_files.specs.views.Writing.{Writing, with_one_more, length_with, contents}
 use Rattle.fax_walk.specs.declared.options.Options.{Options}
 use Rattle.fax_walk.specs.declared.options.Target.{Target}
-use Rattle.fax_walk.specs.declared.options.Target.TheVariants.{Pbm, Mh as ToMh, Mr as ToMr, Mmr as ToMmr}
+use Rattle.fax_walk.specs.declared.options.Target.TheVariants.{Pbm}
 use Rattle.fax_walk.specs.declared.open_strips.OpenStrips.{OpenStrips}
 use Rattle.fax_walk.specs.declared.sheet.Sheet.{Sheet}
-use Rattle.fax_walk.proofs.OpenPageLemmas.{whole_of}
 use Rattle.fax_walk.specs.Converted.{SourcePage, written_page, target_bytes, IsTooLarge}
 use Rattle.fax_walk.specs.code.OpenStrips.{HasPutRows, AreInStrip}
 use Rattle.fax_walk.specs.code.Output.{Progress, Part, no_rows, with_row, page_of, after, nothing_written, sheet_form, coding_of}
@@ -159,11 +156,6 @@ pub file_begun : (options : Options) (total : ℕ) (coding : Coding) (writer : W
     → writer ≡ record { written = empty_file; total = total; added = 0 } → HasPages coding writer (nothing_written options total)
 unfolding with_pages
 file_begun options total coding writer coding_is few is = grind arith
-
--- how a TIFF file of pages is written
-target_file : (target : Target) (options : Options) (coding : Coding) (pages : List SourcePage) → coding_of target ≡ Some coding
-    → target_bytes target options pages ≡ file_of (map (written_page options coding) pages)
-target_file target options coding pages is = grind arith
 
 reached_by : (form : PageForm) (k n : ℕ) (rows : List (List Colour)) (writer : Option WriterState) → length rows ≡ form.rows
     → AreInStrip form k n rows writer → form.rows ≤ n * form.rows_per_strip

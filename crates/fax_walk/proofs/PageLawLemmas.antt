@@ -26,7 +26,7 @@ use Rattle.fax_walk.specs.code.Opening.{end_past_chain, page_or_end}
 use Rattle.fax_walk.specs.laws.Tails.{FilesHaveOneForms, CursorsHaveOneFormTail, FormTailOfPage, FormTailOfStart, FormsStandByNumber}
 use Rattle.fax_walk.specs.laws.Tails.{FormTailsGoOn}
 use Rattle.fax_bits.specs.laws.Codes.{IsOne}
-use Rattle.fax_walk.proofs.InOrderLemmas.{get_dropped, IsOneAnswer, IsSingle, IsListed, listed_by, one_list, same_answer, split_at_number, step_parts}
+use Rattle.fax_walk.proofs.InOrderLemmas.{get_dropped, IsOneAnswer, IsSingle, IsListed, listed_by, one_list, same_answer, split_at_number}
 use Rattle.fax_walk.specs.Pages.{Step, goes_on, ends_as}
 
 -- an equation has one answer

@@ -1,6 +1,6 @@
 -- The rows of a page without a fault are rows that a walk hands out, one after another.
-use Rattle.std.proofs.Common.{◌≡◌, ℕ, ◌+◌, ◌*◌, ◌≤◌, min, inl, inr, Bool, true, false, List, [], ◌∷◌, ◌++◌, map, length, Some, None}
-use Rattle.std.proofs.Common.{Ok, refl, sym, ap, ◌∙◌, subst, arith}
+use Rattle.std.proofs.Common.{◌≡◌, ℕ, ◌+◌, ◌*◌, min, inl, inr, Bool, true, List, [], ◌∷◌, ◌++◌, map, length, Some, None}
+use Rattle.std.proofs.Common.{Ok, refl, ap, arith}
 use Rattle.std.proofs.lemmas.List.{map-append}
 use Rattle.std.proofs.lemmas.Bool.Decides.{nat_tests}
 use Rattle.std.specs.Prelude.{if◌then◌else◌, nat_lt}
@@ -12,15 +12,14 @@ use Rattle.fax_files.specs.declared.Endian.{Endian}
 use Rattle.fax_files.specs.laws.Files.{AreStrips, joined, shown}
 use Rattle.fax_files.specs.Page.{strip_form}
 use Rattle.fax_files.specs.laws.Files.{IsWholeForm}
-use Rattle.fax_walk.specs.laws.InOrder.{LeadTo}
 use Rattle.fax_walk.specs.Pages.{IsPageAt}
-use Rattle.fax_walk.specs.Items.{RowPlace, first_at, IsRow}
+use Rattle.fax_walk.specs.Items.{RowPlace, first_at}
 use Rattle.fax_walk.specs.code.Places.{first_on}
-use Rattle.fax_walk.specs.laws.Written.{WalkedRow, walked, numbered}
+use Rattle.fax_walk.specs.laws.Written.{WalkedRow, numbered}
 use Rattle.fax_walk.proofs.InOrderLemmas.{leads_both}
 use Rattle.fax_walk.proofs.StripPlaceLemmas.{shown_length, strip_count}
 use Rattle.fax_walk.proofs.RowLawLemmas.{LinesAreRead}
-use Rattle.fax_walk.proofs.StripRowLemmas.{AreRead, none_read, strip_rows}
+use Rattle.fax_walk.proofs.StripRowLemmas.{AreRead, strip_rows}
 
 shown_both : (form : PageForm) (rows more : List (List Colour)) → shown form (rows ++ more) ≡ shown form rows ++ shown form more
 shown_both form rows more = by_test form.exchanged

@@ -1,20 +1,14 @@
 -- What is converted is read back.
 use Rattle.std.proofs.lemmas.Grind.{common_steps}
-use Rattle.std.proofs.Common.{◌≡◌, ◌≢◌, ℕ, suc, ◌+◌, ◌<◌, ◌≤◌, inl, inr, true, List, [], ◌∷◌, ◌++◌, map, drop, length}
+use Rattle.std.proofs.Common.{◌≡◌, ◌≢◌, ℕ, suc, ◌+◌, ◌<◌, ◌≤◌, inl, inr, List, [], ◌∷◌, map, drop, length}
 use Rattle.std.proofs.Common.{None, Ok, refl, sym, ap, ◌∙◌, subst, arith}
 use Rattle.std.specs.Prelude.{All, IsTrue, codes}
-use Rattle.std.proofs.lemmas.Bool.{cases_lt}
-use Rattle.std.proofs.lemmas.Bool.Decides.{nat_tests}
 use Rattle.std.proofs.lemmas.List.{length-map, map-append}
 use Rattle.std.proofs.lemmas.List.Elements.{All-cons, All-head, All-nil, All-tail}
 use Rattle.fax_bits.specs.Bits.{BeginsWith}
 use Rattle.fax_bits.specs.declared.Colour.{Colour}
-use Rattle.fax_page.specs.declared.Coding.{Coding}
-use Rattle.fax_page.specs.declared.Coding.TheVariants.{Mh, Mr, Mmr}
 use Rattle.fax_files.specs.declared.PageForm.{PageForm}
-use Rattle.fax_files.specs.Directory.{max_file}
 use Rattle.fax_files.specs.Pbm.{AreImages, Image, IsImage, is_within_limits}
-use Rattle.fax_files.specs.Layout.{file_of}
 use Rattle.fax_files.specs.laws.Files.{FormsAreWithinLimits}
 use Rattle.fax_files.specs.laws.Pbm.{AreOfWidth, AreWritableImages, IsWritableImage, WrittenImagesAreRead}
 use Rattle.fax_files.specs.views.Page.{IsPageForm}
@@ -29,16 +23,13 @@ use Rattle.fax_rows.specs.laws.Packed.{PackingUndoesUnpacking}
 use Rattle.fax_walk.specs.Converted.{IsSource, IsTiff, IsTooLarge, SourcePage, pages_of, target_bytes}
 use Rattle.fax_walk.specs.code.Output.{form_sheet, page_of}
 use Rattle.fax_walk.specs.code.Sources.{ArePaged, AreRowsOn, FilesArePaged, page_of_image, pels_of}
-use Rattle.fax_walk.specs.laws.ReadBack.{AreReadBack, AreReadBackIn, ConversionsAreReadBack, ConversionsKeepItems}
+use Rattle.fax_walk.specs.laws.ReadBack.{AreReadBack, ConversionsAreReadBack, ConversionsKeepItems}
 use Rattle.fax_walk.specs.laws.Tails.{FilesHaveOneItems}
-use Rattle.fax_walk.specs.laws.Written.{CodedFilesAreWalked, IsWritableSource, numbered, rows_of, walked, written_pages}
+use Rattle.fax_walk.specs.laws.Written.{CodedFilesAreWalked, IsWritableSource, numbered, rows_of, walked}
 use Rattle.fax_walk.proofs.FileLemmas.{some_pages}
 use Rattle.fax_walk.proofs.PageLawLemmas.{in_chain}
 use Rattle.fax_walk.proofs.ImageLemmas.{raster_count, raster_widths}
 use Rattle.fax_walk.proofs.SourceLemmas.{first_page, found_page}
-
-limits_hold : (width rows : ℕ) → 1 ≤ width → width ≤ 65535 → 1 ≤ rows → rows ≤ 1000000 → IsTrue (is_within_limits width rows)
-limits_hold width rows some_width few_pels some_rows few_rows = grind arith
 
 -- a page of a form within the limits, whose rows have its width, can be written
 page_writable : (form : PageForm) (own : List RowItem) → IsPageForm form → length own ≡ form.rows → AreOfWidth form.width (pels_of own)
@@ -132,16 +123,8 @@ images_of_pages [] are = tt
 images_of_pages (source ∷ pages) are =
     ((All-head IsWritableSource source pages are).image, images_of_pages pages (All-tail IsWritableSource source pages are))
 
-not_over : (n limit : ℕ) → (limit < n → ⊥) → n ≤ limit
-not_over n limit not_more = elim (cases_lt limit n) [ inl more ↦ absurd (not_more more) | inr less ↦ less ]
-
 module _ (written : CodedFilesAreWalked) (images : WrittenImagesAreRead) (options : Options) (pages : List SourcePage)
     (are : All IsWritableSource pages) (some : 1 ≤ length pages) where
-  read_in : (coding : Coding) (target : Target) → target ≢ To.Pbm → (options.aligned ≡ true → coding ≢ Mmr) → (output : List ℕ)
-      → output ≡ file_of (written_pages options coding pages) → (IsTooLarge target pages output → ⊥)
-      → AreReadBackIn coding options pages output
-  read_in coding target other has_eols output output_is fits = grind arith
-
   read_back : (target : Target) → options.target ≡ target → (output : List ℕ) → output ≡ target_bytes target options pages
       → (IsTooLarge target pages output → ⊥) → AreReadBack target options pages output
   read_back target target_is output output_is fits = grind (arith, images_of_pages)

@@ -1,11 +1,10 @@
 -- What a walk begins with has one tail and one end.
-use Rattle.std.proofs.Common.{◌≡◌, ℕ, ◌+◌, ◌*◌, ◌<◌, ◌≤◌, ◌⊎◌, inl, inr, Bool, true, false, List, [], ◌∷◌, map, length, drop}
+use Rattle.std.proofs.Common.{◌≡◌, ℕ, ◌+◌, ◌*◌, ◌<◌, ◌≤◌, ◌⊎◌, inl, inr, Bool, List, [], ◌∷◌, map, length, drop}
 use Rattle.std.proofs.Common.{Option, Some, None, Result, Ok, Err, refl, sym, ap, ◌∙◌, arith, length-drop}
 use Rattle.std.proofs.lemmas.Bool.{cases_eq, cases_lt}
 use Rattle.std.proofs.lemmas.Slice.Eq.{bytes_eq-Decides}
 use Rattle.std.specs.Bool.{Decides}
 use Rattle.std.specs.Str.{bytes_eq}
-use Rattle.std.proofs.lemmas.Bool.Decides.{nat_tests}
 use Rattle.fax_bits.specs.declared.Colour.{Colour}
 use Rattle.fax_bits.specs.declared.Colour.TheVariants.{White, Black}
 use Rattle.fax_bits.specs.Bits.{bits}
@@ -18,7 +17,7 @@ use Rattle.fax_page.specs.Lines.{IsLine, IsCause}
 use Rattle.fax_page.specs.laws.Strips.{ReadsLinesOneWay}
 use Rattle.fax_files.specs.declared.Cause.TheVariants.{Strip}
 use Rattle.fax_files.specs.declared.PageForm.{PageForm}
-use Rattle.fax_files.specs.Page.{page, strip_form, strip_bytes}
+use Rattle.fax_files.specs.Page.{strip_form, strip_bytes}
 use Rattle.fax_files.specs.laws.Files.{FilesHaveOneChain, FormsAreWhole, IsWholeForm}
 use Rattle.std.proofs.Common.{◌-◌}
 use Rattle.fax_walk.specs.declared.begun.Begun.{Begun}
@@ -161,12 +160,6 @@ module _ (file : List ℕ) where
     pub bytes : List ℕ
     pub bytes_are : strip_bytes here.endian file here.offset (strip_at here.form at.row) ≡ Some bytes
     pub is : IsInStrip here.form at (Some bytes) (goes_on item to)
-
-  in_its_strip : (at : RowPlace) (item : RowItem) (to : RowPlace) (here : FilePage) → IsPageAt file (cursor_at at) (Ok here)
-      → (found : Option (List ℕ))
-      → strip_bytes here.endian file here.offset (strip_at here.form at.row) ≡ found → IsInStrip here.form at found (goes_on item to)
-      → IsRead at item to
-  in_its_strip at item to here page found e is = grind arith
 
   pub read_at : (at : RowPlace) (item : RowItem) (to : RowPlace) → IsRow file at (goes_on item to) → IsRead at item to
   read_at at item to h = grind arith

@@ -1,13 +1,11 @@
 -- The rows of a file, page by page.
 use Rattle.std.proofs.lemmas.Grind.{common_steps}
-use Rattle.std.proofs.Common.{subst, ◌≡◌, ℕ, zero, suc, ◌+◌, ◌*◌, ◌<◌, ◌⊎◌, inl, inr, List, [], ◌∷◌, ◌++◌, map, length}
+use Rattle.std.proofs.Common.{subst, ◌≡◌, ℕ, zero, suc, ◌+◌, ◌*◌, ◌<◌, ◌⊎◌, inl, inr, List, [], ◌∷◌, ◌++◌, length}
 use Rattle.std.proofs.Common.{Option, Some, None, Ok, Err, refl, sym, ap, ◌∙◌, arith, append-nil}
-use Rattle.std.proofs.lemmas.Bool.{cond_both}
-use Rattle.std.proofs.lemmas.List.{drop_at, length-map, length-replicate, take_at}
+use Rattle.std.proofs.lemmas.List.{drop_at, length-replicate, take_at}
 use Rattle.fax_bits.specs.declared.Colour.{Colour}
 use Rattle.fax_bits.specs.declared.Colour.TheVariants.{White}
 use Rattle.fax_bits.specs.laws.Codes.{AreBitsByPlace}
-use Rattle.fax_rows.specs.Rows.{other}
 use Rattle.fax_files.specs.declared.FileFault.TheVariants.{StripOutside}
 use Rattle.fax_files.specs.declared.Cause.{Cause}
 use Rattle.fax_files.specs.declared.Cause.TheVariants.{File, Strip}
@@ -27,8 +25,8 @@ use Rattle.fax_walk.specs.Items.{place_after}
 use Rattle.fax_walk.specs.code.Places.{strip_at}
 use Rattle.fax_walk.specs.code.Sources.{ArePaged, AreRowsOn, pels_of}
 use Rattle.fax_walk.specs.laws.InOrder.{LeadTo}
-use Rattle.fax_walk.proofs.InOrderLemmas.{IsOneAnswer, ended_at, one_from, same_answer, same_step}
-use Rattle.fax_walk.proofs.RowLawLemmas.{any_row, whole_page, LinesAreRead, one_in_strip, one_row, cases_after}
+use Rattle.fax_walk.proofs.InOrderLemmas.{IsOneAnswer, ended_at, one_from, same_step}
+use Rattle.fax_walk.proofs.RowLawLemmas.{any_row, whole_page, LinesAreRead, one_in_strip, one_row}
 
 exchanged_length : (form : PageForm) (row : List Colour) → length (exchanged form row) ≡ length row
 exchanged_length form row = grind (arith, common_steps)

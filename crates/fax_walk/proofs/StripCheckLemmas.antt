@@ -1,9 +1,8 @@
 -- The strips of a page that is checked.
-use Rattle.std.proofs.Common.{◌≡◌, ℕ, ◌+◌, ◌*◌, ◌<◌, List, [], ◌∷◌, ◌++◌, length, min, true, false, Some, None, Ok, refl}
-use Rattle.std.proofs.Common.{sym, ap, ◌∙◌}
-use Rattle.std.proofs.Common.{subst, arith, append_assoc, append-nil}
-use Rattle.std.proofs.lemmas.Bool.Decides.{nat_tests}
-use Rattle.std.specs.Prelude.{nat_lt, ◌==◌, Option}
+use Rattle.std.proofs.Common.{◌≡◌, ℕ, ◌+◌, ◌*◌, ◌<◌, List, [], ◌∷◌, ◌++◌, length, min, Some, None, Ok, refl}
+use Rattle.std.proofs.Common.{sym, ◌∙◌}
+use Rattle.std.proofs.Common.{arith, append_assoc, append-nil}
+use Rattle.std.specs.Prelude.{Option}
 use Rattle.fax_bits.specs.declared.Colour.{Colour}
 use Rattle.fax_bits.specs.Bits.{bits}
 use Rattle.fax_bits.specs.laws.Codes.{AreBitsByPlace}
@@ -31,7 +30,7 @@ use Rattle.fax_walk.specs.laws.InOrder.{LeadTo}
 use Rattle.fax_walk.specs.Pages.{IsPageAt}
 use Rattle.fax_walk.specs.Items.{RowItem, RowPlace, first_at, IsRow}
 use Rattle.fax_walk.specs.Report.{notes_on_strip, IsStripNoted, IsNoted}
-use Rattle.fax_walk.specs.code.Check.{before_page, before_strip, CheckPlace, HasChecked, IsDirectoryOfPage}
+use Rattle.fax_walk.specs.code.Check.{before_strip, CheckPlace, HasChecked, IsDirectoryOfPage}
 use Rattle.fax_walk.specs.code.Check.{AreStripsChecked, IsRestChecked, IsRowInside, IsReadTo}
 use Rattle.fax_walk.proofs.CheckLemmas.{nothing_checked, checked_on}
 use Rattle.fax_walk.proofs.StripPlaceLemmas.{in_strip, shown_length, strip_count}

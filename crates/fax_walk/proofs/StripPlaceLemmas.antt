@@ -1,7 +1,7 @@
 -- Rows of a page in their strips, and as they are handed out.
 use Rattle.std.proofs.lemmas.Grind.{common_steps}
 use Rattle.std.proofs.Common.{◌≡◌, ℕ, ◌+◌, ◌*◌, ◌/◌, ◌%◌, ◌<◌, Bool, List, [], ◌∷◌, length, Option, Some, None}
-use Rattle.std.proofs.Common.{subst, arith}
+use Rattle.std.proofs.Common.{arith}
 use Rattle.std.proofs.lemmas.Nat.{div-mul-add, mod-mul-add}
 use Rattle.std.proofs.lemmas.List.{length-map}
 use Rattle.fax_bits.specs.declared.Colour.{Colour}
@@ -16,9 +16,6 @@ use Rattle.fax_walk.specs.Items.{exchanged}
 -- row e of a page, row k of strip s
 pub in_strip : (m s k e : ℕ) → k < m → e ≡ s * m + k → (e / m ≡ s) × (e % m ≡ k)
 in_strip m s k e less is = (rw is (div-mul-add s m k less), rw is (mod-mul-add s m k less))
-
-pub shown_none : (form : PageForm) → shown form [] ≡ []
-shown_none form = grind arith
 
 pub shown_row : (form : PageForm) (row : List Colour) (rows : List (List Colour))
     → shown form (row ∷ rows) ≡ exchanged form row ∷ shown form rows

@@ -28,7 +28,7 @@ use Rattle.fax_walk.specs.Items.{IsInStrip, IsRow, place_after}
 use Rattle.fax_walk.specs.laws.Written.{WalkedRow, walked, numbered}
 use Rattle.fax_walk.proofs.RowLawLemmas.{LinesAreRead, exchanged_twice}
 use Rattle.fax_walk.proofs.OpenPageLemmas.{at_first, at_end, due_at, numbers}
-use Rattle.fax_walk.proofs.StripPlaceLemmas.{in_strip, shown_none, shown_row}
+use Rattle.fax_walk.proofs.StripPlaceLemmas.{in_strip, shown_row}
 use Rattle.fax_walk.specs.Pages.{Step, goes_on, ends_as}
 
 -- these rows of page p are read from a place on, the first of them with this number, and what they lead to is so
