@@ -136,11 +136,7 @@ conversions_are_read_back packs paged within written images bytes options output
     read_back written images options converted.pages found.0 found.1 options.target refl output converted.output_is converted.fits
 
 -- a TIFF file does not begin as images do
-first_byte : List ℕ → ℕ
-first_byte h = grind arith
-
 pub not_both : (bytes : List ℕ) → BeginsWith bytes (codes "P4") → IsTiff bytes → ⊥
-unfolding first_byte
 not_both bytes h h' = grind arith
 
 walked_in : (target : Target) (options : Options) (pages : List SourcePage) (output : List ℕ) → target ≢ To.Pbm
