@@ -1,6 +1,6 @@
 -- Bits that are loaded, and codes that are read from them.
-use Rattle.std.proofs.Common.{Bool, true, false, replicate, ◌≡◌, ℕ, ◌+◌, ◌*◌, ◌≤◌, ◌<◌, List, [], ◌∷◌, ◌++◌, length, take, drop, refl, ap, sym, ◌∙◌, arith}
-use Rattle.std.proofs.Common.{append_assoc, length-append, ◌⊎◌}
+use Rattle.std.proofs.Common.{Bool, true, false, replicate, ◌≡◌, ℕ, ◌+◌, ◌*◌, ◌≤◌, ◌<◌, List, [], ◌∷◌, ◌++◌, length, take, drop, refl, ap}
+use Rattle.std.proofs.Common.{sym, ◌∙◌, arith, append_assoc, length-append, ◌⊎◌}
 use Rattle.std.proofs.lemmas.Grind.{common_steps}
 use Rattle.std.specs.Prelude.{pos}
 use Rattle.std.proofs.Math.Seq.{drop-append-add}

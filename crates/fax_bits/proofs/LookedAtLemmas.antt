@@ -1,5 +1,6 @@
 -- Thirty-two bits that are looked at, and the codes that begin them.
-use Rattle.std.proofs.Common.{◌≡◌, ℕ, ◌+◌, ◌-◌, ◌*◌, ◌/◌, ◌%◌, ◌^◌, ◌≤◌, List, ◌++◌, length, drop, Bool, ap, sym, ◌∙◌, subst, arith, append_assoc, add-zero}
+use Rattle.std.proofs.Common.{◌≡◌, ℕ, ◌+◌, ◌-◌, ◌*◌, ◌/◌, ◌%◌, ◌^◌, ◌≤◌, List, ◌++◌, length, drop, Bool, ap, sym, ◌∙◌, subst, arith}
+use Rattle.std.proofs.Common.{append_assoc, add-zero}
 use Rattle.std.proofs.Math.Nat.{div-div-eq-div-mul, mul-mod_left}
 use Rattle.std.proofs.Math.Seq.{drop-append_seam}
 use Rattle.std.proofs.lemmas.Nat.{mod_below, pow_pos, pow-add, shr_split, mod-pow-add, shl-shr}

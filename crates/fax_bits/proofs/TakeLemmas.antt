@@ -1,8 +1,7 @@
 -- Bits that stand next in a source.
 use Rattle.std.proofs.lemmas.Grind.{common_steps}
 use Rattle.std.proofs.Common.{◌≡◌, ℕ, suc, ◌+◌, ◌-◌, ◌*◌, ◌/◌, ◌%◌, ◌^◌, ◌<◌, ◌≤◌, subst, List, ◌∷◌, ◌++◌, length, take, drop, replicate}
-use Rattle.std.proofs.Common.{get_or, Bool, false, ◌↔◌, IsTrue, ap, sym, ◌∙◌, arith, append_assoc, length-append}
-use Rattle.std.proofs.Common.{drop-cons}
+use Rattle.std.proofs.Common.{get_or, Bool, false, ◌↔◌, IsTrue, ap, sym, ◌∙◌, arith, append_assoc, length-append, drop-cons}
 use Rattle.std.specs.Prelude.{bit_and}
 use Rattle.std.proofs.lemmas.Nat.{one_shl, and_mask, shr_below, shr_split, mod_below, pow_pos}
 use Rattle.fax_bits.proofs.CodeBitsLemmas.{code_bits-add, length-code_bits}

@@ -8,8 +8,7 @@ use Rattle.std.proofs.lemmas.Map.Steps.{length-le_from_distinct_below}
 use Rattle.fax_files.specs.declared.FileFault.{FileFault}
 use Rattle.fax_files.specs.declared.FileFault.TheVariants.{DirectoryOutside, DirectoryLoop}
 use Rattle.fax_files.specs.declared.Endian.{Endian}
-use Rattle.fax_files.specs.Directory.{Header, is_directory, next_offset}
-use Rattle.fax_files.specs.Directory.{offset_fault, IsChainFrom}
+use Rattle.fax_files.specs.Directory.{Header, is_directory, next_offset, offset_fault, IsChainFrom}
 use Rattle.fax_files.specs.laws.Files.{HasOneChain}
 
 -- what the two tests of an offset say

@@ -8,8 +8,7 @@ use Rattle.fax_files.specs.declared.chain.Search.{Search}
 use Rattle.fax_files.specs.declared.chain.Search.TheVariants.{Running, Known}
 use Rattle.fax_files.specs.views.Tiff.{TiffFile}
 use Rattle.fax_files.specs.Directory.{IsChain}
-use Rattle.fax_files.specs.code.Chain.{onward, place, LeadsOn, IsTurningPage, turning_page, IsChainPlace}
-use Rattle.fax_files.specs.code.Chain.{IsSearch, IsSearchPlace, turns_at}
+use Rattle.fax_files.specs.code.Chain.{onward, place, LeadsOn, IsTurningPage, turning_page, IsChainPlace, IsSearch, IsSearchPlace, turns_at}
 use Rattle.fax_files.proofs.ChainLaws.{has_one_chain}
 use Rattle.fax_files.proofs.ChainPlaces.{IsByPlaces, by_places}
 use Rattle.fax_files.proofs.LoopLemmas.{along_places, leads, stops, no_turning_page}

@@ -1,6 +1,5 @@
 -- The form of a page that is not refused.
-use Rattle.std.proofs.Common.{arith}
-use Rattle.std.proofs.Common.{◌≡◌, ℕ, List, Ok, subst}
+use Rattle.std.proofs.Common.{arith, ◌≡◌, ℕ, List, Ok, subst}
 use Rattle.std.specs.Prelude.{IfOk}
 use Rattle.std.proofs.lemmas.Grind.{div_ceil_times}
 use Rattle.fax_files.specs.declared.PageForm.{PageForm}

@@ -5,8 +5,7 @@ use Rattle.std.specs.Prelude.{◌==◌, IsTrue, if◌then◌else◌}
 use Rattle.std.specs.List.{list_all}
 use Rattle.std.proofs.lemmas.Bool.{and_parts}
 use Rattle.fax_files.specs.Pbm.{is_white_space, IsPiece, ArePieces, IsGap}
-use Rattle.fax_files.specs.code.Pbm.{is_line_end, is_digit}
-use Rattle.fax_files.specs.code.Pbm.{begins_piece, after_pieces, after_gap, has_digit}
+use Rattle.fax_files.specs.code.Pbm.{is_line_end, is_digit, begins_piece, after_pieces, after_gap, has_digit}
 
 pub white_is_no_hash : (c : ℕ) → is_white_space c ≡ true → (c == 35) ≡ false
 white_is_no_hash c white = grind arith

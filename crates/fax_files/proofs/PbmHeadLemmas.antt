@@ -4,8 +4,7 @@ use Rattle.std.specs.Prelude.{codes}
 use Rattle.std.proofs.lemmas.Grind.{common_steps}
 use Rattle.fax_files.specs.declared.pbm.PbmFault.TheVariants.{BadHeader, OutOfLimits}
 use Rattle.fax_files.specs.Pbm.{IsHead, IsImage, IsImageFault, is_within_limits}
-use Rattle.fax_files.specs.code.Pbm.{raster_len}
-use Rattle.fax_files.specs.code.Pbm.{capped, after_gap, after_digits, IsHeadRead}
+use Rattle.fax_files.specs.code.Pbm.{raster_len, capped, after_gap, after_digits, IsHeadRead}
 use Rattle.fax_files.specs.views.Pbm.{image_of}
 use Rattle.fax_files.proofs.PbmGapLemmas.{gap_is_read, gap_passed, gap_has_no_digit, white_is_no_digit}
 use Rattle.fax_files.proofs.PbmNumberLemmas.{number_is_read, number_passed, number_begins, digits_passed}

@@ -4,8 +4,7 @@ use Rattle.std.specs.Prelude.{fold, if◌then◌else◌}
 use Rattle.std.specs.List.{list_all}
 use Rattle.std.proofs.lemmas.Bool.{and_parts, false≢true, both_ways}
 use Rattle.fax_files.specs.Pbm.{SpellsNumber}
-use Rattle.fax_files.specs.code.Pbm.{is_digit, spelled_number}
-use Rattle.fax_files.specs.code.Pbm.{capped, capped_from, after_digits, has_digit}
+use Rattle.fax_files.specs.code.Pbm.{is_digit, spelled_number, capped, capped_from, after_digits, has_digit}
 
 abbrev with_digit : ℕ → ℕ → ℕ
 with_digit number digit = 10 * number + (digit - 48)

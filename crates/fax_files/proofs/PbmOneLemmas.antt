@@ -7,8 +7,7 @@ use Rattle.std.proofs.Math.Seq.{take-append_seam, drop-append_seam}
 use Rattle.fax_files.specs.declared.pbm.PbmFault.{PbmFault}
 use Rattle.fax_files.specs.declared.pbm.PbmFault.TheVariants.{BadHeader, OutOfLimits, ShortRaster}
 use Rattle.fax_files.specs.Pbm.{Image, IsHead, IsImage, IsImageFault, AreImages, is_within_limits, raster_rows}
-use Rattle.fax_files.specs.code.Pbm.{raster_len}
-use Rattle.fax_files.specs.code.Pbm.{capped, capped_from, after_gap, after_digits}
+use Rattle.fax_files.specs.code.Pbm.{raster_len, capped, capped_from, after_gap, after_digits}
 use Rattle.fax_files.proofs.PbmHeadLemmas.{head_passed}
 
 of_some : (a b : List ℕ) → Some a ≡ Some b → a ≡ b

@@ -1,8 +1,7 @@
 -- Images that are written are read back.
 use Rattle.std.proofs.lemmas.Grind.{common_steps}
-use Rattle.std.proofs.Common.{◌≡◌, ◌≢◌, ℕ, suc, ◌+◌, ◌/◌, ◌%◌, ◌^◌, ◌<◌, ◌≤◌, inl, List, [], ◌∷◌}
-use Rattle.std.proofs.Common.{◌++◌, length}
-use Rattle.std.proofs.Common.{drop, None, refl, sym, ap, ◌∙◌, arith, append_assoc}
+use Rattle.std.proofs.Common.{◌≡◌, ◌≢◌, ℕ, suc, ◌+◌, ◌/◌, ◌%◌, ◌^◌, ◌<◌, ◌≤◌, inl, List, [], ◌∷◌, ◌++◌, length, drop, None, refl, sym, ap}
+use Rattle.std.proofs.Common.{◌∙◌, arith, append_assoc}
 use Rattle.std.specs.Prelude.{codes, decimal}
 use Rattle.std.specs.List.{flat_map}
 use Rattle.std.proofs.lemmas.Fmt.{decimal_by_steps}
@@ -13,9 +12,8 @@ use Rattle.std.proofs.Math.Seq.{take-append_seam, drop-append_seam}
 use Rattle.fax_bits.specs.declared.Colour.{Colour}
 use Rattle.fax_rows.specs.Coded.{packed_len, packed_row, unpacked_row}
 use Rattle.fax_rows.specs.laws.Packed.{PackingUndoesUnpacking}
-use Rattle.fax_files.specs.Pbm.{Image, IsHead, IsImage, SpellsNumber, AreImages}
+use Rattle.fax_files.specs.Pbm.{Image, IsHead, IsImage, SpellsNumber, AreImages, pbm_of, raster_rows}
 use Rattle.fax_files.specs.views.Pbm.{head_bytes}
-use Rattle.fax_files.specs.Pbm.{pbm_of, raster_rows}
 use Rattle.fax_files.specs.code.Pbm.{image_bytes, raster_len}
 use Rattle.fax_files.specs.laws.Pbm.{AreOfWidth, IsWritableImage, AreWritableImages}
 
@@ -51,7 +49,6 @@ head_written width height rest width_small height_small = record {
   space_is = refl;
   spelled = regroup (codes "P4\n") (decimal width) (codes " ") (decimal height) (codes "\n") rest;
 }
-
 
 -- the rows of a raster as it is written
 module _ (law : PackingUndoesUnpacking) where

@@ -9,13 +9,8 @@ use Rattle.fax_files.specs.declared.PageForm.{PageForm}
 use Rattle.fax_files.specs.declared.written.Layout.{Layout}
 use Rattle.fax_files.specs.views.Page.{IsPageForm}
 use Rattle.fax_files.specs.Directory.{max_file}
-use Rattle.fax_files.specs.Layout.{to_link, four, offsets_from}
-use Rattle.fax_files.specs.code.Parts.{to_offsets, lengths_of}
-use Rattle.fax_files.specs.Layout.{one_or_place, directory_place}
-use Rattle.fax_files.specs.code.Parts.{joined_strips, fields_of}
-use Rattle.fax_files.specs.Layout.{page_bytes, Written}
-use Rattle.fax_files.specs.code.Parts.{fields_bytes, values_bytes, with_four_at}
-use Rattle.fax_files.specs.Layout.{with_page}
+use Rattle.fax_files.specs.Layout.{to_link, four, offsets_from, one_or_place, directory_place, page_bytes, Written, with_page}
+use Rattle.fax_files.specs.code.Parts.{to_offsets, lengths_of, joined_strips, fields_of, fields_bytes, values_bytes, with_four_at}
 use Rattle.fax_files.specs.laws.Files.{IsWritable}
 use Rattle.fax_files.specs.views.Writing.{contents}
 use Rattle.fax_files.specs.code.Writing.{IsWriting, IsLayout, laid_out_fields, tail_bytes, page_end}

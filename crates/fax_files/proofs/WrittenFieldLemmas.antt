@@ -4,15 +4,13 @@ use Rattle.std.proofs.lemmas.List.{length-append}
 use Rattle.std.proofs.lemmas.Bool.{le-leb, lt-ltb, ltb-true, eqb-true, and_parts}
 use Rattle.std.specs.List.{list_all}
 use Rattle.std.specs.Prelude.{◌&&◌, flat_map, Option, Some, nat_lt, find, ◌==◌}
-use Rattle.fax_files.specs.Directory.{Entry, FileFault, is_inside, entries_at, field, scalar}
-use Rattle.fax_files.specs.Directory.{values_place, value_at, has_integers}
-use Rattle.fax_files.specs.code.Steps.{first_number, first_value}
+use Rattle.fax_files.specs.Directory.{Entry, FileFault, is_inside, entries_at, field, scalar, values_place, value_at, has_integers}
+use Rattle.fax_files.specs.code.Steps.{first_number, first_value, good_rational}
 use Rattle.fax_files.proofs.StepLemmas.{taken}
 use Rattle.fax_files.specs.code.Entries.{entry_at}
 use Rattle.fax_files.specs.declared.Endian.TheVariants.{Little}
 use Rattle.fax_files.specs.views.Page.{IsGoodRational}
 use Rattle.fax_files.specs.Page.{rational_of}
-use Rattle.fax_files.specs.code.Steps.{good_rational}
 use Rattle.fax_files.specs.Layout.{two, four, WrittenField, field_bytes}
 use Rattle.fax_files.specs.code.Parts.{long_field, short_field, rational_field, rational_bytes}
 use Rattle.fax_files.proofs.PlaceLemmas.{HasBytesAt, at_place, at_left, at_right, at_inside, number_there}

@@ -1,7 +1,6 @@
 -- A written file is read as the pages that were written.
-use Rattle.std.proofs.Common.{rules}
-use Rattle.std.proofs.Common.{◌≡◌, ℕ, ◌+◌, ◌%◌, ◌<◌, ◌≤◌, ◌≢◌, ◌⊎◌, inl, inr, true, false, List, [], ◌∷◌, ◌++◌, length, take, drop, None}
-use Rattle.std.proofs.Common.{Result, Ok, Err, refl, sym, ap, ◌∙◌, arith, ◌*◌}
+use Rattle.std.proofs.Common.{rules, ◌≡◌, ℕ, ◌+◌, ◌%◌, ◌<◌, ◌≤◌, ◌≢◌, ◌⊎◌, inl, inr, true, false, List, [], ◌∷◌, ◌++◌, length, take, drop}
+use Rattle.std.proofs.Common.{None, Result, Ok, Err, refl, sym, ap, ◌∙◌, arith, ◌*◌}
 use Rattle.std.proofs.lemmas.List.{length-append, length-replicate}
 use Rattle.std.proofs.lemmas.Bool.{le-leb, ne_eqb}
 use Rattle.std.proofs.lemmas.List.Elements.{All-nil, All-cons, All-weaker}
@@ -9,14 +8,10 @@ use Rattle.std.specs.List.{All, AllZip, list_any}
 use Rattle.std.proofs.lemmas.List.Folds.{list_any_none}
 use Rattle.std.specs.Prelude.{◌==◌, replicate, codes, bytes_eq, nat_le, if◌then◌else◌}
 use Rattle.fax_files.specs.declared.FileFault.TheVariants as file_fault
-use Rattle.fax_files.specs.Directory.{is_inside, number_at, is_directory, next_offset}
-use Rattle.fax_files.specs.Directory.{Endian, Little, Big, FileFault}
-use Rattle.fax_files.specs.Directory.{header, IsChainFrom}
-use Rattle.fax_files.specs.Layout.{to_link, two, four, offsets_from}
-use Rattle.fax_files.specs.code.Parts.{to_x, to_offsets, lengths_of, fields_bytes, values_bytes}
-use Rattle.fax_files.specs.Layout.{directory_place, page_bytes, Written, with_page, with_pages, WrittenPage}
-use Rattle.fax_files.specs.code.Parts.{joined_strips}
-use Rattle.fax_files.specs.Layout.{file_of, array_bytes}
+use Rattle.fax_files.specs.Directory.{is_inside, number_at, is_directory, next_offset, Endian, Little, Big, FileFault, header, IsChainFrom}
+use Rattle.fax_files.specs.Layout.{to_link, two, four, offsets_from, directory_place, page_bytes, Written, with_page, with_pages}
+use Rattle.fax_files.specs.Layout.{WrittenPage, file_of, array_bytes}
+use Rattle.fax_files.specs.code.Parts.{to_x, to_offsets, lengths_of, fields_bytes, values_bytes, joined_strips}
 use Rattle.fax_files.specs.views.Writing.{empty_file}
 use Rattle.fax_files.specs.laws.Files.{IsWritable, AreWritable, IsReadAt, AppendedPagesAreRead, WrittenFilesAreRead}
 use Rattle.fax_files.proofs.PlaceLemmas.{HasBytesAt, at_place, at_left, at_right, at_inside, at_drop, at_start, at_slice, length-slice}

@@ -1,7 +1,6 @@
 -- A page that stands written in a file is read as it was written.
-use Rattle.std.proofs.Common.{rules}
-use Rattle.std.proofs.Common.{◌≡◌, ◌≢◌, ℕ, ◌+◌, ◌-◌, ◌*◌, ◌/◌, ◌%◌, ◌^◌, ◌<◌, ◌≤◌, Option, None, Bool, true, false, List, [], ◌∷◌, ◌++◌, length, get_or}
-use Rattle.std.proofs.Common.{Some, Result, Ok, refl, sym, ap, ◌∙◌, arith}
+use Rattle.std.proofs.Common.{rules, ◌≡◌, ◌≢◌, ℕ, ◌+◌, ◌-◌, ◌*◌, ◌/◌, ◌%◌, ◌^◌, ◌<◌, ◌≤◌, Option, None, Bool, true, false, List, [], ◌∷◌}
+use Rattle.std.proofs.Common.{◌++◌, length, get_or, Some, Result, Ok, refl, sym, ap, ◌∙◌, arith}
 use Rattle.std.proofs.lemmas.List.{length-append}
 use Rattle.std.proofs.lemmas.Bool.{le-leb, lt-ltb}
 use Rattle.std.specs.Prelude.{flat_map, nat_lt, IsOk, ◌==◌, min, if◌then◌else◌}
@@ -10,23 +9,17 @@ use Rattle.fax_bits.specs.declared.FillOrder.TheVariants.{MsbFirst, LsbFirst}
 use Rattle.fax_page.specs.declared.Coding.{Coding}
 use Rattle.fax_page.specs.declared.Coding.TheVariants.{Mh, Mr, Mmr}
 use Rattle.fax_files.specs.declared.FileFault.{FileFault}
-use Rattle.fax_files.specs.Directory.{Entry, is_inside, number_at, scalar, ◌>>=◌}
+use Rattle.fax_files.specs.Directory.{Entry, is_inside, number_at, scalar, ◌>>=◌, entries, is_directory, next_offset}
 use Rattle.fax_files.specs.declared.FileFault.TheVariants.{BadField, OutOfLimits, Unsupported}
 use Rattle.fax_files.specs.code.Entries.{entry_count}
-use Rattle.fax_files.specs.Directory.{entries, is_directory, next_offset}
 use Rattle.fax_files.specs.declared.Endian.TheVariants.{Little}
 use Rattle.fax_files.specs.declared.PageForm.{PageForm}
-use Rattle.fax_files.specs.Page.{fill_order_of, form_in, is_between, most_pels, most_rows, page}
-use Rattle.fax_files.specs.Page.{strip_bytes}
+use Rattle.fax_files.specs.Page.{fill_order_of, form_in, is_between, most_pels, most_rows, page, strip_bytes}
 use Rattle.fax_files.specs.code.Steps.{resolution_in}
-use Rattle.fax_files.specs.Layout.{to_link, two, WrittenField}
-use Rattle.fax_files.specs.code.Parts.{field_count, to_x, to_y, to_offsets}
-use Rattle.fax_files.specs.Layout.{field_bytes, compression_of, options_field}
-use Rattle.fax_files.specs.code.Parts.{long_field, short_field}
-use Rattle.fax_files.specs.Layout.{offsets_from, array_bytes}
-use Rattle.fax_files.specs.code.Parts.{lengths_of, rational_bytes}
-use Rattle.fax_files.specs.code.Parts.{fields_of, fields_bytes, values_bytes, joined_strips}
+use Rattle.fax_files.specs.Layout.{to_link, two, WrittenField, field_bytes, compression_of, options_field, offsets_from, array_bytes}
 use Rattle.fax_files.specs.Layout.{WrittenPage}
+use Rattle.fax_files.specs.code.Parts.{field_count, to_x, to_y, to_offsets, long_field, short_field, lengths_of, rational_bytes, fields_of}
+use Rattle.fax_files.specs.code.Parts.{fields_bytes, values_bytes, joined_strips}
 use Rattle.fax_files.specs.laws.Files.{IsWritable, IsReadAt}
 use Rattle.fax_files.proofs.PlaceLemmas.{HasBytesAt, at_place, at_left, at_right, at_inside, number_there}
 use Rattle.fax_files.proofs.WrittenFieldLemmas.{AllFit, length-fields, read_fields, HasValues, written_field, entries_there}

@@ -4,8 +4,7 @@ use Rattle.fax_bits.specs.declared.Colour.{Colour}
 use Rattle.fax_files.specs.declared.Endian.TheVariants.{Little}
 use Rattle.fax_files.specs.declared.PageForm.{PageForm}
 use Rattle.fax_files.specs.Page.{strip_bytes}
-use Rattle.fax_files.specs.laws.Files.{AreStrips}
-use Rattle.fax_files.specs.laws.Files.{HoldStripRows, WrittenRowsAreRead}
+use Rattle.fax_files.specs.laws.Files.{AreStrips, HoldStripRows, WrittenRowsAreRead}
 
 strips_from : (file : List ℕ) (q : ℕ) (form : PageForm) (s : ℕ) (strips : List (List ℕ)) (lists : List (List (List Colour)))
     → ((i : ℕ) → i < length strips → strip_bytes Little file q (s + i) ≡ Some (get_or strips i []))

@@ -4,13 +4,11 @@ use Rattle.std.proofs.Common.{◌≡◌, ℕ, zero, suc, ◌+◌, ◌*◌, ◌<�
 use Rattle.std.proofs.lemmas.List.{length-append}
 use Rattle.std.proofs.lemmas.Bool.{lt-leb}
 use Rattle.std.specs.Prelude.{nat_le, IsOk}
-use Rattle.fax_files.specs.Directory.{Entry, field, values_place, value_at}
-use Rattle.fax_files.specs.Directory.{has_integers}
+use Rattle.fax_files.specs.Directory.{Entry, field, values_place, value_at, has_integers}
 use Rattle.fax_files.specs.declared.Endian.TheVariants.{Little}
 use Rattle.fax_files.specs.code.Steps.{placed_bytes, strip_field}
 use Rattle.fax_files.specs.Layout.{four, WrittenField, offsets_from, one_or_place, array_bytes}
-use Rattle.fax_files.specs.code.Parts.{long_field, lengths_of, longs}
-use Rattle.fax_files.specs.code.Parts.{joined_strips}
+use Rattle.fax_files.specs.code.Parts.{long_field, lengths_of, longs, joined_strips}
 use Rattle.fax_files.proofs.PlaceLemmas.{HasBytesAt, at_place, at_left, at_right, at_inside, number_there, bytes_there}
 use Rattle.fax_files.proofs.WrittenFieldLemmas.{read_fields, HasValues, written_field, field_there}
 use Rattle.fax_files.specs.declared.tags.TheConstants as Tags

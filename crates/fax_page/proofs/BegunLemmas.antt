@@ -1,6 +1,5 @@
 -- How a row begins, as it is read and as it is defined.
-use Rattle.std.proofs.Common.{arith}
-use Rattle.std.proofs.Common.{◌≡◌, ℕ, List, Bool, inr, Result, Ok, Err}
+use Rattle.std.proofs.Common.{arith, ◌≡◌, ℕ, List, Bool, inr, Result, Ok, Err}
 use Rattle.fax_rows.specs.declared.RowFault.{RowFault}
 use Rattle.fax_bits.specs.declared.Colour.{Colour}
 use Rattle.fax_page.specs.declared.Dimension.{Dimension}

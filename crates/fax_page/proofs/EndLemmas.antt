@@ -9,11 +9,9 @@ use Rattle.fax_page.specs.declared.Coding.{Coding}
 use Rattle.fax_page.specs.declared.Coding.TheVariants.{Mh, Mr, Mmr}
 use Rattle.fax_page.specs.declared.StripFault.{StripFault}
 use Rattle.fax_page.specs.Lines.{IsEndOfLine}
-use Rattle.fax_page.specs.Strip.{end_bits}
-use Rattle.fax_page.specs.Strip.{IsReturnEol, AreReturnEols, IsEndMark, HasEndMark}
-use Rattle.fax_page.specs.code.Notes.{IsAfterEnd}
+use Rattle.fax_page.specs.Strip.{end_bits, IsReturnEol, AreReturnEols, IsEndMark, HasEndMark}
+use Rattle.fax_page.specs.code.Notes.{IsAfterEnd, AreEolsTaken, IsAfterMark, TakesReturnEol, AreNotesAfter}
 use Rattle.fax_page.specs.code.Starts.{HasEol, HasNoEol}
-use Rattle.fax_page.specs.code.Notes.{AreEolsTaken, IsAfterMark, TakesReturnEol, AreNotesAfter}
 use Rattle.fax_page.proofs.StartLaws.{same_eol, eol_is_not_zeros, eol_is_not_below}
 
 -- a 1 after zeros is among the bits

@@ -1,6 +1,5 @@
 -- The fault of a row that could not be read, where its start is read once more.
-use Rattle.std.proofs.Common.{arith}
-use Rattle.std.proofs.Common.{◌≡◌, ℕ, ◌+◌, List, Bool, drop}
+use Rattle.std.proofs.Common.{arith, ◌≡◌, ℕ, ◌+◌, List, Bool, drop}
 use Rattle.fax_bits.specs.declared.Colour.{Colour}
 use Rattle.fax_bits.specs.declared.FillOrder.{FillOrder}
 use Rattle.fax_bits.specs.views.Source.{Source, source_of}

@@ -1,6 +1,5 @@
 -- A row of a strip is read in one way, where rows are.
-use Rattle.std.proofs.Common.{arith}
-use Rattle.std.proofs.Common.{◌≡◌, ℕ, List, length, Bool, refl, ap, sym, ◌∙◌, inl, inr, Ok}
+use Rattle.std.proofs.Common.{arith, ◌≡◌, ℕ, List, length, Bool, refl, ap, sym, ◌∙◌, inl, inr, Ok}
 use Rattle.std.specs.Prelude.{◌⊎◌}
 use Rattle.fax_bits.specs.declared.Colour.{Colour}
 use Rattle.fax_bits.specs.laws.Codes.{IsReadInOneWay}
@@ -9,8 +8,7 @@ use Rattle.fax_page.specs.declared.Dimension.{Dimension}
 use Rattle.fax_page.specs.declared.Dimension.TheVariants.{OneDimensional, TwoDimensional}
 use Rattle.fax_page.specs.declared.StripForm.{StripForm}
 use Rattle.fax_page.specs.declared.StripFault.{StripFault}
-use Rattle.fax_page.specs.Lines.{BeginsBelowEleven, IsStart, IsRowIn, IsRowFaultIn}
-use Rattle.fax_page.specs.Lines.{IsStopInCodes, strip_fault, IsLine, IsCause}
+use Rattle.fax_page.specs.Lines.{BeginsBelowEleven, IsStart, IsRowIn, IsRowFaultIn, IsStopInCodes, strip_fault, IsLine, IsCause}
 use Rattle.fax_page.specs.code.Starts.{IsFirstCodeFault}
 use Rattle.fax_page.specs.laws.Strips.{ReadsLinesOneWay}
 use Rattle.fax_page.proofs.RestLemmas.{rest_among}

@@ -1,7 +1,5 @@
 -- A strip is noted in one way, where its rows are read in one way.
-use Rattle.std.proofs.Common.{arith}
-use Rattle.std.proofs.Common.{◌≡◌, ℕ, zero, suc, ◌+◌, ◌⊎◌, ◌↔◌, List, [], ◌∷◌, Bool, true, IsTrue, ap, sym, ◌∙◌, subst}
-use Rattle.std.proofs.Common.{None}
+use Rattle.std.proofs.Common.{arith, ◌≡◌, ℕ, zero, suc, ◌+◌, ◌⊎◌, ◌↔◌, List, [], ◌∷◌, Bool, true, IsTrue, ap, sym, ◌∙◌, subst, None}
 use Rattle.std.proofs.lemmas.List.{append_cancel_left}
 use Rattle.std.specs.List.{Contains}
 use Rattle.fax_bits.specs.declared.Colour.{Colour}

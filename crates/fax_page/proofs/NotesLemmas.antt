@@ -3,8 +3,7 @@ use Rattle.std.proofs.Common.{◌≡◌, ℕ, ◌+◌, ◌<◌, ◌↔◌, List,
 use Rattle.std.proofs.Common.{arith, append_assoc, append-nil, length-append, inl, inr, Option, Some, None}
 use Rattle.fax_bits.specs.declared.Colour.{Colour}
 use Rattle.fax_bits.specs.Bits.{BeginsWith}
-use Rattle.fax_rows.specs.laws.Rows.{HasWidth}
-use Rattle.fax_rows.specs.laws.Rows.{OneDimensionalBitsAreOneRow, TwoDimensionalBitsAreOneRow}
+use Rattle.fax_rows.specs.laws.Rows.{HasWidth, OneDimensionalBitsAreOneRow, TwoDimensionalBitsAreOneRow}
 use Rattle.fax_page.specs.declared.Dimension.{Dimension}
 use Rattle.fax_page.specs.declared.StripForm.{StripForm}
 use Rattle.fax_page.specs.declared.StripFault.{StripFault}
@@ -12,14 +11,11 @@ use Rattle.fax_page.specs.declared.notes.NotesFault.{NotesFault}
 use Rattle.fax_page.specs.declared.notes.NotesFault.TheVariants.{Memory, Strip}
 use Rattle.fax_page.specs.declared.notes.StripNotes.{StripNotes}
 use Rattle.fax_page.specs.Lines.{IsCause, IsLine, IsRowIn, white_row}
-use Rattle.fax_page.specs.Strip.{AreLines}
-use Rattle.fax_page.specs.views.Strip.{IsStrip}
+use Rattle.fax_page.specs.Strip.{AreLines, row_bits, HasOtherChoice, IsNotedAs}
+use Rattle.fax_page.specs.views.Strip.{IsStrip, IsNotesFault}
 use Rattle.fax_page.proofs.StripLaws.{EndsAt, no_rows}
-use Rattle.fax_page.specs.Strip.{row_bits}
 use Rattle.fax_page.specs.laws.Strips.{ReadsLinesOneWay}
-use Rattle.fax_page.specs.Strip.{HasOtherChoice, IsNotedAs}
 use Rattle.fax_page.specs.code.Notes.{IsChosen}
-use Rattle.fax_page.specs.views.Strip.{IsNotesFault}
 use Rattle.fax_page.specs.code.Notes.{AreCodesRead, IsChoiceNoted, AreCodesNoted, IsCodesFault, IsLineNoted, IsLineFault, AreRowsRead, AreNotesAfter}
 use Rattle.fax_page.specs.code.Starts.{IsStarted}
 use Rattle.fax_page.proofs.BegunLemmas.{started, cause_in_codes}

@@ -1,7 +1,5 @@
 -- A strip that is read row by row.
-use Rattle.std.proofs.Common.{arith}
-use Rattle.std.proofs.Common.{◌≡◌, List, [], ◌∷◌, ◌++◌, Option, Some, None, Err, refl, sym, subst, append_assoc}
-use Rattle.std.proofs.Common.{append-nil}
+use Rattle.std.proofs.Common.{arith, ◌≡◌, List, [], ◌∷◌, ◌++◌, Option, Some, None, Err, refl, sym, subst, append_assoc, append-nil}
 use Rattle.fax_bits.specs.declared.Colour.{Colour}
 use Rattle.fax_page.specs.declared.StripFault.{StripFault}
 use Rattle.fax_page.specs.Strip.{AreLines}

@@ -4,8 +4,7 @@ use Rattle.std.proofs.Common.{append_assoc, append-nil, length-append}
 use Rattle.std.specs.Prelude.{All}
 use Rattle.fax_bits.specs.declared.Colour.{Colour}
 use Rattle.fax_bits.specs.declared.FillOrder.{FillOrder}
-use Rattle.fax_bits.specs.Bits.{bits}
-use Rattle.fax_bits.specs.Bits.{packed}
+use Rattle.fax_bits.specs.Bits.{bits, packed}
 use Rattle.fax_bits.specs.laws.Codes.{PacksOneWay}
 use Rattle.fax_bits.specs.views.Sink.{Sink, Appends, IsPadded}
 use Rattle.fax_page.specs.declared.Dimension.{Dimension}

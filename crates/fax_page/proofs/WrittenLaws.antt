@@ -1,6 +1,5 @@
 -- A written strip is read back, where its rows are.
-use Rattle.std.proofs.Common.{◌≡◌, ℕ, zero, suc, ◌+◌, List, [], ◌∷◌, ◌++◌, length, Bool, refl, sym, subst, arith, append_assoc, inl}
-use Rattle.std.proofs.Common.{None}
+use Rattle.std.proofs.Common.{◌≡◌, ℕ, zero, suc, ◌+◌, List, [], ◌∷◌, ◌++◌, length, Bool, refl, sym, subst, arith, append_assoc, inl, None}
 use Rattle.std.specs.Prelude.{All}
 use Rattle.std.proofs.lemmas.List.{length-replicate}
 use Rattle.fax_bits.specs.declared.Colour.{Colour}

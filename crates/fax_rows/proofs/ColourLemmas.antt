@@ -1,6 +1,5 @@
 -- The two colours, and what a test of two of them tells.
-use Rattle.std.proofs.Common.{arith}
-use Rattle.std.proofs.Common.{◌≡◌, ◌≢◌, true, false, not}
+use Rattle.std.proofs.Common.{arith, ◌≡◌, ◌≢◌, true, false, not}
 use Rattle.fax_bits.specs.declared.Colour.{Colour}
 use Rattle.fax_rows.specs.Rows.{other, same_colour}
 

@@ -25,8 +25,7 @@ use Rattle.fax_rows.proofs.PaintLemmas.{painted_front}
 use Rattle.fax_rows.proofs.TurnLemmas.{length-pels_by, pel-pels_by}
 use Rattle.fax_rows.proofs.PlacedRowLemmas.{end_within, turned-first}
 use Rattle.fax_rows.proofs.PlacedReadLemmas.{more_room}
-use Rattle.fax_rows.proofs.PlacedB1Lemmas.{b1_is, b1_within, b1_at_most, b1_ahead, b2_at_most, b2_is}
-use Rattle.fax_rows.proofs.PlacedB1Lemmas.{length-placed_pels}
+use Rattle.fax_rows.proofs.PlacedB1Lemmas.{b1_is, b1_within, b1_at_most, b1_ahead, b2_at_most, b2_is, length-placed_pels}
 
 -- the pels up to `to` where those from `from` on have one colour
 pub front_to : (width from to : ℕ) (old new : List ℕ) (colour : Colour) → from ≤ to → to ≤ width

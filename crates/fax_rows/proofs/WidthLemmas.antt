@@ -9,8 +9,7 @@ use Rattle.fax_bits.specs.declared.Colour.{Colour}
 use Rattle.fax_bits.specs.declared.Colour.TheVariants.{White}
 use Rattle.fax_bits.specs.declared.modes.ModeCode.{ModeCode}
 use Rattle.fax_bits.specs.declared.modes.ModeCode.TheVariants.{Pass, Horizontal, Vertical, Extension}
-use Rattle.fax_rows.specs.Rows.{other, b1, b2, Position, beginning, first_pel, IsStepBy, pels_of, AreRuns, AreSteps}
-use Rattle.fax_rows.specs.Rows.{IsTwoDimensionalRow}
+use Rattle.fax_rows.specs.Rows.{other, b1, b2, Position, beginning, first_pel, IsStepBy, pels_of, AreRuns, AreSteps, IsTwoDimensionalRow}
 use Rattle.fax_rows.specs.laws.Rows.{RowsHaveTheirWidth}
 use Rattle.fax_rows.proofs.ChangeLemmas.{next_change_is, next_is_ahead, next_of_within, next_of_right}
 use Rattle.fax_rows.proofs.PlacedStepLemmas.{right_after_first}

@@ -1,8 +1,6 @@
 -- What is converted has one output or one fault, and what is checked has one report.
 use Rattle.std.proofs.lemmas.Grind.{common_steps}
-use Rattle.std.proofs.Common.{arith}
-use Rattle.std.proofs.Common.{◌≡◌, ℕ, List, length, Option, Some, None, Err, Bool}
-use Rattle.std.proofs.Common.{refl, ap, sym, ◌∙◌, subst, inl, inr, codes}
+use Rattle.std.proofs.Common.{arith, ◌≡◌, ℕ, List, length, Option, Some, None, Err, Bool, refl, ap, sym, ◌∙◌, subst, inl, inr, codes}
 use Rattle.std.specs.Prelude.{flat_map, not}
 use Rattle.fax_bits.specs.Bits.{bits, BeginsWith}
 use Rattle.fax_bits.specs.declared.Colour.{Colour}
@@ -25,16 +23,14 @@ use Rattle.fax_walk.specs.declared.options.ConvertFault.TheVariants as Refused
 use Rattle.fax_walk.specs.declared.options.Options.{Options}
 use Rattle.fax_walk.specs.declared.walk.Place.{Place}
 use Rattle.fax_walk.specs.Converted.{IsConverted, IsNotConverted, IsSource, IsTiff, IsTooLarge, SourcePage, pages_of, target_bytes}
-use Rattle.fax_walk.specs.Pages.{AreFrom}
+use Rattle.fax_walk.specs.Pages.{AreFrom, IsPageAt, goes_on, ends_as}
 use Rattle.fax_walk.specs.Report.{IsNoted, IsReportedEnd, IsStripNoted, note_if}
 use Rattle.fax_walk.specs.Items.{AreItems, RowItem}
 use Rattle.fax_walk.specs.laws.Answers.{BytesAreConvertedInOneWay, FilesHaveOneReport}
 use Rattle.fax_walk.specs.laws.Tails.{FilesHaveOneForms, FilesHaveOneItems}
 use Rattle.fax_walk.proofs.InOrderLemmas.{IsSingle, single_from, two_of}
 use Rattle.fax_walk.proofs.PageLawLemmas.{one_chain, proper_after, single_on_page}
-use Rattle.fax_walk.specs.Pages.{IsPageAt}
 use Rattle.fax_walk.proofs.ReadBackLemmas.{not_both}
-use Rattle.fax_walk.specs.Pages.{goes_on, ends_as}
 use Rattle.fax_walk.specs.declared.checking.NoteKind.TheVariants.{EntriesOutOfOrder}
 
 -- the fault of a source whose rows end so

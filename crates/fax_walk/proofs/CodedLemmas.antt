@@ -3,25 +3,22 @@ use Rattle.std.proofs.lemmas.Grind.{common_steps}
 use Rattle.std.proofs.Common.{◌≡◌, ◌≢◌, true, ℕ, zero, suc, ◌+◌, ◌*◌, ◌<◌, ◌≤◌, min, List, [], ◌∷◌, ◌++◌, length, map, take, drop}
 use Rattle.std.proofs.Common.{Option, refl, sym, ap, ◌∙◌, subst, arith, length-take, length-drop}
 use Rattle.std.specs.Prelude.{All, unwrap_or, IsTrue}
-use Rattle.std.specs.List.{AllZip}
+use Rattle.std.specs.List.{AllZip, range_with_len}
 use Rattle.std.specs.Option.{ForSome}
 use Rattle.std.proofs.lemmas.Bool.Decides.{nat_tests}
-use Rattle.std.specs.List.{range_with_len}
 use Rattle.std.proofs.lemmas.List.FromFn.{length-map-range_with_len}
 use Rattle.std.proofs.lemmas.List.{drop-drop, drop_all, take-append-drop, length-map}
 use Rattle.std.proofs.lemmas.List.Elements.{All-take, All-drop, All-nil, All-cons, All-head, All-tail}
 use Rattle.fax_bits.specs.declared.Colour.{Colour}
 use Rattle.fax_page.specs.declared.Coding.{Coding}
 use Rattle.fax_page.specs.declared.Coding.TheVariants.{Mmr}
-use Rattle.fax_page.specs.laws.Strips.{AreRowsOf}
-use Rattle.fax_page.specs.laws.Strips.{CodedStripsAreRead}
+use Rattle.fax_page.specs.laws.Strips.{AreRowsOf, CodedStripsAreRead}
 use Rattle.fax_files.specs.declared.PageForm.{PageForm}
 use Rattle.fax_files.specs.views.Page.{IsPageForm}
 use Rattle.fax_files.specs.Page.{strip_form}
-use Rattle.fax_files.specs.laws.Files.{joined}
+use Rattle.fax_files.specs.laws.Files.{joined, IsWritable, AreWritable, HoldStripRows}
 use Rattle.fax_files.specs.Pbm.{is_within_limits}
 use Rattle.fax_files.specs.laws.Pbm.{AreOfWidth}
-use Rattle.fax_files.specs.laws.Files.{IsWritable, AreWritable, HoldStripRows}
 use Rattle.fax_walk.specs.declared.options.Options.{Options}
 use Rattle.fax_walk.specs.Converted.{SourcePage, written_page}
 use Rattle.fax_walk.specs.code.OpenStrips.{coded_of, rows_of_strip}

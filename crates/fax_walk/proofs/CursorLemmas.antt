@@ -1,6 +1,5 @@
 -- A cursor's text is cut at its colons, and its numbers are read.
-use Rattle.std.proofs.Common.{◌≡◌, ◌≢◌, ℕ, ◌^◌, ◌<◌, List, [], ◌∷◌, ◌++◌, length, get_or, Result, ◌∙◌, append_assoc}
-use Rattle.std.proofs.Common.{arith}
+use Rattle.std.proofs.Common.{◌≡◌, ◌≢◌, ℕ, ◌^◌, ◌<◌, List, [], ◌∷◌, ◌++◌, length, get_or, Result, ◌∙◌, append_assoc, arith}
 use Rattle.std.specs.Prelude.{Option, MatchOption, OnErr, decimal}
 use Rattle.std.specs.Borrow.{Bor}
 use Rattle.std.specs.Str.Parse.{AllDigits, digits_value}

@@ -1,6 +1,5 @@
 -- A walk that enters its first page.
-use Rattle.std.proofs.Common.{◌≡◌, ℕ, ◌*◌, ◌<◌, ◌≤◌, ◌⊎◌, inl, inr, List, [], Some, Result, Ok, Err, refl, sym}
-use Rattle.std.proofs.Common.{◌∙◌, arith}
+use Rattle.std.proofs.Common.{◌≡◌, ℕ, ◌*◌, ◌<◌, ◌≤◌, ◌⊎◌, inl, inr, List, [], Some, Result, Ok, Err, refl, sym, ◌∙◌, arith}
 use Rattle.std.proofs.Math.Nat.{div-add-mod}
 use Rattle.std.proofs.Math.Seq.{drop-nil}
 use Rattle.std.proofs.lemmas.Bool.{cases_lt}
@@ -11,14 +10,13 @@ use Rattle.fax_walk.specs.declared.cursor.Cursor.{Cursor}
 use Rattle.fax_walk.specs.declared.end.End.{End}
 use Rattle.fax_walk.specs.declared.opening.OpenFault.{OpenFault}
 use Rattle.fax_walk.specs.declared.opening.OpenFault.TheVariants.{Memory, Ended}
-use Rattle.fax_walk.specs.Pages.{LongPlace}
+use Rattle.fax_walk.specs.Pages.{LongPlace, ends_as}
 use Rattle.fax_walk.specs.views.Walk.{Begins, EndsBefore}
 use Rattle.fax_walk.specs.Items.{IsInnerOn, IsRow, RowPlace, begun_cursor, first_at, inner_at}
 use Rattle.fax_walk.specs.code.Places.{row_in_strip, strip_at}
 use Rattle.fax_walk.specs.code.Opening.{EndsAt, IsFilePage, IsNamed, PageDue, page_with}
 use Rattle.fax_walk.specs.code.Stages.{IsNoInner, IsNoStrip, IsOpenedAt, IsRefusal, PageState}
 use Rattle.fax_walk.specs.code.Walk.{HasNoRows, IsOpenedFirst}
-use Rattle.fax_walk.specs.Pages.{ends_as}
 use Rattle.fax_walk.proofs.TailLemmas.{begins_in, begins_after, begins_past}
 
 -- a walk that begins at no place of the file

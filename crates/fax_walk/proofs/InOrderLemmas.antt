@@ -5,10 +5,9 @@ use Rattle.std.proofs.Common.{subst, arith, append_assoc}
 use Rattle.std.proofs.lemmas.List.{drop_at, take-append-drop}
 use Rattle.std.specs.Prelude.{slice_get}
 use Rattle.fax_walk.specs.declared.end.End.{End}
-use Rattle.fax_walk.specs.Pages.{AreFrom}
+use Rattle.fax_walk.specs.Pages.{AreFrom, Step, goes_on, ends_as}
 use Rattle.fax_walk.specs.laws.InOrder.{LeadTo}
 use Rattle.fax_bits.specs.laws.Codes.{IsOne}
-use Rattle.fax_walk.specs.Pages.{Step, goes_on, ends_as}
 
 -- there is one answer, and no other
 pub record IsOneAnswer {A : Type 0} (holds : A → Type 0) : Type 0 where

@@ -12,8 +12,7 @@ use Rattle.std.proofs.Math.Seq.{get_or-append_right}
 use Rattle.std.proofs.lemmas.Str.Parse.{not_in_digits}
 use Rattle.std.proofs.lemmas.Str.Pattern.{IsSplitOnceResult, split_after, split_parts}
 use Rattle.fax_walk.specs.Pages.{LongPlace, runs_text, long_cursor_text}
-use Rattle.fax_walk.specs.code.LongText.{and_run}
-use Rattle.fax_walk.specs.code.LongText.{number_and, IsNumberCut}
+use Rattle.fax_walk.specs.code.LongText.{and_run, number_and, IsNumberCut}
 use Rattle.fax_walk.proofs.CursorLemmas.{numerals, no_colon}
 
 -- the decimals of a number have no comma

@@ -8,10 +8,8 @@ use Rattle.std.proofs.lemmas.List.{append-nil}
 use Rattle.std.proofs.lemmas.List.Elements.{All-head, All-tail}
 use Rattle.std.proofs.Math.Seq.{get_or-append_right}
 use Rattle.fax_walk.specs.declared.cursor.Cursor.{Cursor}
-use Rattle.fax_walk.specs.Pages.{IsCursor, cursor_text, IsLongCursor, LongPlace}
-use Rattle.fax_walk.specs.code.LongText.{and_run}
-use Rattle.fax_walk.specs.Pages.{long_cursor_text, runs_text}
-use Rattle.fax_walk.specs.code.LongText.{number_and}
+use Rattle.fax_walk.specs.Pages.{IsCursor, cursor_text, IsLongCursor, LongPlace, long_cursor_text, runs_text}
+use Rattle.fax_walk.specs.code.LongText.{and_run, number_and}
 use Rattle.fax_walk.specs.laws.Cursors.{TextsNameOne}
 use Rattle.fax_walk.proofs.CursorLemmas.{no_colon}
 use Rattle.fax_walk.proofs.LongCursorLemmas.{no_comma, text_by_numbers}

@@ -1,7 +1,6 @@
 -- A page that is open: where it stands, and what is read there.
 use Rattle.std.proofs.lemmas.Grind.{common_steps}
-use Rattle.std.proofs.Common.{◌≡◌, ℕ, ◌+◌, ◌-◌, ◌*◌, ◌<◌, ◌≤◌, ◌⊎◌, inl, inr, min, List, [], ◌∷◌, ◌++◌, length, drop, Option}
-use Rattle.std.proofs.Common.{Some, None}
+use Rattle.std.proofs.Common.{◌≡◌, ℕ, ◌+◌, ◌-◌, ◌*◌, ◌<◌, ◌≤◌, ◌⊎◌, inl, inr, min, List, [], ◌∷◌, ◌++◌, length, drop, Option, Some, None}
 use Rattle.std.proofs.Common.{Result, Ok, Err, refl, sym, ap, ◌∙◌, subst, arith, add-mul, ◌^◌}
 use Rattle.std.proofs.lemmas.Bool.{cases_lt}
 use Rattle.std.proofs.lemmas.Bool.Decides.{nat_tests}
@@ -25,24 +24,18 @@ use Rattle.fax_files.specs.views.Tiff.{TiffDirectory, bytes_of}
 use Rattle.fax_walk.specs.declared.end.End.{End}
 use Rattle.fax_walk.specs.declared.end.End.TheVariants.{Fault}
 use Rattle.fax_walk.specs.declared.opening.OpenFault.{OpenFault}
-use Rattle.fax_walk.specs.Pages.{LongPlace}
-use Rattle.fax_walk.specs.Items.{Inner, RowItem, RowPlace, IsRow, before, exchanged, first_at}
-use Rattle.fax_walk.specs.Items.{IsInnerOn, long_at, place_after}
-use Rattle.fax_walk.specs.code.Places.{IsInner, cursor_at}
-use Rattle.fax_walk.specs.code.Places.{row_in_strip, strip_at}
-use Rattle.fax_walk.specs.code.Places.{place_on}
-use Rattle.fax_walk.specs.Pages.{IsPageAt}
+use Rattle.fax_walk.specs.Pages.{LongPlace, IsPageAt, goes_on, ends_as}
+use Rattle.fax_walk.specs.Items.{Inner, RowItem, RowPlace, IsRow, before, exchanged, first_at, IsInnerOn, long_at, place_after}
+use Rattle.fax_walk.specs.code.Places.{IsInner, cursor_at, row_in_strip, strip_at, place_on}
 use Rattle.fax_walk.specs.laws.InOrder.{LeadTo}
 use Rattle.fax_walk.specs.code.Opening.{IsFilePage, PageDue, page_with}
 use Rattle.fax_walk.specs.views.Walk.{HasPage}
-use Rattle.fax_walk.specs.code.Stages.{GivesRow, HasSkipped, IsNoInner, IsNoPlace, IsNoStrip, IsRefusal, IsOpen, IsSamePage}
-use Rattle.fax_walk.specs.code.Stages.{IsStripOf, KeepsPlace}
-use Rattle.fax_walk.specs.code.Stages.{PageState, ReadsPageRow, StopsAtRow, item_of, place_of, row_of, skipped}
+use Rattle.fax_walk.specs.code.Stages.{GivesRow, HasSkipped, IsNoInner, IsNoPlace, IsNoStrip, IsRefusal, IsOpen, IsSamePage, IsStripOf}
+use Rattle.fax_walk.specs.code.Stages.{KeepsPlace, PageState, ReadsPageRow, StopsAtRow, item_of, place_of, row_of, skipped}
 use Rattle.fax_walk.proofs.InOrderLemmas.{leads_on}
 use Rattle.fax_walk.proofs.RunLemmas.{pels_after}
 use Rattle.fax_walk.proofs.StripPlaceLemmas.{in_strip}
 use Rattle.fax_walk.proofs.RowLawLemmas.{exchanged_twice}
-use Rattle.fax_walk.specs.Pages.{goes_on, ends_as}
 
 -- the strips of a page hold its rows, and each some of them
 pub whole_of : (form : PageForm) → IsPageForm form → IsWholeForm form

@@ -1,12 +1,9 @@
 -- An output that is written page by page.
 use Rattle.std.proofs.lemmas.Grind.{common_steps}
-use Rattle.std.proofs.Common.{◌≡◌, ℕ, suc, ◌+◌, ◌-◌, ◌*◌, ◌<◌, ◌≤◌, inl, List, [], ◌∷◌, ◌++◌, length, map}
-use Rattle.std.proofs.Common.{Option, Some}
-use Rattle.std.proofs.Common.{Result, refl, sym, ap, ◌∙◌, subst, arith, append_assoc, append-nil, length-append, length-take}
-use Rattle.std.proofs.Common.{length-drop}
+use Rattle.std.proofs.Common.{◌≡◌, ℕ, suc, ◌+◌, ◌-◌, ◌*◌, ◌<◌, ◌≤◌, inl, List, [], ◌∷◌, ◌++◌, length, map, Option, Some, Result, refl, sym}
+use Rattle.std.proofs.Common.{ap, ◌∙◌, subst, arith, append_assoc, append-nil, length-append, length-take, length-drop}
 use Rattle.std.specs.Prelude.{flat_map, OnOk}
-use Rattle.std.proofs.lemmas.List.{length_push, flat_map_more, length-map}
-use Rattle.std.proofs.lemmas.List.{map-append}
+use Rattle.std.proofs.lemmas.List.{length_push, flat_map_more, length-map, map-append}
 use Rattle.std.proofs.lemmas.List.Concat.{flat_map-append}
 use Rattle.fax_bits.specs.declared.Colour.{Colour}
 use Rattle.fax_rows.specs.laws.Packed.{PackingUndoesUnpacking}
@@ -17,12 +14,9 @@ use Rattle.fax_files.specs.declared.PageForm.{PageForm}
 use Rattle.fax_files.specs.Pbm.{Image, pbm_of}
 use Rattle.fax_files.specs.views.Pbm.{head_bytes}
 use Rattle.fax_files.specs.laws.Pbm.{AreOfWidth}
-use Rattle.fax_files.specs.Layout.{Written, WrittenPage}
-use Rattle.fax_files.specs.views.Writing.{empty_file}
-use Rattle.fax_files.specs.Layout.{with_page}
-use Rattle.fax_files.specs.Layout.{with_pages}
+use Rattle.fax_files.specs.Layout.{Written, WrittenPage, with_page, with_pages}
+use Rattle.fax_files.specs.views.Writing.{empty_file, Writing, with_one_more, length_with, contents}
 use Rattle.fax_files.specs.Directory.{max_file}
-use Rattle.fax_files.specs.views.Writing.{Writing, with_one_more, length_with, contents}
 use Rattle.fax_walk.specs.declared.options.Options.{Options}
 use Rattle.fax_walk.specs.declared.options.Target.{Target}
 use Rattle.fax_walk.specs.declared.options.Target.TheVariants.{Pbm}

@@ -1,8 +1,7 @@
 -- What is asked of a file's pages has one answer, and so have its forms.
 use Rattle.std.proofs.lemmas.Grind.{common_steps}
-use Rattle.std.proofs.Common.{◌-◌, ◌<◌, ◌≤◌, ◌⊎◌, inl, inr, ◌≡◌, ℕ, zero, suc, ◌+◌, List, [], ◌∷◌, length, drop, Option, Some, None, Result, Ok, Err, refl, sym}
-use Rattle.std.proofs.Common.{ap, ◌∙◌}
-use Rattle.std.proofs.Common.{subst, arith, true}
+use Rattle.std.proofs.Common.{◌-◌, ◌<◌, ◌≤◌, ◌⊎◌, inl, inr, ◌≡◌, ℕ, zero, suc, ◌+◌, List, [], ◌∷◌, length, drop, Option, Some, None, Result}
+use Rattle.std.proofs.Common.{Ok, Err, refl, sym, ap, ◌∙◌, subst, arith, true}
 use Rattle.std.proofs.lemmas.List.{drop-drop}
 use Rattle.std.proofs.lemmas.Option.{slice_get_cases, slice_get_within}
 use Rattle.std.specs.Prelude.{MatchResult, slice_get, ◌==◌, nat_le, if◌then◌else◌}
@@ -18,16 +17,12 @@ use Rattle.fax_files.specs.laws.Files.{FilesHaveOneChain}
 use Rattle.fax_walk.specs.declared.cursor.Cursor.{Cursor}
 use Rattle.fax_walk.specs.declared.end.End.{End}
 use Rattle.fax_walk.specs.declared.end.End.TheVariants.{Fault, Outside, Proper}
-use Rattle.fax_walk.specs.Pages.{AreFrom, FormItem, FilePage}
-use Rattle.fax_walk.specs.code.Opening.{page_over}
-use Rattle.fax_walk.specs.code.Opening.{IsPageUnder}
-use Rattle.fax_walk.specs.Pages.{IsPageAt, IsOnPage, IsForm, IsFormTail}
-use Rattle.fax_walk.specs.code.Opening.{end_past_chain, page_or_end}
+use Rattle.fax_walk.specs.Pages.{AreFrom, FormItem, FilePage, IsPageAt, IsOnPage, IsForm, IsFormTail, Step, goes_on, ends_as}
+use Rattle.fax_walk.specs.code.Opening.{page_over, IsPageUnder, end_past_chain, page_or_end}
 use Rattle.fax_walk.specs.laws.Tails.{FilesHaveOneForms, CursorsHaveOneFormTail, FormTailOfPage, FormTailOfStart, FormsStandByNumber}
 use Rattle.fax_walk.specs.laws.Tails.{FormTailsGoOn}
 use Rattle.fax_bits.specs.laws.Codes.{IsOne}
 use Rattle.fax_walk.proofs.InOrderLemmas.{get_dropped, IsOneAnswer, IsSingle, IsListed, listed_by, one_list, same_answer, split_at_number}
-use Rattle.fax_walk.specs.Pages.{Step, goes_on, ends_as}
 
 -- an equation has one answer
 pub only_it : {A : Type 0} (it : A) → IsOneAnswer (λ (other : A). other ≡ it)

@@ -9,9 +9,8 @@ use Rattle.fax_bits.specs.laws.Codes.{AreBitsByPlace}
 use Rattle.fax_rows.specs.Rows.{other}
 use Rattle.fax_files.specs.declared.PageForm.{PageForm}
 use Rattle.fax_files.specs.declared.Endian.{Endian}
-use Rattle.fax_files.specs.laws.Files.{AreStrips, joined, shown}
+use Rattle.fax_files.specs.laws.Files.{AreStrips, joined, shown, IsWholeForm}
 use Rattle.fax_files.specs.Page.{strip_form}
-use Rattle.fax_files.specs.laws.Files.{IsWholeForm}
 use Rattle.fax_walk.specs.Pages.{IsPageAt}
 use Rattle.fax_walk.specs.Items.{RowPlace, first_at}
 use Rattle.fax_walk.specs.code.Places.{first_on}

@@ -1,7 +1,6 @@
 -- Steps of a reader of pages.
-use Rattle.std.proofs.Common.{◌≡◌, ℕ, ◌+◌, ◌^◌, ◌<◌, Bool, true, false, List, [], ◌∷◌, ◌++◌, length, Option, Some, None, Result}
-use Rattle.std.proofs.Common.{Ok}
-use Rattle.std.proofs.Common.{Err, inl, inr, refl, sym, ap, ◌∙◌, subst, arith, append-nil, append_assoc}
+use Rattle.std.proofs.Common.{◌≡◌, ℕ, ◌+◌, ◌^◌, ◌<◌, Bool, true, false, List, [], ◌∷◌, ◌++◌, length, Option, Some, None, Result, Ok, Err}
+use Rattle.std.proofs.Common.{inl, inr, refl, sym, ap, ◌∙◌, subst, arith, append-nil, append_assoc}
 use Rattle.std.proofs.lemmas.Bool.Decides.{nat_tests}
 use Rattle.std.proofs.lemmas.List.{length_push}
 use Rattle.std.specs.Prelude.{IfOk, IfErr, nat_le, ◌==◌}
@@ -10,9 +9,8 @@ use Rattle.fax_files.specs.views.Chain.{ChainState}
 use Rattle.fax_files.specs.views.Tiff.{TiffDirectory}
 use Rattle.fax_walk.specs.declared.cursor.Cursor.{Cursor}
 use Rattle.fax_walk.specs.declared.end.End.{End}
-use Rattle.fax_walk.specs.Pages.{AreFrom, FormItem, IsForm, IsFormTail}
-use Rattle.fax_walk.specs.code.Pages.{told_of, IsSoundReader, GoesOnAt, HasGiven, IsPageAfter, IsFirstDue, IsDueIn}
-use Rattle.fax_walk.specs.code.Pages.{EndsNow}
+use Rattle.fax_walk.specs.Pages.{AreFrom, FormItem, IsForm, IsFormTail, goes_on, ends_as}
+use Rattle.fax_walk.specs.code.Pages.{told_of, IsSoundReader, GoesOnAt, HasGiven, IsPageAfter, IsFirstDue, IsDueIn, EndsNow}
 use Rattle.fax_walk.specs.views.InOrder.{EndsAfter, HasEndedAs}
 use Rattle.fax_walk.specs.declared.end.End.TheVariants.{Proper}
 use Rattle.fax_walk.specs.declared.end.WalkFault.{WalkFault}
@@ -26,7 +24,6 @@ use Rattle.fax_walk.proofs.InOrderLemmas.{get_after}
 use Rattle.fax_walk.proofs.LeftLemmas.{left_after, left_ended}
 use Rattle.fax_walk.specs.declared.pages.PagesStage.{PagesStage}
 use Rattle.fax_walk.specs.declared.pages.PagesStage.TheVariants.{Before, After, Ended}
-use Rattle.fax_walk.specs.Pages.{goes_on, ends_as}
 
 -- a page of a file is the form of its number
 pub form_here : (p : ℕ) (chain : ChainState) (directory : TiffDirectory) (form : PageForm) → IsFilePage p chain directory form

@@ -1,6 +1,6 @@
 -- What a walk begins with has one tail and one end.
-use Rattle.std.proofs.Common.{◌≡◌, ℕ, ◌+◌, ◌*◌, ◌<◌, ◌≤◌, ◌⊎◌, inl, inr, Bool, List, [], ◌∷◌, map, length, drop}
-use Rattle.std.proofs.Common.{Option, Some, None, Result, Ok, Err, refl, sym, ap, ◌∙◌, arith, length-drop}
+use Rattle.std.proofs.Common.{◌≡◌, ℕ, ◌+◌, ◌*◌, ◌<◌, ◌≤◌, ◌⊎◌, inl, inr, Bool, List, [], ◌∷◌, map, length, drop, Option, Some, None, Result}
+use Rattle.std.proofs.Common.{Ok, Err, refl, sym, ap, ◌∙◌, arith, length-drop, ◌-◌}
 use Rattle.std.proofs.lemmas.Bool.{cases_eq, cases_lt}
 use Rattle.std.proofs.lemmas.Slice.Eq.{bytes_eq-Decides}
 use Rattle.std.specs.Bool.{Decides}
@@ -8,7 +8,7 @@ use Rattle.std.specs.Str.{bytes_eq}
 use Rattle.fax_bits.specs.declared.Colour.{Colour}
 use Rattle.fax_bits.specs.declared.Colour.TheVariants.{White, Black}
 use Rattle.fax_bits.specs.Bits.{bits}
-use Rattle.fax_bits.specs.laws.Codes.{AreBitsByPlace}
+use Rattle.fax_bits.specs.laws.Codes.{AreBitsByPlace, IsOne}
 use Rattle.fax_bits.specs.declared.FillOrder.{FillOrder}
 use Rattle.fax_rows.specs.Rows.{other, pels_of, runs_of}
 use Rattle.fax_page.specs.declared.StripForm.{StripForm}
@@ -19,26 +19,18 @@ use Rattle.fax_files.specs.declared.Cause.TheVariants.{Strip}
 use Rattle.fax_files.specs.declared.PageForm.{PageForm}
 use Rattle.fax_files.specs.Page.{strip_form, strip_bytes}
 use Rattle.fax_files.specs.laws.Files.{FilesHaveOneChain, FormsAreWhole, IsWholeForm}
-use Rattle.std.proofs.Common.{◌-◌}
 use Rattle.fax_walk.specs.declared.begun.Begun.{Begun}
 use Rattle.fax_walk.specs.declared.begun.Begun.TheVariants.{At, Inside}
 use Rattle.fax_walk.specs.declared.end.End.{End}
 use Rattle.fax_walk.specs.declared.end.End.TheVariants.{Fault, Outside}
-use Rattle.fax_walk.specs.Pages.{LongPlace}
-use Rattle.fax_walk.specs.Pages.{Cursor, FilePage, IsPageAt}
-use Rattle.fax_walk.specs.Items.{RowItem, RowPlace, first_at, exchanged}
-use Rattle.fax_walk.specs.code.Places.{strip_at, row_in_strip}
-use Rattle.fax_walk.specs.Items.{before, IsInStrip, IsRow}
-use Rattle.fax_walk.specs.Items.{place_after}
-use Rattle.fax_walk.specs.Items.{IsBegunOn, IsInnerOn, IsTailFrom, inner_at, begun_cursor}
+use Rattle.fax_walk.specs.Pages.{LongPlace, Cursor, FilePage, IsPageAt, Step, goes_on, ends_as}
+use Rattle.fax_walk.specs.Items.{RowItem, RowPlace, first_at, exchanged, before, IsInStrip, IsRow, place_after, IsBegunOn, IsInnerOn}
+use Rattle.fax_walk.specs.Items.{IsTailFrom, inner_at, begun_cursor}
+use Rattle.fax_walk.specs.code.Places.{strip_at, row_in_strip, FitsStrip, cursor_at}
 use Rattle.fax_walk.specs.views.Walk.{Begins}
-use Rattle.fax_walk.specs.code.Places.{FitsStrip}
-use Rattle.fax_walk.specs.code.Places.{cursor_at}
 use Rattle.fax_walk.specs.laws.Tails.{BeginningsHaveOneTail}
-use Rattle.fax_bits.specs.laws.Codes.{IsOne}
 use Rattle.fax_walk.proofs.InOrderLemmas.{IsOneAnswer, IsListed, listed_by, one_list, same_answer}
 use Rattle.fax_walk.proofs.PageLawLemmas.{in_chain, one_on_page, one_page, page_few}
-use Rattle.fax_walk.specs.Pages.{Step, goes_on, ends_as}
 
 abbrev pub LinesAreRead : Type 0
 LinesAreRead = (form : StripForm) (i : ℕ) (reference : List Colour) → ReadsLinesOneWay form i reference

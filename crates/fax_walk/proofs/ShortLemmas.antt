@@ -1,7 +1,6 @@
 -- Cursors after items have numbers of 32 bits.
 use Rattle.std.proofs.lemmas.Grind.{common_steps}
-use Rattle.std.proofs.Common.{◌≡◌, ℕ, ◌+◌, ◌^◌, ◌<◌, List, [], ◌∷◌, length, drop}
-use Rattle.std.proofs.Common.{sym, ap, ◌∙◌, subst, arith}
+use Rattle.std.proofs.Common.{◌≡◌, ℕ, ◌+◌, ◌^◌, ◌<◌, List, [], ◌∷◌, length, drop, sym, ap, ◌∙◌, subst, arith}
 use Rattle.std.specs.List.{All}
 use Rattle.std.proofs.lemmas.Bool.Decides.{nat_tests}
 use Rattle.std.proofs.lemmas.List.Elements.{All-cons, All-nil}
@@ -13,10 +12,8 @@ use Rattle.fax_walk.specs.Pages.{IsLongCursor}
 use Rattle.fax_walk.specs.Items.{exchanged}
 use Rattle.fax_walk.specs.laws.Cursors.{CursorsAreShort, PlacesAreShort}
 use Rattle.fax_walk.proofs.PageLawLemmas.{page_few}
-use Rattle.fax_walk.proofs.RowLawLemmas.{whole_page}
-use Rattle.fax_walk.proofs.TailLawLemmas.{facts, here_from, inner, long_of, pels_are, read, split_at_number}
-use Rattle.fax_walk.proofs.RowLawLemmas.{LinesAreRead}
-use Rattle.fax_walk.proofs.TailLawLemmas.{this}
+use Rattle.fax_walk.proofs.RowLawLemmas.{whole_page, LinesAreRead}
+use Rattle.fax_walk.proofs.TailLawLemmas.{facts, here_from, inner, long_of, pels_are, read, split_at_number, this}
 
 -- the longest runs of pels are no longer than all of them
 runs_short : (colour : Colour) (n most : ℕ) (pels : List Colour) → n + length pels < most

@@ -17,11 +17,9 @@ use Rattle.fax_walk.specs.declared.cursor.Cursor.{Cursor}
 use Rattle.fax_walk.specs.declared.end.End.{End}
 use Rattle.fax_walk.specs.declared.end.End.TheVariants.{Fault}
 use Rattle.fax_walk.specs.Pages.{AreFrom, FilePage, FormItem, IsForm, IsPageAt, Step, goes_on, ends_as}
-use Rattle.fax_walk.specs.Items.{RowItem, Inner, RowPlace, first_at, exchanged, before}
-use Rattle.fax_walk.specs.Items.{IsInStrip, IsRow}
+use Rattle.fax_walk.specs.Items.{RowItem, Inner, RowPlace, first_at, exchanged, before, IsInStrip, IsRow, place_after}
 use Rattle.fax_walk.specs.Converted.{pages_of}
 use Rattle.fax_walk.specs.code.Output.{form_sheet, page_of}
-use Rattle.fax_walk.specs.Items.{place_after}
 use Rattle.fax_walk.specs.code.Places.{strip_at}
 use Rattle.fax_walk.specs.code.Sources.{ArePaged, AreRowsOn, pels_of}
 use Rattle.fax_walk.specs.laws.InOrder.{LeadTo}

@@ -10,13 +10,11 @@ use Rattle.fax_walk.specs.declared.begun.Begun.{Begun}
 use Rattle.fax_walk.specs.declared.cursor.Cursor.{Cursor}
 use Rattle.fax_walk.specs.declared.end.End.{End}
 use Rattle.fax_walk.specs.declared.opening.OpenFault.TheVariants.{Ended}
-use Rattle.fax_walk.specs.Pages.{AreFrom}
+use Rattle.fax_walk.specs.Pages.{AreFrom, LongPlace}
 use Rattle.fax_walk.specs.views.InOrder.{EndsAfter, HasEndedAs, HasToldNoOther}
 use Rattle.fax_walk.specs.laws.InOrder.{LeadTo}
-use Rattle.fax_walk.specs.Pages.{LongPlace}
-use Rattle.fax_walk.specs.views.Walk.{AreRead, dropped, EndsBefore, IsCursorOf, IsItemNumber, IsLongOf}
+use Rattle.fax_walk.specs.views.Walk.{AreRead, dropped, EndsBefore, IsCursorOf, IsItemNumber, IsLongOf, WalkView}
 use Rattle.fax_walk.specs.laws.Left.{IsLeft}
-use Rattle.fax_walk.specs.views.Walk.{WalkView}
 use Rattle.fax_walk.specs.Items.{IsRow, IsTailFrom, RowItem, RowPlace, begun_cursor, cursor_after, long_at}
 use Rattle.fax_walk.specs.code.Places.{cursor_at}
 use Rattle.fax_walk.specs.laws.Tails.{BeginningsHaveOneTail}

@@ -4,8 +4,7 @@ use Rattle.fax_bits.specs.declared.Colour.{Colour}
 use Rattle.fax_walk.specs.declared.options.Options.{Options}
 use Rattle.fax_walk.specs.declared.output.Output.{Output}
 use Rattle.fax_walk.specs.declared.sheet.Sheet.{Sheet}
-use Rattle.fax_walk.specs.code.Output.{Part, with_row, after}
-use Rattle.fax_walk.specs.code.Output.{IsPartWritten, IsPutTo, IsRowDue, IsWrittenTo}
+use Rattle.fax_walk.specs.code.Output.{Part, with_row, after, IsPartWritten, IsPutTo, IsRowDue, IsWrittenTo}
 use Rattle.fax_walk.proofs.conversion.put_lent.Goals as goal
 
 module _ (options : Options) (output : Output) (r : ℕ) (row : List Colour) (part : Part) (due : IsRowDue options output r row part) where

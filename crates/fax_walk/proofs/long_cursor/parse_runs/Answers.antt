@@ -1,5 +1,4 @@
-use Rattle.std.proofs.Common.{arith}
-use Rattle.std.proofs.Common.{◌<◌, ◌^◌, rules}
+use Rattle.std.proofs.Common.{arith, ◌<◌, ◌^◌, rules}
 use Rattle.std.proofs.lemmas.List.Elements.{All-push}
 use Rattle.std.proofs.lemmas.Result.{err_from_is_err_and}
 use Rattle.fax_walk.proofs.LongCursorLemmas.{run_cut, runs_text-push, run_before, run_left}

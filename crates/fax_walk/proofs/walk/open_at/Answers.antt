@@ -1,5 +1,4 @@
-use Rattle.std.proofs.Common.{arith}
-use Rattle.std.proofs.Common.{◌<◌, inl, sym}
+use Rattle.std.proofs.Common.{arith, ◌<◌, inl, sym}
 use Rattle.std.proofs.lemmas.Result.{err_from_is_err_and}
 use Rattle.fax_walk.specs.code.Opening.{PageDue}
 use Rattle.fax_walk.proofs.EnterLemmas.{no_page, opened_next, opened_on, refused_next, refused_on}

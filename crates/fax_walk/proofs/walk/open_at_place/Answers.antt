@@ -1,5 +1,4 @@
-use Rattle.std.proofs.Common.{arith}
-use Rattle.std.proofs.Common.{Some, None, inl}
+use Rattle.std.proofs.Common.{arith, Some, None, inl}
 use Rattle.std.proofs.lemmas.Result.{err_from_is_err_and}
 use Rattle.fax_walk.specs.code.Opening.{EndsAt, IsNamed}
 use Rattle.fax_walk.proofs.EnterLemmas.{no_page_inside, begun_place, refused_inside}

@@ -2,8 +2,7 @@ use Rattle.std.proofs.Common.{◌+◌, ◌<◌, ◌∙◌, inl, inr, ap, sym, ar
 use Rattle.fax_page.specs.declared.StripForm.{StripForm}
 use Rattle.fax_walk.specs.code.Stages.{row_shown}
 use Rattle.fax_walk.proofs.OpenPageLemmas.{long_none, long_some, state}
-use Rattle.fax_walk.proofs.page.OpenPage.lend_place.Goals.{then-row-eq0-via-then-row-eq0}
-use Rattle.fax_walk.proofs.page.OpenPage.lend_place.Goals.{then-row-eq0-via-else-row-eq0+then-row-strip_form}
+use Rattle.fax_walk.proofs.page.OpenPage.lend_place.Goals.{then-row-eq0-via-then-row-eq0, then-row-eq0-via-else-row-eq0+then-row-strip_form}
 use Rattle.fax_walk.proofs.page.OpenPage.lend_place.Goals as goal
 
 pub returns-then-row-eq0 : goal.returns-then-row-eq0

@@ -1,5 +1,4 @@
-use Rattle.std.proofs.Common.{arith}
-use Rattle.std.proofs.Common.{Option, Result}
+use Rattle.std.proofs.Common.{arith, Option, Result}
 use Rattle.std.specs.Prelude.{IfOk}
 use Rattle.fax_bits.specs.declared.Memory.{Memory}
 use Rattle.fax_walk.specs.Pages.{LongPlace}
