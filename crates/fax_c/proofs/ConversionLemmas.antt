@@ -1,5 +1,5 @@
 -- Why a file is not converted, as it is told.
-use Rattle.std.proofs.Common.{◌≡◌, ◌≢◌, ℕ, ◌⊎◌, List, inl, inr, refl}
+use Rattle.std.proofs.Common.{arith, ◌≡◌, ◌≢◌, ℕ, ◌⊎◌, List}
 use Rattle.fax_walk.specs.declared.options.ConvertFault.{ConvertFault}
 use Rattle.fax_walk.specs.declared.options.ConvertFault.TheVariants as Refused
 use Rattle.fax_walk.specs.declared.options.Options.{Options}
@@ -14,8 +14,4 @@ IsRefusalTold file options fault =
 
 pub refusal : (file : List ℕ) (options : Options) (fault : ConvertFault) → (fault ≢ Refused.Memory → IsNotConverted file options fault)
     → IsRefusalTold file options fault
-refusal file options Refused.UnknownInput why = inl (refl, why (λ is. absurd cc))
-refusal file options (Refused.Pbm image fault) why = inl (refl, why (λ is. absurd cc))
-refusal file options (Refused.Source page row cause) why = inl (refl, why (λ is. absurd cc))
-refusal file options Refused.OutputTooLarge why = inl (refl, why (λ is. absurd cc))
-refusal file options Refused.Memory why = inr (refl, refl)
+refusal file options fault why = grind arith

@@ -24,9 +24,7 @@ use Rattle.fax_c.proofs.NumberLemmas.{end_is, number_is}
 numbers-push : {N : Type 0} (numbers : List Colour → List N) (items : List RowItem) (item : RowItem)
     → all_numbers numbers (items ++ item ∷ []) ≡ all_numbers numbers items ++ numbers item.pels
 numbers-push numbers [] item = append-nil (numbers item.pels)
-numbers-push numbers (first ∷ items) item =
-    ap (λ (l : List _). numbers first.pels ++ l) (numbers-push numbers items item)
-    ∙ sym (append_assoc (numbers first.pels) (all_numbers numbers items) (numbers item.pels))
+numbers-push numbers (first ∷ items) item = grind (arith, append_assoc, numbers-push numbers items item)
 
 rows-push : {N : Type 0} (numbers : List Colour → List N) (at : ℕ) (items : List RowItem) (item : RowItem)
     → rows_at numbers at (items ++ item ∷ []) ≡ rows_at numbers at items ++ row_at numbers (at + length (all_numbers numbers items)) item ∷ []
@@ -88,10 +86,7 @@ module _ {N : Type 0} (numbers : List Colour → List N) (file : List ℕ) (begu
     (old_rows rows : List FaxRow) (old out : List N) (law : BeginningsHaveOneTail)
     (so_far : AreRowsWritten numbers file begun walk count used old_rows rows old out) where
   tail_here : IsTailFrom walk.file walk.begun so_far.items so_far.end
-  tail_here =
-      let of_file : IsTailFrom walk.file begun so_far.items so_far.end =
-      subst (λ f. IsTailFrom f begun so_far.items so_far.end) (sym so_far.same_file) so_far.tail in
-      subst (λ b. IsTailFrom walk.file b so_far.items so_far.end) (sym so_far.same_begun) of_file
+  tail_here = grind arith
 
   item_is : (n : ℕ) (item : RowItem) → IsNumber (IsTailFrom walk.file walk.begun) n item → slice_get so_far.items n ≡ Some item
   item_is n item =
@@ -101,9 +96,7 @@ module _ {N : Type 0} (numbers : List Colour → List N) (file : List ℕ) (begu
   next_is item number = subst (λ n. slice_get so_far.items n ≡ Some item) so_far.given (item_is walk.given item number)
 
   pub cursor_is : (at : Cursor) → IsCursorOf walk at → at ≡ cursor_after_rows (begun_cursor begun) (take count so_far.items)
-  cursor_is at (inl (none, is)) =
-      let zero_rows : count ≡ 0 = sym so_far.given ∙ none in
-      rw (zero_rows, is, so_far.same_begun) refl
+  cursor_is at (inl (none, is)) = grind arith
   cursor_is at (inr (before, item, given, number, is)) =
       let count_is : count ≡ before + 1 = sym so_far.given ∙ given in
       rw (count_is, is)
@@ -217,22 +210,7 @@ module _ {N : Type 0} (numbers : List Colour → List N) (file : List ℕ) (begu
   pub walk_stopped : (first : WalkView) (stop : Stop) (new : WalkView) (new_out : List N) (at : Cursor) → file ≡ first.file
       → begun ≡ first.begun → IsPut numbers walk out used (Err stop) new new_out
       → IsWalkAfter first (record { cursor = at; count = count; used = used; stop = stop }) new
-  walk_stopped first Done new new_out at of begins put = absurd put
-  walk_stopped first (Ended end) new new_out at of begins ((ends, no_other, new_is), same) = record {
-    same_file = ap (λ (w : WalkView). w.file) new_is ∙ so_far.same_file ∙ of;
-    same_begun = ap (λ (w : WalkView). w.begun) new_is ∙ so_far.same_begun ∙ begins;
-    given = λ other. ap (λ (w : WalkView). w.given) new_is ∙ so_far.given;
-  }
-  walk_stopped first NoRoom new new_out at of begins (item, hands, put) = record {
-    same_file = ap (λ (w : WalkView). w.file) hands.new_is ∙ so_far.same_file ∙ of;
-    same_begun = ap (λ (w : WalkView). w.begun) hands.new_is ∙ so_far.same_begun ∙ begins;
-    given = λ other. absurd (other refl);
-  }
-  walk_stopped first Memory new new_out at of begins (enters, new_is, same) = record {
-    same_file = ap (λ (w : WalkView). w.file) new_is ∙ so_far.same_file ∙ of;
-    same_begun = ap (λ (w : WalkView). w.begun) new_is ∙ so_far.same_begun ∙ begins;
-    given = λ other. ap (λ (w : WalkView). w.given) new_is ∙ so_far.given;
-  }
+  walk_stopped first stop new new_out at of begins put = grind arith
 
 -- where memory is refused before a walk begins, nothing is written
 pub refused_at_once : {N : Type 0} (numbers : List Colour → List N) (file : List ℕ) (begun : Begun) (at : Cursor) (rows : List FaxRow) (out : List N)

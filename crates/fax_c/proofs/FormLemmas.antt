@@ -60,18 +60,13 @@ module _ (file : List ℕ) (from : Cursor) (pages : PagesView) (count : ℕ) (ol
   one_here = law pages.file pages.begun
 
   tail_here : IsFormTail pages.file pages.begun so_far.items so_far.end
-  tail_here =
-      let of_file : IsFormTail pages.file from so_far.items so_far.end =
-      subst (λ f. IsFormTail f from so_far.items so_far.end) (sym so_far.same_file) so_far.tail in
-      subst (λ b. IsFormTail pages.file b so_far.items so_far.end) (sym so_far.same_begun) of_file
+  tail_here = grind arith
 
   item_is : (n : ℕ) (item : FormItem) → IsNumber (IsFormTail pages.file pages.begun) n item → slice_get so_far.items n ≡ Some item
   item_is n item = number_is (IsFormTail pages.file pages.begun) one_here so_far.items so_far.end tail_here n item
 
   pub cursor_is : (at : Cursor) → IsCursorOf pages at → at ≡ cursor_after_pages from (take count so_far.items)
-  cursor_is at (inl (none, is)) =
-      let zero_pages : count ≡ 0 = sym so_far.given ∙ none in
-      rw (zero_pages, is, so_far.same_begun) refl
+  cursor_is at (inl (none, is)) = grind arith
   cursor_is at (inr (before, item, given, number, is)) =
       let count_is : count ≡ before + 1 = sym so_far.given ∙ given in
       rw (count_is, is)

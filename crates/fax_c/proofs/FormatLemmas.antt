@@ -1,26 +1,19 @@
 -- The runs and the changing elements of a row, written at a place.
-use Rattle.std.proofs.Common.{◌≡◌, ℕ, ◌+◌, ◌<◌, ◌≤◌, List, [], ◌∷◌, ◌++◌, length, set, take, drop, Bool, true, false, cond, ap, sym, ◌∙◌}
+use Rattle.std.proofs.Common.{◌≡◌, ℕ, ◌+◌, ◌<◌, ◌≤◌, List, [], ◌∷◌, ◌++◌, length, set, take, drop, Bool, ap, sym, ◌∙◌}
 use Rattle.std.proofs.Common.{append_assoc, append-nil, arith, length-append}
-use Rattle.std.specs.List.{filter, range_with_len}
+use Rattle.std.specs.List.{filter}
 use Rattle.std.proofs.lemmas.List.{length-take-le}
 use Rattle.std.proofs.lemmas.List.FromFn.{length-range_with_len}
-use Rattle.fax_rows.specs.Rows.{Colour, is_changing}
+use Rattle.fax_rows.specs.Rows.{Colour}
 use Rattle.fax_c.specs.Changes.{changes_of}
 use Rattle.fax_c.proofs.ListLemmas.{one_set}
 
 length-filter-le : (p : ℕ → Bool) (xs : List ℕ) → length (filter p xs) ≤ length xs
 length-filter-le p [] = omega arith
-length-filter-le p (x ∷ xs) =
-    let less = length-filter-le p xs in
-    elim (p x) as (λ b. length (cond b (x ∷ filter p xs) (filter p xs)) ≤ length (x ∷ xs)) [
-      | true ↦ omega (arith, less)
-      | false ↦ omega (arith, less)
-    ]
+length-filter-le p (x ∷ xs) = grind (arith, length-filter-le p xs)
 
 pub has_few_changes : (row : List Colour) → length (changes_of row) ≤ length row
-has_few_changes row =
-    let all = length-range_with_len 0 (length row) in
-    omega (arith, length-filter-le (is_changing row) (range_with_len 0 (length row)), all)
+has_few_changes row = grind (arith, length-range_with_len, length-filter-le)
 
 -- the first of these runs are written at a place
 pub record AreRunsPut (all left : List ℕ) (at to : ℕ) (old now : List ℕ) : Type 0 where
@@ -52,6 +45,4 @@ one_put all left rest at to run old now so_far is =
 
 pub all_put : (all left : List ℕ) (at to : ℕ) (old now : List ℕ) → AreRunsPut all left at to old now → left ≡ []
     → now ≡ take at old ++ all ++ drop (at + length all) old
-all_put all left at to old now so_far none =
-    let all_is : all ≡ so_far.front = so_far.all_is ∙ ap (λ l. so_far.front ++ l) none ∙ append-nil so_far.front in
-    rw (all_is, sym so_far.to_is) so_far.now_is
+all_put all left at to old now so_far none = grind (arith, append-nil)

@@ -13,8 +13,7 @@ take_at (y ∷ xs) (suc n) x e = let m : suc n + 1 ≡ suc (n + 1) = omega arith
 set-drop : {A : Type 0} (xs : List A) (n : ℕ) (x : A) → n < length xs → set (drop n xs) 0 x ≡ x ∷ drop (n + 1) xs
 set-drop [] n x within = absurd (omega arith)
 set-drop (y ∷ xs) zero x within = refl
-set-drop (y ∷ xs) (suc n) x within =
-    let m : suc n + 1 ≡ suc (n + 1) = omega arith in rw m (set-drop xs n x (omega (arith, within)))
+set-drop (y ∷ xs) (suc n) x within = grind (arith, set-drop xs n x (omega (arith, within)))
 
 -- one item more is written in its place
 pub one_set : {A : Type 0} (front old now : List A) (n : ℕ) (x : A) → length front ≡ n → n < length old → now ≡ front ++ drop n old
@@ -29,9 +28,4 @@ one_set front old now n x len within is =
 -- more items are written after the first ones
 pub more_put : {A : Type 0} (front old now more new : List A) (at to : ℕ) → length front ≡ at → now ≡ front ++ drop at old
     → to ≡ at + length more → new ≡ take at now ++ more ++ drop to now → new ≡ (front ++ more) ++ drop to old
-more_put front old now more new at to len is to_is new_is =
-    let begin : take at now ≡ front = rw (is, sym len) (take-append_seam front (drop (length front) old)) in
-    let rest : drop to now ≡ drop to old =
-    rw (to_is, is, sym len)
-    (drop-append-add front (drop (length front) old) (length more) ∙ drop-drop (length more) (length front) old) in
-    new_is ∙ ap (λ b. (b ++ more) ++ drop to now) begin ∙ ap (λ b. (front ++ more) ++ b) rest
+more_put front old now more new at to len is to_is new_is = grind (arith, take-append_seam, drop-append-add, drop-drop)

@@ -1,5 +1,5 @@
 -- Items by their number, and the end, where a tail is one.
-use Rattle.std.proofs.Common.{◌≡◌, ℕ, List, length, ap, sym, subst, ◌∙◌}
+use Rattle.std.proofs.Common.{arith, ◌≡◌, ℕ, List, length}
 use Rattle.std.specs.Prelude.{Some, slice_get}
 use Rattle.fax_bits.specs.laws.Codes.{IsOne}
 use Rattle.fax_walk.specs.declared.end.End.{End}
@@ -7,14 +7,10 @@ use Rattle.fax_walk.specs.views.InOrder.{EndsAfter, IsNumber}
 
 module _ {A : Type 0} (tail : List A → End → Type 0) (one : IsOne tail) (items : List A) (end : End) (is : tail items end) where
   same : (others : List A) (other : End) → tail others other → (others ≡ items) × (other ≡ end)
-  same others other there =
-      let first = one.one items end is in
-      let second = one.one others other there in (second.0 ∙ sym first.0, second.1 ∙ sym first.1)
+  same others other there = grind arith
 
   pub number_is : (n : ℕ) (item : A) → IsNumber tail n item → slice_get items n ≡ Some item
-  number_is n item (all, other, there, found) =
-      subst (λ (l : List A). slice_get l n ≡ Some item) (same all other there).0 found
+  number_is n item (all, other, there, found) = grind arith
 
   pub end_is : (n : ℕ) (met : End) → EndsAfter tail n met → (n ≡ length items) × (met ≡ end)
-  end_is n met (all, there, count) =
-      let are = same all met there in (sym count ∙ ap (λ (l : List A). length l) are.0, are.1)
+  end_is n met (all, there, count) = grind arith

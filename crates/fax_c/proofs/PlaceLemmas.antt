@@ -1,30 +1,23 @@
 -- The place after rows that were written.
-use Rattle.std.proofs.Common.{◌≡◌, ℕ, ◌+◌, ◌-◌, ◌<◌, ◌≤◌, List, [], ◌∷◌, length, take, drop, true, false, inl, inr, refl, ap, sym}
+use Rattle.std.proofs.Common.{◌≡◌, ℕ, ◌+◌, ◌-◌, ◌<◌, ◌≤◌, List, [], ◌∷◌, length, take, drop, inl, inr, ap, sym}
 use Rattle.std.proofs.Common.{subst, ◌∙◌, arith, length-append, length-drop}
-use Rattle.std.specs.Prelude.{Some, if◌then◌else◌, nat_lt}
-use Rattle.std.proofs.lemmas.Bool.Decides.{nat_tests}
+use Rattle.std.specs.Prelude.{Some}
 use Rattle.std.proofs.lemmas.List.{take_at, drop_at, drop-drop}
-use Rattle.fax_rows.specs.Rows.{Colour, other, same_colour, runs_after, runs_of}
+use Rattle.fax_rows.specs.Rows.{Colour, other, runs_after, runs_of}
 use Rattle.fax_walk.specs.declared.begun.Begun.{Begun}
-use Rattle.fax_walk.specs.declared.begun.Begun.TheVariants.{At, Inside}
 use Rattle.fax_walk.specs.declared.cursor.Cursor.{Cursor}
 use Rattle.fax_walk.specs.declared.walk.PlaceInside.{PlaceInside}
 use Rattle.fax_walk.specs.Items.{begun_cursor}
-use Rattle.fax_walk.specs.views.Walk.{IsLongOf, WalkView, begun_place, place_inside}
+use Rattle.fax_walk.specs.views.Walk.{IsLongOf, WalkView, place_inside}
 use Rattle.fax_c.specs.declared.places.FaxPlace.{FaxPlace}
-use Rattle.fax_c.specs.views.Places.{HasRuns, IsAfterRows, KeepsRuns, begun_of, cursor_of, long_place_of, most_runs, place_at}
+use Rattle.fax_c.specs.views.Places.{HasRuns, IsAfterRows, KeepsRuns, begun_of, cursor_of, most_runs, place_at}
 use Rattle.fax_c.specs.code.Put.{IsInsideTold, IsPutAt}
 
 -- a row has a run
 pub has_a_run : (colour : Colour) (n : ℕ) (pels : List Colour) → 0 < length (runs_after colour n pels)
 unfolding runs_after
 has_a_run colour n [] = omega arith
-has_a_run colour n (first ∷ pels) =
-    elim (same_colour first colour) as (λ b.
-    0 < length (if b then runs_after colour (n + 1) pels else (n ∷ runs_after (other colour) 1 pels))) [
-      | true ↦ has_a_run colour (n + 1) pels
-      | false ↦ omega arith
-    ]
+has_a_run colour n (first ∷ pels) = grind (arith, has_a_run colour (n + 1) pels)
 
 -- what is kept past a place is kept past a later one
 kept_past : (n m : ℕ) (runs old : List ℕ) → n ≤ m → drop n runs ≡ drop n old → drop m runs ≡ drop m old
@@ -53,20 +46,12 @@ inside_told walk lent count old old_runs runs long few (count_is, within, runs_a
 
 -- a walk from a place begins at its cursor
 pub begun_cursor-begun_of : (place : FaxPlace) (runs : List ℕ) → cursor_of place ≡ begun_cursor (begun_of place runs)
-begun_cursor-begun_of place runs =
-    elim (nat_lt 0 place.runs) as (λ b. cursor_of place ≡ begun_cursor (if b then Inside (long_place_of place runs) else At (cursor_of place))) [
-      | true ↦ refl
-      | false ↦ refl
-    ]
+begun_cursor-begun_of place runs = grind arith
 
 -- where nothing was written, a place inside a strip stays
 pub stays : (file : List ℕ) (place : FaxPlace) (runs : List ℕ) (cursor : Cursor) → HasRuns place runs
     → IsAfterRows file (begun_of place runs) cursor 0 place runs
-stays file place runs cursor (some, within) =
-    let test : nat_lt 0 place.runs ≡ true = grind (arith, nat_tests, some) in
-    let is : begun_of place runs ≡ Inside (long_place_of place runs) =
-    ap (λ b. if b then Inside (long_place_of place runs) else At (cursor_of place)) test in
-    inl ((some, within), inl (refl, sym (ap begun_place is)))
+stays file place runs cursor (some, within) = grind arith
 
 -- the place after the rows that a walk has handed out is told
 pub after_told : (walk : WalkView) (cursor : Cursor) (count : ℕ) (old place : FaxPlace) (old_runs runs : List ℕ) → walk.given ≡ count

@@ -1,5 +1,5 @@
 -- The texts of places are UTF-8, and what they are read as.
-use Rattle.std.proofs.Common.{◌≡◌, ℕ, ◌^◌, ◌<◌, List, [], ◌∷◌, ◌++◌, length, ap, inl, inr, subst, sym, ◌∙◌, arith}
+use Rattle.std.proofs.Common.{◌≡◌, ℕ, ◌^◌, ◌<◌, List, [], ◌∷◌, ◌++◌, length, inl, inr, subst, sym, ◌∙◌, arith}
 use Rattle.std.specs.Prelude.{codes, decimal, flat_map}
 use Rattle.std.specs.List.{All}
 use Rattle.std.specs.Str.{IsUtf8}
@@ -74,10 +74,8 @@ no_text text not = (
 pub place_read : (text : List ℕ) (found : LongPlace) (old place : FaxPlace) (old_runs runs : List ℕ) (status : ℕ) → TextsNameOne
     → IsLongCursor found → text ≡ long_cursor_text found → IsPlaceTold found old old_runs status place runs
     → ReadsPlace text old old_runs place runs status
-place_read text found old place old_runs runs status names is text_is (inl (done, has, same, kept)) =
-    inl (done, inr (has, text_is ∙ ap long_cursor_text (sym same), kept))
-place_read text found old place old_runs runs status names is text_is (inr (same, same_runs, inl (no_room, longer, few))) =
-    inr (same, same_runs, inl (no_room, (found, is, text_is, longer, few)))
+place_read text found old place old_runs runs status names is text_is (inl (done, has, same, kept)) = grind arith
+place_read text found old place old_runs runs status names is text_is (inr (same, same_runs, inl (no_room, longer, few))) = grind arith
 place_read text found old place old_runs runs status names is text_is (inr (same, same_runs, inr (status_is, many))) =
     inr (
       same,

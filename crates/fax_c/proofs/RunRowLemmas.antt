@@ -8,9 +8,7 @@ use Rattle.fax_c.specs.views.StripRuns.{AreRowsAt, IsRowAt}
 pub rows_more : (width : ℕ) (table : List FaxRow) (runs : List ℕ) (i n : ℕ) (rows : List (List Colour)) (row : List Colour)
     → AreRowsAt width table runs i rows → n ≡ i + length rows → IsRowAt width table runs n row
     → AreRowsAt width table runs i (rows ++ row ∷ [])
-rows_more width table runs i n [] row none n_is here =
-    let same : n ≡ i = omega (arith, n_is) in
-    (subst (λ m. IsRowAt width table runs m row) same here, tt)
+rows_more width table runs i n [] row none n_is here = grind arith
 rows_more width table runs i n (first ∷ rows) row (is, more) n_is here =
     (is, rows_more width table runs (i + 1) n rows row more (omega (arith, n_is)) here)
 
@@ -18,13 +16,8 @@ rows_more width table runs i n (first ∷ rows) row (is, more) n_is here =
 row_of : (width : ℕ) (table : List FaxRow) (runs : List ℕ) (i n : ℕ) (rows : List (List Colour)) → AreRowsAt width table runs i rows
     → n < length rows → (row : List Colour) × IsRowAt width table runs (i + n) row
 row_of width table runs i n [] none below = absurd (omega (arith, below))
-row_of width table runs i zero (first ∷ rows) (is, more) below =
-    let same : i ≡ i + 0 = omega arith in
-    (first, subst (λ m. IsRowAt width table runs m first) same is)
-row_of width table runs i (suc n) (first ∷ rows) (is, more) below =
-    let found = row_of width table runs (i + 1) n rows more (omega (arith, below)) in
-    let same : i + 1 + n ≡ i + suc n = omega arith in
-    (found.0, subst (λ m. IsRowAt width table runs m found.0) same found.1)
+row_of width table runs i zero (first ∷ rows) (is, more) below = grind arith
+row_of width table runs i (suc n) (first ∷ rows) (is, more) below = grind (arith, row_of width table runs (i + 1) n rows more (omega (arith, below)))
 
 -- a row of all
 pub row_there : (width : ℕ) (table : List FaxRow) (runs : List ℕ) (n : ℕ) (rows : List (List Colour)) → AreRowsAt width table runs 0 rows

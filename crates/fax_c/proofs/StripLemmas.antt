@@ -1,19 +1,16 @@
 -- The rows of a strip, written one after another.
-use Rattle.std.proofs.Common.{◌≡◌, ℕ, ◌+◌, ◌-◌, ◌*◌, ◌<◌, ◌≤◌, Bool, List, [], ◌∷◌, ◌++◌, length, take, drop, refl, ap, sym, ◌∙◌, subst}
-use Rattle.std.proofs.Common.{append_assoc, append-nil, arith, length-append, inl, inr}
+use Rattle.std.proofs.Common.{◌≡◌, ℕ, ◌+◌, ◌-◌, ◌*◌, ◌<◌, ◌≤◌, Bool, List, [], ◌∷◌, ◌++◌, length, drop, ap, sym, ◌∙◌, subst}
+use Rattle.std.proofs.Common.{append_assoc, append-nil, arith, length-append}
 use Rattle.std.specs.Prelude.{Some, None, flat_map}
 use Rattle.fax_bits.specs.Bits.{bits}
 use Rattle.fax_rows.specs.Rows.{Colour, runs_of}
 use Rattle.std.proofs.lemmas.List.{take_at, drop_at}
 use Rattle.fax_rows.specs.Coded.{packed_len}
 use Rattle.fax_page.specs.declared.StripForm.{StripForm}
-use Rattle.fax_page.specs.Lines.{IsCause, IsLine}
+use Rattle.fax_page.specs.Lines.{IsLine}
 use Rattle.fax_page.specs.views.Reader.{ReadsRow, StripState}
 use Rattle.fax_c.specs.declared.filled.Filled.{Filled}
 use Rattle.fax_c.specs.declared.filled.Stop.{Stop}
-use Rattle.fax_c.specs.declared.filled.Stop.TheVariants.{Ended}
-use Rattle.fax_files.specs.declared.Cause.TheVariants.{Strip}
-use Rattle.fax_walk.specs.declared.end.End.TheVariants.{Fault}
 use Rattle.fax_walk.specs.declared.cursor.Cursor.{Cursor}
 use Rattle.fax_c.specs.declared.places.FaxPlace.{FaxPlace}
 use Rattle.fax_c.specs.Raster.{padded_row}
@@ -32,17 +29,14 @@ the_cursor page row = record { page = page; row = row }
 reads_more : (form : StripForm) (all : List Bool) (from : StripPlace) (rows : List (List Colour)) (mid : StripPlace) (n : ℕ) (row : List Colour)
     → ReadsTo form all from rows mid → mid.row < form.rows → IsLine form mid.row mid.reference (drop mid.bits all) row (drop n all)
     → ReadsTo form all from (rows ++ row ∷ []) (record { row = mid.row + 1; bits = n; reference = row })
-reads_more form all from [] mid n row same due line =
-    rw same (n, due, line, refl)
+reads_more form all from [] mid n row same due line = grind arith
 reads_more form all from (first ∷ rows) mid n row (bits, before, first_line, reads) due line =
     (bits, before, first_line, reads_more form all (record { row = from.row + 1; bits = bits; reference = first }) rows mid n row reads due line)
 
 rows-push : (stride : ℕ) (rows : List (List Colour)) (row : List Colour)
     → flat_map (padded_row stride) (rows ++ row ∷ []) ≡ flat_map (padded_row stride) rows ++ padded_row stride row
 rows-push stride [] row = append-nil (padded_row stride row)
-rows-push stride (first ∷ rows) row =
-    ap (λ (l : List ℕ). padded_row stride first ++ l) (rows-push stride rows row)
-    ∙ sym (append_assoc (padded_row stride first) (flat_map (padded_row stride) rows) (padded_row stride row))
+rows-push stride (first ∷ rows) row = grind (arith, append_assoc, rows-push stride rows row)
 
 -- so many rows are read from a place on, and written
 pub record AreReadSoFar (form : StripForm) (bytes : List ℕ) (stride : ℕ) (from : StripPlace) (old : List ℕ) (count used : ℕ) (state : StripState)
@@ -61,8 +55,7 @@ pub record AreReadSoFar (form : StripForm) (bytes : List ℕ) (stride : ℕ) (fr
 -- a row of a form has room where its width has
 pub fits : (row : List Colour) (form first : StripForm) (stride : ℕ) → length row ≡ form.width → form ≡ first → packed_len first.width ≤ stride
     → packed_len (length row) ≤ stride
-fits row form first stride len same short =
-    subst (λ n. packed_len n ≤ stride) (sym (len ∙ ap (λ (f : StripForm). f.width) same)) short
+fits row form first stride len same short = grind arith
 
 -- the place of a row that is due, where the runs of the row before it are written
 pub due_told : (width : ℕ) (reference : List Colour) (row bits count page : ℕ) (old_runs runs : List ℕ) → length reference ≡ width
@@ -71,21 +64,7 @@ pub due_told : (width : ℕ) (reference : List Colour) (row bits count page : �
     HasRuns place runs × IsPlace width place runs (record { row = row; bits = bits; reference = reference })
     × (drop count runs ≡ drop count old_runs)
 due_told width reference row bits count page old_runs runs len (count_is, within, runs_are) =
-    let numbers = runs_of reference in
-    let some = has_a_run Colour.White 0 reference in
-    let same : take count runs ≡ numbers = ap (take count) runs_are ∙ take_at numbers (drop count old_runs) count (omega (arith, count_is)) in
-    let rest : drop count runs ≡ drop count old_runs = ap (drop count) runs_are ∙ drop_at numbers (drop count old_runs) count (omega (arith, count_is)) in
-    let held : count ≤ length runs = omega (arith, count_is, ap (λ (l : List ℕ). length l) runs_are, length-append numbers (drop count old_runs)) in
-    let has : 0 < count = omega (arith, count_is, some) in (
-      (has, held),
-      record {
-        row = refl;
-        bits = refl;
-        width_is = len;
-        reference = inr ((has, held), sym same);
-      },
-      rest,
-    )
+    grind (arith, has_a_run, take_at, drop_at, length-append)
 
 -- what was read is all that is, where it stops
 pub stops_after : (form : StripForm) (bytes : List ℕ) (page stride : ℕ) (from : StripPlace) (old : List ℕ) (count used row : ℕ)
@@ -94,29 +73,12 @@ pub stops_after : (form : StripForm) (bytes : List ℕ) (page stride : ℕ) (fro
     → StopsAt form (bits form.order bytes) (place_due next) page stride (length old - used) stop
     → AreRead form (bits form.order bytes) page stride from old
     (record { cursor = record { page = page; row = row }; count = count; used = used; stop = stop }) (place_due next) now
-stops_after form bytes page stride from old count used row state next now stop so_far same row_is why = record {
-  rows = so_far.rows;
-  read = subst (λ to. ReadsTo form (bits form.order bytes) from so_far.rows to) (sym same) so_far.read;
-  count = so_far.count_is;
-  used = so_far.used_is;
-  written = so_far.written;
-  cursor = ap (λ (n : ℕ). the_cursor page n) row_is;
-  stops = why;
-}
+stops_after form bytes page stride from old count used row state next now stop so_far same row_is why = grind arith
 
 -- why no row is read
 pub why_none : (form : StripForm) (bytes : List ℕ) (page stride left : ℕ) (old next : StripState) (stop : Stop) → old.form ≡ form → old.bytes ≡ bytes
     → stride ≤ left → IsReadNext page old (Some stop) next → StopsAt form (bits form.order bytes) (place_due next) page stride left stop
-why_none form bytes page stride left old next stop same_form same_bytes room (place, keeps_form, keeps_bytes, inl (end, is)) =
-    let last : next.row ≡ form.rows = ap (λ (p : StripPlace). p.row) place ∙ end.all_read ∙ ap (λ (f : StripForm). f.rows) same_form in
-    subst (λ (s : Stop). StopsAt form (bits form.order bytes) (place_due next) page stride left s) (sym is) (room, last)
-why_none form bytes page stride left old next stop same_form same_bytes room (place, keeps_form, keeps_bytes, inr (fault, meets, is)) =
-    let cause : IsCause form old.row old.reference (drop old.place (bits form.order bytes)) fault = rw (same_form, same_bytes) at meets.cause in
-    let due : old.row < form.rows = subst (λ (f : StripForm). old.row < f.rows) same_form meets.due in
-    let here : StopsAt form (bits form.order bytes) (place_due old) page stride left (Ended (Fault page old.row (Strip fault))) =
-    (room, refl, refl, due, cause) in
-    let there = subst (λ (p : StripPlace). StopsAt form (bits form.order bytes) p page stride left (Ended (Fault page old.row (Strip fault)))) (sym place) here in
-    subst (λ (s : Stop). StopsAt form (bits form.order bytes) (place_due next) page stride left s) (sym is) there
+why_none form bytes page stride left old next stop same_form same_bytes room h = grind arith
 
 module _ (form : StripForm) (bytes : List ℕ) (stride : ℕ) (from : StripPlace) (old : List ℕ) (count used : ℕ) (state : StripState) (now : List ℕ)
     (so_far : AreReadSoFar form bytes stride from old count used state now) where
@@ -155,5 +117,4 @@ module _ (form : StripForm) (bytes : List ℕ) (stride : ℕ) (from : StripPlace
 pub none_for : (form : StripForm) (strip : List ℕ) (stride : ℕ) (place : FaxPlace) (runs old : List ℕ) (stop : Stop) (at : Cursor) (filled : Filled)
     → at ≡ cursor_of place → filled ≡ record { cursor = at; count = 0; used = 0; stop = stop }
     → ReadsNone form strip stride place runs (length old) stop → ReadsOn form strip stride place runs old filled place runs old
-none_for form strip stride place runs old stop at filled at_is filled_is why =
-    rw filled_is (inr (why, refl, refl, at_is, refl, refl, refl))
+none_for form strip stride place runs old stop at filled at_is filled_is why = grind arith

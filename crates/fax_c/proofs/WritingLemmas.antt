@@ -1,7 +1,6 @@
 -- Pages that are coded and added to a file.
-use Rattle.std.proofs.Common.{◌≡◌, ℕ, ◌+◌, ◌*◌, ◌≤◌, List, [], ◌∷◌, ◌++◌, Vec, length, map, take, drop, refl, ap, sym, ◌∙◌, arith}
-use Rattle.std.proofs.Common.{zero, suc, Bool, nat_eq, length-append, false}
-use Rattle.std.specs.Prelude.{◌==◌, not}
+use Rattle.std.proofs.Common.{◌≡◌, ℕ, ◌+◌, ◌*◌, ◌≤◌, List, [], ◌∷◌, ◌++◌, Vec, length, map, take, drop, refl, ap, sym, ◌∙◌, arith, suc}
+use Rattle.std.proofs.Common.{nat_eq, length-append, ◌≢◌, ◌⊎◌}
 use Rattle.std.proofs.lemmas.List.{length-drop, length-take-le, drop-drop}
 use Rattle.fax_c.specs.Numbers.{bool_number}
 use Rattle.std.specs.List.{range_with_len}
@@ -16,8 +15,7 @@ use Rattle.fax_files.specs.Layout.{Written, directory_place, four, page_bytes, w
 use Rattle.fax_c.specs.declared.writing.FaxWritten.{FaxWritten}
 use Rattle.fax_c.specs.views.Written.{IsWriting, file_so_far}
 use Rattle.fax_c.specs.code.Writing.{place_of}
-use Rattle.std.proofs.Common.{◌≢◌, ◌⊎◌, inl, inr, true}
-use Rattle.std.proofs.lemmas.Bool.{cases_eq, eq-eqb, ne_eqb}
+use Rattle.std.proofs.lemmas.Bool.{cases_eq}
 use Rattle.fax_c.specs.Raster.{page_strips, raster_rows}
 
 -- strip s of a page
@@ -33,35 +31,19 @@ contents-push (first ∷ strips) strip = ap (λ (l : List (List ℕ)). first.ite
 pub strip_more : (f : ℕ → List ℕ) (s : ℕ) (strips new : List (Vec ℕ Global)) (strip : Vec ℕ Global)
     → contents strips ≡ map f (range_with_len 0 s) → new ≡ strips ++ strip ∷ [] → strip.items ≡ f s
     → contents new ≡ map f (range_with_len 0 (s + 1))
-strip_more f s strips new strip so_far new_is strip_is =
-    ap contents new_is ∙ contents-push strips strip ∙ ap (λ (l : List (List ℕ)). l ++ strip.items ∷ []) so_far
-    ∙ ap (λ (l : List ℕ). map f (range_with_len 0 s) ++ l ∷ []) strip_is ∙ sym (map-range_with_len_more f 0 s s (omega arith))
+strip_more f s strips new strip so_far new_is strip_is = grind (arith, contents-push, map-range_with_len_more)
 
 aligned_is : (n : ℕ) → n ≤ 1 → n ≡ bool_number (nat_eq n 1)
-aligned_is zero few = refl
-aligned_is (suc zero) few = refl
-aligned_is (suc (suc n)) few = absurd (omega (arith, few))
+aligned_is n few = grind arith
 
 -- how long a file is with a page more
 len_patched : (bytes : List ℕ) (link n : ℕ) → link + 4 ≤ length bytes → length (take link bytes ++ four n ++ drop (link + 4) bytes) ≡ length bytes
-len_patched bytes link n inside =
-    omega (
-      arith,
-      length-append (take link bytes ++ four n) (drop (link + 4) bytes),
-      length-append (take link bytes) (four n),
-      length-take-le link bytes (omega (arith, inside)),
-      length-drop (link + 4) bytes,
-      inside,
-    )
+len_patched bytes link n inside = grind (arith, length-append, length-take-le, length-drop)
 
 pub len_with_page : (old : Written) (total k : ℕ) (form : PageForm) (strips : List (List ℕ)) → old.link + 4 ≤ length old.bytes
     → length (with_page old total k form strips).bytes ≡ length old.bytes + length (page_bytes (length old.bytes) total k form strips)
 unfolding with_page
-len_with_page old total k form strips inside =
-    let q = directory_place (length old.bytes) strips in
-    let page = page_bytes (length old.bytes) total k form strips in
-    length-append (take old.link old.bytes ++ four q ++ drop (old.link + 4) old.bytes) page
-    ∙ ap (λ (n : ℕ). n + length page) (len_patched old.bytes old.link q inside)
+len_with_page old total k form strips inside = grind (arith, length-append, len_patched)
 
 -- a file that is written so far has its length and its link
 pub record IsSoFar (written : FaxWritten) (file : List ℕ) : Type 0 where
@@ -69,25 +51,10 @@ pub record IsSoFar (written : FaxWritten) (file : List ℕ) : Type 0 where
   pub link : (place_of written).1 ≡ (file_so_far written file).link
   pub inside : (file_so_far written file).link + 4 ≤ length (file_so_far written file).bytes
 
-later_so_far : (written : FaxWritten) (file : List ℕ) → (written.added == 0) ≡ false → length (take written.len file) ≡ written.len
-    → written.link + 4 ≤ written.len → IsSoFar written file
-later_so_far written file later len inside = record {
-  start = rw later (sym len);
-  link = rw later refl;
-  inside = rw later (omega (arith, len, inside));
-}
-
 so_far_by : (written : FaxWritten) (file : List ℕ)
     → (written.added ≡ 0) ⊎ ((8 ≤ written.len) × (written.len ≤ length file) × (written.len ≤ max_file) × (written.link + 4 ≤ written.len))
     → (written.added ≡ 0) ⊎ (written.added ≢ 0) → IsSoFar written file
-so_far_by written file place (inl none) =
-    let first : (written.added == 0) ≡ true = eq-eqb _ _ none in
-    rw none (record { start = refl; link = refl; inside = omega arith })
-so_far_by written file (inl none) (inr some) = absurd (some none)
-so_far_by written file (inr (header, room, limit, inside)) (inr some) =
-    let later : (written.added == 0) ≡ false = ne_eqb _ _ some in
-    let len : length (take written.len file) ≡ written.len = length-take-le written.len file room in
-    later_so_far written file later len inside
+so_far_by written file place h = grind (arith, length-take-le)
 
 pub so_far : (written : FaxWritten) (file : List ℕ) → IsWriting written (length file) → IsSoFar written file
 so_far written file is = so_far_by written file is.place (cases_eq written.added 0)
@@ -132,22 +99,13 @@ length-contents (strip ∷ strips) = ap suc (length-contents strips)
 
 pub strips_are_counted : (form : PageForm) (k stride : ℕ) (raster : List ℕ) (strips : List (Vec ℕ Global))
     → contents strips ≡ page_strips form k stride raster → length strips ≡ form.strips
-strips_are_counted form k stride raster strips are =
-    sym (length-contents strips) ∙ ap (λ (l : List (List ℕ)). length l) are
-    ∙ length-map-range_with_len (the_strip form k stride raster) 0 form.strips
+strips_are_counted form k stride raster strips are = grind (arith, length-contents, length-map-range_with_len)
 
 -- how long a file is with the page
 pub page_len : (written : FaxWritten) (old : List ℕ) (form : PageForm) (strips : List (List ℕ)) (start : ℕ) → IsWriting written (length old)
     → start ≡ (place_of written).0 → start + length (page_bytes start written.total written.added form strips)
     ≡ length (with_page (file_so_far written old) written.total written.added form strips).bytes
-page_len written old form strips start writing start_is =
-    let is = so_far written old writing in
-    let begin : start ≡ length (file_so_far written old).bytes = start_is ∙ is.start in
-    rw begin (sym (len_with_page (file_so_far written old) written.total written.added form strips is.inside))
-
-pub not_false : (b : Bool) → not b ≡ false → b ≡ true
-not_false true is = refl
-not_false false is = cc
+page_len written old form strips start writing start_is = grind (arith, so_far, len_with_page)
 
 abbrev told_of : FaxWritten → ℕ → ℕ → FaxWritten
 told_of old len link = record { len = len; link = link; total = old.total; added = old.added + 1 }

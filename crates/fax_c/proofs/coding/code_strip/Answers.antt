@@ -1,5 +1,5 @@
 use Rattle.std.proofs.Common.{◌≡◌, ℕ, ◌+◌, ◌-◌, ◌*◌, List, [], ◌∷◌, ◌++◌, take, drop, ap, arith, refl, subst, sym, ◌∙◌}
-use Rattle.std.specs.Prelude.{Result, Ok, Err, IfOk}
+use Rattle.std.specs.Prelude.{Result, IfOk}
 use Rattle.std.specs.List.{between}
 use Rattle.std.proofs.lemmas.List.FromFn.{length-map-range_with_len, map-range_with_len_more}
 use Rattle.fax_rows.specs.Coded.{packed_len, unpacked_row}
@@ -10,8 +10,7 @@ use Rattle.fax_c.specs.Raster.{raster_row, raster_rows}
 use Rattle.fax_c.proofs.coding.code_strip.Goals as goal
 
 if_ok-weaker : {T E : Type 0} {P Q : T → Type 0} (r : Result T E) → ((v : T) → P v → Q v) → IfOk r P → IfOk r Q
-if_ok-weaker (Ok v) more holds = more v holds
-if_ok-weaker (Err e) more holds = tt
+if_ok-weaker r more holds = grind arith
 
 -- the bytes of a row in a raster
 cut : (xs : List ℕ) (at len n : ℕ) → len ≡ n → between at (at + len) xs ≡ take n (drop at xs)
