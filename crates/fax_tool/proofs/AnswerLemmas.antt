@@ -1,10 +1,8 @@
 -- The answers of words exclude one another.
+use Rattle.std.proofs.Common.{arith, ◌≡◌, ◌∙◌, Bool, ap, codes, inl, inr, refl, subst, sym, List, Option, Some, None}
 use mathlib.Core.HLevel.{Π_prop, is_prop→PathP, ⊥_prop}
 use native.Mathlib.Bridge.{le_prop}
-use Rattle.std.proofs.Common.{◌≡◌, ◌∙◌, Bool, ap, codes, inl, inr, refl, subst, true≢false, sym, List, Option, Some, None}
 use Rattle.std.specs.Prelude.{IfSome, false, true, ◌⊎◌, ◌≢◌, ◌<◌}
-use Rattle.std.specs.Str.{bytes_eq}
-use Rattle.std.proofs.lemmas.Slice.Eq.{bytes_eq-Decides}
 use Rattle.std.specs.Option.{ForSome}
 use Rattle.fax_tool.specs.Grammar.{AreOfCommand, Text, Use, text_in}
 use Rattle.fax_tool.proofs.SpellLemmas.{command_is_read}
@@ -14,11 +12,10 @@ use Rattle.fax_walk.specs.declared.options.Options.{Options}
 use Rattle.fax_walk.specs.declared.options.Target.TheVariants.{Mmr, Pbm}
 use Rattle.fax_walk.specs.views.Walk.{begun_place}
 use Rattle.fax_tool.specs.laws.Runs.{IsBegun}
-use Rattle.fax_tool.proofs.BeginLemmas.{IsBegunBy, begun_at, inside_of, one_begun}
-use Rattle.fax_tool.specs.Job.{AreOptions, Given, HasCursors, HasNoCursor, HasNoTarget, IsCommand, IsFault, IsJob, IsPart}
-use Rattle.fax_tool.specs.Job.{is_set}
+use Rattle.fax_tool.proofs.BeginLemmas.{IsBegunBy, inside_of, one_begun}
+use Rattle.fax_tool.specs.Job.{AreOptions, Given, HasCursors, HasNoCursor, HasNoTarget, IsCommand, IsFault, IsJob, IsPart, is_set}
 use Rattle.fax_tool.specs.Run.{begun_of}
-use Rattle.fax_walk.specs.Items.{begun_cursor, begun_text}
+use Rattle.fax_walk.specs.Items.{begun_cursor}
 use Rattle.fax_tool.specs.code.Entries.{IsNoCursor, IsNoLongCursor}
 use Rattle.fax_tool.specs.Program.{file_name}
 use Rattle.fax_tool.specs.laws.Words.{AskTheSame, WordsHaveOneAnswer}
@@ -29,10 +26,6 @@ use Rattle.fax_tool.specs.declared.words.Job.{Job}
 use Rattle.fax_tool.specs.declared.words.Part.{Part}
 use Rattle.fax_tool.specs.declared.words.WordsFault.TheVariants.{NotACursor, Usage}
 
--- no name is two texts that differ
-one_name : (name a b : Text) → name ≡ a → name ≡ b → bytes_eq a b ≡ false → ⊥
-one_name name a b left right differ = true≢false (sym ((bytes_eq-Decides a b).1 (sym left ∙ right)) ∙ differ)
-
 -- the name of a command
 abbrev name_of : Command → Text
 name_of (Forms part) = codes "list"
@@ -41,10 +34,7 @@ name_of (Convert options) = codes "convert"
 name_of Check = codes "check"
 
 named : (name : Text) (given : Given) (command : Command) → IsCommand name given command → name ≡ name_of command
-named name given (Forms part) is = is.0
-named name given (Rows part) is = is.0
-named name given (Convert options) is = is.0
-named name given Check is = is
+named name given command is = grind arith
 
 same_uses : (words : List Text) (a b : Text) (xs ys : List Use) → AreOfCommand words a xs → AreOfCommand words b ys
     → ◌≡◌ {A = Text × List Use} (a, xs) (b, ys)
@@ -52,22 +42,9 @@ same_uses words a b xs ys left right =
     let both : ◌≡◌ {A = Option (Text × List Use)} (Some (a, xs)) (Some (b, ys)) =
     sym (command_is_read words a xs left) ∙ command_is_read words b ys right in cc
 
--- options have a target, and one with EOLs where these are aligned
-no_options : (given : Given) (options : Options) → AreOptions given options → HasNoTarget given → ⊥
-no_options given options are (inl none) = let target = are.target in cc
-no_options given options are (inr (set, inl pbm)) =
-    let target = are.target in
-    let is : options.target ≡ Pbm = cc in
-    options.aligned_is_no_pbm (are.aligned ∙ set) is
-no_options given options are (inr (set, inr mmr)) =
-    let target = are.target in
-    let is : options.target ≡ Mmr = cc in
-    options.aligned_is_no_mmr (are.aligned ∙ set) is
-
 command_or_usage : (name : Text) (given : Given) (command : Command) → IsCommand name given command → name ≡ codes "convert"
     → HasNoTarget given → ⊥
-command_or_usage name given (Convert options) is convert none = no_options given options is.1 none
-command_or_usage name given command is convert none = one_name name _ (codes "convert") (named name given command is) convert refl
+command_or_usage name given command is convert none = grind arith
 
 job_or_usage : (words : List Text) (job : Job) → IsJob words job → IsFault words Usage → ⊥
 job_or_usage words job is (inl none) = none is.name is.uses is.named
@@ -76,35 +53,14 @@ job_or_usage words job is (inr refused) =
     let command = subst (λ (c : Text × List Use). (c.0 ≡ codes "convert") × HasNoTarget (text_in c.1)) same refused.command in
     command_or_usage is.name (text_in is.uses) job.command is.command command.0 command.1
 
--- only `list` and `rows` take a cursor
-no_cursor_taken : (name : Text) (given : Given) (own : Text) → HasNoCursor name given → name ≡ own
-    → bytes_eq own (codes "list") ≡ false → bytes_eq own (codes "rows") ≡ false → ⊥
-no_cursor_taken name given own none is list rows = elim none.command [
-  | inl as_list ↦ one_name name own (codes "list") is as_list list
-  | inr as_rows ↦ one_name name own (codes "rows") is as_rows.0 rows
-]
-
 usage_or_no_cursor : (words : List Text) → IsFault words Usage → IsFault words NotACursor → ⊥
 usage_or_no_cursor words (inl none) no_cursor = none no_cursor.name no_cursor.uses no_cursor.named
-usage_or_no_cursor words (inr refused) no_cursor =
-    let same = same_uses words refused.name no_cursor.name refused.uses no_cursor.uses refused.named no_cursor.named in
-    let convert : no_cursor.name ≡ codes "convert" = sym (ap (λ (c : Text × List Use). c.0) same) ∙ refused.command.0 in
-    no_cursor_taken no_cursor.name (text_in no_cursor.uses) (codes "convert") no_cursor.command convert refl refl
+usage_or_no_cursor words (inr refused) no_cursor = grind arith
 
 -- a text of no cursor, nor of a long one where the part may have one, names nothing that the part begins with
 no_begun : (o : Option Text) (text : Text) (part : Part) → o ≡ Some text → HasCursors (Rows part) → IsBegunBy o (begun_of part)
     → IsNoCursor text → (part.from ≡ None) ⊎ IsNoLongCursor text → ⊥
-no_begun None text part given in_range begins none others = cc
-no_begun (Some t) text part given in_range begins none others = go part.from in_range.1 others (same ∙ begins)
-  where
-    same : text ≡ t
-    same = cc
-
-    go : (from : Option LongPlace) → IfSome from IsLongCursor → (from ≡ None) ⊎ IsNoLongCursor text
-        → text ≡ begun_text (begun_at from part.cursor) → ⊥
-    go None in_range' others is = none part.cursor in_range.0 is
-    go (Some place) in_range' (inl empty) is = cc
-    go (Some place) in_range' (inr none) is = none place in_range' is
+no_begun o text part given in_range begins none others = grind arith
 
 -- the cursors of a part with no place inside a strip
 without_place : (part : Part) → part.from ≡ None → IsCursor part.cursor → HasCursors (Rows part)
@@ -112,15 +68,7 @@ without_place part none in_range = (in_range, subst (λ (o : Option LongPlace). 
 
 command_or_no_cursor : (name : Text) (given : Given) (command : Command) → HasCursors command → IsCommand name given command
     → HasNoCursor name given → ⊥
-command_or_no_cursor name given (Forms part) in_range is none =
-    no_begun (given (codes "cursor")) none.text part none.is (without_place part is.2 in_range) is.1.begins none.none (inl is.2)
-command_or_no_cursor name given (Rows part) in_range is none =
-    no_begun (given (codes "cursor")) none.text part none.is in_range is.1.begins none.none (elim none.command [
-      | inl list ↦ absurd (one_name name (codes "rows") (codes "list") is.0 list refl)
-      | inr rows ↦ inr rows.1
-    ])
-command_or_no_cursor name given command in_range is none =
-    no_cursor_taken name given _ none (named name given command is) refl refl
+command_or_no_cursor name given command in_range is none = grind (arith, no_begun)
 
 job_or_no_cursor : (words : List Text) (job : Job) → IsJob words job → IsFault words NotACursor → ⊥
 job_or_no_cursor words job is none =
@@ -130,17 +78,12 @@ job_or_no_cursor words job is none =
 
 -- the numbers of what a part begins with are in their ranges
 begun_in_range : (part : Part) → HasCursors (Rows part) → IsBegun (begun_of part)
-begun_in_range part in_range = go part.from in_range.1
-  where
-    go : (from : Option LongPlace) → IfSome from IsLongCursor → IsBegun (begun_at from part.cursor)
-    go None is = in_range.0
-    go (Some place) is = is
+begun_in_range part in_range = grind arith
 
 -- a text names one thing to begin with
 one_named : TextsNameOne → (o : Option Text) (begun other : Begun) → IsBegun begun → IsBegun other → IsBegunBy o begun → IsBegunBy o other
     → begun ≡ other
-one_named names None begun other in_range in_range' is is' = is ∙ sym is'
-one_named names (Some text) begun other in_range in_range' is is' = one_begun names begun other in_range in_range' (sym is ∙ is')
+one_named names o begun other in_range in_range' is is' = grind (arith, one_begun)
 
 one_part : TextsNameOne → (given : Given) (long : Bool) (part other : Part) → HasCursors (Rows part) → HasCursors (Rows other)
     → IsPart given long part → IsPart given long other → part ≡ other
@@ -186,8 +129,7 @@ one_command names name given (Rows part) (Rows other) in_range in_range' first s
 one_command names name given (Convert options) (Convert other) in_range in_range' first second =
     ap (λ (o : Options). Convert o) (one_options given options other first.1 second.1)
 one_command names name given Check Check in_range in_range' first second = refl
-one_command names name given command other in_range in_range' first second =
-    absurd (one_name name _ _ (named name given command first) (named name given other second) refl)
+one_command names name given command other in_range in_range' first second = grind arith
 
 one_job : TextsNameOne → (words : List Text) (job other : Job) → IsJob words job → IsJob words other → AskTheSame job other
 one_job names words job other first second =

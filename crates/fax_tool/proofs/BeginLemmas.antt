@@ -1,5 +1,5 @@
 -- What a part begins with, as the text of a cursor or of a long cursor names it.
-use Rattle.std.proofs.Common.{◌≡◌, refl, ap, sym, Option, Some, None}
+use Rattle.std.proofs.Common.{arith, ◌≡◌, ap, sym, Option}
 use Rattle.std.specs.Prelude.{MatchOption}
 use Rattle.std.specs.Option.{option_map_or}
 use Rattle.fax_walk.specs.Items.{begun_cursor, begun_text}
@@ -24,8 +24,7 @@ Begins o at from = IsBegunBy o (begun_at from at) × (at ≡ begun_cursor (begun
 
 -- the place inside a strip of what is begun so
 pub inside_of : (place : Option LongPlace) (at : Cursor) → begun_place (begun_at place at) ≡ place
-inside_of None at = refl
-inside_of (Some place) at = refl
+inside_of place at = grind arith
 
 -- what a run begins with has one text
 pub one_begun : TextsNameOne → (begun other : Begun) → IsBegun begun → IsBegun other → begun_text begun ≡ begun_text other → begun ≡ other

@@ -1,6 +1,7 @@
 -- How commands end, by what was read and what was written.
+use Rattle.std.proofs.lemmas.Grind.{common_steps}
 use Rattle.std.proofs.Common.{◌≡◌, ◌≢◌, ℕ, ◌≤◌, List, [], inl, refl, arith, ◌∙◌, sym}
-use Rattle.std.specs.Prelude.{Option, Some, None, IfSome}
+use Rattle.std.specs.Prelude.{Option, IfSome}
 use Rattle.std.specs.Io.KnownBytes.{Appends}
 use Rattle.std.proofs.KnownBytes.{Appends-nil}
 use Rattle.fax_walk.specs.declared.begun.Begun.{Begun}
@@ -13,26 +14,17 @@ use Rattle.fax_tool.specs.declared.refusal.Refusal.TheVariants.{Memory, Read, Wr
 use Rattle.fax_tool.specs.declared.words.Command.{Command}
 use Rattle.fax_tool.specs.declared.words.Command.TheVariants.{List as Forms, Rows}
 use Rattle.fax_tool.specs.declared.words.Part.{Part}
-use Rattle.fax_tool.specs.Run.{Counts, Input, Output, HasReason, HasWorked, IsRead}
-use Rattle.fax_tool.specs.Run.{IsTextAfterMemory, IsTextOf, IsTextOfFirst, begun_of}
+use Rattle.fax_tool.specs.Run.{Counts, Input, Output, HasWorked, IsRead, IsTextAfterMemory, IsTextOf, IsTextOfFirst, begun_of}
 use Rattle.fax_tool.specs.Streams.{input_after, output_after}
 use Rattle.fax_tool.specs.Text.{Line, Printed, next_line}
-use Rattle.fax_tool.specs.code.Outcome.{HasPrintReason, HasReadReason, IsDone, IsStopped, StopsAtBeginning, StopsPrinting, StopsWith}
-use Rattle.fax_tool.specs.code.Outcome.{error_of, status_of}
+use Rattle.fax_tool.specs.code.Outcome.{HasReadReason, IsDone, IsStopped, StopsAtBeginning, StopsPrinting, StopsWith, error_of, status_of}
 use Rattle.fax_tool.specs.code.Transfers.{IsGivenInPart}
 use Rattle.fax_tool.proofs.LineLemmas.{one_pages, one_rows}
 use Rattle.fax_tool.proofs.StopLemmas.{NoText, leaves_more, of_some_file, stops_in_part}
 use Rattle.fax_tool.proofs.TextLemmas.{first_text}
 
-reason_of : (refusal : Refusal) (input : Input) (output : Output) → IsRead input → HasPrintReason refusal output.counts
-    → HasReason refusal input output
-reason_of Memory input output read reason = (read, reason)
-reason_of Read input output read reason = absurd reason
-reason_of Write input output read reason = (read, reason)
-
 no_lines : (max : Option ℕ) → IfSome max (λ limit. 0 ≤ limit)
-no_lines None = tt
-no_lines (Some limit) = omega arith
+no_lines max = grind arith
 
 -- the text of no line: where to go on
 of_none : (are : List Line → End → Type 0) (max : Option ℕ) (begun : Begun) → ((lines : List Line) × (end : End) × are lines end)
@@ -42,16 +34,12 @@ of_none are max begun all text is = (all.0, all.1, all.2, 0, omega arith, no_lin
 -- the input was not read
 pub unread : (text : List ℕ) (refusal : Refusal) (input : Input) (old : Option (List ℕ)) (counts : Counts) → refusal ≢ Memory
     → HasReadReason refusal input → HasWorked counts → StopsAtBeginning text refusal input (output_after old old counts)
-unread text Memory input old counts other reason worked = absurd (other refl)
-unread text Read input old counts other reason worked =
-    record { reason = (reason, worked); leaves = ([], refl, Appends-nil old) }
-unread text Write input old counts other reason worked = absurd reason
+unread text refusal input old counts other reason worked = grind (arith, common_steps)
 
 -- the input was read but for memory, and this was to be written then
 pub unread_for_memory : (text : List ℕ) (refusal : Refusal) (input : Input) (output : Output) → IsRead input
     → StopsWith text refusal output → StopsAtBeginning text refusal input output
-unread_for_memory text refusal input output read stops =
-    record { reason = reason_of refusal input output read stops.reason; leaves = stops.leaves }
+unread_for_memory text refusal input output read stops = grind arith
 
 module _ (command : Command) (bytes : Option (List ℕ)) (taken : ℕ) (counts : Counts) (output : Output) where
   abbrev input : Input
@@ -71,10 +59,7 @@ module _ (command : Command) (bytes : Option (List ℕ)) (taken : ℕ) (counts :
   module _ (file : List ℕ) (same : IfSome bytes (λ b. file ≡ b)) (read : IsRead input) where
     pub command_stops : (refusal : Refusal)
         → StopsPrinting (IsTextOf command file) (IsTextAfterMemory command file) refusal output → IsStopped command refusal input output
-    command_stops refusal stops = record {
-      reason = reason_of refusal input output read stops.reason;
-      leaves = (file, same, stops.leaves);
-    }
+    command_stops refusal stops = grind arith
 
 -- rows were not read, and where to go on was to be written
 pub rows_unread : BeginningsHaveOneTail → (part : Part) (refusal : Refusal) (bytes : Option (List ℕ)) (taken : ℕ) (counts : Counts)
@@ -135,8 +120,4 @@ pub text_done : (command : Command) (bytes : Option (List ℕ)) (taken : ℕ) (c
     (given : Counts) (printed : Printed) (line : Option (List ℕ)) → IfSome bytes (λ b. file ≡ b) → IsRead (input_after bytes taken counts)
     → IsTextOf command file printed → Appends old new printed.output → HasWorked given → printed.error ≡ error_of line
     → printed.status ≡ status_of line → IsDone command (input_after bytes taken counts) (output_after old new given) line
-text_done command bytes taken counts file old new given printed line same read is moved worked error status = record {
-  read = read;
-  written = worked;
-  writes = (file, same, record { printed = printed; is = is; output_is = moved; error_is = error; status_is = status });
-}
+text_done command bytes taken counts file old new given printed line same read is moved worked error status = grind arith

@@ -1,51 +1,23 @@
 -- What the entries of a command are, of the uses that its words spell.
-use Rattle.std.proofs.Common.{◌≡◌, ◌∙◌, ◌<◌, ◌==◌, ◌||◌, ◌⊎◌, ◌++◌, ap, arith, cond, codes, inl, inr, refl, sym, subst, Bool, true, false, ℕ}
+use Rattle.std.proofs.Common.{◌≡◌, ◌∙◌, ◌==◌, ◌||◌, ◌⊎◌, ◌++◌, ap, arith, cond, codes, inl, inr, refl, sym, subst, Bool, true, false, ℕ}
 use Rattle.std.proofs.Common.{List, [], ◌∷◌, Option, Some, None, map}
-use Rattle.std.specs.Prelude.{find, not, option_and_then, option_map, slice_get, unwrap_or}
+use Rattle.std.specs.Prelude.{find, not, option_and_then, slice_get}
 use Rattle.std.specs.List.{All, fold, list_all}
 use Rattle.std.specs.Option.{ForSome}
 use Rattle.std.specs.Str.{IsUtf8, bytes_eq}
-use Rattle.std.specs.Str.Parse.{IsNumeral, without_leading_plus}
-use Rattle.std.specs.Char.{digit_value}
-use Rattle.std.proofs.lemmas.Bool.Decides.{nat_tests}
 use Rattle.std.proofs.lemmas.List.Elements.{All-cons, All-contains, All-from_recursion, All-head, All-nil, All-tail}
-use Rattle.clap.specs.Lexer.{without_minus}
 use Rattle.clap.specs.Values.{read_as}
-use Rattle.clap.specs.Walk.{Row, first_of, has_row, reading_by, row_text, with_default}
+use Rattle.clap.specs.Walk.{Row, first_of, has_row, row_text, with_default}
 use Rattle.clap.proofs.OnLiterals.{clap_on_literals}
 use Rattle.fax_files.specs.Page.{most_rows}
 use Rattle.clap.proofs.WalkLemmas.{both}
-use Rattle.fax_tool.specs.Grammar.{AreSpelled, IsNumberText, IsSpelled, Item, Text, Use, commands, flag, most_lines}
-use Rattle.fax_tool.specs.Grammar.{name_of, number}
+use Rattle.fax_tool.specs.Grammar.{AreSpelled, IsNumberText, IsSpelled, Item, Text, Use, commands, flag, most_lines, name_of, number}
 use Rattle.fax_tool.specs.code.Entries.{HasEntries, HasFlag, HasNumber}
 use Rattle.fax_tool.proofs.RuleLemmas.{items_at, rule_of, rules_of}
 use Rattle.fax_tool.proofs.UseLemmas.{row_of}
 use Rattle.fax_tool.proofs.RowLemmas.{default_row, filled_rows, flag_default, is_flag, same_either}
 use Rattle.fax_tool.proofs.ReadLemmas.{IsOwn, IsReadAs, own_commands}
 use Rattle.fax_tool.proofs.ShapeLemmas.{read_is_of_command}
-
--- the text of a number has no minus
-number_as_it_is : (most : ℕ) (t : Text) → IsNumberText most t → without_minus t ≡ t
-number_as_it_is most [] is = refl
-number_as_it_is most (x ∷ xs) is = go (x == 45) refl
-  where
-    go : (b : Bool) → (x == 45) ≡ b → unwrap_or (cond b (Some xs) None) (x ∷ xs) ≡ x ∷ xs
-    go true minus =
-        let same : x ≡ 45 = grind (arith, nat_tests) in
-        let digits = subst (λ x. IsNumeral 10 (without_leading_plus (x ∷ xs))) same is.digits in
-        let first : digit_value 45 < 10 = digits.1.0 in
-        absurd (omega arith)
-    go false other = refl
-
--- the text of a use is read as it is written
-read_as_written : (item : Item) (value : Text) (words : List Text) → IsSpelled item value words
-    → read_as (reading_by (rule_of item)) value ≡ value
-read_as_written (number own most) value words is = number_as_it_is most value is.1
-read_as_written item value words is = refl
-
-as_it_is : (f : Text → Text) (o : Option Text) → ((t : Text) → o ≡ Some t → f t ≡ t) → option_map f o ≡ o
-as_it_is f None same = refl
-as_it_is f (Some t) same = ap Some (same t refl)
 
 module _ (name : Text) (holds : Text → Type 0) where
   -- this holds of the text of an item, as it is written and as it is left out, where it has the name
@@ -65,9 +37,7 @@ module _ (name : Text) (holds : Text → Type 0) where
 
   good : (r : Row) (value : Text) → r.values ≡ value ∷ [] → read_as r.reading value ≡ value → (bytes_eq r.id name ≡ true → holds value)
       → IsGood r
-  good r value values_are as_written its = λ v given.
-      let same : value ≡ v = cc in
-      subst (λ v. (read_as r.reading v ≡ v) × (bytes_eq r.id name ≡ true → holds v)) same (as_written, its)
+  good r value values_are as_written its = grind arith
 
   good_more : (rows : List Row) (r : Row) → AreGood rows → IsGood r → AreGood (rows ++ r ∷ [])
   good_more [] r all one = (one, tt)
@@ -77,16 +47,9 @@ module _ (name : Text) (holds : Text → Type 0) where
   good_uses : (items : List Item) → All Fits items → bytes_eq (codes "FILE") name ≡ false → (uses : List Use) (words : List Text)
       → AreSpelled items uses words → AreGood (map row_of uses)
   good_uses items fits no_file [] words are = tt
-  good_uses items fits no_file (u ∷ us) words (inl (own, others, is, among, spelled, rest)) = (
-    good (row_of u) u.value refl (read_as_written u.item u.value own spelled)
-        (λ named. (All-contains Fits items u.item fits among named).0 u.value own spelled),
-    good_uses items fits no_file us others rest,
-  )
-  good_uses items fits no_file (u ∷ us) words (inr (file_is, none, is)) = (
-    good (row_of u) u.value refl (subst (λ item. read_as (reading_by (rule_of item)) u.value ≡ u.value) (sym file_is) refl)
-        (λ named. let here = subst (λ item. bytes_eq (name_of item) name ≡ true) file_is named in absurd cc),
-    subst (λ us. AreGood (map row_of us)) (sym none) tt,
-  )
+  good_uses items fits no_file (u ∷ us) words (inl (own, others, is, among, spelled, rest)) =
+      grind (arith, good_uses items fits no_file us others rest)
+  good_uses items fits no_file (u ∷ us) words (inr (file_is, none, is)) = grind (arith, rule_of)
 
   -- and those of what was left out
   good_default : (item : Item) → Fits item → (rows : List Row) → AreGood rows → AreGood (with_default rows (rule_of item))
@@ -110,13 +73,7 @@ module _ (name : Text) (holds : Text → Type 0) where
 
   found : (rows : List Row) → AreGood rows → IsEntry (find (λ r. bytes_eq r.id name) rows)
   found [] all = (refl, λ t given. cc)
-  found (r ∷ rs) all = go (bytes_eq r.id name) refl (found rs all.1)
-    where
-      go : (b : Bool) → bytes_eq r.id name ≡ b → IsEntry (find (λ r. bytes_eq r.id name) rs)
-          → IsEntry (cond b (Some r) (find (λ r. bytes_eq r.id name) rs))
-      go true named later =
-          (as_it_is (read_as r.reading) (slice_get r.values 0) (λ t given. (all.0 t given).0), λ t given. (all.0 t given).1 named)
-      go false other later = later
+  found (r ∷ rs) all = grind (arith, found rs all.1)
 
   -- each item fits that is of a kind that fits, or has another name
   fitting : (is_kind : Item → Bool) → ((item : Item) → is_kind item ≡ true → Fits item) → (items : List Item)
@@ -135,9 +92,7 @@ module _ (name : Text) (holds : Text → Type 0) where
       → list_all (λ item. is_kind item || not (bytes_eq (name_of item) name)) items ≡ true → bytes_eq (codes "FILE") name ≡ false
       → (uses : List Use) (words : List Text) → AreSpelled items uses words
       → IsEntry (find (λ r. bytes_eq r.id name) (filled_rows items uses))
-  entry_of is_kind fits items kinds no_file uses words are =
-      let all = fitting is_kind fits items kinds in
-      found (filled_rows items uses) (good_defaults items all (map row_of uses) (good_uses items all no_file uses words are))
+  entry_of is_kind fits items kinds no_file uses words are = grind (arith, fitting, found, good_defaults, good_uses)
 
 -- a number up to this
 abbrev is_number_up_to : ℕ → Item → Bool
@@ -153,10 +108,7 @@ number_entry items name most kinds no_file uses words are =
     record { read = e.0; is = e.1 }
   where
     fits : (item : Item) → is_number_up_to most item ≡ true → Fits name (IsNumberText most) item
-    fits (number own m) kind = λ named.
-        let same : m ≡ most = grind (arith, nat_tests) in
-        (λ value words spelled. subst (λ m. IsNumberText m value) same spelled.1, λ flag. cc)
-    fits item kind = cc
+    fits item kind = grind arith
 
 abbrev is_any_flag : Item → Bool
 is_any_flag (flag own) = true
@@ -174,12 +126,10 @@ flag_entry items name kinds no_file uses words are =
     IsFlagText value = (value ≡ codes "true") ⊎ (value ≡ codes "false")
 
     fits : (item : Item) → is_any_flag item ≡ true → Fits name IsFlagText item
-    fits (flag own) kind = λ named. (λ value words spelled. inl spelled.1, λ flag. inr refl)
-    fits item kind = cc
+    fits item kind = grind arith
 
     go : (o : Option Text) → ForSome o IsFlagText → (o ≡ None) ⊎ (o ≡ Some (codes "true")) ⊎ (o ≡ Some (codes "false"))
-    go None is = inl refl
-    go (Some t) is = elim (is t refl) [ inl set ↦ inr (inl (ap Some set)) | inr unset ↦ inr (inr (ap Some unset)) ]
+    go o is = grind arith
 
 -- the entries of each command, of the uses that its words spell
 abbrev HasItsEntries : Text × List Item → Type 0

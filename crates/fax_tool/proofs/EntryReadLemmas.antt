@@ -1,11 +1,7 @@
 -- What getters read of the entries of a number and of a flag.
-use Rattle.std.proofs.Common.{◌≡◌, ◌∙◌, ◌<◌, ◌≤◌, ◌^◌, ap, arith, codes, inl, inr, sym, refl, Bool, true, false, ℕ}
-use Rattle.std.proofs.Common.{List, Option, Some, None, Result}
+use Rattle.std.proofs.Common.{◌≡◌, ◌∙◌, ◌<◌, ◌≤◌, ◌^◌, ap, arith, codes, sym, refl, Bool, true, false, ℕ, List, Option, Some, None, Result}
 use Rattle.std.specs.Prelude.{option_map, unwrap_or}
-use Rattle.std.specs.Option.{option_map_or}
-use Rattle.std.specs.Str.{bytes_eq}
-use Rattle.std.specs.Str.Parse.{ExplainsUnsignedError, HasUnsignedDigitsIfOk, ParsesUnsigned, digits_value}
-use Rattle.std.specs.Str.Parse.{without_leading_plus}
+use Rattle.std.specs.Str.Parse.{ExplainsUnsignedError, HasUnsignedDigitsIfOk, ParsesUnsigned, digits_value, without_leading_plus}
 use Rattle.std.specs.declared.num.ParseIntError.{ParseIntError}
 use Rattle.clap.specs.Matches.{ReadsOne, one_text}
 use Rattle.clap.specs.Walk.{Row, Text, first_of, rows_of}
@@ -40,39 +36,15 @@ u32_read f name most r has fits none value = go (first_of name (rows_of f)) refl
 pub in_range : (name : Text) (most : ℕ) (entries : List Row) → HasNumber name most entries → (n : ℕ)
     → number_in name (given_by entries) ≡ Some n
     → (0 < n) × (n ≤ most)
-in_range name most entries has n is = go (first_of name entries) refl is
-  where
-    go : (o : Option Text) → first_of name entries ≡ o → option_map (λ t. digits_value 10 (without_leading_plus t)) o ≡ Some n
-        → (0 < n) × (n ≤ most)
-    go None given is = cc
-    go (Some t) given is =
-        let text = has.is t given in
-        let value : digits_value 10 (without_leading_plus t) ≡ n = cc in
-        let some = text.some in
-        let within = text.within in
-        (omega arith, omega arith)
+in_range name most entries has n is = grind arith
 
 -- and so is the usual one
 pub in_range_or : (name : Text) (most usual : ℕ) (entries : List Row) → HasNumber name most entries → 0 < usual → usual ≤ most
     → (0 < unwrap_or (number_in name (given_by entries)) usual) × (unwrap_or (number_in name (given_by entries)) usual ≤ most)
-in_range_or name most usual entries has some within = go (number_in name (given_by entries)) (in_range name most entries has)
-  where
-    go : (o : Option ℕ) → ((n : ℕ) → o ≡ Some n → (0 < n) × (n ≤ most)) → (0 < unwrap_or o usual) × (unwrap_or o usual ≤ most)
-    go None each = (some, within)
-    go (Some n) each = each n refl
+in_range_or name most usual entries has some within = grind arith
 
 -- what a getter reads of a flag
 pub flag_read : (f : Found) (name : Text) (r : Bool) → HasFlag name (rows_of f)
     → (one_text f name ≡ None → r ≡ false) → (one_text f name ≡ Some (codes "true") → r ≡ true)
     → (one_text f name ≡ Some (codes "false") → r ≡ false) → r ≡ is_set name (given_by (rows_of f))
-flag_read f name r has none set unset =
-    let read = one_text-rows f name ∙ has.0 in
-    let as_set = λ (o : Option Text) (at : first_of name (rows_of f) ≡ o).
-    sym (ap (λ o. option_map_or (λ text. bytes_eq text (codes "true")) o false) at) in
-    elim has.1 [
-      | inl at ↦ none (read ∙ at) ∙ as_set None at
-      | inr more ↦ elim more [
-        | inl at ↦ set (read ∙ at) ∙ as_set (Some (codes "true")) at
-        | inr at ↦ unset (read ∙ at) ∙ as_set (Some (codes "false")) at
-      ]
-    ]
+flag_read f name r has none set unset = grind (arith, one_text-rows)

@@ -53,32 +53,7 @@ nothing line is = unread_is_no_command (words_of line) is
 
 pub are_read : AreRead
 unfolding chars
-are_read = record {
-  cursor = gives _ _ _ refl refl;
-  cursor_joined = gives _ _ _ refl refl;
-  cursor_hyphen = gives _ _ _ refl refl;
-  cursor_empty = gives _ _ _ refl refl;
-  max = gives _ _ _ refl refl;
-  max_joined = gives _ _ _ refl refl;
-  max_plus = gives _ _ _ refl refl;
-  long = gives _ _ _ refl refl;
-  not_long = gives _ _ _ refl refl;
-  mh = gives _ _ _ refl refl;
-  mh_attached = gives _ _ _ refl refl;
-  mh_joined = gives _ _ _ refl refl;
-  order = gives _ _ _ refl refl;
-  order_joined = gives _ _ _ refl refl;
-  k = gives _ _ _ refl refl;
-  k_joined = gives _ _ _ refl refl;
-  strip = gives _ _ _ refl refl;
-  strip_joined = gives _ _ _ refl refl;
-  align = gives _ _ _ refl refl;
-  file = gives _ _ _ refl refl;
-  file_first = gives _ _ _ refl refl;
-  file_after = gives _ _ _ refl refl;
-  file_hyphen = gives _ _ _ refl refl;
-  no_file = gives _ _ _ refl refl;
-}
+are_read = grind (arith, gives)
 
 pub are_not_taken : AreNotTaken
 unfolding chars

@@ -1,5 +1,5 @@
 -- What a getter of texts reads of the entries.
-use Rattle.std.proofs.Common.{◌≡◌, ◌∙◌, ap, codes, refl, sym, Option, Some, None, Result, Ok, Err}
+use Rattle.std.proofs.Common.{arith, ◌≡◌, ◌∙◌, ap, codes, sym, Option, Some, None, Result}
 use Rattle.std.specs.Prelude.{◌≢◌, IfErr, OnErr, option_map}
 use Rattle.std.specs.Result.{IsErrAnd}
 use Rattle.fax_walk.specs.declared.long_cursor.LongFault.{LongFault}
@@ -26,16 +26,13 @@ none_given f name r e is = sym (first_value-rows f name) ∙ (sym e ∙ ap (opti
 -- a text that is none of the four words names no target
 pub no_target : (t : Text) → (t ≡ codes "pbm" → ⊥) → (t ≡ codes "mh" → ⊥) → (t ≡ codes "mr" → ⊥) → (t ≡ codes "mmr" → ⊥)
     → target_of t ≡ None
-no_target t pbm mh mr mmr =
-    rw (names_differ t (codes "pbm") pbm, names_differ t (codes "mh") mh, names_differ t (codes "mr") mr, names_differ t (codes "mmr") mmr) refl
+no_target t pbm mh mr mmr = grind (arith, names_differ)
 
 pub on_err : {T E P : Type 0} (r : Result T E) → P → OnErr r P
-on_err (Ok x) p = tt
-on_err (Err e) p = p
+on_err r p = grind arith
 
 -- a fault of a long cursor's text is no usage
 pub long_err : {T Q : Type 0} (r : Result T WordsFault) (e : LongFault)
     → IsErrAnd r (λ gives. (gives ≢ Usage) × (gives ≡ NotACursor → e ≡ NoLongCursor)) → (e ≡ NoLongCursor → Q)
     → IfErr r (λ fault. (fault ≢ Usage) × (fault ≡ NotACursor → Q))
-long_err (Ok x) e gives q = tt
-long_err (Err fault) e gives q = (gives.0, λ is. q (gives.1 is))
+long_err r e gives q = grind arith

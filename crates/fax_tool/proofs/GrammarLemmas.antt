@@ -1,21 +1,20 @@
 -- What the grammar says of one word, of numbers and of uses that differ, and what scanning computes of them.
-use Rattle.std.proofs.Common.{◌≡◌, ◌≢◌, ◌<◌, ◌==◌, ◌&&◌, ◌||◌, ◌∙◌, ◌++◌, ap, arith, inl, inr, lit<, refl, sym, subst}
-use Rattle.std.proofs.Common.{Bool, true, false, ℕ, zero, suc, List, [], ◌∷◌, Option, Some, None, is_some, length}
-use Rattle.std.specs.Prelude.{nat_le, nat_lt, not, slice_get}
+use Rattle.std.proofs.Common.{◌≡◌, ◌≢◌, ◌<◌, ◌==◌, ◌||◌, ◌++◌, ap, arith, inl, inr, lit<, refl, sym, subst}
+use Rattle.std.proofs.Common.{Bool, true, false, ℕ, zero, suc, List, [], ◌∷◌, Some, None, length}
+use Rattle.std.specs.Prelude.{nat_lt, not, slice_get}
 use Rattle.std.specs.Char.{digit_value}
 use Rattle.std.specs.List.{All, AllPairs, list_all, slice_index_or}
 use Rattle.std.specs.Str.{IsUtf8, bytes_eq, chars, encode_utf8_all}
-use Rattle.std.specs.Str.Parse.{AllDigits, digits_value, without_leading_plus}
+use Rattle.std.specs.Str.Parse.{AllDigits}
 use Rattle.std.proofs.lemmas.Bool.Decides.{nat_tests}
 use Rattle.std.proofs.lemmas.List.Elements.{All-cons, All-head, All-nil, All-tail}
 use Rattle.std.proofs.lemmas.List.Folds.{list_any-append}
-use Rattle.std.proofs.Math.Bool.{or-false}
-use Rattle.std.proofs.lemmas.Bool.{le-leb, leb-true, lt-ltb, ltb-true}
+use Rattle.std.proofs.lemmas.Bool.{lt-ltb, ltb-true}
 use Rattle.clap.proofs.WalkLemmas.{both}
 use Rattle.std.proofs.lemmas.Slice.Eq.{bytes_eq-Decides}
 use Rattle.std.proofs.lemmas.Str.{IsUtf8-past_char, encode_ascii, encodes-chars}
 use Rattle.fax_tool.specs.Grammar.{IsNumberText, IsPlain, Text, Use, name_of}
-use Rattle.fax_tool.specs.code.Scan.{are_apart, attached, first_char, is_number, is_plain, is_used}
+use Rattle.fax_tool.specs.code.Scan.{are_apart, first_char, is_number, is_plain, is_used}
 
 -- ---- a word that is no option
 
@@ -46,14 +45,7 @@ scanned_plain (x ∷ xs) utf8 plain = go (x == 45) refl
   where
     more : (ys : Text) → x ≡ 45 → IsUtf8 (x ∷ ys) → is_plain (x ∷ ys) ≡ true → IsPlain (x ∷ ys)
     more [] is utf8 plain = inr (ap (λ x. x ∷ []) is)
-    more (y ∷ ys) is utf8 plain =
-        let utf8 : IsUtf8 (45 ∷ y ∷ ys) = subst (λ x. IsUtf8 (x ∷ y ∷ ys)) is utf8 in
-        let plain : is_plain (45 ∷ y ∷ ys) ≡ true = subst (λ x. is_plain (x ∷ y ∷ ys) ≡ true) is plain in
-        absurd (no_first y ys utf8 (first (first_char (y ∷ ys)) plain))
-      where
-        first : (o : Option ℕ) → not (is_some o) ≡ true → o ≡ None
-        first None none = refl
-        first (Some c) none = cc
+    more (y ∷ ys) is utf8 plain = grind (arith, no_first)
 
     go : (b : Bool) → (x == 45) ≡ b → IsPlain (x ∷ xs)
     go true same = let is : x ≡ 45 = grind (arith, nat_tests) in more xs is utf8 plain
@@ -62,19 +54,6 @@ scanned_plain (x ∷ xs) utf8 plain = go (x == 45) refl
         let no : ⊥ = grind (arith, nat_tests) in no)
 
 -- ---- a text in the word of its letter
-
-pub attached_scanned : (value : Text) → value ≢ [] → slice_get value 0 ≢ Some 61 → attached value ≡ Some value
-attached_scanned [] some other = absurd (some refl)
-attached_scanned (b ∷ bs) some other = go (b == 61) refl
-  where
-    go : (t : Bool) → (b == 61) ≡ t → attached (b ∷ bs) ≡ Some (b ∷ bs)
-    go true same = let is : b ≡ 61 = grind (arith, nat_tests) in absurd (other (ap Some is))
-    go false differs = rw differs refl
-
-pub other_first : (b : ℕ) (bs : Text) → (b == 61) ≡ false → slice_get (b ∷ bs) 0 ≢ Some 61
-other_first b bs other is =
-    let same : b ≡ 61 = cc in
-    grind (arith, nat_tests)
 
 -- ---- numbers
 
@@ -89,20 +68,10 @@ scanned_digits (d ∷ ds) all =
     (ltb-true (digit_value d) 10 of.0, scanned_digits ds of.1)
 
 pub number_scanned : (most : ℕ) (value : Text) → IsNumberText most value → is_number most value ≡ true
-number_scanned most value is =
-    rw (lt-ltb _ _ is.digits.0, digits_scanned (without_leading_plus value) is.digits.1, le-leb _ _ is.some, le-leb _ _ is.within) refl
+number_scanned most value is = grind (arith, digits_scanned)
 
 pub scanned_number : (most : ℕ) (value : Text) → is_number most value ≡ true → IsNumberText most value
-scanned_number most value is =
-    let digits = without_leading_plus value in
-    let of = both (nat_lt 0 (length digits) && list_all (λ d. nat_lt (digit_value d) 10) digits) _ is in
-    let left = both (nat_lt 0 (length digits)) _ of.0 in
-    let right = both (nat_le 1 (digits_value 10 digits)) _ of.1 in
-    record {
-      digits = (ltb-true _ _ left.0, scanned_digits digits left.1);
-      some = leb-true _ _ right.0;
-      within = leb-true _ _ right.1;
-    }
+scanned_number most value is = grind (arith, scanned_digits)
 
 -- ---- uses of names that differ
 
@@ -115,20 +84,14 @@ IsNew before u = is_used (name_of u.item) before ≡ false
 
 used_more : (name : Text) (before : List Use) (u : Use)
     → is_used name (before ++ u ∷ []) ≡ (is_used name before || bytes_eq (name_of u.item) name)
-used_more name before u = list_any-append (λ given. bytes_eq (name_of given.item) name) before (u ∷ [])
-    ∙ ap (λ b. is_used name before || b) (or-false (bytes_eq (name_of u.item) name))
+used_more name before u = grind (arith, list_any-append)
 
 pub names_differ : (a b : Text) → a ≢ b → bytes_eq a b ≡ false
-names_differ a b differ = go (bytes_eq a b) refl
-  where
-    go : (t : Bool) → bytes_eq a b ≡ t → bytes_eq a b ≡ false
-    go true is = absurd (differ ((bytes_eq-Decides a b).0 is))
-    go false is = is
+names_differ a b differ = grind (arith, bytes_eq-Decides)
 
 new_after : (before : List Use) (one other : Use) → IsNew before other → name_of one.item ≢ name_of other.item
     → IsNew (before ++ one ∷ []) other
-new_after before one other new differ =
-    used_more (name_of other.item) before one ∙ rw (new, names_differ (name_of one.item) (name_of other.item) differ) refl
+new_after before one other new differ = grind (arith, used_more, names_differ)
 
 apart_from : (before uses : List Use) → All (IsNew before) uses → AreApart uses → are_apart before uses ≡ true
 apart_from before [] new apart = refl
@@ -144,16 +107,7 @@ apart_scanned uses apart = apart_from [] uses (λ k d low. refl) apart
 
 new_and_other : (before : List Use) (one other : Use) → IsNew (before ++ one ∷ []) other
     → IsNew before other × (name_of one.item ≢ name_of other.item)
-new_and_other before one other new =
-    go (is_used (name_of other.item) before) (bytes_eq (name_of one.item) (name_of other.item)) refl refl
-    (sym (used_more (name_of other.item) before one) ∙ new)
-  where
-    go : (a b : Bool) → is_used (name_of other.item) before ≡ a → bytes_eq (name_of one.item) (name_of other.item) ≡ b → (a || b) ≡ false
-        → IsNew before other × (name_of one.item ≢ name_of other.item)
-    go true b used is none = cc
-    go false true used is none = cc
-    go false false used is none =
-        (used, λ same. let no = sym is ∙ (bytes_eq-Decides (name_of one.item) (name_of other.item)).1 same in cc)
+new_and_other before one other new = grind (arith, used_more, bytes_eq-Decides)
 
 apart_cons : (u : Use) (us : List Use) → All (λ other. name_of u.item ≢ name_of other.item) us → AreApart us → AreApart (u ∷ us)
 apart_cons u us differ apart zero zero d low high = omega arith

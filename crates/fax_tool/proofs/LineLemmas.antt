@@ -1,26 +1,22 @@
 -- The lines of rows and of pages.
-use Rattle.std.proofs.Common.{◌≡◌, ℕ, zero, suc, ◌+◌, inl, inr, Bool, true, false, List, [], ◌∷◌, ◌++◌, take, map}
-use Rattle.std.proofs.Common.{Option, Some, None, Result, Ok, Err, refl, sym, ap, ◌∙◌, arith, subst}
+use Rattle.std.proofs.Common.{◌≡◌, ℕ, zero, suc, ◌+◌, inl, inr, List, [], ◌∷◌, ◌++◌, take, map}
+use Rattle.std.proofs.Common.{Option, Some, None, Result, Ok, Err, refl, sym, ap, ◌∙◌, arith}
 use Rattle.std.proofs.lemmas.Option.{slice_get_within, slice_get-map}
 use Rattle.std.proofs.lemmas.List.{length-map}
-use Rattle.std.specs.Prelude.{slice_get, if◌then◌else◌, nat_lt, ◌^◌}
-use Rattle.std.specs.Prelude.{option_map, IfOk}
+use Rattle.std.specs.Prelude.{slice_get, option_map, IfOk}
 use Rattle.fax_bits.specs.declared.Memory.{Memory as NoMemory}
 use Rattle.fax_walk.specs.declared.begun.Begun.{Begun}
 use Rattle.fax_walk.specs.declared.begun.Begun.TheVariants.{At}
 use Rattle.fax_walk.specs.declared.cursor.Cursor.{Cursor}
 use Rattle.fax_walk.specs.declared.end.End.{End}
 use Rattle.fax_walk.specs.declared.end.WalkFault.{WalkFault}
-use Rattle.fax_walk.specs.declared.end.WalkFault.TheVariants.{Memory, AtRow, CursorOutside}
-use Rattle.fax_walk.specs.Pages.{LongPlace}
+use Rattle.fax_walk.specs.Pages.{LongPlace, IsFormTail}
 use Rattle.fax_walk.specs.views.InOrder.{HandsOut, HasEndedAs, IsAfterLast, IsNumber, Reading}
 use Rattle.fax_bits.specs.laws.Codes.{IsOne}
 use Rattle.fax_walk.specs.views.Walk.{WalkView, IsNext, IsCursorOf, IsLongOf, begun_place}
 use Rattle.fax_walk.specs.views.Pages.{PagesView, IsCursorOf as IsPageCursor, IsNextPage}
 use Rattle.fax_walk.specs.laws.Tails.{BeginningsHaveOneTail, CursorsHaveOneFormTail}
-use Rattle.fax_walk.specs.Pages.{IsFormTail}
-use Rattle.fax_walk.specs.Items.{RowItem as Item, IsTailFrom, begun_cursor, cursor_after}
-use Rattle.fax_walk.specs.Items.{Inner, long_after, long_at, place_after}
+use Rattle.fax_walk.specs.Items.{RowItem as Item, IsTailFrom, begun_cursor, cursor_after, Inner, long_after, long_at, place_after}
 use Rattle.fax_tool.specs.Run.{AreLinesOf, AreRowLines, ArePageLines}
 use Rattle.fax_tool.proofs.BeginLemmas.{begun_at, inside_of}
 use Rattle.fax_tool.specs.Text.{Line, line_of_page, line_of_row, next_after}
@@ -41,15 +37,9 @@ pub next_at : (begun : Begun) (lines : List Line) (n : ℕ) (line : Line) → sl
     → next_after begun (take (n + 1) lines) ≡ line.next
 next_at begun lines n line there = ap (next_after begun) (take_at lines n line there) ∙ next_after-append begun (take n lines) (line ∷ [])
 
-begins_if : (test : Bool) (place : LongPlace) (at : Cursor) → place.at ≡ at
-    → begun_cursor (begun_at (if test then Some place else None) at) ≡ at
-begins_if true place at same = same
-begins_if false place at same = refl
-
 -- the cursor of what goes on after a row is the one after it
 begins_at : (at : Cursor) (inner : Option Inner) → begun_cursor (begun_at (long_at at inner) at) ≡ at
-begins_at at None = refl
-begins_at at (Some inner) = begins_if (nat_lt inner.bits (2 ^ 32)) _ at refl
+begins_at at inner = grind arith
 
 pub begins_after : (item : Item) → begun_cursor (begun_at (long_after item) (cursor_after item)) ≡ cursor_after item
 begins_after item = begins_at (cursor_after item) (place_after item).inner
@@ -80,8 +70,7 @@ module _ {A B : Type 0} (line_of : A → Line) (tail : List ℕ → B → List A
   -- the line of an item is collected
   pub line_put : (limit : ℕ) (old new : Reading B) (item : A) (text new_text : List ℕ) → HandsOut tail limit old item new
       → new_text ≡ text ++ (line_of item).text → IsLinePut (LinesOf old) old.given text (Ok None) new.given new_text
-  line_put limit old new item text new_text hands grown =
-      (line_of item, line_number old old.given item hands.number, ap (λ (read : Reading B). read.given) hands.new_is, grown)
+  line_put limit old new item text new_text hands grown = grind (arith, line_number)
 
   pub lines_ended : (old new : Reading B) (end : End) (text : List ℕ) → HasEndedAs tail old end new
       → IsLinePut (LinesOf old) old.given text (Ok (Some end)) new.given text
@@ -148,23 +137,11 @@ page_cursor tails pages at =
     (λ item. record { page = item.page + 1; row = 0 }) (λ begun. (refl, refl)) (λ item. (refl, refl)) pages at
     (tails pages.file pages.begun)
 
-pub some_is : {a b : End} → Some a ≡ Some b → a ≡ b
-some_is e = cc e
-
-pub none_is : {a : End} → None ≡ Some a → ⊥
-none_is e = cc e
-
 -- the pages, and the rows, ended so
 pub pages_refused : (old new : PagesView) (fault : WalkFault) (end : End) → IsNextPage old (Err fault) new → end_of fault ≡ Some end
     → HasEndedAs IsFormTail old end new
-pages_refused old new (AtRow page row cause) end ended is =
-    subst (λ (e : End). HasEndedAs IsFormTail old e new) (some_is is) ended
-pages_refused old new CursorOutside end ended is =
-    subst (λ (e : End). HasEndedAs IsFormTail old e new) (some_is is) ended
-pages_refused old new Memory end ended is = absurd (none_is is)
+pages_refused old new fault end ended is = grind arith
 
 pub rows_refused : (old new : WalkView) (fault : WalkFault) (end : End) → IsNext old (Err fault) new → end_of fault ≡ Some end
     → HasEndedAs IsTailFrom old end new
-rows_refused old new (AtRow page row cause) end ended is = rw (some_is is) at ended
-rows_refused old new CursorOutside end ended is = rw (some_is is) at ended
-rows_refused old new Memory end ended is = absurd (none_is is)
+rows_refused old new fault end ended is = grind arith

@@ -1,6 +1,5 @@
 -- How long numbers are, and the line that they stand in.
-use Rattle.std.proofs.Common.{◌≡◌, refl, ℕ, ◌+◌, ◌^◌, ◌<◌, ◌≤◌, List, [], ◌∷◌, ◌++◌, length, take, ap, ◌∙◌, arith, append_assoc}
-use Rattle.std.proofs.Common.{length-set}
+use Rattle.std.proofs.Common.{◌≡◌, refl, ℕ, ◌+◌, ◌^◌, ◌<◌, ◌≤◌, List, [], ◌∷◌, ◌++◌, length, take, ap, ◌∙◌, arith, append_assoc, length-set}
 use Rattle.std.specs.Prelude.{decimal}
 use Rattle.std.proofs.Math.ListN.{set}
 use Rattle.std.proofs.lemmas.Grind.{take-set_at}
@@ -23,17 +22,11 @@ module _ (bytes : List ℕ) (at : ℕ) where
   one a room = after bytes (take at bytes) at (at + 1) a refl (omega arith) refl
 
   pub two : (a b : ℕ) → at + 2 ≤ length bytes → take (at + 2) (set (set bytes at a) (at + 1) b) ≡ take at bytes ++ a ∷ b ∷ []
-  two a b room =
-      after (set bytes at a) (take at bytes ++ a ∷ []) (at + 1) (at + 2) b (omega arith) (omega (arith, length-set bytes at a))
-      (one a (omega arith))
-      ∙ append_assoc (take at bytes) (a ∷ []) (b ∷ [])
+  two a b room = grind (arith, after, length-set, append_assoc)
 
   pub three : (a b c : ℕ) → at + 3 ≤ length bytes
       → take (at + 3) (set (set (set bytes at a) (at + 1) b) (at + 2) c) ≡ take at bytes ++ a ∷ b ∷ c ∷ []
-  three a b c room =
-      after (set (set bytes at a) (at + 1) b) (take at bytes ++ a ∷ b ∷ []) (at + 2) (at + 3) c (omega arith)
-      (omega (arith, length-set bytes at a, length-set (set bytes at a) (at + 1) b)) (two a b (omega arith))
-      ∙ append_assoc (take at bytes) (a ∷ b ∷ []) (c ∷ [])
+  three a b c room = grind (arith, after, length-set, append_assoc)
 
 -- what is written in two parts
 pub joined : (s₀ s₁ s₂ xs ys : List ℕ) → s₁ ≡ s₀ ++ xs → s₂ ≡ s₁ ++ ys → s₂ ≡ s₀ ++ (xs ++ ys)
@@ -42,8 +35,4 @@ joined s₀ s₁ s₂ xs ys first second = second ∙ ap (λ s. s ++ ys) first �
 -- a row's line, part by part
 pub line_is : (text word page row runs end s₀ s₁ s₂ s₃ s₄ : List ℕ) → s₀ ≡ text ++ word → s₁ ≡ s₀ ++ page → s₂ ≡ s₁ ++ row
     → s₃ ≡ s₂ ++ runs → s₄ ≡ s₃ ++ end → s₄ ≡ text ++ (word ++ page ++ row ++ runs ++ end)
-line_is text word page row runs end s₀ s₁ s₂ s₃ s₄ first second third fourth fifth =
-    let parts : s₄ ≡ ((((text ++ word) ++ page) ++ row) ++ runs) ++ end =
-    fifth ∙ ap (λ xs. xs ++ end) (fourth ∙ ap (λ xs. xs ++ runs) (third ∙ ap (λ xs. xs ++ row) (second ∙ ap (λ xs. xs ++ page) first))) in
-    let grouped : ((((text ++ word) ++ page) ++ row) ++ runs) ++ end ≡ text ++ (word ++ page ++ row ++ runs ++ end) = simp append_assoc in
-    parts ∙ grouped
+line_is text word page row runs end s₀ s₁ s₂ s₃ s₄ first second third fourth fifth = grind (arith, append_assoc)

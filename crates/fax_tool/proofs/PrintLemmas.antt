@@ -3,7 +3,7 @@ use Rattle.std.proofs.Common.{◌≡◌, ℕ, ◌+◌, ◌-◌, ◌<◌, ◌≤�
 use Rattle.std.proofs.Common.{arith, ◌↔◌, ◌⊎◌, inl, inr, subst, Bool, Result, Ok, Err}
 use Rattle.std.proofs.lemmas.Grind.{flat_map-append}
 use Rattle.std.proofs.lemmas.Option.{slice_get_within}
-use Rattle.std.specs.Prelude.{Option, Some, None, IfSome, option_map, false, slice_get, IfErr}
+use Rattle.std.specs.Prelude.{Option, Some, IfSome, option_map, false, slice_get, IfErr}
 use Rattle.std.specs.Io.KnownBytes.{Appends}
 use Rattle.std.proofs.KnownBytes.{Appends-trans}
 use Rattle.fax_walk.specs.declared.begun.Begun.{Begun}
@@ -21,7 +21,7 @@ use Rattle.fax_tool.specs.code.Outcome.{StopsPrinting, StopsWith}
 use Rattle.fax_tool.specs.code.Printing.{IsLastLine, IsNextAfter, IsNextLine}
 use Rattle.fax_tool.specs.code.Transfers.{IsGivenInPart, SendsPart}
 use Rattle.fax_tool.proofs.LineLemmas.{take_at}
-use Rattle.fax_tool.proofs.StopLemmas.{NoText, stops_after, stops_at, stops_in_front, stops_in_part, stops_more}
+use Rattle.fax_tool.proofs.StopLemmas.{NoText, stops_after, stops_at, stops_in_front, stops_more}
 use Rattle.fax_tool.proofs.TextLemmas.{first_text}
 
 -- the limit is so much above what is left of it, where there is one
@@ -47,21 +47,16 @@ texts_of-push lines line =
 
 one_less_left : (max left : Option ℕ) (count : ℕ) → IsLeftOf max left count → IfSome left (λ n. 0 < n)
     → IsLeftOf max (option_map (λ n. n - 1) left) (count + 1)
-one_less_left max None count is some = is
-one_less_left max (Some left) count is some =
-    let same : left + count ≡ (left - 1) + (count + 1) = omega arith in is ∙ ap Some same
+one_less_left max left count is some = grind arith
 
 within_limit : (max left : Option ℕ) (count : ℕ) → IsLeftOf max left count → IfSome max (λ limit. count ≤ limit)
-within_limit max None count is = rw is tt
-within_limit max (Some left) count is = rw is (omega arith)
+within_limit max left count is = grind arith
 
 module _ {tail now : List Line → End → Type 0} (one : IsOne tail) {given : ℕ} {max left : Option ℕ}
     {output written : Option (List ℕ)} {text : List ℕ} (some : PrintsSome tail now given max left output written text) where
   -- these are the lines
   lines_are : (all : List Line) (end : End) → now all end → (all ≡ some.lines) × (end ≡ some.end)
-  lines_are all end is =
-      let first = one.one some.lines some.end some.is in
-      let second = one.one all end ((some.same all end).1 is) in (second.0 ∙ sym first.0, second.1 ∙ sym first.1)
+  lines_are all end is = grind arith
 
   pub part_sent : (new_written : Option (List ℕ)) (new_text : List ℕ) → SendsPart written new_written text new_text
       → PrintsSome tail now given max left output new_written new_text
@@ -167,16 +162,12 @@ module _ (tail : List Line → End → Type 0) (begun : Begun) (given : ℕ) (lo
   next_stopped (Err refusal) bytes (inl is) part =
       stops_at (λ printed. IsNextLine tail begun given long printed.output) (IsNextLine tail begun given false) old new bytes counts refusal
       is part
-  next_stopped (Err refusal) bytes (inr is) part =
-      stops_in_part (λ printed. IsNextLine tail begun given long printed.output) (IsNextLine tail begun given false) old new bytes counts
-      refusal (inr is) part
+  next_stopped (Err refusal) bytes (inr is) part = grind arith
 
   -- memory was refused for the line with a long cursor
   pub next_unmade : (refusal : Refusal) (line : List ℕ) → IsNextLine tail begun given false line
       → StopsWith line refusal (output_after old new counts) → StopsNext refusal
-  next_unmade refusal line is stops =
-      stops_more NoText (λ printed. IsNextLine tail begun given long printed.output) (λ t. t ≡ line) (IsNextLine tail begun given false)
-      refusal (output_after old new counts) (λ printed none. absurd none) (λ t same. rw same is) stops
+  next_unmade refusal line is stops = grind arith
 
   abbrev StopsLast : Option End → Refusal → Type 0
   StopsLast ending refusal =

@@ -1,7 +1,6 @@
 -- Where clap takes the words, they are read, and the entries are as they say.
-use Rattle.std.proofs.Common.{◌≡◌, ◌∙◌, ◌⊎◌, ◌||◌, ◌++◌, ap, ap₂, append-nil, append_assoc, cond, codes, inl, inr, lit<, refl, sym, subst, Bool}
-use Rattle.std.proofs.Common.{true, false}
-use Rattle.std.proofs.Common.{List, [], ◌∷◌, Option, Some, None, is_some, map}
+use Rattle.std.proofs.Common.{arith, ◌≡◌, ◌∙◌, ◌⊎◌, ◌||◌, ◌++◌, ap, ap₂, append-nil, append_assoc, cond, codes, inl, inr, lit<, refl, sym}
+use Rattle.std.proofs.Common.{subst, Bool, true, false, List, [], ◌∷◌, Option, Some, None, is_some, map}
 use Rattle.std.specs.Prelude.{find, not, option_and_then, option_map}
 use Rattle.std.specs.List.{All, AllByRecursion, fold}
 use Rattle.std.proofs.lemmas.List.Elements.{All-contains, All-from_recursion}
@@ -32,9 +31,7 @@ stopped_walk : (c : List Rule) (names : Names) (w : Walk) (name : Text) (before 
     → fold (walked c names) (record w { stopped = Some (name, before) }) words ≡ record w { stopped = Some (name, before ++ words) }
 unfolding walked
 stopped_walk c names w name before [] = ap (λ after. record w { stopped = Some (name, after) }) (sym (append-nil before))
-stopped_walk c names w name before (word ∷ words) =
-    stopped_walk c names w name (before ++ word ∷ []) words
-    ∙ ap (λ after. record w { stopped = Some (name, after) }) (append_assoc before (word ∷ []) words)
+stopped_walk c names w name before (word ∷ words) = grind (arith, append_assoc, stopped_walk c names w name (before ++ word ∷ []) words)
 
 abbrev program : App
 program = built faxpages_app
@@ -69,8 +66,7 @@ fault_named own name rest s met found =
 command_named : (own name : Text) (rest : List Text) (s : Shape) → subcommand_met (names_of program) idle name ≡ Some name
     → find (λ s. answers_to name (label_of s)) program.subs ≡ Some s
     → subcommand_of faxpages_app (own ∷ name ∷ rest) ≡ Some (s.name, rows_after s.rules [] rest)
-command_named own name rest s met found =
-    ap (λ w. entered program w.stopped) (named_walk name rest met) ∙ rw found refl
+command_named own name rest s met found = grind (arith, named_walk)
 
 -- ---- a word that names no command
 
@@ -81,11 +77,9 @@ unfolding walk_fault walked bundle_met flags_fault defaults_fault
 unnamed word [] (as_end is_end says_is not_plain) met none = let h = rw (met, is_end) at none in cc
 unnamed word (other ∷ rest) (as_end is_end says_is not_plain) met none = let h = rw (met, is_end) at none in cc
 unnamed word rest (as_long own v no_end form says_is not_plain) met none = let h = rw (met, no_end, form) at none in cc
-unnamed word rest (as_short b bs x no_end no_long form char says_is not_plain) met none =
-    let h = rw (met, no_end, no_long, form, char) at none in cc
+unnamed word rest (as_short b bs x no_end no_long form char says_is not_plain) met none = grind arith
 unnamed word rest (as_plain no_end no_long (inl short) says_is plain) met none = let h = rw (met, no_end, no_long, short) at none in cc
-unnamed word rest (as_plain no_end no_long (inr (b, bs, form, short)) says_is plain) met none =
-    let h = rw (met, no_end, no_long, form, short) at none in cc
+unnamed word rest (as_plain no_end no_long (inr (b, bs, form, short)) says_is plain) met none = grind arith
 
 -- ---- one command
 
@@ -96,8 +90,7 @@ abbrev pub command_of : List Text → Option (Text × List Row)
 command_of = subcommand_of faxpages_app
 
 none_first : (a b : Kinds) → or_else a b ≡ [] → a ≡ []
-none_first [] b none = refl
-none_first (k ∷ ks) b none = none
+none_first a b none = grind arith
 
 module _ (name : Text) (items : List Item) (met : subcommand_met (names_of program) idle name ≡ Some name)
     (found : find (λ s. answers_to name (label_of s)) program.subs ≡ Some (leaf name items)) (is_level : IsLevel name items) where
@@ -118,8 +111,7 @@ module _ (name : Text) (items : List Item) (met : subcommand_met (names_of progr
     where
       pass : (uses : List Use) (b : Bool) → Some (rows_after (rules_of items) [] rest) ≡ cond b None (Some (filled_rows items uses))
           → rows_after (rules_of items) [] rest ≡ filled_rows items uses
-      pass uses true at = cc
-      pass uses false at = cc
+      pass uses b at = grind arith
 
       go : (o : Option (List Use)) → uses_of items rest ≡ o
           → ◌≡◌ {A = Text × List Row} (name, rows_after (rules_of items) [] rest) (given, entries)
@@ -127,12 +119,7 @@ module _ (name : Text) (items : List Item) (met : subcommand_met (names_of progr
           ≡ option_and_then (λ uses. cond (lacks items (filled_rows items uses)) None (Some (filled_rows items uses))) o
           → IsOfUses given entries rest
       go None is row_is at = cc
-      go (Some uses) is row_is at = (
-        uses,
-        is,
-        sym (ap (λ (c : Text × List Row). c.0) row_is),
-        sym (ap (λ (c : Text × List Row). c.1) row_is) ∙ pass uses (lacks items (filled_rows items uses)) at,
-      )
+      go (Some uses) is row_is at = grind (arith, pass)
 
   abbrev IsUntaken : List Text → Type 0
   IsUntaken rest = (uses_of items rest ≡ None)
@@ -148,17 +135,14 @@ module _ (name : Text) (items : List Item) (met : subcommand_met (names_of progr
           → fault_of faxpages_app (own ∷ name ∷ rest) ≡ or_else fault []
           → guard fault (Some (rows_after (rules_of items) [] rest)) ≡ cond b None (Some (filled_rows items uses))
           → IsUntaken rest
-      pass uses is true lacks_it fault fault_is at = inr (uses, is, lacks_it)
-      pass uses is false lacks_it [] fault_is at = absurd (untaken fault_is)
-      pass uses is false lacks_it (k ∷ ks) fault_is at = cc
+      pass uses is b lacks_it fault fault_is at = grind arith
 
       go : (o : Option (List Use)) → uses_of items rest ≡ o → (fault : Kinds)
           → fault_of faxpages_app (own ∷ name ∷ rest) ≡ or_else fault []
           → guard fault (Some (rows_after (rules_of items) [] rest))
           ≡ option_and_then (λ uses. cond (lacks items (filled_rows items uses)) None (Some (filled_rows items uses))) o
           → IsUntaken rest
-      go None is fault fault_is at = inl is
-      go (Some uses) is fault fault_is at = pass uses is (lacks items (filled_rows items uses)) refl fault fault_is at
+      go o is fault fault_is at = grind (arith, pass)
 
 -- ---- all commands
 
@@ -178,17 +162,7 @@ agree_by : (items : List Item)
     → is_no_flag (codes "cursor") items ≡ true → is_no_flag (codes "max") items ≡ true → is_no_flag (codes "o") items ≡ true
     → is_no_flag (codes "order") items ≡ true → is_no_flag (codes "k") items ≡ true → is_no_flag (codes "strip") items ≡ true
     → is_no_flag (codes "FILE") items ≡ true → (uses : List Use) → Agrees (filled_rows items uses) uses
-agree_by items cursor max target order k strip name uses = record {
-  cursor = text_filled (codes "cursor") items uses cursor;
-  max = text_filled (codes "max") items uses max;
-  target = text_filled (codes "o") items uses target;
-  order = text_filled (codes "order") items uses order;
-  k = text_filled (codes "k") items uses k;
-  strip = text_filled (codes "strip") items uses strip;
-  name = text_filled (codes "FILE") items uses name;
-  long = flag_filled (codes "long") items uses;
-  align = flag_filled (codes "align") items uses;
-}
+agree_by items cursor max target order k strip name uses = grind (arith, text_filled, flag_filled)
 
 -- what may stand after a command's name
 abbrev pub items_of : Text → List Item
@@ -237,9 +211,7 @@ lacks_target uses lacking = go (text_in uses (codes "o")) (given_filled (codes "
   where
     go : (o : Option Text) → is_given (codes "o") (filled_rows (items_at 2) uses) ≡ is_some o → (b : Bool)
         → is_given (codes "o") (filled_rows (items_at 2) uses) ≡ b → (not b || false) ≡ true → o ≡ None
-    go None given b is lacking = refl
-    go (Some t) given true is lacking = cc
-    go (Some t) given false is lacking = cc
+    go o given b is lacking = grind arith
 
 pub own_commands : All IsOwn commands
 unfolding clap_on_literals
@@ -313,14 +285,7 @@ reads_own (name, items) is own rest reads = (
 unnamed_met : (word : Text) (all : List (Text × List Item)) → find (λ command. bytes_eq command.0 word) all ≡ None
     → subcommand_met (map (λ command. (command.0, [])) all) idle word ≡ None
 unnamed_met word [] none = refl
-unnamed_met word (command ∷ all) none = go (bytes_eq command.0 word) none (unnamed_met word all)
-  where
-    go : (b : Bool) → cond b (Some command) (find (λ command. bytes_eq command.0 word) all) ≡ None
-        → (find (λ command. bytes_eq command.0 word) all ≡ None → subcommand_met (map (λ command. (command.0, [])) all) idle word ≡ None)
-        → option_map (λ (s : Text × List Text). s.0)
-        (cond (b || false) (Some (command.0, [])) (find (answers_to word) (map (λ command. (command.0, [])) all))) ≡ None
-    go true none later = cc
-    go false none later = later none
+unnamed_met word (command ∷ all) none = grind (arith, unnamed_met word all)
 
 pub read_as : (words : List Text) → ReadsTaken words × ReadsUntaken words
 unfolding clap_on_literals

@@ -1,9 +1,9 @@
 -- Texts of numbers that are remembered.
-use Rattle.std.proofs.Common.{◌≡◌, ℕ, zero, suc, ◌+◌, ◌*◌, ◌<◌, ◌≤◌, ◌⊎◌, List, [], ◌∷◌, ◌++◌, length, set, take, replicate, inl, inr, refl, ap, sym, ◌∙◌}
+use Rattle.std.proofs.lemmas.Grind.{common_steps}
+use Rattle.std.proofs.Common.{◌≡◌, ℕ, zero, suc, ◌+◌, ◌*◌, ◌<◌, ◌≤◌, ◌⊎◌, List, [], ◌∷◌, ◌++◌, length, set, take, replicate, inl, inr, refl, ap, ◌∙◌}
 use Rattle.std.proofs.Common.{Some, arith}
 use Rattle.std.specs.Prelude.{slice_get, slice_set}
-use Rattle.std.proofs.lemmas.List.{take-take, length-take-le}
-use Rattle.std.proofs.lemmas.Slice.{take-put_mid}
+use Rattle.std.proofs.lemmas.List.{length-take-le}
 use borrow.Rule.Slice.PartMut.{put_mid}
 use Rattle.fax_tool.specs.Text.{and_number}
 use Rattle.fax_tool.specs.code.Remembered.{AreNumbers, ArePairs, IsMadeAt, IsText}
@@ -16,10 +16,7 @@ put_at [] place i new found is = inr is
 put_at (first ∷ all) zero zero new found is = inl (refl, cc)
 put_at (first ∷ all) zero (suc i) new found is = inr is
 put_at (first ∷ all) (suc place) zero new found is = inr is
-put_at (first ∷ all) (suc place) (suc i) new found is = elim (put_at all place i new found is) [
-  | inl (same, found_is) ↦ inl (ap suc same, found_is)
-  | inr there ↦ inr there
-]
+put_at (first ∷ all) (suc place) (suc i) new found is = grind (arith, put_at all place i new found is)
 
 -- a text is made of a number
 pub numbers_put : (texts : List ShortText) (number : ℕ) (new : ShortText) → AreNumbers texts → IsText (and_number number) new
@@ -44,9 +41,8 @@ pairs_put texts first second new small are is = λ f s kept low made.
 
 -- none is made of texts that are not
 pub none_made : (count place : ℕ) (empty kept : ShortText) → empty.len ≡ 0 → IsMadeAt (replicate count empty) place kept → ⊥
-none_made zero place empty kept none made = cc (made.0)
-none_made (suc count) zero empty kept none made =
-    let same : empty ≡ kept = cc (made.0) in omega (arith, made.1, ap (λ (t : ShortText). t.len) same, none)
+none_made zero place empty kept none made = cc
+none_made (suc count) zero empty kept none made = grind arith
 none_made (suc count) (suc place) empty kept none made = none_made count place empty kept none made
 
 -- the first part of two lists, past the first list
@@ -59,9 +55,4 @@ take_past (x ∷ xs) ys m =
 -- eight bytes are written, and the text is the first of them
 pub short_put : (bytes more : List ℕ) (at k len : ℕ) → length more ≡ 8 → len ≤ 8 → at + 8 ≤ length bytes
     → take (at + len) (put_mid at k bytes more) ≡ take at bytes ++ take len more
-short_put bytes more at k len eight few room =
-    let before : length (take at bytes) ≡ at = length-take-le at bytes (omega (arith, room)) in
-    sym (take-take (at + len) (at + 8) (put_mid at k bytes more) (omega (arith, few)))
-    ∙ ap (take (at + len)) (take-put_mid at k bytes more (at + 8) (omega (arith, eight)) (omega (arith, room)))
-    ∙ ap (λ n. take (n + len) (take at bytes ++ more)) (sym before)
-    ∙ take_past (take at bytes) more len
+short_put bytes more at k len eight few room = grind (arith, common_steps, length-take-le, take_past)

@@ -1,23 +1,20 @@
 -- What the rows of a parse are, of the uses that the words make.
-use Rattle.std.proofs.Common.{◌≡◌, ◌∙◌, ◌&&◌, ◌++◌, ap, append_assoc, cond, codes, refl, sym, Bool, true, false}
-use Rattle.std.proofs.Common.{List, [], ◌∷◌, Option, Some, None, append-nil, is_some, map}
+use Rattle.std.proofs.Common.{arith, ◌≡◌, ◌∙◌, ◌&&◌, ◌++◌, ap, append_assoc, cond, codes, refl, sym, Bool, true, false, List, [], ◌∷◌}
+use Rattle.std.proofs.Common.{Option, Some, None, append-nil, is_some, map}
 use Rattle.std.specs.Prelude.{find, not, slice_get, option_and_then, option_map}
 use Rattle.std.specs.List.{fold, list_all, list_any}
 use Rattle.std.specs.Option.{option_map_or}
 use Rattle.std.specs.Str.{bytes_eq}
 use Rattle.std.proofs.lemmas.List.{map-append}
 use Rattle.clap.proofs.WalkLemmas.{find-map, list_any-map}
-use Rattle.clap.specs.Kinds.{Kinds, or_else}
-use Rattle.clap.specs.Walk.{Row, Text, arg_by_index, more_values, with_values, first_of, has_row, reading_by, rows_after, settled, walk}
-use Rattle.clap.specs.Walk.{walk_from, idle, nothing_held, with_default}
+use Rattle.clap.specs.Kinds.{or_else}
+use Rattle.clap.specs.Walk.{Row, Text, arg_by_index, first_of, has_row, reading_by, rows_after, idle, nothing_held, with_default}
 use Rattle.clap.specs.Takes.{is_given}
 use Rattle.clap.specs.Facts.{explicit_source}
-use Rattle.clap.specs.Faults.{check_fault, default_fault, defaults_fault, level_fault, settle_fault, walk_fault}
-use Rattle.clap.specs.declared.error.kind.ErrorKind.TheVariants.{MissingRequiredArgument}
+use Rattle.clap.specs.Faults.{check_fault, defaults_fault, level_fault}
 use Rattle.clap.specs.declared.parser.matches.ValueSource.TheVariants.{DefaultValue}
 use Rattle.fax_tool.specs.Grammar.{Item, Use, file, flag, name_of, text_in}
-use Rattle.fax_tool.specs.code.Scan.{are_apart, checked, is_taken, is_used}
-use Rattle.fax_tool.specs.code.Scan.{uses_from, uses_of}
+use Rattle.fax_tool.specs.code.Scan.{are_apart, checked, is_taken, is_used, uses_of}
 use Rattle.fax_tool.proofs.RuleLemmas.{rule_of, rules_of}
 use Rattle.fax_tool.proofs.UseLemmas.{at_end, guard, guard_twice, row_of}
 use Rattle.fax_tool.proofs.TurnLemmas.{IsOf, leaf, run, stand}
@@ -47,24 +44,14 @@ pub entered_is : (uses : List Use) → entered [] uses ≡ option_map (map row_o
 entered_is uses = entered_from [] uses ∙ go (are_apart [] uses && list_all is_taken uses)
   where
     go : (b : Bool) → cond b (Some (map row_of uses)) None ≡ option_map (map row_of) (cond b (Some uses) None)
-    go true = refl
-    go false = refl
+    go b = grind arith
 
 -- ---- defaults
-
-no_fault_either : (b : Bool) (kinds : Kinds) → kinds ≡ [] → cond b [] kinds ≡ []
-no_fault_either true kinds none = refl
-no_fault_either false kinds none = none
-
-no_default_fault : (rows : List Row) (item : Item) → default_fault rows (rule_of item) ≡ []
-no_default_fault rows (flag own) = no_fault_either _ _ refl
-no_default_fault rows item = no_fault_either _ _ refl
 
 no_defaults_fault : (items : List Item) (rows : List Row) → defaults_fault rows (rules_of items) ≡ []
 unfolding defaults_fault
 no_defaults_fault [] rows = refl
-no_defaults_fault (item ∷ items) rows =
-    rw (no_default_fault rows item) (no_defaults_fault items (with_default rows (rule_of item)))
+no_defaults_fault (item ∷ items) rows = grind (arith, no_defaults_fault items (with_default rows (rule_of item)))
 
 -- a flag has a default
 abbrev pub is_flag : Text → Item → Bool
@@ -82,19 +69,12 @@ default_row name = record {
 }
 
 pub same_either : (b : Bool) (rows : List Row) → cond b rows rows ≡ rows
-same_either true rows = refl
-same_either false rows = refl
+same_either b rows = grind arith
 
 -- a flag's default is one more row, where it has none
 pub flag_default : (name : Text) (rows : List Row)
     → with_default rows (rule_of (flag name)) ≡ cond (has_row name rows) rows (rows ++ default_row name ∷ [])
-flag_default name rows = go (has_row name rows) refl
-  where
-    go : (b : Bool) → has_row name rows ≡ b
-        → cond b rows (with_values name (reading_by (rule_of (flag name))) DefaultValue (codes "false" ∷ []) rows)
-        ≡ cond b rows (rows ++ default_row name ∷ [])
-    go true has = refl
-    go false none = at_end name (more_values DefaultValue (codes "false" ∷ [])) (default_row name ∷ []) rows none
+flag_default name rows = grind (arith, at_end)
 
 abbrev row_at : Text → List Row → Option Row
 row_at id rows = find (λ r. bytes_eq r.id id) rows
@@ -106,12 +86,7 @@ row_at_more id (x ∷ xs) r other = ap (cond (bytes_eq x.id id) (Some x)) (row_a
 -- the row of an item that is no flag
 default_keeps : (id : Text) (item : Item) (rows : List Row) → is_flag id item ≡ false
     → row_at id (with_default rows (rule_of item)) ≡ row_at id rows
-default_keeps id (flag own) rows other = ap (row_at id) (flag_default own rows) ∙ go (has_row own rows)
-  where
-    go : (b : Bool) → row_at id (cond b rows (rows ++ default_row own ∷ [])) ≡ row_at id rows
-    go true = refl
-    go false = row_at_more id rows (default_row own) other
-default_keeps id item rows other = ap (row_at id) (same_either (has_row (name_of item) rows) rows)
+default_keeps id item rows other = grind (arith, flag_default, row_at_more)
 
 abbrev pub is_no_flag : Text → List Item → Bool
 is_no_flag id items = list_all (λ item. not (is_flag id item)) items
@@ -138,27 +113,12 @@ first_at = option_and_then (λ r. slice_get r.values 0)
 
 flag_more : (id own : Text) (rows : List Row)
     → is_true (first_at (row_at id (rows ++ default_row own ∷ []))) ≡ is_true (first_at (row_at id rows))
-flag_more id own [] = go (bytes_eq own id)
-  where
-    go : (b : Bool) → is_true (first_at (cond b (Some (default_row own)) None)) ≡ false
-    go true = refl
-    go false = refl
-flag_more id own (x ∷ xs) = go (bytes_eq x.id id) (flag_more id own xs)
-  where
-    go : (b : Bool) → is_true (first_at (row_at id (xs ++ default_row own ∷ []))) ≡ is_true (first_at (row_at id xs))
-        → is_true (first_at (cond b (Some x) (row_at id (xs ++ default_row own ∷ []))))
-        ≡ is_true (first_at (cond b (Some x) (row_at id xs)))
-    go true later = refl
-    go false later = later
+flag_more id own [] = grind arith
+flag_more id own (x ∷ xs) = grind (arith, flag_more id own xs)
 
 default_sets : (id : Text) (item : Item) (rows : List Row)
     → is_true (first_at (row_at id (with_default rows (rule_of item)))) ≡ is_true (first_at (row_at id rows))
-default_sets id (flag own) rows = ap (λ rows. is_true (first_at (row_at id rows))) (flag_default own rows) ∙ go (has_row own rows)
-  where
-    go : (b : Bool) → is_true (first_at (row_at id (cond b rows (rows ++ default_row own ∷ [])))) ≡ is_true (first_at (row_at id rows))
-    go true = refl
-    go false = flag_more id own rows
-default_sets id item rows = ap (λ o. is_true (first_at o)) (default_keeps id item rows refl)
+default_sets id item rows = grind (arith, flag_default, flag_more)
 
 defaults_set : (id : Text) (items : List Item) (rows : List Row)
     → is_true (first_at (row_at id (fold with_default rows (rules_of items)))) ≡ is_true (first_at (row_at id rows))
@@ -170,21 +130,13 @@ row_used : (id : Text) (uses : List Use) → row_at id (map row_of uses) ≡ opt
 row_used id uses = sym (find-map (λ r. bytes_eq r.id id) row_of uses)
 
 first_use : (id : Text) (uses : List Use) → first_at (row_at id (map row_of uses)) ≡ text_in uses id
-first_use id uses = ap first_at (row_used id uses) ∙ go (find (λ u. bytes_eq (name_of u.item) id) uses)
-  where
-    go : (o : Option Use) → first_at (option_map row_of o) ≡ option_map (λ given. given.value) o
-    go None = refl
-    go (Some u) = refl
+first_use id uses = grind (arith, row_used)
 
 abbrev explicit : Option Row → Bool
 explicit o = option_map_or (λ r. explicit_source r.source) o false
 
 given_use : (id : Text) (uses : List Use) → explicit (row_at id (map row_of uses)) ≡ is_some (text_in uses id)
-given_use id uses = ap explicit (row_used id uses) ∙ go (find (λ u. bytes_eq (name_of u.item) id) uses)
-  where
-    go : (o : Option Use) → explicit (option_map row_of o) ≡ is_some (option_map (λ given. given.value) o)
-    go None = refl
-    go (Some u) = refl
+given_use id uses = grind (arith, row_used)
 
 -- the rows of uses, with what was left out
 abbrev pub filled_rows : List Item → List Use → List Row
@@ -207,14 +159,6 @@ given_filled id items uses none = ap explicit (defaults_keep id items (map row_o
 abbrev pub lacks : List Item → List Row → Bool
 lacks items rows = list_any (λ a. a.required && not (is_given a.id rows)) (rules_of items)
 
-guard_then : {A B : Type 0} (a : Kinds) (x : A) (f : A → Option B) → guard a (f x) ≡ option_and_then f (guard a (Some x))
-guard_then [] x f = refl
-guard_then (k ∷ ks) x f = refl
-
-guard_into : {A B : Type 0} (a : Kinds) (o : Option A) (f : A → Option B) → guard a (option_and_then f o) ≡ option_and_then f (guard a o)
-guard_into [] o f = refl
-guard_into (k ∷ ks) o f = refl
-
 module _ (name : Text) (items : List Item) where
   abbrev pub ended : List Row → Option (List Row)
   ended rows = cond (lacks items (fold with_default rows (rules_of items))) None (Some (fold with_default rows (rules_of items)))
@@ -223,26 +167,13 @@ module _ (name : Text) (items : List Item) where
       → guard (or_else (defaults_fault rows (rules_of items))
       (check_fault (leaf name items) (fold with_default rows (rules_of items)) false))
       (Some (fold with_default rows (rules_of items))) ≡ ended rows
-  last_checks rows = rw (no_defaults_fault items rows) (go (lacks items (fold with_default rows (rules_of items))))
-    where
-      go : (b : Bool) → guard (cond b (MissingRequiredArgument ∷ []) []) (Some (fold with_default rows (rules_of items)))
-          ≡ cond b None (Some (fold with_default rows (rules_of items)))
-      go true = refl
-      go false = refl
+  last_checks rows = grind (arith, no_defaults_fault)
 
   -- a level without a fault, and its rows
   pub level_is : (words : List Text)
       → guard (level_fault (leaf name items) [] nothing_held words false []) (Some (rows_after (rules_of items) [] words))
       ≡ option_and_then ended (run name items (stand [] None idle 1 false) words)
-  level_is words =
-      let s = leaf name items in
-      let end = (walk (rules_of items) [] nothing_held words).held in
-      let rows = (settled (rules_of items) end).rows in
-      let turns = walk_fault s [] (walk_from nothing_held) words in
-      let settle = settle_fault (rules_of items) false end in
-      guard_twice turns _ _ ∙ (ap (guard turns) (guard_twice settle _ _ ∙ (ap (guard settle) (last_checks rows)
-      ∙ guard_then settle rows ended))
-      ∙ guard_into turns (guard settle (Some rows)) ended)
+  level_is words = grind (arith, leaf, rules_of, guard_twice, last_checks)
 
   -- a level, by the uses that its words make
   abbrev pub IsLevel : Type 0
@@ -252,17 +183,4 @@ module _ (name : Text) (items : List Item) where
 
   pub level : arg_by_index (rules_of items) 1 ≡ Some (rule_of file) → arg_by_index (rules_of items) 2 ≡ None → IsOf items file
       → ((test : Item → Bool) (item : Item) → find test items ≡ Some item → IsOf items item) → IsLevel
-  level first second file_is each words =
-      level_is words ∙ (ap (option_and_then ended) (whole_walk name items first second file_is each words)
-      ∙ go (uses_from items None words))
-    where
-      pass : (o : Option (List Use)) → option_and_then ended (option_map (map row_of) o)
-          ≡ option_and_then (λ uses. cond (lacks items (filled_rows items uses)) None (Some (filled_rows items uses))) o
-      pass None = refl
-      pass (Some uses) = refl
-
-      go : (o : Option (List Use)) → option_and_then ended (option_and_then (entered []) o)
-          ≡ option_and_then (λ uses. cond (lacks items (filled_rows items uses)) None (Some (filled_rows items uses)))
-          (option_and_then checked o)
-      go None = refl
-      go (Some uses) = ap (option_and_then ended) (entered_is uses) ∙ pass (checked uses)
+  level first second file_is each words = grind (arith, level_is, whole_walk, entered_is)

@@ -1,18 +1,15 @@
 -- What clap's rules are of items, and what it finds by a name.
-use Rattle.std.proofs.Common.{◌≡◌, ◌∙◌, ◌&&◌, ap, arith, cond, refl, subst, sym, Bool, true, false, ℕ, suc, List, [], ◌∷◌, Some}
-use Rattle.std.proofs.Common.{is_some, map}
+use Rattle.std.proofs.Common.{◌≡◌, ◌∙◌, ◌&&◌, ap, arith, cond, refl, sym, Bool, true, false, ℕ, suc, List, [], ◌∷◌, Some, is_some, map}
 use Rattle.std.proofs.Math.Bool.{or-false}
 use Rattle.clap.proofs.WalkLemmas.{find-map}
 use Rattle.std.specs.Prelude.{find, not, option_map}
 use Rattle.std.specs.Str.{bytes_eq}
-use Rattle.clap.specs.Walk.{Rule, arg_by_long, arg_by_short}
-use Rattle.clap.specs.Walk.{has_long as rule_has_long, has_short}
-use Rattle.clap.specs.Simple.{filled, with_index}
+use Rattle.clap.specs.Walk.{Rule, arg_by_long, arg_by_short, has_long as rule_has_long, has_short}
+use Rattle.clap.specs.Simple.{filled, with_index, new_rule}
 use Rattle.std.specs.List.{Contains, slice_index_or}
 use Rattle.fax_tool.specs.code.CommandLine.{file_rule, flag_rule, number_rule, text_rule}
 use Rattle.fax_tool.specs.Grammar.{Item, Text, commands, file, flag, letter, name_of, number, text}
 use Rattle.fax_tool.specs.code.Scan.{has_letter, has_long}
-use Rattle.clap.specs.Simple.{new_rule}
 
 abbrev pub letter_rule : ℕ → Rule
 letter_rule x = record (new_rule (x ∷ [])) { short = Some x; required = true }
@@ -38,9 +35,7 @@ found test (first ∷ xs) x is = go (test first) refl is (found test xs x)
   where
     go : (t : Bool) → test first ≡ t → cond t (Some first) (find test xs) ≡ Some x
         → (find test xs ≡ Some x → Contains xs x × (test x ≡ true)) → Contains (first ∷ xs) x × (test x ≡ true)
-    go true here is later =
-        let same : first ≡ x = cc in
-        ((0, omega arith, same), subst (λ x. test x ≡ true) same here)
+    go true here is later = grind arith
     go false here is later =
         let of = later is in
         let low = of.0.1 in
@@ -52,8 +47,7 @@ long_test name file = refl
 long_test name item = or-false (bytes_eq (name_of item) name)
 
 letter_test : (x : ℕ) (item : Item) → (not (is_some (rule_of item).index) && has_short (rule_of item) x) ≡ has_letter x item
-letter_test x (letter own) = or-false _
-letter_test x item = refl
+letter_test x item = grind arith
 
 -- a find of rules is one of items, where the tests agree
 find_rule : (test : Rule → Bool) (own : Item → Bool) → ((item : Item) → test (rule_of item) ≡ own item) → (items : List Item)

@@ -1,25 +1,21 @@
 -- Runs that go on where the one before them was cut.
-use Rattle.std.proofs.Common.{codes, ◌≡◌, ℕ, zero, suc, List, [], ◌∷◌, ◌++◌, length}
-use Rattle.std.proofs.Common.{map, take, drop, refl, ap, sym, ◌∙◌, subst, append_assoc, append-nil}
-use Rattle.std.proofs.Common.{true, false, Bool, take-append-drop, get_or, ◌≤◌, ◌^◌, arith}
+use Rattle.std.proofs.Common.{◌≡◌, ℕ, zero, suc, List, [], ◌∷◌, ◌++◌, length, map, take, drop, refl, ap, sym, ◌∙◌, subst, append_assoc}
+use Rattle.std.proofs.Common.{append-nil, true, false, Bool, take-append-drop, ◌≤◌, ◌^◌, arith}
 use Rattle.std.proofs.Math.Seq.{take-length}
-use Rattle.std.proofs.lemmas.Bool.Decides.{nat_tests}
 use Rattle.std.proofs.lemmas.Grind.{flat_map-append}
 use Rattle.std.proofs.lemmas.List.{append_cancel_left, append_cancel_right, drop_all}
-use Rattle.std.specs.Prelude.{Option, Some, None, nat_le}
+use Rattle.std.specs.Prelude.{Option, Some, None}
 use Rattle.fax_walk.specs.declared.begun.Begun.{Begun}
-use Rattle.fax_walk.specs.declared.begun.Begun.TheVariants.{At, Inside}
+use Rattle.fax_walk.specs.declared.begun.Begun.TheVariants.{At}
 use Rattle.fax_walk.specs.declared.cursor.Cursor.{Cursor}
 use Rattle.fax_walk.specs.declared.end.End.{End}
-use Rattle.fax_walk.specs.declared.end.End.TheVariants.{Fault, Outside, Proper}
 use Rattle.fax_walk.specs.Pages.{IsCursor, LongPlace}
 use Rattle.fax_walk.specs.laws.Cursors.{CursorsAreShort, PlacesAreShort, TextsNameOne}
 use Rattle.fax_walk.specs.laws.Tails.{BeginningsHaveOneTail, IsReached, LongTailsGoOn, PlacesAreReached, TailsGoOn}
 use Rattle.fax_walk.specs.Items.{RowItem as Item, IsTailFrom, begun_text, cursor_after, long_after}
 use Rattle.fax_tool.specs.Run.{AreRowLines}
 use Rattle.fax_tool.proofs.BeginLemmas.{begun_at, one_begun}
-use Rattle.fax_tool.specs.Text.{Line, Printed, named, next_after, next_line, text_of, end_text}
-use Rattle.fax_tool.specs.Text.{is_cut, line_of_row, texts_of, up_to}
+use Rattle.fax_tool.specs.Text.{Line, Printed, named, next_after, next_line, text_of, end_text, is_cut, line_of_row, texts_of, up_to}
 use Rattle.fax_tool.specs.laws.Runs.{AreAsOneRun, AreRunsOfRows, CutRunsAreReadOn, IsBegun, IsReadAfter, IsRunOfRows, MayBegin, RunsGoOn}
 use Rattle.fax_tool.proofs.LineLemmas.{begins_after, next_after-append, one_rows}
 use Rattle.fax_tool.proofs.TextLemmas.{all_taken}
@@ -41,8 +37,7 @@ last_line end next = (end_text (Some end) next).output
 
 -- what is named of what was named is named
 named_again : (long : Bool) (begun : Begun) → named long (named long begun) ≡ named long begun
-named_again true begun = refl
-named_again false begun = refl
+named_again long begun = grind arith
 
 named_after : (long : Bool) (begun : Begun) (lines : List Line) → named long (next_after (named long begun) lines)
     ≡ named long (next_after begun lines)
@@ -55,15 +50,11 @@ lines_left None lines = []
 lines_left (Some limit) lines = drop limit lines
 
 parts : (max : Option ℕ) (lines : List Line) → up_to max lines ++ lines_left max lines ≡ lines
-parts None lines = append-nil lines
-parts (Some limit) lines = take-append-drop limit lines
+parts max lines = grind (arith, append-nil, take-append-drop)
 
 not_cut : (long : Bool) (max : Option ℕ) (begun : Begun) (lines : List Line) (end : End) → is_cut max lines ≡ false
     → text_of long max begun lines end ≡ whole_text long begun lines end
-not_cut long None begun lines end whole = refl
-not_cut long (Some limit) begun lines end whole =
-    let no : nat_le limit (length lines) ≡ false = whole in
-    let all : take limit lines ≡ lines = all_taken limit lines (grind (arith, nat_tests)) in rw (no, all) refl
+not_cut long max begun lines end whole = grind (arith, all_taken)
 
 -- one run is a beginning of a run without a limit
 alone : (lines : List Line) (max : Option ℕ) (rows : List ℕ) (last whole : Printed) (cut : Bool)
@@ -103,54 +94,29 @@ as_one_after long begun xs ys end first others rows last cut first_is all =
 
 -- the text of `next` tells the text that stands in it
 same_text : (rows : List ℕ) (begun next : Begun) → rows ++ next_line begun ≡ rows ++ next_line next → begun_text begun ≡ begun_text next
-same_text rows begun next e =
-    let line = append_cancel_left rows (next_line begun) (next_line next) e in
-    let rest : begun_text begun ++ codes "\n" ≡ begun_text next ++ codes "\n" = ap (λ (l : List ℕ). drop 5 l) line in
-    append_cancel_right (begun_text begun) (begun_text next) (codes "\n") rest
+same_text rows begun next e = grind (arith, append_cancel_left, append_cancel_right)
 
 same_last : (rows : List ℕ) (end : End) (begun next : Begun) → rows ++ last_line end begun ≡ rows ++ next_line next
     → begun_text begun ≡ begun_text next
-same_last rows Proper begun next e =
-    let line = append_cancel_left rows (last_line Proper begun) (next_line next) e in
-    let first : ◌≡◌ {A = ℕ} 101 110 = ap (λ (l : List ℕ). get_or l 0 0) line in
-    absurd (omega arith)
-same_last rows (Fault page row cause) begun next e = same_text rows begun next e
-same_last rows Outside begun next e =
-    let line = append_cancel_left rows (last_line Outside begun) (next_line next) e in
-    let first : ◌≡◌ {A = ℕ} 0 110 = ap (λ (l : List ℕ). get_or l 0 0) line in
-    absurd (omega arith)
+same_last rows end begun next e = grind (arith, append_cancel_left, same_text)
 
 -- what stands after `next` after these lines is the text of what goes on after them
 next_told : (long : Bool) (max : Option ℕ) (begun : Begun) (lines : List Line) (end : End) (next : Begun)
     → (text_of long max begun lines end).output ≡ texts_of (up_to max lines) ++ next_line next
     → begun_text (named long (next_after begun (up_to max lines))) ≡ begun_text next
-next_told long None begun lines end next e = same_last (texts_of lines) end (named long (next_after begun lines)) next e
-next_told long (Some limit) begun lines end next e = by_test (nat_le limit (length lines)) refl
-  where
-    by_test : (test : Bool) → nat_le limit (length lines) ≡ test
-        → begun_text (named long (next_after begun (take limit lines))) ≡ begun_text next
-    by_test true cut =
-        same_text (texts_of (take limit lines)) (named long (next_after begun (take limit lines))) next (rw cut at e)
-    by_test false whole =
-        same_last (texts_of (take limit lines)) end (named long (next_after begun (take limit lines))) next (rw whole at e)
+next_told long max begun lines end next e = grind (arith, same_last, same_text)
 
 module _ (tails : BeginningsHaveOneTail) (go_on : TailsGoOn) (long_go_on : LongTailsGoOn)
     (places : PlacesAreReached) (short : CursorsAreShort) (long_short : PlacesAreShort) (names : TextsNameOne) (file : List ℕ)
     (limit_kept : length file ≤ 2 ^ 32) where
   reached : (long : Bool) (begun : Begun) → MayBegin file long begun → IsReached file begun
-  reached long (At at) may = tt
-  reached true (Inside place) may = may.1
-  reached false (Inside place) may = absurd may
+  reached long begun may = grind arith
 
   is_begun : (long : Bool) (begun : Begun) → MayBegin file long begun → IsBegun begun
-  is_begun long (At at) may = may
-  is_begun true (Inside place) may = may.0
-  is_begun false (Inside place) may = absurd may
+  is_begun long begun may = grind arith
 
   named_begun : (long : Bool) (begun : Begun) → MayBegin file long begun → named long begun ≡ begun
-  named_begun true begun may = refl
-  named_begun false (At at) may = refl
-  named_begun false (Inside place) may = absurd may
+  named_begun long begun may = grind arith
 
   -- what a run begins with that goes on after some items
   record GoesOn (long : Bool) (next : Begun) (items : List Item) (end : End) : Type 0 where
@@ -273,8 +239,7 @@ module _ (tails : BeginningsHaveOneTail) (go_on : TailsGoOn) (long_go_on : LongT
     where
       cut_text : (max : Option ℕ) → true ≡ is_cut max run.lines
           → text_of long max begun run.lines run.end ≡ first_text long begun (up_to max run.lines)
-      cut_text None is = absurd cc
-      cut_text (Some limit) is = let cut : nat_le limit (length run.lines) ≡ true = sym is in rw cut refl
+      cut_text max is = grind arith
 
 pub cut_runs_are_read_on : BeginningsHaveOneTail → TailsGoOn → LongTailsGoOn → PlacesAreReached → CursorsAreShort
     → PlacesAreShort → TextsNameOne → CutRunsAreReadOn

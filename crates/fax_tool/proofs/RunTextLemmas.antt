@@ -1,15 +1,12 @@
 -- Runs that are written, and those that are due.
-use Rattle.std.proofs.Common.{◌≡◌, ℕ, List, [], ◌∷◌, ◌++◌, length, get_or, ap, sym, ◌∙◌, append_assoc, append-nil, arith}
+use Rattle.std.proofs.Common.{◌≡◌, ℕ, List, [], ◌∷◌, ◌++◌, length, get_or, append_assoc, append-nil, arith}
 use Rattle.std.specs.Prelude.{flat_map}
 use Rattle.fax_tool.specs.Text.{and_number}
 
 -- one run more
 pub next_run : (text more runs left : List ℕ) (run : ℕ) → runs ≡ run ∷ left → more ≡ text ++ and_number run
     → more ++ flat_map and_number left ≡ text ++ flat_map and_number runs
-next_run text more runs left run first is =
-    ap (λ xs. xs ++ flat_map and_number left) is
-    ∙ append_assoc text (and_number run) (flat_map and_number left)
-    ∙ ap (λ xs. text ++ flat_map and_number xs) (sym first)
+next_run text more runs left run first is = grind (arith, append_assoc)
 
 -- eight numbers, two by two
 pub eight_written : (s₀ s₁ s₂ s₃ s₄ xs : List ℕ) → length xs ≡ 8
@@ -17,16 +14,5 @@ pub eight_written : (s₀ s₁ s₂ s₃ s₄ xs : List ℕ) → length xs ≡ 8
     → s₂ ≡ s₁ ++ (and_number (get_or xs 2 0) ++ and_number (get_or xs 3 0))
     → s₃ ≡ s₂ ++ (and_number (get_or xs 4 0) ++ and_number (get_or xs 5 0))
     → s₄ ≡ s₃ ++ (and_number (get_or xs 6 0) ++ and_number (get_or xs 7 0)) → s₄ ≡ s₀ ++ flat_map and_number xs
-eight_written s₀ s₁ s₂ s₃ s₄ (a ∷ b ∷ c ∷ d ∷ e ∷ f ∷ g ∷ h ∷ []) long one two three four =
-    parts s₀ s₁ s₂ s₃ s₄ (and_number a) (and_number b) (and_number c) (and_number d) (and_number e) (and_number f) (and_number g)
-    (and_number h) one two three four
-  where
-    parts : (s₀ s₁ s₂ s₃ s₄ a b c d e f g h : List ℕ) → s₁ ≡ s₀ ++ (a ++ b) → s₂ ≡ s₁ ++ (c ++ d) → s₃ ≡ s₂ ++ (e ++ f)
-        → s₄ ≡ s₃ ++ (g ++ h) → s₄ ≡ s₀ ++ (a ++ (b ++ (c ++ (d ++ (e ++ (f ++ (g ++ (h ++ []))))))))
-    parts s₀ s₁ s₂ s₃ s₄ a b c d e f g h one two three four =
-        let all : s₄ ≡ (((s₀ ++ (a ++ b)) ++ (c ++ d)) ++ (e ++ f)) ++ (g ++ h) =
-        four ∙ ap (λ s. s ++ (g ++ h)) (three ∙ ap (λ s. s ++ (e ++ f)) (two ∙ ap (λ s. s ++ (c ++ d)) one)) in
-        let grouped : (((s₀ ++ (a ++ b)) ++ (c ++ d)) ++ (e ++ f)) ++ (g ++ h)
-        ≡ s₀ ++ (a ++ (b ++ (c ++ (d ++ (e ++ (f ++ (g ++ (h ++ [])))))))) = simp (append_assoc, append-nil) in
-        all ∙ grouped
+eight_written s₀ s₁ s₂ s₃ s₄ (a ∷ b ∷ c ∷ d ∷ e ∷ f ∷ g ∷ h ∷ []) long one two three four = grind (arith, append_assoc, append-nil)
 eight_written s₀ s₁ s₂ s₃ s₄ xs long one two three four = absurd (omega (arith, long))

@@ -1,25 +1,21 @@
 -- Words of UTF-8 that are scanned are those of a command.
-use Rattle.std.proofs.Common.{◌≡◌, ◌∙◌, ◌<◌, ◌==◌, ◌&&◌, ◌++◌, ap, append-nil, append_assoc, arith, cond, codes, inl, inr, lit<, refl, sym, subst}
-use Rattle.std.proofs.Common.{Bool, true, false, ℕ, suc, drop}
-use Rattle.std.proofs.Common.{List, [], ◌∷◌, Option, Some, None}
+use Rattle.std.proofs.Common.{◌≡◌, ◌∙◌, ◌<◌, ◌==◌, ◌&&◌, ◌++◌, ap, append-nil, append_assoc, arith, cond, codes, inl, inr, lit<, refl, sym}
+use Rattle.std.proofs.Common.{subst, Bool, true, false, ℕ, drop, List, [], ◌∷◌, Option, Some, None}
 use Rattle.std.specs.Prelude.{find, option_and_then, option_map, slice_get}
-use Rattle.std.specs.List.{All, Contains, before_first, list_all, position_or_len}
+use Rattle.std.specs.List.{All, Contains, before_first, list_all}
 use Rattle.std.specs.Option.{option_map_or}
-use Rattle.std.specs.Str.{IsUtf8, bytes_eq, chars}
-use Rattle.std.proofs.lemmas.Bool.Decides.{nat_tests}
+use Rattle.std.specs.Str.{IsUtf8, bytes_eq, chars, encode_utf8_all}
 use Rattle.std.proofs.lemmas.Slice.Eq.{bytes_eq-Decides}
 use Rattle.std.proofs.lemmas.List.Elements.{All-contains, All-from_recursion, All-head, All-tail}
 use Rattle.std.proofs.lemmas.Str.{IsUtf8-past_char, byte_from_char, encode_ascii, encodes-chars}
-use Rattle.std.specs.Str.{encode_utf8_all}
-use Rattle.std.proofs.Math.Numerals.{add-one, one-add}
 use Rattle.clap.proofs.WalkLemmas.{both}
 use Rattle.fax_tool.specs.Grammar.{AreOfCommand, AreSpelled, IsPlain, IsSpelled, Item, Text, Use, commands, file, flag, letter, number}
 use Rattle.fax_tool.specs.Grammar.{text}
 use Rattle.fax_tool.specs.code.Scan.{Word, are_apart, attached, checked, ends, file_after, first_char, has_letter, has_long, is_plain}
 use Rattle.fax_tool.specs.code.Scan.{is_taken, joined, read, takes, uses_of, option_word, says, unknown, use_of, uses_from, waits}
 use Rattle.fax_tool.specs.code.Scan.{with_word, word_of}
-use Rattle.fax_tool.proofs.GrammarLemmas.{other_first, scanned_apart, scanned_number, scanned_plain}
-use Rattle.clap.specs.Lexer.{long_of, long_of_rest, name_and_value, short_of, short_of_rest, strip_byte}
+use Rattle.fax_tool.proofs.GrammarLemmas.{scanned_apart, scanned_number, scanned_plain}
+use Rattle.clap.specs.Lexer.{long_of, long_of_rest, name_and_value, short_of, strip_byte}
 use Rattle.fax_tool.proofs.ViewLemmas.{View, as_end, as_long, as_plain, as_short, hyphens, same_byte, view}
 use Rattle.fax_tool.proofs.RuleLemmas.{found as found_in, items_at}
 
@@ -39,17 +35,7 @@ first_byte b bs x utf8 is ascii =
 -- a text, at its first `=`
 at_equals : (xs : Text) → xs ≡ before_first (λ b. b == 61) xs ++ option_map_or (λ v. 61 ∷ v) (joined xs) []
 at_equals [] = refl
-at_equals (x ∷ xs) = go (x == 61) refl (at_equals xs)
-  where
-    go : (t : Bool) → (x == 61) ≡ t → xs ≡ before_first (λ b. b == 61) xs ++ option_map_or (λ v. 61 ∷ v) (joined xs) []
-        → x ∷ xs ≡ before_first (λ b. b == 61) (x ∷ xs) ++ option_map_or (λ v. 61 ∷ v) (joined (x ∷ xs)) []
-    go true same later =
-        let is : x ≡ 61 = grind (arith, nat_tests) in
-        rw same (ap (λ x. x ∷ xs) is)
-    go false other later =
-        let n = position_or_len (λ b. b == 61) xs in
-        let later = rw (add-one n) at later in
-        rw (other, one-add n, add-one (suc n)) (ap (λ ys. x ∷ ys) later)
+at_equals (x ∷ xs) = grind (arith, at_equals xs)
 
 abbrev with_equals : Option Text → Text
 with_equals v = option_map_or (λ t. 61 ∷ t) v []
@@ -81,20 +67,7 @@ long_shape (x ∷ xs) own v is = first (x == 45) refl is
 
 short_shape : (word : Text) (b : ℕ) (bs : Text) → short_of word ≡ Some (b ∷ bs) → word ≡ 45 ∷ b ∷ bs
 short_shape [] b bs is = cc
-short_shape (x ∷ xs) b bs is = first (x == 45) refl is
-  where
-    second : (ys : Text) → short_of_rest ys ≡ Some (b ∷ bs) → ys ≡ b ∷ bs
-    second [] is = cc
-    second (y ∷ ys) is = go (y == 45) is
-      where
-        go : (t : Bool) → cond t None (Some (y ∷ ys)) ≡ Some (b ∷ bs) → y ∷ ys ≡ b ∷ bs
-        go true is = cc
-        go false is = cc
-
-    first : (t : Bool) → (x == 45) ≡ t → option_and_then short_of_rest (cond t (Some xs) None) ≡ Some (b ∷ bs)
-        → x ∷ xs ≡ 45 ∷ b ∷ bs
-    first true same is = ap (λ x. x ∷ xs) (same_byte x 45 same) ∙ ap (λ ys. 45 ∷ ys) (second xs is)
-    first false other is = cc
+short_shape (x ∷ xs) b bs is = grind arith
 
 abbrev SpelledAs : List Item → Word → Text → Type 0
 SpelledAs items (says u) word = is_taken u ≡ true → Contains items u.item × IsSpelled u.item u.value (word ∷ [])
@@ -139,32 +112,14 @@ module _ (items : List Item) where
 
   short_as : (item : Item) (x : ℕ) (bs word : Text) → Contains items item → has_letter x item ≡ true → word ≡ 45 ∷ x ∷ bs
       → SpelledAs items (option_word (attached bs) item) word
-  short_as (letter l) x [] word among named shape =
-      λ value plain taken.
-      (among, inl (inr (ap (λ w. w ∷ value ∷ []) (shape ∙ ap (λ x. 45 ∷ x ∷ []) (sym (same_byte l x named))), plain)))
-  short_as (letter l) x (c ∷ cs) word among named shape = λ taken. (among, go (c == 61) refl)
-    where
-      whole : word ∷ [] ≡ (45 ∷ l ∷ c ∷ cs) ∷ []
-      whole = ap (λ w. w ∷ []) (shape ∙ ap (λ x. 45 ∷ x ∷ c ∷ cs) (sym (same_byte l x named)))
-
-      go : (t : Bool) → (c == 61) ≡ t → IsSpelled (letter l) (cond t cs (c ∷ cs)) (word ∷ [])
-      go true same = inl (inl (whole ∙ ap (λ c. (45 ∷ l ∷ c ∷ cs) ∷ []) (same_byte c 61 same)))
-      go false other = inr (whole, (λ none. cc), other_first c cs other)
+  short_as (letter l) x [] word among named shape = grind arith
+  short_as (letter l) x (c ∷ cs) word among named shape = grind arith
   short_as item x bs word among named shape = cc
 
   module _ (has_file : Contains items file) (ascii : (x : ℕ) → Contains items (letter x) → x < 128) where
     spelled_as : (word : Text) → IsUtf8 word → View word → SpelledAs items (word_of items word) word
-    spelled_as word utf8 (as_end is_end says_is not_plain) =
-        subst (λ W. SpelledAs items W word) (sym (says_is items)) ((bytes_eq-Decides word hyphens).0 is_end)
-    spelled_as word utf8 (as_long own v no_end form says_is not_plain) =
-        subst (λ W. SpelledAs items W word) (sym (says_is items)) (go (find (has_long own) items) (found_in (has_long own) items))
-      where
-        go : (o : Option Item) → ((item : Item) → o ≡ Some item → Contains items item × (has_long own item ≡ true))
-            → SpelledAs items (option_map_or (option_word v) o unknown) word
-        go None found = tt
-        go (Some item) found =
-            let of = found item refl in
-            long_as item own v word of.0 of.1 (long_shape word own v form)
+    spelled_as word utf8 (as_end is_end says_is not_plain) = grind arith
+    spelled_as word utf8 (as_long own v no_end form says_is not_plain) = grind (arith, found_in, long_as, long_shape)
     spelled_as word utf8 (as_short b bs x no_end no_long form char says_is not_plain) =
         subst (λ W. SpelledAs items W word) (sym (says_is items)) (go (find (has_letter x) items) (found_in (has_letter x) items))
       where
@@ -198,9 +153,7 @@ module _ (items : List Item) where
 
     after_end : (words : List Text) (uses : List Use) → file_after words ≡ Some uses → AreSpelled items uses (hyphens ∷ words)
     after_end [] uses is = let none : uses ≡ [] = cc in subst (λ uses. AreSpelled items uses (hyphens ∷ [])) (sym none) (inr refl)
-    after_end (word ∷ []) uses is =
-        let one : use_of file word ∷ [] ≡ uses = cc in
-        subst (λ uses. AreSpelled items uses (hyphens ∷ word ∷ [])) one (inr (refl, refl, refl))
+    after_end (word ∷ []) uses is = grind arith
     after_end (word ∷ other ∷ words) uses is = cc
 
     -- a first use, and those after it
@@ -212,8 +165,7 @@ module _ (items : List Item) where
     -- of the first use and those after it each is taken
     taken_parts : (u : Use) (us uses : List Use) → uses ≡ u ∷ us → list_all is_taken uses ≡ true
         → (is_taken u ≡ true) × (list_all is_taken us ≡ true)
-    taken_parts u us uses is taken =
-        both (is_taken u) (list_all is_taken us) (subst (λ uses. list_all is_taken uses ≡ true) is taken)
+    taken_parts u us uses is taken = grind arith
 
     idle_from : (word : Text) (words : List Text) (W : Word) → SpelledAs items W word → IdleSpelled words → WaitsSpelled words
         → All IsUtf8 words → (uses : List Use) → with_word W words (λ waiting. uses_from items waiting words) ≡ Some uses
@@ -224,15 +176,8 @@ module _ (items : List Item) where
         let first = is parts.0 in
         subst (λ uses. AreSpelled items uses (word ∷ words)) (sym of.2)
         (inl (word ∷ [], words, refl, first.0, first.1, idles of.0 utf8 of.1 parts.1))
-    idle_from word words (waits item) is idles waiting utf8 uses reads taken =
-        let of = waiting item uses utf8 reads taken in
-        let own = is of.0 of.4 of.5 in
-        let first : AreSpelled items (use_of item of.0 ∷ of.2) (word ∷ of.0 ∷ of.1) =
-        inl (word ∷ of.0 ∷ [], of.1, refl, own.0, own.1, of.7) in
-        subst (λ words. AreSpelled items uses (word ∷ words)) (sym of.3)
-        (subst (λ uses. AreSpelled items uses (word ∷ of.0 ∷ of.1)) (sym of.6) first)
-    idle_from word words ends is idles waiting utf8 uses reads taken =
-        subst (λ word. AreSpelled items uses (word ∷ words)) (sym is) (after_end words uses reads)
+    idle_from word words (waits item) is idles waiting utf8 uses reads taken = grind arith
+    idle_from word words ends is idles waiting utf8 uses reads taken = grind arith
     idle_from word words unknown is idles waiting utf8 uses reads taken = cc
 
     waits_from : (word : Text) (words : List Text) → IdleSpelled words → WaitsSpelled (word ∷ words)
@@ -257,10 +202,7 @@ module _ (items : List Item) where
         go false other reads = cc
 
     all_spelled : (words : List Text) → IdleSpelled words × WaitsSpelled words
-    all_spelled [] = (
-      λ uses utf8 is taken. (let none : uses ≡ [] = cc in subst (λ uses. AreSpelled items uses []) (sym none) (inl refl)),
-      λ item uses utf8 is taken. cc,
-    )
+    all_spelled [] = grind arith
     all_spelled (word ∷ words) =
         let others = all_spelled words in (
           λ uses utf8 is taken. idle_from word words (word_of items word) (spelled_as word (All-head IsUtf8 word words utf8) (view word))

@@ -1,6 +1,6 @@
 -- The words of a command are scanned as its uses.
-use Rattle.std.proofs.Common.{◌≡◌, ◌∙◌, ◌++◌, ap, codes, inl, inr, refl, sym, true, ℕ}
-use Rattle.std.proofs.Common.{List, [], ◌∷◌, Some, None}
+use Rattle.std.proofs.lemmas.Grind.{common_steps}
+use Rattle.std.proofs.Common.{arith, ◌≡◌, ◌∙◌, ◌++◌, ap, codes, inl, inr, refl, sym, true, ℕ, List, [], ◌∷◌, Some, None}
 use Rattle.std.specs.Prelude.{option_map}
 use Rattle.std.specs.List.{All, AllByRecursion, Contains, list_all}
 use Rattle.std.specs.Str.{chars}
@@ -9,7 +9,7 @@ use Rattle.fax_tool.specs.Grammar.{AreOfCommand, AreOfNoCommand, AreSpelled, IsP
 use Rattle.fax_tool.specs.Grammar.{letter, number, text}
 use Rattle.fax_tool.specs.code.Scan.{attached, is_plain, is_taken, option_word, read, says, takes, use_of, uses_from, uses_of, waits}
 use Rattle.fax_tool.specs.code.Scan.{word_of}
-use Rattle.fax_tool.proofs.GrammarLemmas.{apart_scanned, attached_scanned, number_scanned, plain_scanned}
+use Rattle.fax_tool.proofs.GrammarLemmas.{apart_scanned, number_scanned, plain_scanned}
 use Rattle.fax_tool.proofs.RuleLemmas.{items_at}
 use Rattle.fax_tool.proofs.ViewLemmas.{View, as_end, as_long, as_plain, as_short, view}
 
@@ -38,11 +38,6 @@ plain_read items word is = go (view word)
     go (as_plain no_end no_long form says_is plain) = says_is items
 
 module _ (items : List Item) (each : (item : Item) → Contains items item → IsRead items item) where
-  -- a word that says a use
-  one_word : (word : Text) (u : Use) (us : List Use) (own others words : List Text) → words ≡ own ++ others → own ≡ word ∷ []
-      → word_of items word ≡ says u → uses_from items None others ≡ Some us → uses_from items None words ≡ Some (u ∷ us)
-  one_word word u us own others words split is says_is more = rw (split, is, says_is, more) refl
-
   -- a word that waits for the next one
   two_words : (item : Item) (name value : Text) (us : List Use) (own others words : List Text) → words ≡ own ++ others
       → (own ≡ name ∷ value ∷ []) × IsPlain value → word_of items name ≡ waits item → uses_from items None others ≡ Some us
@@ -51,24 +46,17 @@ module _ (items : List Item) (each : (item : Item) → Contains items item → I
 
   spelled_use : (item : Item) (value : Text) (us : List Use) (own others words : List Text) → words ≡ own ++ others → IsRead items item
       → IsSpelled item value own → uses_from items None others ≡ Some us → uses_from items None words ≡ Some (use_of item value ∷ us)
-  spelled_use (text name) value us own others words split reads (inl is) more =
-      one_word _ (use_of (text name) value) us own others words split is (reads.0 value) more
+  spelled_use (text name) value us own others words split reads (inl is) more = grind arith
   spelled_use (text name) value us own others words split reads (inr is) more =
       two_words (text name) _ value us own others words split is reads.1 more
-  spelled_use (number name most) value us own others words split reads (inl is, digits) more =
-      one_word _ (use_of (number name most) value) us own others words split is (reads.0 value) more
-  spelled_use (number name most) value us own others words split reads (inr is, digits) more =
-      two_words (number name most) _ value us own others words split is reads.1 more
-  spelled_use (letter x) value us own others words split reads (inl (inl is)) more =
-      one_word _ (use_of (letter x) value) us own others words split is (reads.0 value) more
+  spelled_use (number name most) value us own others words split reads (inl is, digits) more = grind arith
+  spelled_use (number name most) value us own others words split reads (inr is, digits) more = grind arith
+  spelled_use (letter x) value us own others words split reads (inl (inl is)) more = grind arith
   spelled_use (letter x) value us own others words split reads (inl (inr is)) more =
       two_words (letter x) _ value us own others words split is reads.2 more
-  spelled_use (letter x) value us own others words split reads (inr is) more =
-      one_word _ (use_of (letter x) value) us own others words split is.0 (reads.1 value (attached_scanned value is.1 is.2)) more
-  spelled_use (flag name) value us own others words split reads is more =
-      one_word _ (use_of (flag name) value) us own others words split is.0 (reads ∙ ap (λ v. says (use_of (flag name) v)) (sym is.1)) more
-  spelled_use file value us own others words split reads is more =
-      one_word value (use_of file value) us own others words split is.0 (plain_read items value (plain_scanned value is.1)) more
+  spelled_use (letter x) value us own others words split reads (inr is) more = grind arith
+  spelled_use (flag name) value us own others words split reads is more = grind arith
+  spelled_use file value us own others words split reads is more = grind (arith, plain_read, plain_scanned)
 
   spelled : (uses : List Use) (words : List Text) → AreSpelled items uses words → uses_from items None words ≡ Some uses
   unfolding chars
@@ -76,13 +64,10 @@ module _ (items : List Item) (each : (item : Item) → Contains items item → I
   spelled [] words (inr ends) = rw ends refl
   spelled (u ∷ us) words (inl (own, others, split, among, is, more)) =
       spelled_use u.item u.value us own others words split (each u.item among) is (spelled us others more)
-  spelled (u ∷ us) words (inr (as_file, none, is)) =
-      let u_is : use_of file u.value ≡ u = ap (λ item. use_of item u.value) (sym as_file) in
-      rw is (ap (λ us. Some us) (ap (λ u. u ∷ []) u_is ∙ ap (λ us. u ∷ us) (sym none)))
+  spelled (u ∷ us) words (inr (as_file, none, is)) = grind arith
 
 each_read : (items : List Item) → AllByRecursion (IsRead items) items → (item : Item) → Contains items item → IsRead items item
-each_read items are item among = All-contains (IsRead items) items item
-    (All-from_recursion (IsRead items) items are) among
+each_read items are item among = grind (arith, common_steps)
 
 letter_read : (items : List Item) (x : ℕ) →
     ((b : ℕ) (bs : Text) → word_of items (codes "-" ++ x ∷ b ∷ bs) ≡ option_word (attached (b ∷ bs)) (letter x))
@@ -116,8 +101,7 @@ use_taken item value own is = refl
 
 uses_taken : (items : List Item) (uses : List Use) (words : List Text) → AreSpelled items uses words → list_all is_taken uses ≡ true
 uses_taken items [] words is = refl
-uses_taken items (u ∷ us) words (inl (own, others, split, among, is, more)) =
-    rw (use_taken u.item u.value own is, uses_taken items us others more) refl
+uses_taken items (u ∷ us) words (inl (own, others, split, among, is, more)) = grind (arith, use_taken, uses_taken items us others more)
 uses_taken items (u ∷ us) words (inr (as_file, none, is)) = rw (as_file, none) refl
 
 -- a command's items are found by its name
@@ -126,8 +110,7 @@ IsNamed command = (program : Text) (words : List Text) → read (program ∷ com
     ≡ option_map {U = Text × List Use} (λ uses. (command.0, uses)) (uses_of command.1 words)
 
 all_named : All IsNamed commands
-all_named = All-from_recursion IsNamed commands
-    ((λ program words. refl), ((λ program words. refl), ((λ program words. refl), ((λ program words. refl), tt))))
+all_named = grind arith
 
 -- the words of a command are read as its uses
 pub command_is_read : (words : List Text) (name : Text) (uses : List Use) → AreOfCommand words name uses → read words ≡ Some (name, uses)

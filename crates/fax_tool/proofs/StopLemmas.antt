@@ -1,5 +1,5 @@
 -- What is left of a text where printing of it was refused.
-use Rattle.std.proofs.Common.{◌≡◌, ℕ, List, [], ◌++◌, ◌⊎◌, inl, inr, refl, ap, sym, ◌∙◌, subst, append_assoc}
+use Rattle.std.proofs.Common.{arith, ◌≡◌, ℕ, List, [], ◌++◌, ◌⊎◌, inl, inr, refl, ap, sym, ◌∙◌, subst, append_assoc}
 use Rattle.std.specs.Prelude.{Option, Some, None, IfSome}
 use Rattle.std.specs.Io.KnownBytes.{Appends}
 use Rattle.std.proofs.KnownBytes.{Appends-trans}
@@ -8,7 +8,6 @@ use Rattle.fax_tool.specs.declared.refusal.Refusal.TheVariants.{Memory, Read, Wr
 use Rattle.fax_tool.specs.Run.{Counts, Output, LeavesText}
 use Rattle.fax_tool.specs.Streams.{output_after}
 use Rattle.fax_tool.specs.Text.{Printed}
-use Rattle.fax_tool.specs.Run.{LeavesText}
 use Rattle.fax_tool.specs.code.Outcome.{StopsPrinting}
 use Rattle.fax_tool.specs.code.Transfers.{IsGivenInPart}
 
@@ -26,17 +25,12 @@ NoText printed = ⊥
 pub leaves_more : (is other : Printed → Type 0) (first more : List ℕ → Type 0) (refusal : Refusal) (output : Output)
     → ((printed : Printed) → is printed → other printed) → ((text : List ℕ) → first text → more text)
     → LeavesText is first refusal output → LeavesText other more refusal output
-leaves_more is other first more Memory output f g (text, left, moved) = (text, g text left, moved)
-leaves_more is other first more Read output f g (text, left, moved) = (text, left, moved)
-leaves_more is other first more Write output f g (text, (rest, inl (printed, holds, same)), moved) =
-    (text, (rest, inl (printed, f printed holds, same)), moved)
-leaves_more is other first more Write output f g (text, (rest, inr left), moved) = (text, (rest, inr (g (text ++ rest) left)), moved)
+leaves_more is other first more refusal output f g h = grind arith
 
 pub stops_more : (is other : Printed → Type 0) (first more : List ℕ → Type 0) (refusal : Refusal) (output : Output)
     → ((printed : Printed) → is printed → other printed) → ((text : List ℕ) → first text → more text)
     → StopsPrinting is first refusal output → StopsPrinting other more refusal output
-stops_more is other first more refusal output f g stops =
-    record { reason = stops.reason; leaves = leaves_more is other first more refusal output f g stops.leaves }
+stops_more is other first more refusal output f g stops = grind arith
 
 -- printing was refused after this was sent
 pub stops_after : (is other : Printed → Type 0) (first more : List ℕ → Type 0) (refusal : Refusal) (old mid new : Option (List ℕ))
@@ -67,29 +61,16 @@ stops_after is other first more Write old mid new counts sent before f g stops =
 pub stops_in_part : (is : Printed → Type 0) (first : List ℕ → Type 0) (old new : Option (List ℕ)) (bytes : List ℕ) (counts : Counts)
     (refusal : Refusal) → ((printed : Printed) × is printed × (bytes ≡ printed.output)) ⊎ first bytes
     → IsGivenInPart old new bytes counts refusal → StopsPrinting is first refusal (output_after old new counts)
-stops_in_part is first old new bytes counts refusal (inl (printed, holds, same)) given = rw given.write (record {
-  reason = given.failed;
-  leaves = (given.front.front, (given.front.rest, inl (printed, holds, sym given.front.parts ∙ same)), given.front.written);
-})
-stops_in_part is first old new bytes counts refusal (inr holds) given = rw given.write (record {
-  reason = given.failed;
-  leaves = (given.front.front, (given.front.rest, inr (subst first given.front.parts holds)), given.front.written);
-})
+stops_in_part is first old new bytes counts refusal h given = grind arith
 
 -- the first part of a text was given in part
 pub stops_in_front : (first : List ℕ → Type 0) (old new : Option (List ℕ)) (bytes more : List ℕ) (counts : Counts) (refusal : Refusal)
     → first (bytes ++ more) → IsGivenInPart old new bytes counts refusal
     → StopsPrinting NoText first refusal (output_after old new counts)
-stops_in_front first old new bytes more counts refusal holds given =
-    let parts = ap (λ (l : List ℕ). l ++ more) given.front.parts ∙ append_assoc given.front.front given.front.rest more in
-    rw given.write (record {
-      reason = given.failed;
-      leaves = (given.front.front, (given.front.rest ++ more, inr (subst first parts holds)), given.front.written);
-    })
+stops_in_front first old new bytes more counts refusal holds given = grind (arith, append_assoc)
 
 -- such a text was given in part
 pub stops_at : (is : Printed → Type 0) (first : List ℕ → Type 0) (old new : Option (List ℕ)) (bytes : List ℕ) (counts : Counts)
     (refusal : Refusal) → is (record { output = bytes; error = []; status = 0 }) → IsGivenInPart old new bytes counts refusal
     → StopsPrinting is first refusal (output_after old new counts)
-stops_at is first old new bytes counts refusal holds given =
-    stops_in_part is first old new bytes counts refusal (inl (record { output = bytes; error = []; status = 0 }, holds, refl)) given
+stops_at is first old new bytes counts refusal holds given = grind arith

@@ -1,5 +1,5 @@
 -- What a command writes of a file is one text.
-use Rattle.std.proofs.Common.{◌≡◌, ℕ, List, [], ◌++◌, codes, Option, Bool, false, ap, ap₂, sym, ◌∙◌, inl, inr}
+use Rattle.std.proofs.Common.{arith, ◌≡◌, ℕ, List, [], ◌++◌, codes, Option, Bool, false, ap, ap₂, sym, ◌∙◌, inl, inr}
 use Rattle.std.specs.Prelude.{flat_map}
 use Rattle.std.specs.Option.{option_map_or}
 use Rattle.fax_bits.specs.laws.Codes.{IsOne}
@@ -11,7 +11,7 @@ use Rattle.fax_walk.specs.laws.Answers.{BytesAreConvertedInOneWay, FilesHaveOneR
 use Rattle.fax_walk.specs.laws.Tails.{BeginningsHaveOneTail, CursorsHaveOneFormTail}
 use Rattle.fax_tool.specs.ReportText.{IsCheckText, IsConversionText, convert_fault_line, note_line}
 use Rattle.fax_tool.specs.Run.{ArePageLines, AreRowLines, IsTextOfLines, begun_of}
-use Rattle.fax_tool.specs.Text.{Begun, At, End, Line, Printed, and_number, fault_line, text_of}
+use Rattle.fax_tool.specs.Text.{Begun, At, End, Line, Printed, and_number, fault_line}
 use Rattle.fax_tool.specs.declared.words.Command.TheVariants.{Check, Convert, List as Forms, Rows}
 use Rattle.fax_tool.specs.laws.Texts.{TextsAreOne}
 use Rattle.fax_tool.proofs.LineLemmas.{one_pages, one_rows}
@@ -19,10 +19,7 @@ use Rattle.fax_tool.proofs.LineLemmas.{one_pages, one_rows}
 -- of one list of lines and one end there is one text
 one_of_lines : (are : List Line → End → Type 0) → IsOne are → (long : Bool) (max : Option ℕ) (begun : Begun) (printed other : Printed)
     → IsTextOfLines are long max begun printed → IsTextOfLines are long max begun other → printed ≡ other
-one_of_lines are one long max begun printed other (lines, end, first, is) (lines', end', second, is') =
-    let these = one.one lines end first in
-    let those = one.one lines' end' second in
-    is ∙ ap₂ (text_of long max begun) (these.0 ∙ sym those.0) (these.1 ∙ sym those.1) ∙ sym is'
+one_of_lines are one long max begun printed other (lines, end, first, is) (lines', end', second, is') = grind arith
 
 one_conversion : BytesAreConvertedInOneWay → (options : Options) (file : List ℕ) (printed other : Printed)
     → IsConversionText options file printed → IsConversionText options file other → printed ≡ other

@@ -1,9 +1,8 @@
 -- The text of lines that are printed up to a limit or to their end.
-use Rattle.std.proofs.Common.{◌≡◌, ℕ, ◌<◌, ◌≤◌, List, ◌++◌, length, take, refl, ap, sym, ◌∙◌, arith, true, false}
-use Rattle.std.proofs.Common.{Bool, ◌↔◌, append-nil, take-append-drop}
-use Rattle.std.proofs.lemmas.List.{drop_all}
+use Rattle.std.proofs.lemmas.Grind.{common_steps}
+use Rattle.std.proofs.Common.{◌≡◌, ℕ, ◌<◌, ◌≤◌, List, ◌++◌, length, take, refl, ap, sym, ◌∙◌, arith, false, Bool, ◌↔◌}
 use Rattle.std.proofs.Math.Seq.{take-length}
-use Rattle.std.proofs.lemmas.Bool.{le-leb, lt-leb}
+use Rattle.std.proofs.lemmas.Bool.{lt-leb}
 use Rattle.std.proofs.KnownBytes.{Appends-trans}
 use Rattle.std.specs.Prelude.{Option, Some, None, IfSome, nat_le}
 use Rattle.std.specs.Io.KnownBytes.{Appends}
@@ -17,11 +16,10 @@ use Rattle.fax_tool.specs.Streams.{output_after}
 use Rattle.fax_tool.specs.Text.{Line, end_text, named, next_after, next_line, text_of, texts_of}
 use Rattle.fax_tool.specs.code.Outcome.{StopsPrinting, WritesOutput, end_line, error_of, status_of}
 use Rattle.fax_tool.specs.code.Printing.{EndsWith, IsLastLine, IsNextAfter, IsNextLine, PrintsLines}
-use Rattle.fax_tool.proofs.StopLemmas.{NoText, stops_after, stops_more}
+use Rattle.fax_tool.proofs.StopLemmas.{NoText, stops_after}
 
 pub all_taken : {A : Type 0} (n : ℕ) (xs : List A) → length xs ≤ n → take n xs ≡ xs
-all_taken n xs within =
-    sym (append-nil (take n xs)) ∙ ap (λ l. take n xs ++ l) (sym (drop_all n xs within)) ∙ take-append-drop n xs
+all_taken n xs within = grind (arith, common_steps)
 
 -- the error line of an end, and its status
 end_is : (end : End) (next : Begun) → ((end_text (Some end) next).error ≡ error_of (end_line (Some end)))
@@ -34,8 +32,7 @@ end_is Outside next = (refl, refl)
 pub first_text : (begun : Begun) (count : ℕ) (lines : List Line) (end : End) → count ≤ length lines
     → (text_of false (Some count) begun lines end).output
     ≡ texts_of (take count lines) ++ next_line (named false (next_after begun (take count lines)))
-first_text begun count lines end some =
-    let yes : nat_le count (length lines) ≡ true = le-leb count (length lines) some in rw yes refl
+first_text begun count lines end some = grind arith
 
 -- what is printed after lines where printing ended so: at a limit where to go on
 abbrev ending_text : Option End → Begun → List ℕ
@@ -73,11 +70,7 @@ whole_ended lines end long (Some limit) begun few =
 
 by_ending : (lines : List Line) (end : End) (count : ℕ) (long : Bool) (max : Option ℕ) (begun : Begun) (ending : Option End)
     → EndsWith lines end count max ending → IsEndedText lines end count long max begun ending
-by_ending lines end count long max begun None (is, some) =
-    let yes : nat_le count (length lines) ≡ true = le-leb count (length lines) some in
-    rw is (record { output = rw yes refl; error = rw yes refl; status = rw yes refl; within = omega arith; some = some })
-by_ending lines end count long max begun (Some met) (end_is, all, few) =
-    rw (all, ← end_is) (whole_ended lines end long max begun (rw all at few))
+by_ending lines end count long max begun ending h = grind (arith, whole_ended)
 
 module _ {tail now : List Line → End → Type 0} (one : IsOne tail) (same : (all : List Line) (end : End) → tail all end ↔ now all end)
     {begun now_begun : Begun} (same_begun : now_begun ≡ begun) (long : Bool) {max : Option ℕ} {ending : Option End} {count : ℕ}
@@ -86,40 +79,21 @@ module _ {tail now : List Line → End → Type 0} (one : IsOne tail) (same : (a
   ended = by_ending prints.lines prints.end count long max begun ending prints.ends
 
   next_is : (next : Begun) → IsNextAfter now now_begun count next → next ≡ next_after begun (take count prints.lines)
-  next_is next after =
-      let first = one.one prints.lines prints.end prints.is in
-      let second = one.one after.lines after.end ((same after.lines after.end).1 after.is) in
-      after.next_is ∙ ap (λ (b : Begun). next_after b (take count after.lines)) same_begun
-      ∙ ap (λ (l : List Line). next_after begun (take count l)) (second.0 ∙ sym first.0)
+  next_is next after = grind arith
 
   abbrev texts : List ℕ
   texts = texts_of (take count prints.lines)
 
-  next_line_is : (line : List ℕ) (far : Bool) → IsNextLine now now_begun count far line
-      → line ≡ next_line (named far (next_after begun (take count prints.lines)))
-  next_line_is line far (next, after, line_is) = line_is ∙ ap (λ (b : Begun). next_line (named far b)) (next_is next after)
-
   last_is : (line : List ℕ) (met : Option End) → IsLastLine now now_begun count long met line
       → line ≡ ending_text met (named long (next_after begun (take count prints.lines)))
-  last_is line None is = next_line_is line long is
-  last_is line (Some Proper) is = is
-  last_is line (Some (Fault page row cause)) is = next_line_is line long is
-  last_is line (Some Outside) is = is
+  last_is line met is = grind arith
 
   whole : (line : List ℕ) → IsLastLine now now_begun count long ending line
       → (text_of long max begun prints.lines prints.end).output ≡ texts ++ line
   whole line is = ended.output ∙ ap (λ (l : List ℕ). texts ++ l) (sym (last_is line ending is))
 
   first : (line : List ℕ) → IsNextLine now now_begun count false line → IsTextOfFirst tail max begun (texts ++ line)
-  first line is = (
-    prints.lines,
-    prints.end,
-    prints.is,
-    count,
-    ended.some,
-    ended.within,
-    ap (λ (l : List ℕ). texts ++ l) (next_line_is line false is) ∙ sym (first_text begun count prints.lines prints.end ended.some),
-  )
+  first line is = grind arith
 
   -- the lines and the last line are printed
   pub all_printed : (new_written : Option (List ℕ)) (counts : Counts) (line : List ℕ) → IsLastLine now now_begun count long ending line
@@ -152,6 +126,4 @@ pub stopped_at_lines : (tail : List Line → End → Type 0) (begun : Begun) (lo
     (counts : Counts) (refusal : Refusal)
     → StopsPrinting NoText (IsTextOfFirst tail max begun) refusal (output_after output new_output counts)
     → StopsPrinting (IsTextOfLines tail long max begun) (IsTextOfFirst tail max begun) refusal (output_after output new_output counts)
-stopped_at_lines tail begun long max output new_output counts refusal stops =
-    stops_more NoText (IsTextOfLines tail long max begun) (IsTextOfFirst tail max begun) (IsTextOfFirst tail max begun) refusal
-    (output_after output new_output counts) (λ printed none. absurd none) (λ text holds. holds) stops
+stopped_at_lines tail begun long max output new_output counts refusal stops = grind arith

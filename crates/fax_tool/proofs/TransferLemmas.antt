@@ -1,10 +1,9 @@
 -- Bytes that move in several calls.
-use Rattle.std.proofs.Common.{◌≡◌, ℕ, ◌-◌, List, ◌++◌}
-use Rattle.std.proofs.Common.{length, take, drop, ap, sym, ◌∙◌, append_assoc, length-drop}
-use Rattle.std.proofs.Common.{take-append-drop}
+use Rattle.std.proofs.lemmas.Grind.{common_steps}
+use Rattle.std.proofs.Common.{arith, ◌≡◌, ℕ, ◌-◌, List, ◌++◌, length, take, drop, ap, sym, ◌∙◌, append_assoc, length-drop, take-append-drop}
 use Rattle.std.proofs.Math.Seq.{take-length}
 use Rattle.std.proofs.KnownBytes.{Appends-trans}
-use Rattle.std.specs.Prelude.{Option, Result, Ok, Err, IfErr, ⊤}
+use Rattle.std.specs.Prelude.{Option, Result, IfErr, ⊤}
 use Rattle.std.specs.Io.KnownBytes.{Appends}
 use Rattle.fax_tool.specs.declared.refusal.Refusal.{Refusal}
 use Rattle.fax_tool.specs.Run.{Counts}
@@ -36,34 +35,9 @@ second_given old mid new first second = Appends-trans old mid new first second
 -- the first part was given in part
 pub first_given_in_part : (old new : Option (List ℕ)) (first second : List ℕ) (counts : Counts) (refusal : Refusal)
     → IsGivenInPart old new first counts refusal → IsGivenInPart old new (first ++ second) counts refusal
-first_given_in_part old new first second counts refusal is = record {
-  write = is.write;
-  failed = is.failed;
-  front = record {
-    front = is.front.front;
-    rest = is.front.rest ++ second;
-    parts = ap (λ xs. xs ++ second) is.front.parts ∙ append_assoc is.front.front is.front.rest second;
-    written = is.front.written;
-  };
-}
-
--- the second part was given in part
-second_given_in_part : (old mid new : Option (List ℕ)) (first second : List ℕ) (counts : Counts) (refusal : Refusal)
-    → Appends old mid first → IsGivenInPart mid new second counts refusal → IsGivenInPart old new (first ++ second) counts refusal
-second_given_in_part old mid new first second counts refusal given is = record {
-  write = is.write;
-  failed = is.failed;
-  front = record {
-    front = first ++ is.front.front;
-    rest = is.front.rest;
-    parts = ap (λ xs. first ++ xs) is.front.parts ∙ sym (append_assoc first is.front.front is.front.rest);
-    written = Appends-trans old mid new first is.front.front given is.front.written;
-  };
-}
+first_given_in_part old new first second counts refusal is = grind (arith, append_assoc)
 
 pub second_given_err : (old mid new : Option (List ℕ)) (first second : List ℕ) (counts : Counts) (answer : Result ⊤ Refusal)
     → Appends old mid first → IfErr answer (IsGivenInPart mid new second counts)
     → IfErr answer (IsGivenInPart old new (first ++ second) counts)
-second_given_err old mid new first second counts (Ok done) given is = tt
-second_given_err old mid new first second counts (Err refusal) given is =
-    second_given_in_part old mid new first second counts refusal given is
+second_given_err old mid new first second counts answer given is = grind (arith, common_steps)

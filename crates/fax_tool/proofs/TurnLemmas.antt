@@ -1,6 +1,5 @@
 -- What clap's walk makes of one word of a command without subcommands.
-use Rattle.std.proofs.Common.{◌≡◌, ◌∙◌, ap, refl, sym, subst, Bool, true, false, ℕ}
-use Rattle.std.proofs.Common.{List, [], ◌∷◌, Option, Some, None, drop, length}
+use Rattle.std.proofs.Common.{arith, ◌≡◌, ◌∙◌, ap, refl, sym, subst, Bool, true, false, ℕ, List, [], ◌∷◌, Option, Some, None, drop, length}
 use Rattle.std.specs.Prelude.{encode_utf8, find, slice_get, option_and_then, option_map}
 use Rattle.std.specs.List.{fold}
 use Rattle.std.specs.Option.{option_map_or}
@@ -10,15 +9,11 @@ use Rattle.clap.specs.Kinds.{Kinds}
 use Rattle.clap.specs.Simple.{Shape, new_shape}
 use Rattle.fax_tool.proofs.ViewLemmas.{attached_is, hyphens, same_byte}
 use Rattle.clap.specs.Walk.{Held, Outcome, attached_value, short_met, Row, Rule, Step, Text, Waiting, Walk, after_flag, after_step}
-use Rattle.clap.specs.Walk.{arg_by_id, arg_by_long, arg_by_short}
-use Rattle.clap.specs.Walk.{idle, option, settled, used, used_by_id, walked, done}
-use Rattle.clap.specs.Walk.{long_met, bundle_met}
+use Rattle.clap.specs.Walk.{arg_by_id, arg_by_long, arg_by_short, idle, option, settled, used, walked, done, long_met, bundle_met}
 use Rattle.clap.specs.Faults.{settle_fault, short_fault, step_fault, word_fault, turn_fault, use_fault, walk_fault, long_fault}
 use Rattle.clap.specs.Faults.{react_fault, flags_fault}
-use Rattle.fax_tool.specs.Grammar.{Item, Use, flag, letter}
-use Rattle.fax_tool.specs.code.Scan.{Word, attached, ends, says, unknown, waits, has_letter, has_long}
-use Rattle.fax_tool.specs.Grammar.{name_of}
-use Rattle.fax_tool.specs.code.Scan.{letter_word, option_word, use_of}
+use Rattle.fax_tool.specs.Grammar.{Item, Use, flag, letter, name_of}
+use Rattle.fax_tool.specs.code.Scan.{Word, attached, ends, says, unknown, waits, has_letter, has_long, letter_word, option_word, use_of}
 use Rattle.fax_tool.proofs.RuleLemmas.{by_long, by_short, found, rule_of, rules_of}
 use Rattle.fax_tool.proofs.UseLemmas.{IsItem, enter, flag_used, guard, guard_twice, is_option, option_used}
 
@@ -56,12 +51,10 @@ stand rows pending waiting position trailing = record {
 
 pub and_then_at : {A B : Type 0} (o : Option A) (f g : A → Option B) → ((x : A) → o ≡ Some x → f x ≡ g x)
     → option_and_then f o ≡ option_and_then g o
-and_then_at None f g same = refl
-and_then_at (Some x) f g same = same x refl
+and_then_at o f g same = grind arith
 
 pub and_then_none : {A B : Type 0} (o : Option A) → ◌≡◌ {A = Option B} (option_and_then (λ x. None) o) None
-and_then_none None = refl
-and_then_none (Some x) = refl
+and_then_none o = grind arith
 
 module _ (name : Text) (items : List Item) where
   -- the rows at the end of a walk without a fault
@@ -79,22 +72,12 @@ module _ (name : Text) (items : List Item) where
   pub settle_then : (p : Option Use) (rows : List Row) (K : List Row → Option (List Row)) → IsPending items p
       → guard (settle_fault (rules_of items) false (holding rows (pend p))) (K (settled (rules_of items) (holding rows (pend p))).rows)
       ≡ option_and_then K (settle p rows)
-  settle_then None rows K is = refl
-  settle_then (Some u) rows K is =
-      subst
-      (λ (o : Option Rule). guard (option_map_or (λ a. use_fault false a (u.value ∷ []) rows) o []) (K (used_by_id o (u.value ∷ []) rows))
-      ≡ option_and_then K (enter rows u))
-      (sym is.0.0) (option_used u.item u.value rows K is.0.1 is.1)
+  settle_then p rows K is = grind (arith, option_used)
 
   -- an option of which the value still is to come
   pub unsettled : (item : Item) (rows : List Row) (r : Option (List Row)) → IsOf items item → is_option item ≡ true
       → guard (settle_fault (rules_of items) false (holding rows (Some (name_of item, [])))) r ≡ None
-  unsettled item rows r is takes =
-      subst (λ (o : Option Rule). guard (option_map_or (λ a. use_fault false a [] rows) o []) r ≡ None) (sym is.0) (go item takes)
-    where
-      go : (item : Item) → is_option item ≡ true → guard (use_fault false (rule_of item) [] rows) r ≡ None
-      go (flag name) takes = cc
-      go item takes = refl
+  unsettled item rows r is takes = grind arith
 
   -- the rows after a word of an option
   abbrev pub goes : List Text → ℕ → Word → List Row → Option (List Row)

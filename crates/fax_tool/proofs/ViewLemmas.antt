@@ -1,10 +1,8 @@
 -- The forms of a word, as clap and the grammar see them.
-use Rattle.std.proofs.Common.{◌≡◌, ◌⊎◌, ◌==◌, arith, cond, inl, inr, refl, sym, subst, Bool, true, false, ℕ}
-use Rattle.std.proofs.Common.{List, [], ◌∷◌, Option, Some, None}
+use Rattle.std.proofs.Common.{◌≡◌, ◌⊎◌, ◌==◌, arith, inl, inr, refl, sym, subst, Bool, true, false, ℕ, List, [], ◌∷◌, Option, Some, None}
 use Rattle.std.specs.Prelude.{find, slice_get}
 use Rattle.std.specs.Option.{option_map_or}
 use Rattle.std.specs.Str.{bytes_eq, chars}
-use Rattle.std.proofs.lemmas.Bool.Decides.{nat_tests}
 use Rattle.clap.specs.Lexer.{long_of, name_and_value, short_of}
 use Rattle.clap.specs.Walk.{Text, attached_value}
 use Rattle.fax_tool.specs.Grammar.{Item, file}
@@ -40,7 +38,7 @@ view_of : (x : ℕ) (xs : Text) → x ≡ 45 → View (45 ∷ xs) → View (x �
 view_of x xs is view = subst (λ x. View (x ∷ xs)) (sym is) view
 
 pub same_byte : (x y : ℕ) → (x == y) ≡ true → x ≡ y
-same_byte x y is = grind (arith, nat_tests)
+same_byte x y is = grind arith
 
 hyphen_view : (xs : Text) → View (45 ∷ xs)
 unfolding chars
@@ -65,9 +63,4 @@ view (x ∷ xs) = go (x == 45) refl
 
 -- what follows a letter
 pub attached_is : (rest : Text) → attached_value rest ≡ attached rest
-attached_is [] = refl
-attached_is (b ∷ bs) = go (b == 61)
-  where
-    go : (t : Bool) → option_map_or (λ v. Some v) (cond t (Some bs) None) (Some (b ∷ bs)) ≡ Some (cond t bs (b ∷ bs))
-    go true = refl
-    go false = refl
+attached_is rest = grind arith

@@ -1,32 +1,24 @@
 -- What clap's walk makes of all the words of a command without subcommands.
-use Rattle.std.proofs.Common.{◌≡◌, ◌∙◌, ◌&&◌, ap, cond, codes, inl, inr, refl, sym, subst, Bool, true, false, ℕ}
-use Rattle.std.proofs.Common.{List, [], ◌∷◌, ◌++◌, Option, Some, None, drop, is_some}
-use Rattle.std.specs.Prelude.{find, nat_lt, not, option_and_then, option_map}
+use Rattle.std.proofs.Common.{arith, ◌≡◌, ◌∙◌, ap, cond, codes, inl, inr, refl, sym, subst, Bool, true, false, ℕ, List, [], ◌∷◌, ◌++◌}
+use Rattle.std.proofs.Common.{Option, Some, None, drop}
+use Rattle.std.specs.Prelude.{find, nat_lt, option_and_then, option_map}
 use Rattle.std.specs.Option.{option_map_or}
 use Rattle.std.specs.Str.{bytes_eq}
 use Rattle.std.proofs.lemmas.Slice.Eq.{bytes_eq-Decides}
 use Rattle.std.proofs.lemmas.List.Folds.{list_any-append}
 use Rattle.std.proofs.Math.Bool.{and-false, or-true}
-use Rattle.clap.specs.Kinds.{Kinds, or_else}
-use Rattle.clap.specs.Walk.{Held, attached_value, Row, Rule, Text, Waiting, after_step, arg_by_index, arg_by_long, arg_by_short}
-use Rattle.clap.specs.Walk.{has_row, idle, option, settled, takes_values, walked}
-use Rattle.clap.specs.Walk.{bundle_met, reacted}
-use Rattle.clap.specs.Faults.{settle_fault, short_fault, word_fault, walk_fault, long_fault, option_fault, react_fault, flags_fault}
-use Rattle.fax_tool.specs.Grammar.{Item, Use, file, flag}
-use Rattle.fax_tool.specs.code.Scan.{Word, attached, ends, says, unknown, waits, has_letter, has_long, is_taken}
-use Rattle.fax_tool.specs.Grammar.{name_of}
-use Rattle.fax_tool.specs.code.Scan.{letter_word, option_word, use_of}
+use Rattle.clap.specs.Kinds.{Kinds}
+use Rattle.clap.specs.Walk.{Held, Row, Rule, Text, Waiting, after_step, arg_by_index, arg_by_long, arg_by_short, has_row, idle, option}
+use Rattle.clap.specs.Walk.{settled, walked, bundle_met, most_values, plain_word, pushed, to_positional}
+use Rattle.clap.specs.Faults.{settle_fault, short_fault, word_fault, walk_fault, long_fault, flags_fault, positional_fault, stray_fault}
+use Rattle.fax_tool.specs.Grammar.{Item, Use, file, flag, name_of}
+use Rattle.fax_tool.specs.code.Scan.{Word, attached, ends, says, unknown, waits, has_letter, has_long, letter_word, option_word, use_of}
+use Rattle.fax_tool.specs.code.Scan.{file_after, uses_from, with_word, word_of}
 use Rattle.fax_tool.proofs.RuleLemmas.{rule_of, rules_of}
 use Rattle.fax_tool.proofs.UseLemmas.{enter, guard, guard_twice, is_option}
-use Rattle.fax_tool.proofs.TurnLemmas.{IsOf, IsPending, and_then_at, and_then_none, goes, holding, leaf, long_turn, pend}
-use Rattle.fax_tool.proofs.TurnLemmas.{run, settle, settle_then}
-use Rattle.clap.specs.declared.error.kind.ErrorKind.TheVariants.{TooManyValues}
-use Rattle.fax_tool.proofs.TurnLemmas.{short_turn, stand, turn, unsettled}
+use Rattle.fax_tool.proofs.TurnLemmas.{IsOf, IsPending, and_then_at, and_then_none, goes, holding, leaf, long_turn, pend, run, settle}
+use Rattle.fax_tool.proofs.TurnLemmas.{settle_then, short_turn, stand, turn, unsettled}
 use Rattle.fax_tool.proofs.ViewLemmas.{View, as_end, as_long, as_plain, as_short, view}
-use Rattle.fax_tool.proofs.UseLemmas.{row_of}
-use Rattle.fax_tool.specs.code.Scan.{file_after, uses_from, with_word, word_of}
-use Rattle.clap.specs.Walk.{most_values, plain_word, is_pending, pushed, to_positional}
-use Rattle.clap.specs.Faults.{short_fault, positional_fault, stray_fault}
 
 -- the rows after some uses
 abbrev pub entered : List Row → List Use → Option (List Row)
@@ -44,13 +36,6 @@ keeps id rows more has = list_any-append (λ r. bytes_eq r.id id) rows more ∙ 
 gets : (id : Text) (rows : List Row) (r : Row) → bytes_eq r.id id ≡ true → has_row id (rows ++ r ∷ []) ≡ true
 gets id rows r same = list_any-append (λ r. bytes_eq r.id id) rows (r ∷ []) ∙ rw same (or-true (has_row id rows))
 
-entered_row : (rows : List Row) (u : Use) (r : List Row) → enter rows u ≡ Some r → rows ++ row_of u ∷ [] ≡ r
-entered_row rows u r is = go (not (has_row (name_of u.item) rows) && is_taken u) is
-  where
-    go : (b : Bool) → cond b (Some (rows ++ row_of u ∷ [])) None ≡ Some r → rows ++ row_of u ∷ [] ≡ r
-    go true is = cc
-    go false is = cc
-
 abbrev place_of : Bool → ℕ
 place_of false = 1
 place_of true = 2
@@ -62,19 +47,14 @@ IsFiled true o = (r : List Row) → o ≡ Some r → has_row (codes "FILE") r �
 
 filed_after : (filed : Bool) (rows r : List Row) (u : Use) → IsFiled filed (Some rows) → enter rows u ≡ Some r → IsFiled filed (Some r)
 filed_after false rows r u is entered = tt
-filed_after true rows r u is entered = λ q same.
-    let row = entered_row rows u r entered in
-    let q_is : r ≡ q = cc in
-    subst (λ q. has_row (codes "FILE") q ≡ true) (row ∙ q_is) (keeps (codes "FILE") rows (row_of u ∷ []) (is rows refl))
+filed_after true rows r u is entered = grind (arith, keeps)
 
 filed_enter : (filed : Bool) (rows : List Row) (u : Use) → IsFiled filed (Some rows) → IsFiled filed (enter rows u)
 filed_enter false rows u is = tt
 filed_enter true rows u is = λ r into. filed_after true rows r u is into r refl
 
 filed_by : (rows : List Row) (word : Text) → IsFiled true (enter rows (use_of file word))
-filed_by rows word r is =
-    subst (λ q. has_row (codes "FILE") q ≡ true) (entered_row rows (use_of file word) r is)
-    (gets (codes "FILE") rows (row_of (use_of file word)) refl)
+filed_by rows word r is = grind (arith, gets)
 
 no_second : (rows : List Row) (word : Text) → has_row (codes "FILE") rows ≡ true → enter rows (use_of file word) ≡ None
 no_second rows word has = rw has refl
@@ -103,14 +83,7 @@ module _ (name : Text) (items : List Item) (first : arg_by_index (rules_of items
       → place_run (arg_by_index (rules_of items) 1) rows pending waiting 1 trailing word words
       ≡ guard (settle_fault (rules_of items) false (holding rows pending))
       (run name items (stand (settled (rules_of items) (holding rows pending)).rows (Some (codes "FILE", word ∷ [])) idle 2 trailing) words)
-  placed rows pending waiting trailing word words =
-      ap (λ o. place_run o rows pending waiting 1 trailing word words) first
-      ∙ (go trailing ∙ ap (place_at rows pending word words trailing) (and-false (is_pending (rule_of file) pending)))
-    where
-      go : (trailing : Bool) → place_run (Some (rule_of file)) rows pending waiting 1 trailing word words
-          ≡ place_at rows pending word words trailing (is_pending (rule_of file) pending && false)
-      go true = refl
-      go false = refl
+  placed rows pending waiting trailing word words = grind (arith, and-false)
 
   -- no second file
   none_placed : (rows : List Row) (pending : Option (Text × List Text)) (waiting : Waiting) (trailing : Bool) (word : Text)
@@ -133,15 +106,7 @@ module _ (name : Text) (items : List Item) (first : arg_by_index (rules_of items
       → IsFiled true (settle p rows)
       → place_run (arg_by_index (rules_of items) 2) rows (pend p) idle 2 trailing word words
       ≡ option_and_then (λ r. option_and_then (entered r) (option_map (λ us. use_of file word ∷ us) o)) (settle p rows)
-  no_place p rows trailing word words o filed =
-      none_placed rows (pend p) idle trailing word words
-      ∙ (sym (and_then_none (settle p rows))
-      ∙ and_then_at (settle p rows) _ _ (λ r at. go r (filed r at) o))
-    where
-      go : (r : List Row) → has_row (codes "FILE") r ≡ true → (o : Option (List Use))
-          → None ≡ option_and_then (entered r) (option_map (λ us. use_of file word ∷ us) o)
-      go r has None = refl
-      go r has (Some us) = ap (option_and_then (λ r. entered r us)) (sym (no_second r word has))
+  no_place p rows trailing word words o filed = grind (arith, none_placed, pend)
 
   trails : (p : Option Use) (rows : List Row) (filed : Bool) (words : List Text) → IsPending items p → IsFiled filed (settle p rows)
       → trail_run p rows filed words ≡ option_and_then (λ r. option_and_then (entered r) (file_after words)) (settle p rows)
@@ -150,15 +115,9 @@ module _ (name : Text) (items : List Item) (first : arg_by_index (rules_of items
   trails p rows false (word ∷ []) is at =
       turn name items (stand rows (pend p) idle 1 true) word [] ∙ (file_placed p rows true word [] is
       ∙ and_then_at (settle p rows) _ _ (λ r at. settle_then name items (Some (use_of file word)) r (λ r. Some r) (file_is, refl)))
-  trails p rows true (word ∷ []) is at =
-      turn name items (stand rows (pend p) idle 2 true) word [] ∙ no_place p rows true word [] (Some []) at
-  trails p rows false (word ∷ other ∷ words) is at =
-      turn name items (stand rows (pend p) idle 1 true) word (other ∷ words) ∙ (file_placed p rows true word (other ∷ words) is
-      ∙ and_then_at (settle p rows) _ _ (λ r at. turn name items (stand r (pend (Some (use_of file word))) idle 2 true) other words
-      ∙ none_placed r (pend (Some (use_of file word))) idle true other words))
-  trails p rows true (word ∷ other ∷ words) is at =
-      turn name items (stand rows (pend p) idle 2 true) word (other ∷ words) ∙ (none_placed rows (pend p) idle true word (other ∷ words)
-      ∙ sym (and_then_none (settle p rows)))
+  trails p rows true (word ∷ []) is at = grind arith
+  trails p rows false (word ∷ other ∷ words) is at = grind (arith, turn, stand, pend)
+  trails p rows true (word ∷ other ∷ words) is at = grind (arith, turn, stand)
 
   abbrev IdleOf : List Text → Type 0
   IdleOf words = (p : Option Use) (rows : List Row) (filed : Bool) → IsPending items p → IsFiled filed (settle p rows)
@@ -214,10 +173,7 @@ module _ (name : Text) (items : List Item) (first : arg_by_index (rules_of items
       ∙ and_then_at (settle p rows) _ _ (λ r into. idles (Some (use_of file word)) r true (file_is, refl) (filed_by r word)
       ∙ (one_first r (use_of file word) (uses_from items None words)
       ∙ ap (option_and_then (entered r)) (sym (with_says word words (says (use_of file word)) says_is))))
-  plain_idle word words idles says_is p rows true is at =
-      no_place p rows false word words (uses_from items None words) at
-      ∙ ap (λ o. option_and_then (λ r. option_and_then (entered r) o) (settle p rows))
-      (sym (with_says word words (says (use_of file word)) says_is))
+  plain_idle word words idles says_is p rows true is at = grind arith
 
   idle_step : (word : Text) (words : List Text) → View word → IdleOf words → WaitsOf words → IdleOf (word ∷ words)
   unfolding walked walk_fault bundle_met flags_fault
@@ -252,31 +208,15 @@ module _ (name : Text) (items : List Item) (first : arg_by_index (rules_of items
     abbrev unfilled : Held
     unfilled = holding rows (Some (name_of item, []))
 
-    reacts : (a : Rule) (values : List Text) (r : Option (List Row)) → guard (react_fault (rules_of items) false a values unfilled) r ≡ None
-    reacts a values r = guard_twice (settle_fault (rules_of items) false unfilled) _ r ∙ unsettled name items item rows _ is takes
-
     unsettled_long : (o : Option Rule) (v : Option Text) (r : Option (List Row))
         → guard (long_fault (rules_of items) false o v unfilled) r ≡ None
     unsettled_long None v r = refl
-    unsettled_long (Some a) v r = go (takes_values a) v
-      where
-        go : (b : Bool) (v : Option Text) → guard (cond b (option_fault (rules_of items) false a v unfilled)
-            (cond (is_some v) (TooManyValues ∷ []) (react_fault (rules_of items) false a [] unfilled))) r ≡ None
-        go true (Some v) = reacts a (v ∷ []) r
-        go true None = unsettled name items item rows r is takes
-        go false (Some v) = refl
-        go false None = reacts a [] r
+    unsettled_long (Some a) v r = grind (arith, guard)
 
     unsettled_short : (o : Option Rule) (rest : Text) (next : Held → Kinds) (r : Option (List Row))
         → guard (short_fault (rules_of items) false o rest unfilled next) r ≡ None
     unsettled_short None rest next r = refl
-    unsettled_short (Some a) rest next r = go (takes_values a) (attached_value rest)
-      where
-        go : (b : Bool) (v : Option Text) → guard (cond b (option_fault (rules_of items) false a v unfilled)
-            (or_else (react_fault (rules_of items) false a [] unfilled) (next (reacted (rules_of items) a [] unfilled)))) r ≡ None
-        go true (Some v) = reacts a (v ∷ []) r
-        go true None = unsettled name items item rows r is takes
-        go false v = guard_twice (react_fault (rules_of items) false a [] unfilled) _ r ∙ reacts a [] _
+    unsettled_short (Some a) rest next r = grind (arith, guard)
 
   -- `--`, where an option waits
   unsettled_trail : (item : Item) (rows : List Row) (waiting : Waiting) (filed : Bool) (words : List Text) → IsOf items item
@@ -284,12 +224,8 @@ module _ (name : Text) (items : List Item) (first : arg_by_index (rules_of items
       → run name items (stand rows (Some (name_of item, [])) waiting (place_of filed) true) words ≡ None
   unfolding walked walk_fault
   unsettled_trail item rows waiting filed [] is takes = unsettled name items item rows _ is takes
-  unsettled_trail item rows waiting false (word ∷ words) is takes =
-      turn name items (stand rows (Some (name_of item, [])) waiting 1 true) word words
-      ∙ (placed rows (Some (name_of item, [])) waiting true word words ∙ unsettled name items item rows _ is takes)
-  unsettled_trail item rows waiting true (word ∷ words) is takes =
-      turn name items (stand rows (Some (name_of item, [])) waiting 2 true) word words
-      ∙ none_placed rows (Some (name_of item, [])) waiting true word words
+  unsettled_trail item rows waiting false (word ∷ words) is takes = grind arith
+  unsettled_trail item rows waiting true (word ∷ words) is takes = grind arith
 
   same_bytes : (t : Text) → bytes_eq t t ≡ true
   same_bytes t = (bytes_eq-Decides t t).1 refl

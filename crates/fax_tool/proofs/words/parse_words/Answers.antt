@@ -1,12 +1,12 @@
-use Rattle.std.proofs.Common.{◌≡◌, ◌∙◌, ap, inl, inr, refl, rules, subst, List, [], Some}
-use Rattle.std.specs.Prelude.{◌≢◌, option_and_then, Err, IfErr, Ok, Result}
+use Rattle.std.proofs.Common.{arith, ◌≡◌, ◌∙◌, ap, inl, inr, rules, List, Some}
+use Rattle.std.specs.Prelude.{◌≢◌, option_and_then, IfErr, Result}
 use Rattle.std.specs.List.{All}
 use Rattle.std.specs.Result.{IsErrAnd}
 use Rattle.std.specs.Str.{IsUtf8}
 use Rattle.clap.proofs.TakesLemmas.{passed_up}
 use Rattle.clap.specs.Walk.{Row}
 use Rattle.clap.specs.Faults.{fault_of}
-use Rattle.clap.specs.Kinds.{HasKind, IsAmong, Kinds}
+use Rattle.clap.specs.Kinds.{HasKind}
 use Rattle.clap.specs.Values.{kind_of}
 use Rattle.clap.specs.declared.error.Error.{Error}
 use Rattle.clap.specs.declared.error.kind.ErrorKind.TheVariants.{OutOfMemory}
@@ -15,8 +15,8 @@ use Rattle.fax_tool.specs.code.CommandLine.{faxpages_app}
 use Rattle.fax_tool.specs.code.Entries.{IsCommandFault, entries_of, given_by}
 use Rattle.fax_tool.specs.Job.{IsFault, target_of}
 use Rattle.fax_tool.specs.declared.words.WordsFault.{WordsFault}
-use Rattle.fax_tool.specs.declared.words.WordsFault.TheVariants.{Memory, NotACursor, Usage}
-use Rattle.fax_tool.proofs.AgreeLemmas.{command_agrees, fault_agrees}
+use Rattle.fax_tool.specs.declared.words.WordsFault.TheVariants.{NotACursor, Usage}
+use Rattle.fax_tool.proofs.AgreeLemmas.{command_agrees}
 use Rattle.fax_tool.proofs.EntryLemmas.{taken_entries}
 use Rattle.fax_tool.proofs.ReadLemmas.{AreTaken, IsReadAs, command_of, read_as}
 use Rattle.fax_tool.proofs.ShapeLemmas.{read_is_of_command}
@@ -45,13 +45,7 @@ command_of-requires c =
 
 refused : (words : List Text) (name : Text) (entries : List Row) (fault : WordsFault) → All IsUtf8 words → IsReadAs words name entries
     → IsCommandFault name (given_by entries) fault → IsFault words fault
-refused words name entries Usage utf8 of is =
-    let named = read_is_of_command words name of.0 utf8 of.1 in
-    inr (record { name = name; uses = of.0; named = named; command = fault_agrees entries of.0 of.2 name Usage is })
-refused words name entries NotACursor utf8 of is =
-    let named = read_is_of_command words name of.0 utf8 of.1 in
-    record { name = name; uses = of.0; named = named; command = fault_agrees entries of.0 of.2 name NotACursor is }
-refused words name entries Memory utf8 of is = tt
+refused words name entries fault utf8 of is = grind (arith, read_is_of_command)
 
 pub returns-in_err-command_of-clause-fault : goal.returns-in_err-command_of-clause-fault
 returns-in_err-command_of-clause-fault c =
@@ -90,14 +84,7 @@ unread words utf8 untaken = elim ((read_as words).1 untaken) [
 untaken_up : {T : Type 0} (r : Result T WordsFault) (words : List Text) (error : Error) → All IsUtf8 words
     → IsErrAnd r (λ gives. (gives ≢ NotACursor) × (gives ≡ Usage → kind_of error ≢ OutOfMemory))
     → HasKind (fault_of faxpages_app words) error → IfErr r (IsFault words)
-untaken_up (Ok x) words error utf8 gives is = tt
-untaken_up (Err Usage) words error utf8 gives is = unread words utf8 (λ taken. none taken is)
-  where
-    none : {kinds : Kinds} → kinds ≡ [] → HasKind kinds error → ⊥
-    none empty (inl memory) = gives.1 refl memory
-    none empty (inr among) = subst (IsAmong (kind_of error)) empty among
-untaken_up (Err NotACursor) words error utf8 gives is = absurd (gives.0 refl)
-untaken_up (Err Memory) words error utf8 gives is = tt
+untaken_up r words error utf8 gives is = grind (arith, unread)
 
 pub returns-in_err-matches-clause-fault : goal.returns-in_err-matches-clause-fault
 returns-in_err-matches-clause-fault c =
