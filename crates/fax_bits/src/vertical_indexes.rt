@@ -1,5 +1,5 @@
 //! The vertical modes whose codes follow one another in bits, for each number that the bits spell.
-//! It is printed by `tests/indexes/make verticals` from the tables.
+//! It is printed by `make-indexes verticals` from the tables.
 
 /// By the next twelve bits: two to four vertical modes.
 pub(crate) struct VerticalsAt {

@@ -1,5 +1,5 @@
 -- A strip is noted in one way, where its rows are read in one way.
-use Rattle.std.proofs.Common.{arith, ◌≡◌, ℕ, zero, suc, ◌+◌, ◌⊎◌, ◌↔◌, List, [], ◌∷◌, Bool, true, IsTrue, ap, sym, ◌∙◌, subst, None}
+use Rattle.std.proofs.Common.{arith, ◌≡◌, ℕ, zero, suc, ◌⊎◌, ◌↔◌, List, Bool, true, IsTrue, ap, sym, ◌∙◌, subst, None}
 use Rattle.std.proofs.lemmas.List.{append_cancel_left}
 use Rattle.std.specs.List.{Contains}
 use Rattle.fax_bits.specs.declared.Colour.{Colour}
@@ -8,10 +8,10 @@ use Rattle.fax_page.specs.declared.Coding.TheVariants.{Mh, Mr, Mmr}
 use Rattle.fax_page.specs.declared.StripForm.{StripForm}
 use Rattle.fax_page.specs.declared.notes.StripNotes.{StripNotes}
 use Rattle.fax_page.specs.Lines.{white_row}
-use Rattle.fax_page.specs.Strip.{AreLines, AreReturnEols, HasEndMark, HasOtherChoice, IsEndMark, IsNotedAs, end_bits}
+use Rattle.fax_page.specs.Strip.{AreReturnEols, HasEndMark, HasOtherChoice, IsEndMark, IsNotedAs, end_bits}
 use Rattle.fax_page.specs.laws.Strips.{ReadsLinesOneWay, StripsAreNotedInOneWay}
 use Rattle.fax_page.proofs.EndLemmas.{same_return_eol}
-use Rattle.fax_page.proofs.StripLaws.{one_reading}
+use Rattle.fax_page.proofs.StripLaws.{one_left, one_reading}
 
 -- the EOLs of a return to control, and an end mark, are taken in one way
 same_eols : (coding : Coding) (n : ℕ) (b rest other : List Bool) → AreReturnEols coding n b rest → AreReturnEols coding n b other
@@ -42,19 +42,10 @@ same_flag : (a b : Bool) (P : Type 0) → IsTrue a ↔ P → IsTrue b ↔ P → 
 same_flag a b P first second = grind arith
 
 module _ (reads : (form : StripForm) (i : ℕ) (reference : List Colour) → ReadsLinesOneWay form i reference) where
-  -- the bits that are left after all rows
-  one_left : (form : StripForm) (i : ℕ) (reference : List Colour) (b : List Bool) (rows : List (List Colour)) (left other : List Bool)
-      → AreLines form i reference b rows None left → AreLines form i reference b rows None other → left ≡ other
-  one_left form i reference b [] left other first second = sym first.0 ∙ second.0
-  one_left form i reference b (row ∷ rows) left other first second =
-      let line = (reads form i reference).line.one_answer b row row first.0 second.0 first.2 second.2 in
-      one_left form (i + 1) row first.0 rows left other first.3
-      (subst (λ c. AreLines form (i + 1) row c rows None other) (sym line.1) second.3)
-
   same_notes : (form : StripForm) (b : List Bool) (rows : List (List Colour)) (notes other : StripNotes)
       → IsNotedAs form b rows notes → IsNotedAs form b rows other → notes ≡ other
   same_notes form b rows notes other first second =
-      let left = one_left form 0 (white_row form.width) b rows second.left first.left second.lines first.lines in
+      let left = one_left reads form 0 (white_row form.width) b rows None second.left first.left second.lines first.lines in
       let after = same_after form.coding first.left second.after first.after
       (subst (λ l. IsAfterMark form.coding l second.after) left second.after_end) first.after_end in
       let block = same_flag notes.no_end_of_block other.no_end_of_block ((form.coding ≡ Mmr) × (HasEndMark form.coding first.left → ⊥))

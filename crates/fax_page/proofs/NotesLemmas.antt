@@ -1,5 +1,5 @@
 -- A strip that is read for its notes, row by row.
-use Rattle.std.proofs.Common.{◌≡◌, ℕ, ◌+◌, ◌<◌, ◌↔◌, List, [], ◌∷◌, ◌++◌, length, Bool, true, false, IsTrue, ap, sym, ◌∙◌, subst}
+use Rattle.std.proofs.Common.{◌≡◌, ℕ, ◌+◌, ◌<◌, ◌↔◌, List, [], ◌∷◌, ◌++◌, length, Bool, true, false, IsTrue, refl, ap, sym, ◌∙◌, subst}
 use Rattle.std.proofs.Common.{arith, append_assoc, append-nil, length-append, inl, inr, Option, Some, None}
 use Rattle.fax_bits.specs.declared.Colour.{Colour}
 use Rattle.fax_bits.specs.Bits.{BeginsWith}
@@ -11,12 +11,16 @@ use Rattle.fax_page.specs.declared.notes.NotesFault.{NotesFault}
 use Rattle.fax_page.specs.declared.notes.NotesFault.TheVariants.{Memory, Strip}
 use Rattle.fax_page.specs.declared.notes.StripNotes.{StripNotes}
 use Rattle.fax_page.specs.Lines.{IsCause, IsLine, IsRowIn, white_row}
-use Rattle.fax_page.specs.Strip.{AreLines, row_bits, HasOtherChoice, IsNotedAs}
-use Rattle.fax_page.specs.views.Strip.{IsStrip, IsNotesFault}
+use Rattle.fax_page.specs.Strip.{AreLines, row_bits, HasOtherChoice, IsNotedAs, most_rows}
+use Rattle.fax_page.specs.views.Strip.{IsStrip, IsNotedUncounted, IsNotesFault}
 use Rattle.fax_page.proofs.StripLaws.{EndsAt, no_rows}
+use Rattle.fax_page.proofs.UncountedLaws.{all_lines, line_of, of_rows}
+use Rattle.fax_page.specs.Uncounted.{EndsSo, uncounted}
+use Rattle.fax_page.specs.declared.notes.UncountedNotes.{UncountedNotes}
 use Rattle.fax_page.specs.laws.Strips.{ReadsLinesOneWay}
 use Rattle.fax_page.specs.code.Notes.{IsChosen}
 use Rattle.fax_page.specs.code.Notes.{AreCodesRead, IsChoiceNoted, AreCodesNoted, IsCodesFault, IsLineNoted, IsLineFault, AreRowsRead, AreNotesAfter}
+use Rattle.fax_page.specs.code.Notes.{AreFoundAfter}
 use Rattle.fax_page.specs.code.Starts.{IsStarted}
 use Rattle.fax_page.proofs.BegunLemmas.{started, cause_in_codes}
 use Rattle.fax_page.proofs.FirstCodeLemmas.{line_begun}
@@ -90,6 +94,18 @@ module _ (reads : (form : StripForm) (i : ℕ) (reference : List Colour) → Rea
           → (IsChosen noted.line.dimension reference noted.line.codes row rest → ⊥) → now ≡ true
       marks now none other_choice = grind arith
 
+-- no row was read
+pub none_read : (form : StripForm) (b left : List Bool) (reference : List Colour) → reference ≡ white_row form.width → left ≡ b
+    → AreRowsRead form b 0 reference left false
+none_read form b left reference white all = rw (white, all) (record {
+  before = [];
+  count = refl;
+  lines = λ more end after lines. lines;
+  found = λ is. cc;
+  onward = λ more has. has;
+  back = λ more has. inr has;
+})
+
 -- codes that are seen to be chosen
 pub codes_seen : (chosen : Type 0) (other : Bool) → chosen → IsChoiceNoted chosen other other
 codes_seen chosen other is = record { kept = λ h. h; found = λ h. inl h; none = λ h. is }
@@ -134,29 +150,87 @@ no_notes form b left i reference other Memory due so_far fault = tt
 no_notes form b left i reference other (Strip row fault) due so_far (here, cause) =
     fault_met form b left i reference other fault row due so_far here cause
 
+-- the notes on rows that are all of a strip
+noted_after : (form : StripForm) (b left : List Bool) (rows : List (List Colour)) (other : Bool) (notes : StripNotes)
+    → AreLines form 0 (white_row form.width) b rows None left → AreNotesAfter form.coding left other notes
+    → (other ≡ true → HasOtherChoice form 0 (white_row form.width) b rows)
+    → (HasOtherChoice form 0 (white_row form.width) b rows → other ≡ true) → IsNotedAs form b rows notes
+noted_after form b left rows other notes lines ends found none = record {
+  left = left;
+  lines = lines;
+  after = ends.after;
+  after_end = ends.after_end;
+  no_end_of_block = ends.no_end_of_block;
+  return_to_control = ends.return_to_control;
+  data_after_end = ends.data_after_end;
+  not_t4_choice = (λ is. found (sym ends.other_is ∙ is), λ has. ends.other_is ∙ none has);
+}
+
+-- whether some row so far is coded otherwise
+other_there : (form : StripForm) (b left : List Bool) (i : ℕ) (reference : List Colour) (other : Bool)
+    (so_far : AreRowsRead form b i reference left other) → other ≡ true → HasOtherChoice form 0 (white_row form.width) b so_far.before
+other_there form b left i reference other so_far is =
+    subst (λ rows. HasOtherChoice form 0 (white_row form.width) b rows) (append-nil so_far.before) (so_far.found is [])
+
+other_found : (form : StripForm) (b left : List Bool) (i : ℕ) (reference : List Colour) (other : Bool)
+    (so_far : AreRowsRead form b i reference left other) → HasOtherChoice form 0 (white_row form.width) b so_far.before → other ≡ true
+other_found form b left i reference other so_far has =
+    elim (so_far.back [] (subst (λ rows. HasOtherChoice form 0 (white_row form.width) b rows) (sym (append-nil so_far.before)) has)) [
+      | inl is ↦ is
+      | inr none ↦ absurd none
+    ]
+
 -- all rows were read
 pub all_noted : (form : StripForm) (b left : List Bool) (i : ℕ) (reference : List Colour) (other : Bool) (notes : StripNotes)
     → i ≡ form.rows → AreRowsRead form b i reference left other → AreNotesAfter form.coding left other notes
     → (rows : List (List Colour)) × IsNotedAs form b rows notes
 all_noted form b left i reference other notes all so_far ends = (
   so_far.before,
-  record {
-    left = left;
-    lines = stopped form b left i reference other None so_far all;
-    after = ends.after;
-    after_end = ends.after_end;
-    no_end_of_block = ends.no_end_of_block;
-    return_to_control = ends.return_to_control;
-    data_after_end = ends.data_after_end;
-    not_t4_choice = (
-      λ is.
-          subst (λ rows. HasOtherChoice form 0 (white_row form.width) b rows) (append-nil so_far.before)
-          (so_far.found (sym ends.other_is ∙ is) []),
-      λ has.
-          elim (so_far.back [] (subst (λ rows. HasOtherChoice form 0 (white_row form.width) b rows) (sym (append-nil so_far.before)) has)) [
-            | inl is ↦ ends.other_is ∙ is
-            | inr none ↦ absurd none
-          ],
-    );
-  },
+  noted_after form b left so_far.before other notes (stopped form b left i reference other None so_far all) ends
+      (other_there form b left i reference other so_far) (other_found form b left i reference other so_far),
 )
+
+-- other choices are the same in a strip of other rows
+other_choice_of : (form : StripForm) (from to i : ℕ) (reference : List Colour) (b : List Bool) (rows : List (List Colour))
+    → HasOtherChoice (of_rows form from) i reference b rows → HasOtherChoice (of_rows form to) i reference b rows
+other_choice_of form from to i reference b [] has = has
+other_choice_of form from to i reference b (row ∷ rows) has = (
+  has.0,
+  line_of form from to i reference b row has.0 has.1,
+  elim has.2 [
+    | inl other_choice ↦ inl other_choice
+    | inr more ↦ inr (other_choice_of form from to (i + 1) row has.0 rows more)
+  ],
+)
+
+-- rows that nobody counted were read, and none is after them
+pub uncounted_noted : (form : StripForm) (b left : List Bool) (i : ℕ) (reference : List Colour) (other : Bool) (stop : Option StripFault)
+    (found : UncountedNotes) → AreRowsRead (uncounted form) b i reference left other → EndsAt (uncounted form) i reference left stop
+    → AreFoundAfter form.coding left i stop other found → (rows : List (List Colour)) × IsNotedUncounted form b rows found
+uncounted_noted form b left i reference other stop found so_far stops ends =
+    let rows = so_far.before in
+    let white = white_row form.width in
+    let lines = stopped (uncounted form) b left i reference other stop so_far stops in
+    let of_count : IsNotedUncounted form b rows found = record {
+      count = ends.rows_are ∙ sym so_far.count;
+      uncounted = record {
+        left = left;
+        stop = stop;
+        lines = lines;
+        ends = subst (λ n. EndsSo form.coding n left stop found.end) (sym so_far.count) ends.end;
+      };
+      noted =
+          noted_after (of_rows form found.rows) b left rows other found.notes
+          (all_lines form most_rows found.rows 0 white b rows stop left (omega (arith, so_far.count, ends.rows_are)) lines) ends.notes
+          (λ is. other_choice_of form most_rows found.rows 0 white b rows (other_there (uncounted form) b left i reference other so_far is))
+          (λ has. other_found (uncounted form) b left i reference other so_far
+          (other_choice_of form found.rows most_rows 0 white b rows has));
+    } in
+    (rows, of_count)
+
+pub uncounted_stopped : (form : StripForm) (b left : List Bool) (i : ℕ) (reference : List Colour) (other : Bool) (fault : StripFault) (row : ℕ)
+    (found : UncountedNotes) → i < most_rows → AreRowsRead (uncounted form) b i reference left other
+    → IsLineFault (uncounted form) i reference left (Strip row fault)
+    → AreFoundAfter form.coding left i (Some fault) other found → (rows : List (List Colour)) × IsNotedUncounted form b rows found
+uncounted_stopped form b left i reference other fault row found due so_far stop ends =
+    uncounted_noted form b left i reference other (Some fault) found so_far (due, stop.1) ends

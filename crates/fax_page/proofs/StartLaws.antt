@@ -25,7 +25,7 @@ same_ahead (suc n) zero b c h = cc
 same_ahead (suc n) (suc m) b c h = grind (arith, same_ahead n m b c cc)
 
 -- and not in zeros alone
-no_one : (n m : ℕ) (b : List Bool) → replicate n false ++ true ∷ b ≡ replicate m false → ⊥
+pub no_one : (n m : ℕ) (b : List Bool) → replicate n false ++ true ∷ b ≡ replicate m false → ⊥
 no_one zero zero b h = cc
 no_one zero (suc m) b h = cc
 no_one (suc n) zero b h = cc
@@ -38,7 +38,7 @@ zeros_before (suc n) zero b c h = cc
 zeros_before (suc n) (suc m) b c h = omega (arith, zeros_before n m b c cc)
 
 -- bits are zeros, or have a 1 after zeros
-zeros_or_one : (b : List Bool) → IsAllZeros b ⊎ ((zeros : ℕ) × HasZerosAhead b zeros)
+pub zeros_or_one : (b : List Bool) → IsAllZeros b ⊎ ((zeros : ℕ) × HasZerosAhead b zeros)
 zeros_or_one [] = inl (0, refl)
 zeros_or_one (true ∷ b) = inr (0, (b, refl))
 zeros_or_one (false ∷ b) =
@@ -48,10 +48,10 @@ zeros_or_one (false ∷ b) =
     ]
 
 -- zeros, an EOL, or a 1 before its place in an EOL
-abbrev EolOrNone : List Bool → Type 0
+abbrev pub EolOrNone : List Bool → Type 0
 EolOrNone b = IsAllZeros b ⊎ (((rest : List Bool) × IsEndOfLine b rest) ⊎ BeginsBelowEleven b)
 
-eol_or_none : (b : List Bool) → EolOrNone b
+pub eol_or_none : (b : List Bool) → EolOrNone b
 eol_or_none b =
     elim (zeros_or_one b) [
       | inl all ↦ inl all

@@ -16,7 +16,7 @@ use Rattle.fax_page.proofs.BegunLemmas.{start_is}
 use Rattle.fax_page.specs.views.Strip.{IsStripForm}
 use Rattle.fax_page.specs.Strip.{AreLines}
 use Rattle.fax_page.specs.Strip.{written_dimension, row_bits, fill_zeros, start_bits, coded_line, coded_lines, coded_bits, end_bits}
-use Rattle.fax_page.specs.laws.Strips.{CodedBitsAreRead}
+use Rattle.fax_page.specs.laws.Strips.{AreRowsOf, CodedBitsAreRead}
 use Rattle.fax_page.proofs.FillLemmas.{end_of_line_back}
 use Rattle.fax_page.proofs.FirstCodeLemmas.{row_begins}
 
@@ -72,15 +72,17 @@ module _ (one_read : OneDimensionalBitsAreRead) (two_read : TwoDimensionalBitsAr
         lines_back place (i + 1) row rows more width (λ j d h. widths (suc j) d (omega (arith, h))) (omega (arith, count)),
       )
 
+  -- the rows of a written strip, and then its end and whatever follows it
+  pub coded_lines_back : (rows : List (List Colour)) (more : List Bool) → AreRowsOf form rows
+      → AreLines form 0 (white_row form.width) (coded_bits form k rows ++ more) rows None (end_bits form.coding ++ more)
+  unfolding coded_bits
+  coded_lines_back rows more fit =
+      let after = end_bits form.coding ++ more in
+      subst (λ b. AreLines form 0 (white_row form.width) b rows None after)
+      (sym (append_assoc (coded_lines form k 0 0 (white_row form.width) rows) (end_bits form.coding) more))
+      (lines_back 0 0 (white_row form.width) rows after (length-replicate form.width White) fit.widths (omega (arith, fit.count)))
+
 -- a written strip is read back, whatever bits follow it
 pub coded_bits_back : OneDimensionalBitsAreRead → TwoDimensionalBitsAreRead → CodedBitsAreRead
-unfolding coded_bits
 coded_bits_back one_read two_read form k rows more limits fit =
-    let after = end_bits form.coding ++ more in
-    record {
-      left = after;
-      lines = subst (λ b. AreLines form 0 (white_row form.width) b rows None after)
-          (sym (append_assoc (coded_lines form k 0 0 (white_row form.width) rows) (end_bits form.coding) more))
-          (lines_back one_read two_read form limits k 0 0 (white_row form.width) rows after (length-replicate form.width White) fit.widths
-          (omega (arith, fit.count)));
-    }
+    record { left = end_bits form.coding ++ more; lines = coded_lines_back one_read two_read form limits k rows more fit }

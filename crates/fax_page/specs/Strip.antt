@@ -12,6 +12,10 @@ use Rattle.fax_page.specs.Lines.{StripForm, StripFault, IsCause, IsEndOfLine, Is
 use Rattle.fax_page.specs.Lines.{white_row}
 use Rattle.fax_page.specs.declared.notes.StripNotes.{StripNotes}
 
+-- the most rows that a strip has
+abbrev pub most_rows : ℕ
+most_rows = 1000000
+
 -- from row i on, over this reference, the bits are these rows, each over the row before it, and
 -- then those that are left: the strip has all its rows, or this fault is in the way of the next
 abbrev pub AreLines : StripForm → ℕ → List Colour → List Bool → List (List Colour)

@@ -1,3 +1,5 @@
 pub mod Strips
 pub mod Reader
 pub mod Writer
+pub mod Uncounted
+pub mod Following

@@ -3,7 +3,9 @@ ghost use Rattle.std.specs.Prelude.{ℕ, List};
 ghost use Rattle.fax_bits.specs.declared.Colour.{Colour};
 ghost use Rattle.fax_page.specs.declared.StripForm.{StripForm};
 ghost use Rattle.fax_page.specs.laws.Strips as Law;
+ghost use Rattle.fax_page.specs.laws.Following as Following;
 ghost use Rattle.fax_page.specs.laws.Reader.{ReadsRowByRow, ReadsOn};
+ghost use Rattle.fax_page.specs.laws.Uncounted as Uncounted;
 ghost use Rattle.fax_page.specs.laws.Writer.{WritesRowByRow};
 
 /// Bits are read in one way as a row of a strip, in any coding: they begin with one row and one
@@ -82,3 +84,47 @@ pub fn strips_are_read_on()
 pub fn strips_are_written_row_by_row()
     ensures { WritesRowByRow }
 {}
+
+/// Any bits are read in one way as rows that nobody counted, in any coding: they have one list of
+/// rows, of at most 1,000,000, and one end.
+pub fn uncounted_rows_are_read_in_one_way()
+    ensures { (form : StripForm) → Uncounted.ReadsUncountedOneWay form }
+{
+    lines_are_read_in_one_way();
+}
+
+/// Rows that nobody counted, however they end, are all rows of a strip of as many, and no fault.
+pub fn uncounted_rows_are_a_strip()
+    ensures { Uncounted.UncountedRowsAreAStrip }
+{}
+
+/// The bytes of a written strip are its rows, though nobody counts them: in MMR up to its end mark,
+/// in MH and MR up to the end of the data.
+pub fn coded_strips_are_read_uncounted()
+    ensures { Uncounted.CodedStripsAreUncounted }
+{
+    fax_rows::laws::one_dimensional_rows_are_read_back();
+    fax_rows::laws::two_dimensional_rows_are_read_back();
+    fax_bits::laws::bits_are_packed_in_one_way();
+}
+
+/// A row of a strip is the same row, whatever bits follow those that it is read from, and so is a
+/// fault in its way, but where it is that the data end.
+pub fn rows_stay_whatever_follows()
+    ensures { (form : StripForm) (i : ℕ) (reference : List Colour)
+        → Following.StaysWhateverFollows form i reference }
+{}
+
+/// A strip is read in pieces: the rows of its first bits, and then those of what is left of them and
+/// of the bits that follow, are the rows of all of them.
+pub fn strips_are_read_in_pieces()
+    ensures { Following.ReadsInPieces }
+{}
+
+/// How rows end that nobody counted stays, whatever bits follow: with an end mark, or with a fault
+/// that is neither the end of the data nor an end marker.
+pub fn ends_stay_whatever_follows()
+    ensures { Following.EndsStayWhateverFollows }
+{
+    lines_are_read_in_one_way();
+}

@@ -6,13 +6,18 @@ mod lines;
 mod notes;
 mod reader;
 mod turns;
+mod uncounted;
 mod writer;
 
 pub use fax_rows::{Colour, FillOrder, Memory, Row, RowFault};
-pub use notes::{NotesFault, NotesReader, StripNotes, strip_notes};
+pub use notes::{NotesFault, NotesReader, StripNotes, UncountedNotes, strip_notes};
 pub use reader::StripReader;
 use thiserror::Error;
+pub use uncounted::end_of_rows;
 pub use writer::StripWriter;
+
+/// The most rows that a strip has.
+pub const MOST_ROWS: u32 = 1_000_000;
 
 /// How the rows of a strip are coded.
 #[derive(Clone, Copy, Debug, PartialEq, Eq)]
@@ -77,6 +82,22 @@ pub enum StripFault {
     /// section 4.1.4) or at the end of a facsimile block (T.6).
     #[error("the page ends before its last row")]
     EndMarker,
+}
+
+/// How rows end that nobody counted, as in data with no file around them.
+#[derive(Clone, Copy, Debug, PartialEq, Eq)]
+pub enum RowsEnd {
+    /// An end mark stands where the next row is due: in MH and MR a return to control (T.4,
+    /// sections 4.1.4 and 4.2.4), in MMR the end of a facsimile block (T.6).
+    Marked,
+    /// The data end after a whole row: nothing is left, or zeros alone, which are fill (T.4,
+    /// section 4.1.3).
+    DataEnd,
+    /// The row that is due cannot be read, for this cause.
+    Fault(StripFault),
+    /// There are 1,000,000 rows, the most that a strip has, and after them neither an end mark nor
+    /// the end of the data.
+    TooMany,
 }
 
 impl From<RowFault> for StripFault {

@@ -91,10 +91,13 @@ fn check_first_code(source: &BitSource) -> Result<(), StripFault>
     ensures ok { OnOk result (Lines.BeginsBelowEleven source.now.left) }
     ensures err { IfErr result (λ fault. IsFirstCodeFault source.now.left fault) }
 {
+    // Eleven zeros settle it, and what follows them is not looked at.
+    if source.again().take(0, EOL_ZEROS as u32) {
+        return Err(StripFault::EndMarker);
+    }
     match source.zeros() {
-        Some(zeros) if zeros < EOL_ZEROS => Ok(()),
-        None if source.remaining() < EOL_ZEROS => Err(StripFault::DataEnds),
-        _ => Err(StripFault::EndMarker),
+        Some(_) => Ok(()),
+        None => Err(StripFault::DataEnds),
     }
 }
 

@@ -4,12 +4,13 @@ ghost use Rattle.fax_bits.specs.Bits.{bits};
 ghost use Rattle.fax_bits.specs.declared.Colour.{Colour};
 ghost use Rattle.fax_page.specs.Lines.{IsRowFaultIn, IsRowIn};
 ghost use Rattle.fax_page.specs.Strip as Spec;
-ghost use Rattle.fax_page.specs.views.Strip.{IsNotesFault, IsStripForm};
+ghost use Rattle.fax_page.specs.views.Strip.{IsNotedUncounted, IsNotesFault, IsStripForm};
 ghost use Rattle.fax_page.specs.code.Notes as Code;
 
 use crate::lines::{read_codes, read_eol, read_start, stop, take_white};
+use crate::uncounted::end_of_rows;
 use crate::writer::put_codes;
-use crate::{Coding, Dimension, FillOrder, StripFault, StripForm};
+use crate::{Coding, Dimension, FillOrder, MOST_ROWS, RowsEnd, StripFault, StripForm};
 use fax_rows::{BitSink, BitSource, Memory, Row, RowFault, read_1d_choice, read_2d_choice};
 use std::alloc::Global;
 use std::marker::Model;
@@ -39,6 +40,17 @@ pub struct StripNotes {
     pub data_after_end: bool,
     /// The codes of some row are others than T.4 chooses (T.4, sections 4.1.1 and 4.2.1.3.3).
     pub not_t4_choice: bool,
+}
+
+/// What was found in rows that nobody counted.
+#[derive(Clone, Copy, Debug, PartialEq, Eq)]
+pub struct UncountedNotes {
+    /// How many rows there are, at most 1,000,000.
+    pub rows: u32,
+    /// How they end.
+    pub end: RowsEnd,
+    /// What is worth a note in a strip of so many rows.
+    pub notes: StripNotes,
 }
 
 /// Why a strip has no notes.
@@ -246,7 +258,7 @@ fn after_return_to_control<'a>(source: &BitSource<'a>, coding: Coding) -> Option
 
 /// What stands after the end mark of a strip, where there is one (T.4, section 4.1.4; T.6,
 /// End-of-facsimile block).
-fn after_end<'a>(source: &BitSource<'a>, coding: Coding) -> Option<BitSource<'a>>
+pub(crate) fn after_end<'a>(source: &BitSource<'a>, coding: Coding) -> Option<BitSource<'a>>
     ensures { Code.IsAfterMark (Spec.IsEndMark coding source.now.left) result }
 {
     match coding {
@@ -279,6 +291,24 @@ fn notes_after(source: &BitSource, coding: Coding, not_t4_choice: bool) -> Strip
         return_to_control,
         data_after_end,
         not_t4_choice,
+    }
+}
+
+/// What was found in so many rows whose data go on at a source, where this fault is in the way of
+/// the next row, or none is.
+fn found_in_rows(
+    due: &BitSource,
+    coding: Coding,
+    rows: u32,
+    fault: Option<StripFault>,
+    not_t4_choice: bool,
+) -> UncountedNotes
+    ensures { Code.AreFoundAfter coding due.now.left rows fault not_t4_choice result }
+{
+    UncountedNotes {
+        rows,
+        end: end_of_rows(due, coding, rows, fault),
+        notes: notes_after(due, coding, not_t4_choice),
     }
 }
 
@@ -350,6 +380,50 @@ impl NotesReader {
             strip.read_row(&mut self.rows, i)?;
         }
         Ok(notes_after(&strip.source, form.coding, strip.not_t4_choice))
+    }
+
+    /// How many rows that nobody counted stand in at most 4,294,967,295 bytes, how they end, and the
+    /// notes on them. How many rows the form says is not looked at. It takes memory only where a row
+    /// is written, at most for that row.
+    ///
+    /// # Errors
+    ///
+    /// `Memory` where a growth was refused.
+    pub fn uncounted_notes(
+        &mut self,
+        bytes: &[u8],
+        form: StripForm,
+    ) -> Result<UncountedNotes, Memory>
+        requires count { length bytes.now ≤ 4294967295 }
+        requires limits { IsStripForm form }
+        requires width { form.width ≡ self.old }
+        ensures ok { IfOk result (λ found. (rows : List (List Colour))
+            × IsNotedUncounted form (bits form.order bytes.now) rows found) }
+        ensures same_width { self.new ≡ self.old }
+    {
+        crate::laws::lines_are_read_in_one_way();
+        self.rows.reference.whiten();
+        let mut strip = NotedStrip {
+            source: BitSource::new(bytes, form.order),
+            form: StripForm {
+                rows: MOST_ROWS,
+                ..form
+            },
+            not_t4_choice: false,
+        };
+        for i in 0..MOST_ROWS {
+            let due = strip.source.again();
+            let other = strip.not_t4_choice;
+            match strip.read_row(&mut self.rows, i) {
+                Ok(()) => {}
+                Err(NotesFault::Strip { row: _, fault }) => {
+                    return Ok(found_in_rows(&due, form.coding, i, Some(fault), other));
+                }
+                Err(NotesFault::Memory) => return Err(Memory),
+            }
+        }
+        let other = strip.not_t4_choice;
+        Ok(found_in_rows(&strip.source, form.coding, MOST_ROWS, None, other))
     }
 }
 

@@ -1,10 +1,11 @@
 //! A reader of strips.
-ghost use Rattle.std.specs.Prelude.{◌≡◌, ◌*◌, ◌<◌, ◌≤◌, length, IfOk, IfSome};
+ghost use Rattle.std.specs.Prelude.{◌≡◌, ◌*◌, ◌<◌, ◌≤◌, length, IfOk, IfSome, None};
 ghost use Rattle.std.specs.Borrow.{sem};
 
 use crate::lines::line_fault;
 use crate::turns::RowsInTurn;
-use crate::{StripFault, StripForm};
+use crate::uncounted::end_of_rows;
+use crate::{RowsEnd, StripFault, StripForm};
 use fax_bits::laws::bits_stand_by_place;
 use fax_rows::{BitSource, Memory, Row};
 use std::alloc::Global;
@@ -52,7 +53,8 @@ impl<'a> Model for StripReader<'a> {
 impl<'a> StripReader<'a> {
     ghost use Rattle.fax_page.specs.views.Strip.{IsStripForm};
     ghost use Rattle.fax_page.specs.views.Reader.{strip_beginning, restarted, restarted_at};
-    ghost use Rattle.fax_page.specs.views.Reader.{IsAdvance};
+    ghost use Rattle.fax_page.specs.views.Reader.{IsAdvance, bits_left};
+    ghost use Rattle.fax_page.specs.Uncounted.{EndsSo};
     ghost use Rattle.fax_page.specs.views.NextRow.{EndsAs, IsDue, IsNextRow};
 
     /// Before the first row of a strip in at most 4,294,967,295 bytes. It takes all the memory that
@@ -193,6 +195,21 @@ impl<'a> StripReader<'a> {
         ensures within { result ≤ self.now.form.rows }
     {
         self.row
+    }
+
+    /// How rows end that nobody counted, where the reader is past the last of them: its form has
+    /// the most rows that a strip has, `MOST_ROWS`, and `advance` answered a fault, or that there is
+    /// no more row.
+    #[cold]
+    pub fn uncounted_end(&self) -> RowsEnd
+        requires over { self.now.fault ≡ None → self.now.row ≡ self.now.form.rows }
+        ensures { EndsSo self.now.form.coding self.now.row (bits_left self.now) self.now.fault
+            result }
+    {
+        bits_stand_by_place();
+        let mut source = BitSource::new(self.bytes, self.form.order);
+        source.skip(self.place);
+        end_of_rows(&source, self.form.coding, self.row, self.fault)
     }
 
     /// How many bits of the strip stand before the row that is due. After a fault they are what

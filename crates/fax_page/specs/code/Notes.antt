@@ -13,6 +13,8 @@ use Rattle.fax_page.specs.declared.notes.NotedStrip.{NotedStrip}
 use Rattle.fax_page.specs.declared.notes.NotesFault.{NotesFault}
 use Rattle.fax_page.specs.declared.notes.NotesFault.TheVariants.{Memory, Strip}
 use Rattle.fax_page.specs.declared.notes.StripNotes.{StripNotes}
+use Rattle.fax_page.specs.declared.notes.UncountedNotes.{UncountedNotes}
+use Rattle.fax_page.specs.Uncounted.{EndsSo}
 use Rattle.fax_page.specs.declared.Dimension.{Dimension}
 use Rattle.fax_page.specs.views.Strip.{IsStripForm}
 use Rattle.fax_rows.specs.declared.RowFault.{RowFault}
@@ -125,3 +127,11 @@ pub record AreNotesAfter (coding : Coding) (left : List Bool) (other : Bool)
   pub return_to_control : IsTrue notes.return_to_control ↔ ((coding ≢ Mmr) × HasEndMark coding left)
   pub data_after_end : IsTrue notes.data_after_end ↔ Contains after true
   pub other_is : notes.not_t4_choice ≡ other
+
+-- so many rows end so, and have these notes, by what is left after them, by the fault that is in
+-- the way of the next one, and by whether some row is coded otherwise than T.4 chooses
+pub record AreFoundAfter (coding : Coding) (left : List Bool) (rows : ℕ) (stop : Option StripFault)
+    (other : Bool) (found : UncountedNotes) : Type 0 where
+  pub rows_are : found.rows ≡ rows
+  pub end : EndsSo coding rows left stop found.end
+  pub notes : AreNotesAfter coding left other found.notes

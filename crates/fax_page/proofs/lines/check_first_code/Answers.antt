@@ -1,14 +1,15 @@
-use Rattle.std.proofs.Common.{arith, refl, inl}
-use Rattle.fax_page.proofs.StartLemmas.{eleven_ahead, eleven_alone}
+use Rattle.std.proofs.Common.{ap, sym, ◌∙◌}
+use Rattle.fax_bits.specs.views.Source.{Source}
+use Rattle.fax_page.proofs.FirstFaultLemmas.{marker_there, few_ahead, few_alone}
 use Rattle.fax_page.proofs.lines.check_first_code.Goals as goal
 
-pub returns-in_default-clause-err : goal.returns-in_default-clause-err
-returns-in_default-clause-err c =
-    let ahead = eleven_ahead c.args.source.now.left c.in-Some.zeros c.if-zeros-lt-EOL_ZEROS.false c.in-Some.ensures in
-    inl (ahead.0, ahead.1, refl)
+pub returns-then-take-clause-err : goal.returns-then-take-clause-err
+returns-then-take-clause-err c = marker_there _ _ (ap (λ (s : Source). s.left) (sym c.again.ensures) ∙ c.if-take.ensures.taken)
 
-pub returns-in_default-2-clause-err : goal.returns-in_default-2-clause-err
-returns-in_default-2-clause-err c =
-    let ahead =
-    eleven_alone c.args.source.now.left (omega (arith, c.remaining.ensures, c.if-remaining-lt-EOL_ZEROS.false)) c.in-None.ensures in
-    inl (ahead.0, ahead.1, refl)
+pub returns-in-Some-clause-ok : goal.returns-in-Some-clause-ok
+returns-in-Some-clause-ok c =
+    few_ahead _ _ (λ begins. c.if-take.ensures.taken.1 (begins.0, ap (λ (s : Source). s.left) c.again.ensures ∙ begins.1)) c.in-Some.ensures
+
+pub returns-in-None-clause-err : goal.returns-in-None-clause-err
+returns-in-None-clause-err c =
+    few_alone _ (λ begins. c.if-take.ensures.taken.1 (begins.0, ap (λ (s : Source). s.left) c.again.ensures ∙ begins.1)) c.in-None.ensures

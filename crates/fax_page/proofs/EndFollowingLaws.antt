@@ -1,0 +1,87 @@
+-- How rows that nobody counted end stays, whatever follows.
+use Rattle.std.proofs.Common.{◌≡◌, ◌≢◌, ℕ, zero, suc, List, ◌∷◌, ◌++◌, Bool, true, false, refl, ap, ◌∙◌, arith}
+use Rattle.std.proofs.Common.{append_assoc, inl, inr, length, Some}
+use Rattle.std.specs.Prelude.{◌⊎◌}
+use Rattle.std.proofs.lemmas.Bool.{cases_lt}
+use Rattle.std.proofs.lemmas.List.{length-replicate}
+use Rattle.fax_bits.specs.declared.Colour.{Colour}
+use Rattle.fax_bits.specs.Bits.{IsAllZeros}
+use Rattle.fax_page.specs.declared.Dimension.TheVariants.{OneDimensional, TwoDimensional}
+use Rattle.fax_page.specs.declared.StripFault.TheVariants.{DataEnds, EndMarker}
+use Rattle.fax_page.specs.Lines.{Coding, Mh, Mr, Mmr, StripFault, StripForm, IsCause}
+use Rattle.fax_page.specs.Strip.{AreReturnEols, HasEndMark, IsReturnEol, end_bits, end_of_line}
+use Rattle.fax_page.specs.Uncounted.{EndsSo, Fault}
+use Rattle.fax_page.specs.laws.Following.{EndsStayWhateverFollows}
+use Rattle.fax_page.specs.laws.Strips.{ReadsLinesOneWay}
+use Rattle.fax_page.proofs.FollowingLaws.{cause_stays, eol_stays}
+use Rattle.fax_page.proofs.StartLemmas.{eleven_ahead, eleven_alone}
+
+-- an end mark stays
+return_eol_stays : (coding : Coding) (b rest more : List Bool) → IsReturnEol coding b rest → IsReturnEol coding (b ++ more) (rest ++ more)
+return_eol_stays Mh b rest more eol = eol_stays more b rest eol
+return_eol_stays Mr b rest more eol = eol_stays more b (true ∷ rest) eol
+return_eol_stays Mmr b rest more eol = eol
+
+eols_stay : (coding : Coding) (n : ℕ) (b rest more : List Bool) → AreReturnEols coding n b rest
+    → AreReturnEols coding n (b ++ more) (rest ++ more)
+eols_stay coding zero b rest more eols = ap (λ c. c ++ more) eols
+eols_stay coding (suc n) b rest more eols =
+    (eols.0 ++ more, return_eol_stays coding b eols.0 more eols.1, eols_stay coding n eols.0 rest more eols.2)
+
+mark_stays : (coding : Coding) (b more : List Bool) → HasEndMark coding b → HasEndMark coding (b ++ more)
+mark_stays Mh b more mark = (mark.0 ++ more, eols_stay Mh 6 b mark.0 more mark.1)
+mark_stays Mr b more mark = (mark.0 ++ more, eols_stay Mr 6 b mark.0 more mark.1)
+mark_stays Mmr b more mark =
+    (mark.0 ++ more, ap (λ c. c ++ more) mark.1 ∙ append_assoc (end_bits Mmr) mark.0 more)
+
+-- it is in the way of the next row
+mark_is_cause : (form : StripForm) (i : ℕ) (reference : List Colour) (b : List Bool) (coding : Coding) → form.coding ≡ coding
+    → HasEndMark coding b → IsCause form i reference b EndMarker
+mark_is_cause form i reference b Mh is mark =
+    let first = mark.1.0 in
+    let next = mark.1.2.1 in
+    let marker = eleven_ahead first next.0 next.1 (mark.1.2.0, next.2) in
+    inr (OneDimensional, first, rw is (inr (inr (inr (first, mark.1.1, refl)))), inl (marker.0, marker.1, refl))
+mark_is_cause form i reference b Mr is mark =
+    let first = mark.1.0 in
+    let next = mark.1.2.1 in
+    let marker = eleven_ahead first next.0 next.1 (true ∷ mark.1.2.0, next.2) in
+    inr (OneDimensional, first, rw is (inr (inr (inr (OneDimensional, first, mark.1.1, refl)))), inl (marker.0, marker.1, refl))
+mark_is_cause form i reference b Mmr is mark =
+    inr (TwoDimensional, b, rw is refl, inl (true ∷ end_of_line ++ mark.0, mark.1, refl))
+
+-- and zeros alone are, or are where the data end
+zeros_are_cause : (form : StripForm) (i : ℕ) (reference : List Colour) (b : List Bool) (coding : Coding) → form.coding ≡ coding → IsAllZeros b
+    → IsCause form i reference b DataEnds ⊎ IsCause form i reference b EndMarker
+zeros_are_cause form i reference b Mh is all = inl (inl (rw is (inl (all, refl))))
+zeros_are_cause form i reference b Mr is all = inl (inl (rw is (inl (all, refl))))
+zeros_are_cause form i reference b Mmr is all =
+    elim (cases_lt all.0 11) [
+      | inl few ↦ inl (inr (TwoDimensional, b, rw is refl, inr (inl (all.0, few, all.1, refl))))
+      | inr enough ↦
+          let long = ap length all.1 ∙ length-replicate all.0 false in
+          let marker = eleven_alone b (omega (arith, long, enough)) all in
+          inr (inr (TwoDimensional, b, rw is refl, inl (marker.0, marker.1, refl)))
+    ]
+
+module _ (reads : (form : StripForm) (i : ℕ) (reference : List Colour) → ReadsLinesOneWay form i reference) where
+  fault_stays : (form : StripForm) (i row : ℕ) (reference : List Colour) (left more : List Bool) (fault : StripFault) → fault ≢ DataEnds
+      → fault ≢ EndMarker → IsCause form i reference left fault → EndsSo form.coding row (left ++ more) (Some fault) (Fault fault)
+  fault_stays form i row reference left more fault no_end no_marker cause =
+      let b = left ++ more in
+      let now = cause_stays more form i reference left fault no_end cause in
+      let one = (reads form i reference).line.one_fault b fault in (
+        λ mark. no_marker (one EndMarker now (mark_is_cause form i reference b form.coding refl mark)),
+        λ ends.
+            elim (zeros_are_cause form i reference b form.coding refl ends.1) [
+              | inl data_ends ↦ no_end (one DataEnds now data_ends)
+              | inr marker ↦ no_marker (one EndMarker now marker)
+            ],
+        refl,
+      )
+
+  pub ends_stay : EndsStayWhateverFollows
+  ends_stay = record {
+    mark = λ coding row left more stop mark. mark_stays coding left more mark;
+    fault = fault_stays;
+  }

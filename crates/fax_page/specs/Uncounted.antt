@@ -1,0 +1,37 @@
+-- How rows end that nobody counted: data of T.4 and T.6 with no file around them come without a
+-- number of rows.
+-- A definition without a citation is this project's profile.
+use Rattle.std.specs.Prelude.{◌≡◌, ℕ, ◌<◌, Bool, List, length, Option, Some, None}
+use Rattle.fax_bits.specs.Bits.{IsAllZeros}
+use Rattle.fax_rows.specs.Rows.{Colour}
+use Rattle.fax_page.specs.Lines.{Coding, StripFault, StripForm, white_row}
+use Rattle.fax_page.specs.Strip.{AreLines, HasEndMark, most_rows}
+pub use Rattle.fax_page.specs.declared.RowsEnd.{RowsEnd}
+pub use Rattle.fax_page.specs.declared.RowsEnd.TheVariants.{Marked, DataEnd, Fault, TooMany}
+
+-- the form of rows that nobody counted: they may be as many as a strip has at most
+abbrev pub uncounted : StripForm → StripForm
+uncounted form = record form { rows = most_rows }
+
+-- after so many rows, and at least one, nothing is left but fill (T.4, section 4.1.3)
+abbrev pub HasDataEnd : ℕ → List Bool → Type 0
+HasDataEnd row left = (0 < row) × IsAllZeros left
+
+-- so many rows end so, by what is left where the next one is due, and by the fault that is in its
+-- way: with an end mark (T.4, sections 4.1.4 and 4.2.4; T.6, End-of-facsimile block), or with the
+-- data; else with that fault, or with none where a strip has no more rows
+abbrev pub EndsSo : Coding → ℕ → List Bool → Option StripFault → RowsEnd → Type 0
+EndsSo coding row left stop Marked = HasEndMark coding left
+EndsSo coding row left stop DataEnd = HasDataEnd row left
+EndsSo coding row left stop (Fault fault) =
+    (HasEndMark coding left → ⊥) × (HasDataEnd row left → ⊥) × (stop ≡ Some fault)
+EndsSo coding row left stop TooMany =
+    (HasEndMark coding left → ⊥) × (HasDataEnd row left → ⊥) × (stop ≡ None)
+
+-- the bits are these rows, which nobody counted, each over the row before it, and they end so
+pub record IsUncounted (form : StripForm) (b : List Bool) (rows : List (List Colour))
+    (end : RowsEnd) : Type 0 where
+  pub left : List Bool
+  pub stop : Option StripFault
+  pub lines : AreLines (uncounted form) 0 (white_row form.width) b rows stop left
+  pub ends : EndsSo form.coding (length rows) left stop end

@@ -1,0 +1,39 @@
+-- Laws of data that may go on: what is read of bits stays, whatever bits follow them. Functions of
+-- the module `laws` prove them.
+use Rattle.std.specs.Prelude.{◌≢◌, ℕ, ◌+◌, Bool, List, ◌++◌, length, Option, Some}
+use Rattle.fax_bits.specs.declared.Colour.{Colour}
+use Rattle.fax_page.specs.declared.StripFault.TheVariants.{DataEnds, EndMarker}
+use Rattle.fax_page.specs.Lines.{Coding, IsCause, IsLine, StripFault, StripForm}
+use Rattle.fax_page.specs.Strip.{AreLines, HasEndMark}
+use Rattle.fax_page.specs.Uncounted.{EndsSo, Fault, Marked}
+use Rattle.fax_page.specs.laws.Writer.{last_of}
+
+-- row i of a strip is the same row, whatever follows the bits; and the fault in its way is the same
+-- one, but where it is that the data end
+pub record StaysWhateverFollows (form : StripForm) (i : ℕ) (reference : List Colour)
+    : Type 0 where
+  pub row : (b more : List Bool) (row : List Colour) (rest : List Bool)
+      → IsLine form i reference b row rest
+      → IsLine form i reference (b ++ more) row (rest ++ more)
+  pub fault : (b more : List Bool) (fault : StripFault) → fault ≢ DataEnds
+      → IsCause form i reference b fault → IsCause form i reference (b ++ more) fault
+
+-- a strip is read in pieces: rows of its bits, and then the rows of what is left and of the bits
+-- that follow, are the rows of all its bits
+abbrev pub ReadsInPieces : Type 0
+ReadsInPieces =
+    (form : StripForm) (i : ℕ) (reference : List Colour) (b more : List Bool)
+    (rows others : List (List Colour)) (stop end : Option StripFault) (left after : List Bool)
+    → AreLines form i reference b rows stop left
+    → AreLines form (i + length rows) (last_of reference rows) (left ++ more) others end after
+    → AreLines form i reference (b ++ more) (rows ++ others) end after
+
+-- how rows that nobody counted end stays, whatever follows: with an end mark, or with a fault that
+-- is neither the end of the data nor an end marker
+pub record EndsStayWhateverFollows : Type 0 where
+  pub mark : (coding : Coding) (row : ℕ) (left more : List Bool) (stop : Option StripFault)
+      → HasEndMark coding left → EndsSo coding row (left ++ more) stop Marked
+  pub fault : (form : StripForm) (i row : ℕ) (reference : List Colour) (left more : List Bool)
+      (fault : StripFault) → fault ≢ DataEnds → fault ≢ EndMarker
+      → IsCause form i reference left fault
+      → EndsSo form.coding row (left ++ more) (Some fault) (Fault fault)

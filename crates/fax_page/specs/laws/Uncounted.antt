@@ -1,0 +1,32 @@
+-- Laws of rows that nobody counted, which functions of the module `laws` prove.
+use Rattle.std.specs.Prelude.{ℕ, Bool, List, length, None}
+use Rattle.fax_bits.specs.declared.Colour.{Colour}
+use Rattle.fax_bits.specs.Bits.{bits}
+use Rattle.fax_bits.specs.laws.Codes.{IsOne}
+use Rattle.fax_page.specs.Lines.{Coding, Mmr, StripForm}
+use Rattle.fax_page.specs.Strip.{coded_strip}
+use Rattle.fax_page.specs.Uncounted.{DataEnd, IsUncounted, Marked, RowsEnd}
+use Rattle.fax_page.specs.laws.Strips.{AreRowsOf}
+use Rattle.fax_page.specs.views.Strip.{IsStrip, IsStripForm}
+
+-- any bits are read in one way as rows that nobody counted: one list of rows and one end
+abbrev pub ReadsUncountedOneWay : StripForm → Type 0
+ReadsUncountedOneWay form = (b : List Bool) → IsOne (IsUncounted form b)
+
+-- rows that nobody counted, however they end, are all rows of a strip of as many
+abbrev pub UncountedRowsAreAStrip : Type 0
+UncountedRowsAreAStrip =
+    (form : StripForm) (b : List Bool) (rows : List (List Colour)) (end : RowsEnd)
+    → IsUncounted form b rows end → IsStrip (record form { rows = length rows }) b rows None
+
+-- how a written strip ends: in MMR with the end of a facsimile block, else with its data
+-- (T.6, End-of-facsimile block)
+abbrev pub written_end : Coding → RowsEnd
+written_end Mmr = Marked
+written_end _ = DataEnd
+
+-- the bytes of a written strip are its rows, though nobody counts them
+abbrev pub CodedStripsAreUncounted : Type 0
+CodedStripsAreUncounted =
+    (form : StripForm) (k : ℕ) (rows : List (List Colour)) → IsStripForm form → AreRowsOf form rows
+    → IsUncounted form (bits form.order (coded_strip form k rows)) rows (written_end form.coding)

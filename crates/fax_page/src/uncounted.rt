@@ -1,0 +1,45 @@
+//! How rows end that nobody counted.
+ghost use Rattle.std.specs.Prelude.{◌≡◌, false, IsTrue};
+ghost use Rattle.fax_page.specs.Uncounted as Spec;
+
+use crate::notes::after_end;
+use crate::{Coding, RowsEnd, StripFault};
+use fax_rows::BitSource;
+
+/// Whether after so many rows, and at least one, nothing but fill is left.
+fn has_data_end(source: &BitSource, rows: u32) -> bool
+    ensures ends { IsTrue result → Spec.HasDataEnd rows source.now.left }
+    ensures more { result ≡ false → Spec.HasDataEnd rows source.now.left → ⊥ }
+{
+    if rows == 0 {
+        return false;
+    }
+    match source.zeros() {
+        Some(_one) => false,
+        None => true,
+    }
+}
+
+/// How so many rows end that nobody counted, whose data go on at this source: where this fault is in
+/// the way of the next row, or none is, since they are as many as a strip has at most.
+#[cold]
+#[inline(never)]
+pub fn end_of_rows(
+    source: &BitSource,
+    coding: Coding,
+    rows: u32,
+    fault: Option<StripFault>,
+) -> RowsEnd
+    ensures { Spec.EndsSo coding rows source.now.left fault result }
+{
+    if let Some(_after) = after_end(source, coding) {
+        return RowsEnd::Marked;
+    }
+    if has_data_end(source, rows) {
+        return RowsEnd::DataEnd;
+    }
+    match fault {
+        Some(fault) => RowsEnd::Fault(fault),
+        None => RowsEnd::TooMany,
+    }
+}
