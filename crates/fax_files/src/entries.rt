@@ -82,7 +82,7 @@ impl<'a> File<'a> {
         requires { entry.now.place + 4 ≤ length self.now.bytes.now }
         ensures { result ≡ Spec.values_place self.now.endian self.now.bytes.now entry.now }
     {
-        if entry.count as usize * entry.value_len() <= 4 {
+        if (entry.count as usize).saturating_mul(entry.value_len()) <= 4 {
             entry.place
         } else {
             self.u32_at(entry.place) as usize

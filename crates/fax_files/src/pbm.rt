@@ -214,7 +214,7 @@ fn read_image(bytes: &[u8]) -> Result<(PbmImage<'_>, &[u8]), PbmFault>
     if !is_within_limits(head.width, head.height) {
         return Err(PbmFault::OutOfLimits);
     }
-    let len = head.height as usize * row_len(head.width);
+    let len = (head.height as usize).saturating_mul(row_len(head.width));
     if head.after.len() < len {
         return Err(PbmFault::ShortRaster);
     }

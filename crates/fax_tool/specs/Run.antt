@@ -16,10 +16,11 @@ use Rattle.fax_tool.specs.declared.words.Command.TheVariants.{List as Forms, Row
 use Rattle.fax_tool.specs.declared.words.Part.{Part}
 use Rattle.fax_tool.specs.ReportText.{IsCheckText, IsConversionText}
 
--- how many calls on a stream were interrupted, and how many failed
+-- how many calls on a stream were interrupted, how many failed, and how many files were not opened
 pub record Counts : Type 0 where
   pub interrupted : ℕ
   pub failed : ℕ
+  pub unopened : ℕ
 
 -- an input after a run: its bytes before it, where known, how many were taken, and its counts
 pub record Input : Type 0 where
@@ -44,9 +45,9 @@ HasFailed counts = (most_interrupted < counts.interrupted) ⊎ (0 < counts.faile
 abbrev pub HasWorked : Counts → Type 0
 HasWorked counts = (counts.interrupted ≤ most_interrupted) × (counts.failed ≡ 0)
 
--- the input worked, and is not too long
+-- the input was opened and worked, and is not too long
 abbrev pub IsRead : Input → Type 0
-IsRead input = HasWorked input.counts × (input.taken ≤ max_file)
+IsRead input = (input.counts.unopened ≡ 0) × HasWorked input.counts × (input.taken ≤ max_file)
 
 -- the line of a refusal that is no fault of the input
 abbrev pub refusal_line : Refusal → List ℕ
@@ -58,7 +59,8 @@ refusal_line Write = codes "fault: Write\n"
 abbrev pub HasReason : Refusal → Input → Output → Type 0
 HasReason Memory input output = IsRead input × HasWorked output.counts
 HasReason Read input output =
-    (HasFailed input.counts ⊎ (max_file < input.taken)) × HasWorked output.counts
+    ((input.counts.unopened ≡ 0) × (HasFailed input.counts ⊎ (max_file < input.taken)))
+    × HasWorked output.counts
 HasReason Write input output = IsRead input × HasFailed output.counts
 
 -- these lines and this end are those of what is handed out so: the lines of its items
@@ -75,15 +77,13 @@ ArePageLines file at = AreLinesOf line_of_page (IsFormTail file at)
 abbrev pub AreRowLines : List ℕ → Begun → List Line → End → Type 0
 AreRowLines file begun = AreLinesOf line_of_row (IsTailFrom file begun)
 
--- the text of such lines, which began so, up to a limit, and of their end, with long cursors or
--- without
+-- the text of such lines and of their end, which began so, up to a limit, with long cursors or not
 abbrev pub IsTextOfLines : (List Line → End → Type 0) → Bool → Option ℕ → Begun → Printed → Type 0
 IsTextOfLines are long max begun printed =
     (lines : List Line) × (end : End) × are lines end
     × (printed ≡ text_of long max begun lines end)
 
--- what is written of such lines where memory is refused: that with a limit of so many lines, which
--- are all of them at most, and no more than its own limit
+-- what is written of such lines where memory is refused: the first of them, up to its own limit
 abbrev pub IsTextOfFirst : (List Line → End → Type 0) → Option ℕ → Begun → List ℕ → Type 0
 IsTextOfFirst are max begun output =
     (lines : List Line) × (end : End) × are lines end × (count : ℕ) × (count ≤ length lines)

@@ -1,11 +1,10 @@
 //! The streams that a run reads and writes.
 ghost use Rattle.std.specs.Prelude.{◌≡◌, ℕ, ◌<◌, ◌≤◌, length, take, Option, List, IfOk, IfErr};
 ghost use Rattle.std.specs.Prelude.{Err, OnOk, Result};
-ghost use Rattle.fax_tool.specs.declared.streams.StreamFault.TheVariants.{Failed};
 ghost use Rattle.std.specs.Io.KnownBytes.{Appends, Consumes, IsAtEnd, Keeps};
 ghost use Rattle.fax_tool.specs.Run.{Counts};
-ghost use Rattle.fax_tool.specs.Streams.{GivesBytes, TakesBytes, counts_after, no_faults};
-ghost use Rattle.fax_tool.specs.Streams.{taken_after};
+ghost use Rattle.fax_tool.specs.Streams.{GivesBytes, TakesBytes, counts_after, counts_unopened};
+ghost use Rattle.fax_tool.specs.Streams.{no_faults, taken_after};
 ghost use Rattle.fax_tool.specs.code.Adapters.{IsFaultOf};
 ghost use Rattle.std.specs.IoError.{error_kind};
 ghost use Rattle.fax_tool.specs.code.Adapters.{reader_of, writer_of};
@@ -63,27 +62,30 @@ pub trait Sink {
         ensures counts { counts self.new ≡ counts_after result (counts self.old) };
 }
 
-/// How many calls on a stream were interrupted, and how many failed. Both stay at `u64::MAX`.
+/// How many calls on a stream were interrupted, how many failed, and how many files were not opened.
+/// All stay at `u64::MAX`.
 #[derive(Clone, Copy)]
 struct FaultCounts {
     interrupted: u64,
     failed: u64,
+    unopened: u64,
 }
 
 impl FaultCounts {
-    ghost use Rattle.fax_tool.specs.Streams.{counts_of, counts_after};
+    ghost use Rattle.fax_tool.specs.Streams.{counts_after};
+    ghost use Rattle.fax_tool.specs.code.Adapters.{counts_of};
 
-    /// No call was interrupted, and none failed.
+    /// No call was interrupted, none failed, and no file was not opened.
     const NONE: FaultCounts = FaultCounts {
         interrupted: 0,
         failed: 0,
+        unopened: 0,
     };
 
     /// Counts one more call with this fault, and answers the fault.
     fn count(&mut self, fault: StreamFault) -> StreamFault
         ensures same { result ≡ fault }
-        ensures counted { counts_of self.new.interrupted self.new.failed
-            ≡ counts_after (Err fault) (counts_of self.old.interrupted self.old.failed) }
+        ensures counted { counts_of self.new ≡ counts_after (Err fault) (counts_of self.old) }
     {
         match fault {
             StreamFault::Interrupted => self.interrupted = self.interrupted.saturating_add(1),
@@ -126,17 +128,17 @@ impl<R: io::Read> FromRead<R> {
         }
     }
 
-    /// Counts a call that failed apart from the reader.
-    pub fn count_failure(&mut self)
+    /// Counts a file that was not opened, apart from calls that failed. The reader stays.
+    pub fn count_unopened(&mut self)
         ensures reader { reader_of self.new ≡ reader_of self.old }
         ensures left { ⟦<FromRead<R> as Source>⟧.left self.new
             ≡ ⟦<FromRead<R> as Source>⟧.left self.old }
         ensures taken { ⟦<FromRead<R> as Source>⟧.taken self.new
             ≡ ⟦<FromRead<R> as Source>⟧.taken self.old }
         ensures counts { ⟦<FromRead<R> as Source>⟧.counts self.new
-            ≡ counts_after (Err Failed) (⟦<FromRead<R> as Source>⟧.counts self.old) }
+            ≡ counts_unopened (⟦<FromRead<R> as Source>⟧.counts self.old) }
     {
-        let _counted = self.faults.count(StreamFault::Failed);
+        self.faults.unopened = self.faults.unopened.saturating_add(1);
     }
 
     /// The reader, after the bytes that were taken.
@@ -150,13 +152,13 @@ impl<R: io::Read> FromRead<R> {
 }
 
 impl<R: io::Read> Source for FromRead<R> {
-    ghost use Rattle.fax_tool.specs.Streams.{counts_of};
+    ghost use Rattle.fax_tool.specs.code.Adapters.{counts_of};
 
     ghost left = { λ s. R.remaining s.reader };
 
     ghost taken = { λ s. s.taken };
 
-    ghost counts = { λ s. counts_of s.faults.interrupted s.faults.failed };
+    ghost counts = { λ s. counts_of s.faults };
 
     fn take(&mut self, buffer: &mut [u8]) -> Result<usize, StreamFault> {
         match self.reader.read(buffer) {
@@ -200,11 +202,11 @@ impl<W: io::Write> ToWrite<W> {
 }
 
 impl<W: io::Write> Sink for ToWrite<W> {
-    ghost use Rattle.fax_tool.specs.Streams.{counts_of};
+    ghost use Rattle.fax_tool.specs.code.Adapters.{counts_of};
 
     ghost written = { λ s. W.contents s.writer };
 
-    ghost counts = { λ s. counts_of s.faults.interrupted s.faults.failed };
+    ghost counts = { λ s. counts_of s.faults };
 
     /// A write that takes 0 bytes of a slice that is not empty has failed.
     fn give(&mut self, bytes: &[u8]) -> Result<usize, StreamFault> {

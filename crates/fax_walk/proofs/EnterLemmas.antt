@@ -11,7 +11,7 @@ use Rattle.fax_walk.specs.declared.end.End.{End}
 use Rattle.fax_walk.specs.declared.opening.OpenFault.{OpenFault}
 use Rattle.fax_walk.specs.declared.opening.OpenFault.TheVariants.{Memory, Ended}
 use Rattle.fax_walk.specs.Pages.{LongPlace, ends_as}
-use Rattle.fax_walk.specs.views.Walk.{Begins, EndsBefore}
+use Rattle.fax_walk.specs.views.Walk.{Begins, EndsBefore, EntersFirst, HasPage}
 use Rattle.fax_walk.specs.Items.{IsInnerOn, IsRow, RowPlace, begun_cursor, first_at, inner_at}
 use Rattle.fax_walk.specs.code.Places.{row_in_strip, strip_at}
 use Rattle.fax_walk.specs.code.Opening.{EndsAt, IsFilePage, IsNamed, PageDue, page_with}
@@ -74,6 +74,9 @@ module _ (file : List ℕ) (at : Cursor) where
           | inr none ↦ inl (omega (arith, none))
         ])
 
+    pub enters_on : at.row < due.form.rows → EntersFirst file (At at)
+    enters_on below = (Ok (page_with due.directory due.form), named.3, inl below)
+
     module _ (its : IsFilePage due.page due.chain due.directory due.form) where
       begins_next : due.form.rows ≤ at.row → Begins file (At at) (Ok (first_at due.chain.given 0, 0))
       begins_next past =
@@ -83,6 +86,10 @@ module _ (file : List ℕ) (at : Cursor) where
 
       its_file : due.chain.tiff.file ≡ file
       its_file = its.after.file_is ∙ named.0
+
+      pub enters_next : HasPage due.chain.tiff.file due.chain.given → EntersFirst file (At at)
+      enters_next there =
+          (Ok (page_with due.directory due.form), named.3, inr (rw (its_file, its.after.given, named.1) at there))
 
       pub refused_next : due.form.rows ≤ at.row → (result : Result PageState OpenFault)
           → IfErr result (IsRefusal (λ end. IsRow due.chain.tiff.file (first_at due.chain.given 0) (ends_as end)))
@@ -106,6 +113,9 @@ module _ (file : List ℕ) (place : LongPlace) where
     pub begun_place : IsInnerOn due.directory.file (page_with due.directory due.form) place → Begins file (Inside place)
         (Ok (inner_at place, 0))
     begun_place inner = (Ok (page_with due.directory due.form), named.3, inl (rw (named.0) at inner, refl))
+
+    pub enters_inside : place.at.row < due.form.rows → EntersFirst file (Inside place)
+    enters_inside within = (Ok (page_with due.directory due.form), named.3, inl within)
 
     pub refused_inside : (result : Result PageState OpenFault) → IfErr result (IsRefusal (IsNoInner due place))
         → IfErr result (IsRefusal (HasNoRows file (Inside place)))

@@ -1,25 +1,27 @@
 -- A walk that goes on, or ends.
 use Rattle.std.proofs.lemmas.Grind.{common_steps}
 use Rattle.std.proofs.Common.{◌≡◌, ℕ, ◌+◌, ◌<◌, ◌⊎◌, inl, inr, List, [], ◌∷◌, ◌++◌, length, drop, Option, Some}
-use Rattle.std.proofs.Common.{None, Ok, Err, refl, sym, ap, ◌∙◌, arith, length-append, length-drop, append_assoc, append-nil}
+use Rattle.std.proofs.Common.{None, Result, Ok, Err, ◌≤◌, refl, subst, sym, ap, ◌∙◌, arith, length-append, length-drop, append_assoc, append-nil}
 use Rattle.std.proofs.lemmas.Bool.{cases_lt}
-use Rattle.std.specs.Prelude.{slice_get}
+use Rattle.std.specs.Prelude.{MatchResult, slice_get}
 use Rattle.fax_bits.specs.laws.Codes.{AreBitsByPlace}
 use Rattle.fax_files.specs.laws.Files.{FilesHaveOneChain, FormsAreWhole}
 use Rattle.fax_walk.specs.declared.begun.Begun.{Begun}
 use Rattle.fax_walk.specs.declared.cursor.Cursor.{Cursor}
 use Rattle.fax_walk.specs.declared.end.End.{End}
-use Rattle.fax_walk.specs.declared.opening.OpenFault.TheVariants.{Ended}
-use Rattle.fax_walk.specs.Pages.{AreFrom, LongPlace}
+use Rattle.fax_walk.specs.declared.begun.Begun.TheVariants.{At, Inside}
+use Rattle.fax_walk.specs.declared.opening.OpenFault.{OpenFault}
+use Rattle.fax_walk.specs.declared.opening.OpenFault.TheVariants.{Ended, Memory}
+use Rattle.fax_walk.specs.Pages.{AreFrom, FilePage, IsPageAt, LongPlace, ends_as}
 use Rattle.fax_walk.specs.views.InOrder.{EndsAfter, HasEndedAs, HasToldNoOther}
 use Rattle.fax_walk.specs.laws.InOrder.{LeadTo}
-use Rattle.fax_walk.specs.views.Walk.{AreRead, dropped, EndsBefore, IsCursorOf, IsItemNumber, IsLongOf, WalkView}
+use Rattle.fax_walk.specs.views.Walk.{AreRead, dropped, EndsBefore, EntersFirst, EntersPage, HasPage, IsCursorOf, IsItemNumber, IsLongOf, WalkView}
 use Rattle.fax_walk.specs.laws.Left.{IsLeft}
-use Rattle.fax_walk.specs.Items.{IsRow, IsTailFrom, RowItem, RowPlace, begun_cursor, cursor_after, long_at}
+use Rattle.fax_walk.specs.Items.{IsBegunOn, IsRow, IsTailFrom, RowItem, RowPlace, begun_cursor, cursor_after, first_at, long_at, place_after}
 use Rattle.fax_walk.specs.code.Places.{cursor_at}
 use Rattle.fax_walk.specs.laws.Tails.{BeginningsHaveOneTail}
-use Rattle.fax_walk.specs.code.Stages.{GivesNone, GivesRow, PageState, place_of, skipped}
-use Rattle.fax_walk.specs.code.Walk.{IsAdvance, answer_of, GoesOnFrom, HasCome, HasEndedOn, HasReadTo, IsAfterItem}
+use Rattle.fax_walk.specs.code.Stages.{GivesNone, GivesRow, IsOpen, PageState, place_of, row_of, skipped}
+use Rattle.fax_walk.specs.code.Walk.{IsAdvance, IsDueOn, IsEntered, answer_of, GoesOnFrom, HasCome, HasEndedOn, HasReadTo, IsAfterItem}
 use Rattle.fax_walk.specs.code.Walk.{IsReadNext, IsShown, IsSound, StandsAt, cursor_on}
 use Rattle.fax_walk.proofs.LeftLemmas.{left_after, left_ended}
 use Rattle.fax_walk.proofs.InOrderLemmas.{IsListed, joined, leads_both, number_dropped}
@@ -232,3 +234,73 @@ pub ends_now : (walk : WalkView) (cursor : Cursor) (old new : Option PageState) 
     → IsSound walk.file walk.begun walk.given cursor old walk.told → IsReadNext walk.file walk.begun old (Err (Ended end)) new
     → HasEndedAs IsTailFrom walk end (record walk { told = Some end })
 ends_now walk cursor old new end untold sound next = grind (arith, has_ended)
+
+-- a page is to be entered, and it is not
+module _ (file : List ℕ) (begun : Begun) where
+  all_read : (old : PageState) → row_of old ≡ old.form.rows → place_of old ≡ first_at (old.page + 1) 0
+  all_read old all = grind arith
+
+  leads_nowhere : (items : List RowItem) (first to : RowPlace) → length items ≡ 0 → LeadTo (IsRow file) first items to → to ≡ first
+  leads_nowhere [] first to count lead = lead
+  leads_nowhere (item ∷ items) first to count lead = absurd (omega (arith, count))
+
+  abbrev starts : RowPlace → ℕ → Result (RowPlace × ℕ) End
+  starts first n = Ok (first, n)
+
+  begun_past : (at : Cursor) (here : FilePage) (first : RowPlace) (n : ℕ) → here.form.rows ≤ at.row
+      → IsBegunOn file (At at) here (starts first n) → (first ≡ first_at (at.page + 1) 0) × (n ≡ 0)
+  begun_past at here first n past begins = grind arith
+
+  -- a page is read whole, and none of its rows was handed out: the walk began on it, or before it
+  enters_first : (from : Begun) (page n : ℕ) (first : RowPlace) (found : Result FilePage End) → IsPageAt file (begun_cursor from) found
+      → MatchResult found (λ here. IsBegunOn file from here (starts first n)) (λ none. starts first n ≡ Err none)
+      → (n ≡ 0 → first_at (page + 1) 0 ≡ first) → HasPage file (page + 1) → EntersFirst file from
+  enters_first from page n first (Err none) is begins same there = grind arith
+  enters_first (At at) page n first (Ok here) is begins same there = elim (cases_lt at.row here.form.rows) [
+    | inl below ↦ (Ok here, is, inl below)
+    | inr past ↦
+        let begin = begun_past at here first n past begins in
+        let next : page + 1 ≡ at.page + 1 = ap (λ (p : RowPlace). p.page) (same begin.1 ∙ begin.0) in
+        (Ok here, is, inr (subst (HasPage file) next there))
+  ]
+  enters_first (Inside place) page n first (Ok here) is (inl (inner, begins)) same there = (Ok here, is, inl inner.row)
+  enters_first (Inside place) page n first (Ok here) is (inr (not, begins)) same there = grind arith
+
+  last_row : (page : ℕ) (item : RowItem) → item.row < item.form.rows → first_at (page + 1) 0 ≡ place_after item
+      → (item.row + 1 ≡ item.form.rows) × (page + 1 ≡ item.page + 1)
+  last_row page item within same = grind arith
+
+  enters : (given : ℕ) (cursor : Cursor) (old : PageState) → HasReadTo file begun given cursor old → IsOpen old → row_of old ≡ old.form.rows
+      → HasPage file (old.page + 1) → EntersPage file begun given
+  enters given cursor old reads is_open all there =
+      let place = all_read old all in
+      let come = reads.come in
+      elim reads.stands [
+        | inl (zero, same) ↦
+            let none : come.dropped ≡ 0 → length come.items ≡ 0 = λ n. omega (arith, n, come.count, come.total, zero) in
+            let same_place = λ (n : come.dropped ≡ 0). sym place ∙ leads_nowhere come.items come.first (place_of old) (none n) come.lead in
+            inl (zero, enters_first begun old.page come.dropped come.first come.begins.0 come.begins.1 come.begins.2 same_place there)
+        | inr after ↦
+            let last = last_row old.page after.item after.within (sym place ∙ after.to_is) in
+            inr (after.before, after.item, after.count, after.number, last.0, subst (HasPage file) last.1 there)
+      ]
+
+  pub not_entered : (initial at new : Option PageState) (fault : OpenFault)
+      → ((given : ℕ) (cursor : Cursor) → GoesOnFrom file begun given cursor initial → GoesOnFrom file begun given cursor at)
+      → (at ≡ initial) ⊎ IsDueOn at → IsEntered file begun at (Err fault) new → IsReadNext file begun initial (Err fault) new
+  not_entered initial None new Memory goes (inl here) (refused, first, same) =
+      (same ∙ here, λ given cursor from. inl ((goes given cursor from).0, first refl))
+  not_entered initial None new Memory goes (inr due) _ = absurd due
+  not_entered initial None new (Ended end) goes there (refused, first, same) = λ given cursor from.
+      let start = goes given cursor from in rw same (start.0, start.1, refused)
+  not_entered initial (Some old) new Memory goes (inl here) (read, refused, page, same) = (
+    same ∙ here,
+    λ given cursor from.
+        let goes_on = goes given cursor from in
+        enters given cursor old goes_on.1 goes_on.0 read (subst (λ f. HasPage f (old.page + 1)) goes_on.1.file_is (page refl)),
+  )
+  not_entered initial (Some old) new Memory goes (inr due) (read, refused, page, same) = absurd (omega (arith, due, read))
+  not_entered initial (Some old) new (Ended end) goes there (read, stop, page, same) = λ given cursor from.
+      let goes_on = goes given cursor from in
+      let none : skipped old ≡ 0 = omega (arith, goes_on.0.first, read) in
+      rw same (goes_on.1, subst (λ f. IsRow f (place_of old) (ends_as end)) goes_on.1.file_is stop, inl none)

@@ -60,8 +60,9 @@ impl Output {
         match self {
             Output::Images(bytes) => {
                 put_pbm_head(bytes, sheet.width, sheet.rows)?;
-                let raster = sheet.rows as usize * (sheet.width as usize).div_ceil(8);
-                if bytes.len() + raster > MAX_OUTPUT {
+                let row_len = (sheet.width as usize).div_ceil(8);
+                let raster = (sheet.rows as usize).saturating_mul(row_len);
+                if bytes.len().saturating_add(raster) > MAX_OUTPUT {
                     *self = Output::TooLarge;
                 }
             }

@@ -193,6 +193,7 @@ pub(crate) fn open_inside<'a>(
     ensures inner { OnOk result (IsInnerOn due.entry.directory.file
         (page_with due.entry.directory due.entry.form) place.now) }
     ensures refused { IfErr result (Spec.IsRefusal (Spec.IsNoInner due.entry place.now)) }
+    ensures within { result ≡ Err NoMemory → place.now.at.row < due.entry.form.rows }
 {
     fax_files::laws::forms_are_whole();
     let form = due.form;

@@ -1,9 +1,10 @@
 //! The walk over a file's rows, in order of page and then of row.
-ghost use Rattle.std.specs.Prelude.{◌≡◌, ◌<◌, List, None, IfErr, IfOk};
+ghost use Rattle.std.specs.Prelude.{◌≡◌, ◌<◌, List, None, Err, IfErr, IfOk};
 ghost use Rattle.std.specs.Borrow.{sem};
 ghost use Rattle.fax_walk.specs.declared.begun.Begun.TheVariants.{At, Inside};
 ghost use Rattle.fax_walk.specs.laws.Left.{IsLeft};
-ghost use Rattle.fax_walk.specs.views.Walk.{walk_from};
+ghost use Rattle.fax_walk.specs.declared.opening.OpenFault.TheVariants.{Memory as NoMemory};
+ghost use Rattle.fax_walk.specs.views.Walk.{EntersFirst, walk_from};
 ghost use Rattle.fax_walk.specs.Items.{RowItem};
 ghost use Rattle.fax_walk.specs.code.Stages.{IsRefusal};
 ghost use Rattle.fax_walk.specs.code.Walk as Spec;
@@ -77,6 +78,7 @@ impl<'a> Model for Walk<'a> {
 fn open_at<'a>(alloc: Global, file: &'a [u8], cursor: Cursor) -> Result<OpenPage<'a>, OpenFault>
     ensures opened { IfOk result (Spec.IsOpenedFirst file.now (At cursor)) }
     ensures refused { IfErr result (IsRefusal (Spec.HasNoRows file.now (At cursor))) }
+    ensures there { result ≡ Err NoMemory → EntersFirst file.now (At cursor) }
 {
     let Some(due) = DuePage::at(file, cursor)? else {
         return Err(OpenFault::Ended(End::Proper));
@@ -96,6 +98,7 @@ fn open_at_place<'a>(
 ) -> Result<OpenPage<'a>, OpenFault>
     ensures opened { IfOk result (Spec.IsOpenedFirst file.now (Inside place.now)) }
     ensures refused { IfErr result (IsRefusal (Spec.HasNoRows file.now (Inside place.now))) }
+    ensures there { result ≡ Err NoMemory → EntersFirst file.now (Inside place.now) }
 {
     let Some(due) = DuePage::at(file, place.at)? else {
         return Err(OpenFault::Ended(End::Proper));

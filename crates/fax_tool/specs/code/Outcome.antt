@@ -60,9 +60,10 @@ pub record IsStopped (command : Command) (refusal : Refusal) (input : Input)
   pub leaves : (file : List ℕ) × IfSome input.bytes (λ bytes. file ≡ bytes)
       × LeavesText (IsTextOf command file) (IsTextAfterMemory command file) refusal output
 
--- the input failed, or is too long
+-- the input was opened, but failed, or is too long
 abbrev pub IsUnread : Input → Type 0
-IsUnread input = HasFailed input.counts ⊎ (max_file < input.taken)
+IsUnread input =
+    (input.counts.unopened ≡ 0) × (HasFailed input.counts ⊎ (max_file < input.taken))
 
 -- reading was refused for this reason
 abbrev pub HasReadReason : Refusal → Input → Type 0

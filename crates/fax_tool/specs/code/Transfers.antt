@@ -4,11 +4,10 @@ use Rattle.std.specs.Io.KnownBytes.{Appends}
 use Rattle.fax_tool.specs.declared.refusal.Refusal.{Refusal}
 use Rattle.fax_tool.specs.declared.refusal.Refusal.TheVariants.{Write}
 use Rattle.fax_tool.specs.Run.{HasFailed, Counts}
-use Rattle.fax_tool.specs.Streams.{counts_of}
 
 -- so many calls were interrupted, and none failed
 abbrev pub counted : ℕ → Counts
-counted interruptions = counts_of interruptions 0
+counted interruptions = record { interrupted = interruptions; failed = 0; unopened = 0 }
 
 -- a front of these bytes is written
 pub record WritesFront (old new : Option (List ℕ)) (bytes : List ℕ) : Type 0 where

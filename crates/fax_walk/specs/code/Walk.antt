@@ -15,8 +15,8 @@ use Rattle.fax_walk.specs.laws.InOrder.{LeadTo}
 use Rattle.fax_walk.specs.Items.{RowItem, RowPlace, IsRow, IsTailFrom, begun_cursor, cursor_after}
 use Rattle.fax_walk.specs.Items.{place_after}
 use Rattle.fax_walk.specs.views.InOrder.{HasEndedAs}
-use Rattle.fax_walk.specs.views.Walk.{WalkView, IsItemNumber, EntersPage, HasPage, AreRead}
-use Rattle.fax_walk.specs.views.Walk.{Begins, EndsBefore, IsLent}
+use Rattle.fax_walk.specs.views.Walk.{WalkView, IsItemNumber, EntersFirst, EntersPage, HasPage}
+use Rattle.fax_walk.specs.views.Walk.{AreRead, Begins, EndsBefore, IsLent}
 use Rattle.fax_files.specs.views.Page.{IsPageForm}
 use Rattle.fax_walk.specs.views.Walk.{walk_from}
 use Rattle.fax_walk.specs.code.Stages.{PageState, row_of, skipped, place_of, IsOpen, IsOpenedAt}
@@ -60,7 +60,8 @@ abbrev pub IsEntered : List ℕ → Begun → Option PageState → Result Unit O
     → Type 0
 IsEntered file begun None (Ok tt) (Some new) = IsOpenedFirst file begun new
 IsEntered file begun None (Err fault) new =
-    IsRefusal (HasNoRows file begun) fault × (new ≡ None)
+    IsRefusal (HasNoRows file begun) fault × (fault ≡ NoMemory → EntersFirst file begun)
+    × (new ≡ None)
 IsEntered file begun (Some old) (Ok tt) (Some new) =
     (row_of old ≡ old.form.rows) × IsOpenedAt old.directory.file (place_of old) 0 old.read new
 IsEntered file begun (Some old) (Err fault) new =

@@ -41,11 +41,19 @@ IsItemNumber file begun n item = IsNumber (IsTailFrom file begun) n item
 abbrev pub HasPage : List ℕ → ℕ → Type 0
 HasPage file p = IsOnPage file (record { page = p; row = 0 }) (λ here. ⊤) (λ end. ⊥)
 
+-- a page is entered with what a walk begins with: that of its cursor, which the file has, and where
+-- the cursor's row is after its page's last row the one after that, which the file has too
+abbrev pub EntersFirst : List ℕ → Begun → Type 0
+EntersFirst file begun =
+    let at = begun_cursor begun in
+    IsOnPage file at
+    (λ here. (at.row < here.form.rows) ⊎ HasPage file (at.page + 1)) (λ end. ⊥)
+
 -- a page is entered with item number n: it is the first one; or the one before it was its page's
 -- last row, and the file has a page after that
 abbrev pub EntersPage : List ℕ → Begun → ℕ → Type 0
 EntersPage file begun n =
-    (n ≡ 0)
+    ((n ≡ 0) × EntersFirst file begun)
     ⊎ ((before : ℕ) × (item : RowItem) × (n ≡ before + 1)
     × IsItemNumber file begun before item × (item.row + 1 ≡ item.form.rows)
     × HasPage file (item.page + 1))

@@ -1,6 +1,8 @@
+use Rattle.std.proofs.Common.{◌≡◌, arith}
 use Rattle.std.proofs.lemmas.Result.{err_from_is_err_and}
-use Rattle.fax_walk.proofs.WalkLemmas.{ended_on, gone_on}
+use Rattle.fax_walk.proofs.WalkLemmas.{ended_on, gone_on, not_entered}
 use Rattle.fax_walk.proofs.walk.go_on.Goals as goal
+use Rattle.fax_walk.proofs.walk.go_on.Goals.{in-Some+in_ok-next+else-branch, in_default}
 
 pub returns-in_err-next : goal.returns-in_err-next
 returns-in_err-next c =
@@ -16,3 +18,14 @@ returns-then-branch c given cursor from =
     gone_on c.bits_stand_by_place.ensures c.lines_are_read_in_one_way.ensures c.files_have_one_chain.ensures c.forms_are_whole.ensures c.args.file.now
     c.args.begun.now
     given cursor c.in-Some.open c.next.new.self goes.1 gives
+
+pub returns-in_err-open_due : goal.returns-in_err-open_due
+returns-in_err-open_due c =
+    let p = err_from_is_err_and c.from_residual-in_err-open_due.result c.from_residual-in_err-open_due.ensures.1 in
+    let same : c.match-page.page ≡ c.pages.page = elim c.match-page.branch [
+      | in-Some+in_ok-next+else-branch w ↦ grind arith
+      | in_default w ↦ w.page-is
+    ] in
+    rw (p.1, p.2)
+    (not_entered c.args.file.now c.args.begun.now c.args.page.now c.pages.page c.open_due.new.page _ c.pages.invariant.goes_on
+    c.pages.invariant.there (rw same at c.in_err-open_due.ensures))

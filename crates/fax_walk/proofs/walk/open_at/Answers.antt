@@ -1,7 +1,7 @@
 use Rattle.std.proofs.Common.{arith, ◌<◌, inl, sym}
 use Rattle.std.proofs.lemmas.Result.{err_from_is_err_and}
 use Rattle.fax_walk.specs.code.Opening.{PageDue}
-use Rattle.fax_walk.proofs.EnterLemmas.{no_page, opened_next, opened_on, refused_next, refused_on}
+use Rattle.fax_walk.proofs.EnterLemmas.{enters_next, enters_on, no_page, opened_next, opened_on, refused_next, refused_on}
 use Rattle.fax_walk.proofs.walk.open_at.Goals as goal
 
 pub returns-in_err-due-clause-refused : goal.returns-in_err-due-clause-refused
@@ -30,3 +30,19 @@ returns-else-cursor-due-clause-refused c =
     let due : PageDue = record { page = d.page; chain = d.chain; directory = d.strips.directory; form = d.form } in
     refused_next c.args.file.now c.args.cursor due named c.due.invariant.its c.if-cursor-due.false c.open_after.result
     c.open_after.ensures.refused
+
+pub returns-in_err-due-clause-there : goal.returns-in_err-due-clause-there
+returns-in_err-due-clause-there c = grind (arith, err_from_is_err_and)
+
+pub returns-then-cursor-due-clause-there : goal.returns-then-cursor-due-clause-there
+returns-then-cursor-due-clause-there c = λ _.
+    let named = rw c.in-Some.is at c.in_ok-due.ensures.ok in
+    let below : c.args.cursor.row < c.in-Some.due.form.rows = rw (← c.due.view_is) c.if-cursor-due.true in
+    enters_on c.args.file.now c.args.cursor c.in-Some.due named below
+
+pub returns-else-cursor-due-clause-there : goal.returns-else-cursor-due-clause-there
+returns-else-cursor-due-clause-there c = λ is.
+    let named = rw (sym c.due.view_is) at (rw c.in-Some.is at c.in_ok-due.ensures.ok) in
+    let d = c.due.inside in
+    let due : PageDue = record { page = d.page; chain = d.chain; directory = d.strips.directory; form = d.form } in
+    enters_next c.args.file.now c.args.cursor due named c.due.invariant.its (c.open_after.ensures.there is)

@@ -1,7 +1,7 @@
 use Rattle.std.proofs.Common.{arith, Some, None, inl}
 use Rattle.std.proofs.lemmas.Result.{err_from_is_err_and}
 use Rattle.fax_walk.specs.code.Opening.{EndsAt, IsNamed}
-use Rattle.fax_walk.proofs.EnterLemmas.{no_page_inside, begun_place, refused_inside}
+use Rattle.fax_walk.proofs.EnterLemmas.{enters_inside, no_page_inside, begun_place, refused_inside}
 use Rattle.fax_walk.proofs.walk.open_at_place.Goals as goal
 
 pub returns-in_err-due-clause-refused : goal.returns-in_err-due-clause-refused
@@ -23,3 +23,12 @@ returns-clause-refused c =
     let named : IsNamed c.args.file.now c.args.place.now.at (Some c.in-Some.due) =
     rw (← c.place.view_is) (rw c.in-Some.is at c.in_ok-due.ensures.ok) in
     refused_inside c.args.file.now c.args.place.now c.in-Some.due named c.open_inside.result c.open_inside.ensures.refused
+
+pub returns-in_err-due-clause-there : goal.returns-in_err-due-clause-there
+returns-in_err-due-clause-there c = grind (arith, err_from_is_err_and)
+
+pub returns-clause-there : goal.returns-clause-there
+returns-clause-there c = λ is.
+    let named : IsNamed c.args.file.now c.args.place.now.at (Some c.in-Some.due) =
+    rw (← c.place.view_is) (rw c.in-Some.is at c.in_ok-due.ensures.ok) in
+    enters_inside c.args.file.now c.args.place.now c.in-Some.due named (c.open_inside.ensures.within is)

@@ -4,29 +4,29 @@ use Rattle.fax_files.specs.views.Pbm.{head_bytes}
 use Rattle.fax_walk.proofs.OutputLemmas.{image_too_large, image_begun}
 use Rattle.fax_walk.proofs.output.Output.begin.Goals as goal
 
-pub returns-then-len-raster-gt-MAX_OUTPUT : goal.returns-then-len-raster-gt-MAX_OUTPUT
-returns-then-len-raster-gt-MAX_OUTPUT c = λ at due.
+pub returns-then-saturating_add-gt-MAX_OUTPUT : goal.returns-then-saturating_add-gt-MAX_OUTPUT
+returns-then-saturating_add-gt-MAX_OUTPUT c = λ at due.
     let has = rw c.in-Images.is at due.written in
     let new_is = c.in_ok-put_pbm_head-in-Images.ensures.ok in
-    let packed : c.div_ceil.result ≡ packed_len c.args.sheet.now.width = omega (arith, c.div_ceil.ensures) in
+    let packed : c.div_ceil-row_len.result ≡ packed_len c.args.sheet.now.width = omega (arith, c.div_ceil-row_len.ensures) in
     let raster = ap (λ n. c.args.sheet.now.rows * n) packed in
     let parts = length-append c.in-Images.bytes.items (head_bytes c.args.sheet.now.width c.args.sheet.now.rows) in
     let len : c.len.result ≡ length c.put_pbm_head.new.out.items = omega (arith, c.len.ensures) in
     record {
       widths = tt;
       has = image_too_large c.packing_undoes_unpacking.ensures at c.args.sheet.now has.target
-          (omega (arith, c.if-len-raster-gt-MAX_OUTPUT.true, len, ap length new_is, ap length has.bytes_are, parts, raster));
+          (omega (arith, c.if-saturating_add-gt-MAX_OUTPUT.true, c.saturating_add.ensures, c.saturating_mul-raster.ensures, len, ap length new_is, ap length has.bytes_are, parts, raster));
     }
 
-pub returns-else-len-raster-gt-MAX_OUTPUT : goal.returns-else-len-raster-gt-MAX_OUTPUT
-returns-else-len-raster-gt-MAX_OUTPUT c = λ at due.
+pub returns-else-saturating_add-gt-MAX_OUTPUT : goal.returns-else-saturating_add-gt-MAX_OUTPUT
+returns-else-saturating_add-gt-MAX_OUTPUT c = λ at due.
     let has = rw c.in-Images.is at due.written in
-    let packed : c.div_ceil.result ≡ packed_len c.args.sheet.now.width = omega (arith, c.div_ceil.ensures) in
+    let packed : c.div_ceil-row_len.result ≡ packed_len c.args.sheet.now.width = omega (arith, c.div_ceil-row_len.ensures) in
     let raster = ap (λ n. c.args.sheet.now.rows * n) packed in
     let len : c.len.result ≡ length c.put_pbm_head.new.out.items = omega (arith, c.len.ensures) in
     record {
       widths = tt;
       has =
           image_begun at c.args.sheet.now c.in-Images.bytes.items c.put_pbm_head.new.out.items has c.in_ok-put_pbm_head-in-Images.ensures.ok
-          (omega (arith, c.if-len-raster-gt-MAX_OUTPUT.false, len, raster));
+          (omega (arith, c.if-saturating_add-gt-MAX_OUTPUT.false, c.saturating_add.ensures, c.saturating_mul-raster.ensures, len, raster));
     }
