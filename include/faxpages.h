@@ -2,30 +2,35 @@
  *
  * Each call reads the bytes of a file and keeps nothing: there is nothing to open or to free, and
  * calls may run at the same time in any threads, each on buffers of its own. Pages and rows are
- * numbered from 0. A call answers a status, and tells the rest in the caller's memory.
+ * numbered from 0. A call returns a status, and writes the rest into the caller's memory.
  *
  * What a caller owes:
- * - A pointer is not null and is aligned as C has it. Where the length beside it is 0 nothing is
- *   read or written there: pass the address of any variable of the type, and not NULL.
- * - The length beside a pointer says how many items it points to: bytes of `file`, and of the
- *   others the type that is pointed to. As any array in C they have at most PTRDIFF_MAX bytes.
- * - Nothing that a call writes overlaps anything else that it is given, and nobody changes it, or
- *   the file, while the call runs.
+ * - No pointer is null, and each is aligned as its type needs. Where the length beside it is 0,
+ *   nothing is read or written there: pass the address of any variable of the type, and not NULL.
+ * - The length beside a pointer says how many items it points to, of the type that it points to.
+ *   As any array in C they have at most PTRDIFF_MAX bytes.
+ * - What a call writes overlaps nothing else that it is given. While it runs, nobody changes the
+ *   file, or anything else that it is given.
  * - No call is made from a signal handler, nor in a child of a fork of a process with threads.
  *
  * The calls use malloc, realloc and free of the program, memcpy, memmove and memset, and nothing
  * else of the system. They need some 12 KB of stack. They run on x86-64 processors with SSE4.2 and
- * POPCNT (x86-64-v2).
+ * POPCNT (x86-64-v2). No call looks whether the processor has them: on an older one it ends the
+ * process by SIGILL. If yours may be older, ask __builtin_cpu_supports("x86-64-v2") first.
  *
  * A call looks at nothing that stands before the place where it begins, but for the header, the
  * directories up to its page, and the rows above it in its strip. So a fault that it tells is the
  * first from there on, and not always the first of the file.
  *
- * Of a file that nobody vouches for: a call takes time for the chain of directories up to its page,
- * for the rows that it writes, and, where it begins at a page and a row alone, for those above it
- * in its strip. So the room that it is given bounds it. faxpages_check and faxpages_convert read
- * all rows, and a file may have many more of them than bytes, since its pages may share a strip:
- * list the forms before, a bounded number a call, and add up their rows and pels.
+ * Files from strangers may be made to take long. A call takes time for the chain of directories up
+ * to its page, for the rows that it writes, and for the bytes that they are read from: any number
+ * of zeros (fill) may stand before a row. Where it begins at a page and a row alone, it takes time
+ * for the rows above it in its strip too. So the room that it is given bounds the rows, but not the
+ * bytes: strips may share bytes, so that n strips may take the time of n * file_len bytes.
+ * faxpages_check and faxpages_convert read all rows of all strips, and a file may have many more
+ * rows than bytes: 100 pages of one row that share a strip of 16 MB, all fill, take more than a
+ * second. So list the forms before, a bounded number a call, and add up their rows, their pels, and
+ * their strips times file_len.
  *
  * What may grow: new calls, statuses and numbers of faults. What is here keeps its meaning and its
  * size in all libfaxpages.so.1. */
@@ -34,6 +39,10 @@
 
 #include <stddef.h>
 #include <stdint.h>
+
+/* The version of this header, as text and as a number; faxpages_version tells the library's. */
+#define FAXPAGES_VERSION "1.5.0"
+#define FAXPAGES_VERSION_NUMBER 10500
 
 #ifdef __cplusplus
 extern "C" {
@@ -45,16 +54,18 @@ enum faxpages_status {
     FAXPAGES_END = 1,     /* the file has no more than was written */
     FAXPAGES_FAULT = 2,   /* what was written ends at a fault of the file, which is told */
     FAXPAGES_OUTSIDE = 3, /* the file has no such page, row or place, or a place lacks its runs */
-    FAXPAGES_MEMORY = 4,  /* malloc refused; the call may be made again, where rows are read from
-                           * the place that is told */
+    FAXPAGES_MEMORY = 4,  /* malloc refused; the call may be made again, and one that reads rows
+                           * goes on from the place that is told */
     FAXPAGES_NO_ROOM = 5, /* what comes next does not fit in what is left of a buffer */
-    FAXPAGES_NO_PLACE = 6, /* the text is no place's */
-    FAXPAGES_NO_OPTIONS = 7, /* the numbers are no options or no form, or a raster is too short */
-    FAXPAGES_TOO_LARGE = 8 /* the file would have more than 268435456 bytes */
+    FAXPAGES_NO_PLACE = 6, /* the text is not that of a place */
+    FAXPAGES_NO_OPTIONS = 7, /* the options or the form are invalid, or a raster is too short */
+    FAXPAGES_TOO_LARGE = 8, /* the file would have more than 268435456 bytes */
+    FAXPAGES_DATA_END = 9, /* rows that nobody counted end with the data, after a whole row */
+    FAXPAGES_MORE = 10     /* the row that is due is not settled by these bytes of a strip */
 };
 
-/* The faults: of a file, where those from 7 to 10 have the tag of a field; from 101 on of a strip's
- * data; and from 201 on of a conversion. */
+/* The faults: below 100 of a file, of which those from 7 to 10 have the tag of a field; from 101 on
+ * of a strip's data; and from 201 on of a conversion. */
 enum faxpages_fault_number {
     FAXPAGES_NO_FAULT = 0,
     FAXPAGES_SHORT_HEADER = 1,
@@ -75,6 +86,7 @@ enum faxpages_fault_number {
     FAXPAGES_OUT_OF_ROW = 105,
     FAXPAGES_MISSING_EOL = 106,
     FAXPAGES_END_MARKER = 107,
+    FAXPAGES_TOO_MANY_ROWS = 108,
     FAXPAGES_PBM_BAD_HEADER = 201,
     FAXPAGES_PBM_OUT_OF_LIMITS = 202,
     FAXPAGES_PBM_SHORT_RASTER = 203,
@@ -91,8 +103,8 @@ struct faxpages_fault {
     uint32_t row;
 };
 
-/* What a call wrote, and where to go on: at the page and the row that are due, which are those of
- * the place too, where the call takes one. */
+/* What a call wrote, and where to go on: the page and the row that are due. If the call takes a
+ * place, that has the same page and row. */
 struct faxpages_told {
     size_t count;  /* how many forms or rows were written */
     size_t used;   /* how many numbers of `out` were written */
@@ -118,7 +130,7 @@ struct faxpages_form {
 
 /* Writes the forms of pages from `page` on, at most `forms_room`. `count` of `told` says how many:
  * forms[i] is that of page `page` + i. DONE, END, FAULT or OUTSIDE. With room for none it is DONE,
- * and nothing is read: also where there is no such page. Each call follows the file's chain of
+ * and nothing is read, even if there is no such page. Each call follows the file's chain of
  * directories from its beginning: list many pages a call, not one. */
 uint32_t faxpages_forms(const uint8_t *file, size_t file_len, uint32_t page,
                         struct faxpages_form *forms, size_t forms_room,
@@ -133,7 +145,7 @@ struct faxpages_row {
     uint32_t width; /* its pels, 1 to 65535 */
 };
 
-/* So many bytes hold any row. */
+/* The bytes of the widest row. */
 #define FAXPAGES_ROW_BYTES 8192
 
 /* Writes rows from a page and a row on, over pages, up to the end of the file: at most `rows_room`
@@ -141,18 +153,19 @@ struct faxpages_row {
  * first, 1 for black, with zeros after the last pel; one row after another, with nothing between
  * them. rows[i] says where each lies. The row after a page's last is the next page's first, so
  * page 3, row 0 begins at page 3, and so does page 2 with the number of its rows. DONE, END, FAULT,
- * OUTSIDE, MEMORY or NO_ROOM. With rows_room 0 it is DONE, and nothing is read: also where there is
- * no such page or row.
+ * OUTSIDE, MEMORY or NO_ROOM. With rows_room 0 it is DONE, and nothing is read, even if there is no
+ * such page or row.
  *
- * A strip is read from its beginning: where a call begins inside one, its rows before that are read
- * once more. So a loop goes by faxpages_rows_from, and a page alone is read by this call. */
+ * A strip is read from its beginning: where a call begins inside one, the rows before that are read
+ * once more. So use faxpages_rows_from in a loop, and this call for a page alone. */
 uint32_t faxpages_rows(const uint8_t *file, size_t file_len, uint32_t page, uint32_t row,
                        struct faxpages_row *rows, size_t rows_room, uint8_t *out, size_t out_room,
                        struct faxpages_told *told);
 
-/* Where to go on: a page and a row. Where `runs` is not 0 it is a place inside a strip, after so
- * many bits of it, and after a row of so many runs, which stand in a buffer beside it. {0, 0, 0, 0}
- * is the beginning of a file, and {page, row, 0, 0} any row. */
+/* Where to go on: a page and a row. If `runs` is not 0 it is a place inside a strip: `bits` is the
+ * number of bits of the strip before it, and `runs` the number of runs of the row before it, which
+ * stand in a buffer beside it. {0, 0, 0, 0} is the beginning of a file, and {page, row, 0, 0} any
+ * row. */
 struct faxpages_place {
     uint32_t page;
     uint32_t row;
@@ -160,33 +173,33 @@ struct faxpages_place {
     uint32_t runs;
 };
 
-/* So many runs hold those of any row. */
+/* The most runs of a row. */
 #define FAXPAGES_RUNS 65536
 
-/* The same from a place on, which is then the one after the rows that were written, after DONE and
- * NO_ROOM alike, so that no row that was written is read again: begin with {0, 0, 0, 0}, and call
- * while it is DONE or NO_ROOM. That ends in any file where rows_room is not 0 and `out` holds a
- * row. Each call follows the chain of directories up to its page, and takes memory for rows of the
- * page's width, so ask for thousands of rows a call, over as many pages as they have: then a file
- * is read in a time in proportion to its length and its rows.
+/* Does the same from a place on, and leaves there the place after the rows that were written, after
+ * DONE and NO_ROOM alike. So no row that was written is read again: begin with {0, 0, 0, 0}, and
+ * call while it is DONE or NO_ROOM. That ends for any file, if rows_room is not 0 and `out` has
+ * room for a row. Each call follows the chain of directories up to its page, and takes memory for
+ * rows of the page's width, so ask for thousands of rows a call, over as many pages as they have:
+ * then a file is read in a time in proportion to its length and its rows.
  *
  * `runs` has the runs of the place, before the call and after it; let runs_room be FAXPAGES_RUNS.
- * No run after the first FAXPAGES_RUNS is changed. Where no row was written, a place inside a strip
- * stays. Else the place is a page and a row alone just where a strip begins there, where its runs
- * have no room, or where more than 4294967295 bits of the strip stand before it. In the last two
- * cases the next call reads the strip from its beginning once more, so that a loop over such a
- * strip, of over 512 MB, takes a time in proportion to the square of its rows.
+ * No run after the first FAXPAGES_RUNS is changed. If a row was written, of these the ones after
+ * the place's own may change. If none was, a place inside a strip stays, and so do all runs.
+ * Otherwise the place is a page and a row alone exactly if a strip begins there, if its runs have
+ * no room, or if more than 4294967295 bits of the strip stand before it. In the last two cases the
+ * next call reads the strip from its beginning once more, so that a loop over such a strip, of over
+ * 512 MB, takes a time in proportion to the square of its rows.
  *
- * Where runs_room is less than the runs of the place, the call is OUTSIDE, and changes nothing but
- * `told`. A place that no call told, for the same file, may be OUTSIDE or FAULT, or give other
- * rows. */
+ * If runs_room is less than the runs of the place, the call is OUTSIDE, and changes nothing but
+ * `told`. A place that no call told for this file may be OUTSIDE or FAULT, or give other rows. */
 uint32_t faxpages_rows_from(const uint8_t *file, size_t file_len, struct faxpages_place *place,
                             uint32_t *runs, size_t runs_room, struct faxpages_row *rows,
                             size_t rows_room, uint8_t *out, size_t out_room,
                             struct faxpages_told *told);
 
 /* The runs of rows, in place of their bytes: out[at], out[at + 1] .. are the lengths in pels of a
- * row's longest runs of one colour, white first; the first is 0 where a row begins black, and no
+ * row's longest runs of one colour, white first; the first is 0 if the row begins black, and no
  * other is. A row has at most `width` + 1 runs, so FAXPAGES_RUNS numbers hold any row. */
 uint32_t faxpages_runs(const uint8_t *file, size_t file_len, uint32_t page, uint32_t row,
                        struct faxpages_row *rows, size_t rows_room, uint32_t *out, size_t out_room,
@@ -207,12 +220,15 @@ uint32_t faxpages_changes_from(const uint8_t *file, size_t file_len, struct faxp
                                struct faxpages_told *told);
 
 /* Writes a page's rows into a raster: row i in the `stride` bytes from out[i * stride] on, as
- * faxpages_rows packs it, with zeros, which are white, up to the stride. `form` is told wherever
- * the file has the page, also with out_room 0: so ask for its size first. `count` of `told` says
- * how many rows were written, before a fault too. DONE, where they are all; FAULT, at a row that
- * cannot be read, also where it would have no room; NO_ROOM, where `out` has no room for `stride`
- * bytes more, or `stride` is less than (width + 7) / 8; MEMORY; END, where the file has just `page`
- * pages, or OUTSIDE, where it has fewer: then no form is told. */
+ * faxpages_rows packs it, with zeros, which are white, up to the stride. `form` is written if the
+ * file has the page, even with out_room 0: so ask for its size first. `count` of `told` says how
+ * many rows were written, before a fault too.
+ *
+ * In this order: END, if the file has exactly `page` pages, OUTSIDE, if it has fewer, or FAULT, at
+ * a fault of the header, a directory or a field: then no form is written. NO_ROOM, if `stride` is
+ * less than (width + 7) / 8: then no row is looked at. Otherwise DONE, if all rows are written;
+ * FAULT, at a row that cannot be read, even if it would have no room; NO_ROOM, if `out` has no room
+ * for `stride` bytes more; or MEMORY, and then no row is written. */
 uint32_t faxpages_page(const uint8_t *file, size_t file_len, uint32_t page,
                        struct faxpages_form *form, uint8_t *out, size_t out_room, size_t stride,
                        struct faxpages_told *told);
@@ -220,43 +236,71 @@ uint32_t faxpages_page(const uint8_t *file, size_t file_len, uint32_t page,
 /* The form of a strip of rows with no file around it, as a fax is on the line, or in a PDF. */
 struct faxpages_strip {
     uint32_t width;   /* pels of a row, 1 to 65535 */
-    uint32_t rows;    /* 1 to 1000000; read with 1000000 where their number is not known */
+    uint32_t rows;    /* 1 to 1000000; to read, 0 if nobody counted them */
     uint32_t coding;  /* 1 MH, 2 MR, 3 MMR */
     uint32_t order;   /* which bit of a byte is first: 1 the highest, 2 the lowest */
-    uint32_t aligned; /* in MH and MR, 1 where each EOL is written so that it ends on a byte
+    uint32_t aligned; /* in MH and MR, 1 if each EOL is written so that it ends on a byte
                        * boundary, else 0; rows are read the same either way */
 };
 
 /* Reads rows of a strip into a raster, as faxpages_page has it, as many as `out` has room for, from
- * a place on, which is then the one after them: begin with {0, 0, 0, 0}, and call until END or
- * FAULT. `page` of the place is the caller's own, and is told with a fault. Of `runs` the runs of
- * the place alone are changed; runs_room is at least FAXPAGES_RUNS. Where no row is written, the
- * place stays.
+ * a place on, and leaves there the place after them. Begin with {0, 0, 0, 0}, and call while it is
+ * DONE, each time with room for a row: with less it is NO_ROOM, however often it is called. So if
+ * `out` is what is left of a raster, end when there is no room for one more row: a raster that is
+ * just full is DONE, after the strip's last row too, where `row` of the place is the form's `rows`.
+ * `page` of the place is the caller's own, and is told with a fault. Of `runs` the runs of the
+ * place alone are changed; runs_room is at least FAXPAGES_RUNS. If no row is written, the place
+ * stays.
  *
- * In this order: NO_OPTIONS, where the form is none, strip_len is more than 536870911, or runs_room
- * is less than FAXPAGES_RUNS: then nothing is told; NO_ROOM, where no row has room, since `stride`
- * is less than (width + 7) / 8, or out_room less than `stride`; END, at the row after the last of
- * the form; OUTSIDE, at a row after that, at bits after the strip, or with runs that no row of the
- * width has. Else rows are read: DONE, where `out` is full; END, where all rows of the form were
- * read; FAULT, at a row that cannot be read; or MEMORY, where no row is written.
+ * In this order: NO_OPTIONS, if the form is invalid, strip_len is more than 536870911, or runs_room
+ * is less than FAXPAGES_RUNS: then nothing is told; NO_ROOM, if no row has room, since `stride` is
+ * less than (width + 7) / 8, or out_room is less than `stride`; END, at the row after the last of
+ * the form, or how the rows end if its `rows` is 0; OUTSIDE, at a row after that, or at bits after
+ * the strip; MEMORY, and then no row is written; and OUTSIDE, with runs that no row of the width
+ * has. This may be MEMORY too, since some memory is taken before the runs are looked at. Otherwise
+ * rows are read: DONE, if `out` is full; END, if all rows of the form were read; or FAULT, at a row
+ * that cannot be read.
  *
- * FAULT leaves the place at the row that was due. So where the strip grows, as it is received, call
- * again after DATA_ENDS from that place, with more bytes. Where the number of rows is not known,
- * they end at END_MARKER, or at DATA_ENDS where there is no end mark; faxpages_strip_check says
- * what stands there. A place is any: row `row` of the strip is read after `bits` bits of it, over a
- * row of these runs, or over a white one where `runs` is 0. So a reader that goes on after a
- * damaged row looks for the next EOL by itself, and sets `bits` to where it begins. Where each row
- * begins on a byte (EncodedByteAlign in a PDF), read one row a call, with `bits` rounded up to a
- * multiple of 8 before each; where rows of MH have no EOLs, read one row a call too, with `row` 0
- * before each. */
+ * If nobody counted the rows, `rows` of the form is 0. Then there may be up to 1000000, and where
+ * the strip would be at its end, or a row cannot be read, the call tells how the rows end: END, if
+ * an end mark stands where the next row is due, a return to control in MH and MR, the end of the
+ * facsimile block in MMR; DATA_END, if at least one row was read and nothing is left but zeros,
+ * which are fill; FAULT, if the row that is due cannot be read, as with DATA_ENDS if it is cut; or
+ * FAULT with TOO_MANY_ROWS, if more follows 1000000 rows. A row was read if `row` of the place is
+ * not 0.
+ *
+ * FAULT leaves the place at the row that was due, and so do END and DATA_END if `rows` is 0. So if
+ * the strip grows, as it is received, call again after DATA_ENDS from that place, with more bytes,
+ * or call faxpages_strip_part, which tells only what stays.
+ *
+ * Any place may be given: row `row` of the strip is read after `bits` bits of it, and coded against
+ * a row of these runs, or against a white one if `runs` is 0. So a reader that goes on after a
+ * damaged row looks for the next EOL by itself, and sets `bits` to where it begins. If rows of MH
+ * have no EOLs (EndOfLine false in a PDF), read one row a call, with `row` 0 before each. If rows
+ * without EOLs, of MH or MMR, each begin on a byte (EncodedByteAlign), read one row a call too,
+ * with `bits` rounded up to a multiple of 8 before each. If rows have EOLs nothing is rounded:
+ * zeros before an EOL are fill, and the row begins right after it. */
 uint32_t faxpages_strip_rows(const uint8_t *strip, size_t strip_len,
+                             const struct faxpages_strip *form, struct faxpages_place *place,
+                             uint32_t *runs, size_t runs_room, uint8_t *out, size_t out_room,
+                             size_t stride, struct faxpages_told *told);
+
+/* Reads rows as faxpages_strip_rows does, of a strip of which the first bytes are there and more
+ * may follow, as from a line. Whatever follows, that call would tell the same of all bytes; but for
+ * MORE: then only the rows that are written are the same. The row that is due is not settled, the
+ * place stays at it, and the fault is all 0. It is MORE if these bytes end within that row, or
+ * before its place; and if nobody counted the rows, also if they would end with the data, with
+ * TOO_MANY_ROWS, or with END_MARKER, of which an end mark may come. Call again from that place with
+ * more bytes; if no more come, faxpages_strip_rows tells from there how the rows end. */
+uint32_t faxpages_strip_part(const uint8_t *strip, size_t strip_len,
                              const struct faxpages_strip *form, struct faxpages_place *place,
                              uint32_t *runs, size_t runs_room, uint8_t *out, size_t out_room,
                              size_t stride, struct faxpages_told *told);
 
 /* What was found in a strip, and after its last row. */
 struct faxpages_strip_report {
-    uint32_t rows;              /* how many rows were read: the form's where there is no fault */
+    uint32_t rows;              /* how many rows were read: where there is no fault, those of the
+                                 * form, or all that there are if it has 0 */
     uint32_t no_end_of_block;   /* N1: 1 in MMR without the end of the block after the last row */
     uint32_t return_to_control; /* N2: 1 in MH and MR with a return to control there */
     uint32_t data_after_end;    /* N3: 1 where a 1 stands after the last row and its end mark */
@@ -264,13 +308,13 @@ struct faxpages_strip_report {
     struct faxpages_fault fault;
 };
 
-/* Reads all rows of a strip, and tells what stands after them. END, where the strip has the rows of
- * the form; FAULT, where one cannot be read: then the notes are 0; NO_OPTIONS, where the form is
- * none or strip_len is more than 536870911, or MEMORY: then nothing is told.
+/* Reads all rows of a strip, and tells what stands after them. END, if the strip has the rows of
+ * the form; FAULT, if one cannot be read: then the notes are 0; NO_OPTIONS, if the form is invalid
+ * or strip_len is more than 536870911, or MEMORY: then nothing is told.
  *
- * Where a strip does not say how many rows it has, call it with 1000000: FAULT with END_MARKER
- * tells `rows` before eleven zeros. Then call it with that number, if it is not 0: END without
- * `no_end_of_block` says that MMR ends there, and with `return_to_control` that MH or MR does. */
+ * If nobody counted the rows, `rows` of the form is 0, and `rows` of the report tells how many
+ * there are. They end as faxpages_strip_rows has it: END, with an end mark, maybe before any row,
+ * or DATA_END, both with the notes on a strip of so many rows; or FAULT. */
 uint32_t faxpages_strip_check(const uint8_t *strip, size_t strip_len,
                               const struct faxpages_strip *form,
                               struct faxpages_strip_report *report);
@@ -278,16 +322,16 @@ uint32_t faxpages_strip_check(const uint8_t *strip, size_t strip_len,
 /* Codes the rows of a raster as a strip, in the codes that T.4 and T.6 choose, and writes it where
  * it has room; `len` tells how many bytes it has. Row i stands in the (width + 7) / 8 bytes from
  * raster[i * stride] on, the highest bit first, 1 for black; what stands past its pels does not
- * matter. In MR a row in every k is coded by itself; k is at least 1. After the last row stands the
- * end of the facsimile block in MMR, and nothing in MH and MR. DONE; NO_ROOM, where it is longer
- * than out_room; MEMORY; or NO_OPTIONS, where the form is none, k is 0, or raster_len is less than
- * (rows - 1) * stride + (width + 7) / 8. But for DONE and NO_ROOM `len` is 0. */
+ * matter. In MR one row in every k is coded by itself; k is at least 1. After the last row stands
+ * the end of the facsimile block in MMR, and nothing in MH and MR. DONE; NO_ROOM, if the strip is
+ * longer than out_room; MEMORY; or NO_OPTIONS, if the form is invalid, k is 0, or raster_len is
+ * less than (rows - 1) * stride + (width + 7) / 8. `len` is 0 except with DONE and NO_ROOM. */
 uint32_t faxpages_strip_code(const struct faxpages_strip *form, uint32_t k, const uint8_t *raster,
                              size_t raster_len, size_t stride, uint8_t *out, size_t out_room,
                              size_t *len);
 
-/* The same of rows as runs, as faxpages_runs writes them: row i has the rows[i].len runs from
- * runs[rows[i].at] on; the rest of rows[i] does not matter. NO_OPTIONS is also where `rows` has
+/* Does the same with rows as runs, as faxpages_runs writes them: row i has the rows[i].len runs
+ * from runs[rows[i].at] on; the rest of rows[i] does not matter. It is NO_OPTIONS too if `rows` has
  * fewer than the form says, or the runs of one lie outside `runs`, or are not the longest ones of a
  * row of its width. */
 uint32_t faxpages_strip_code_runs(const struct faxpages_strip *form, uint32_t k,
@@ -295,42 +339,56 @@ uint32_t faxpages_strip_code_runs(const struct faxpages_strip *form, uint32_t k,
                                   const uint32_t *runs, size_t runs_len, uint8_t *out,
                                   size_t out_room, size_t *len);
 
-/* How far a file is written. Before the first page all is 0 but `total`; a call tells the rest. */
+/* How far a file is written. Before the first page all but `total` is 0; calls set the rest. */
 struct faxpages_written {
     size_t len;     /* how many bytes it has */
     uint32_t link;  /* where in it the offset of the next page's directory stands */
-    uint32_t total; /* how many pages it is to have, 1 to 65535, which each page says */
+    uint32_t total; /* how many pages it will have, 1 to 65535, which each page says; or 0, if that
+                     * is not known: after the last page faxpages_end_pages tells it to each */
     uint32_t added; /* how many were added */
 };
 
 /* Codes the rows of a raster, as faxpages_strip_code has it, as a page of this form, and adds it to
- * a file in the caller's memory, which is in file[0] and after, its first `len` bytes so far. After
- * DONE these are a whole TIFF-F file of the pages so far. The form is one as faxpages_forms tells
- * it: `exchanged` is 0, rows_per_strip is 1 to `rows`, which is one strip, and `strips` is rows /
- * rows_per_strip, rounded up. DONE; NO_ROOM, where the file with the page has more than file_room
- * bytes: give more and call again; TOO_LARGE; MEMORY; or NO_OPTIONS, where the form is none, k is
- * 0, raster_len is less than (rows - 1) * stride + (width + 7) / 8, or `written` says that all
- * pages were added, or is none that a call told. But for DONE nothing is changed. The page is coded
- * in memory of its own before it is seen whether it has room. */
+ * a file in the caller's memory, which begins at file[0] and has `len` bytes so far. After DONE
+ * these are a whole TIFF-F file of the pages so far. The form is as faxpages_forms writes it:
+ * `exchanged` is 0, rows_per_strip is 1 to `rows`, which is one strip, and `strips` is rows /
+ * rows_per_strip, rounded up. DONE; NO_ROOM, if the file, or the file with the page, has more than
+ * file_room bytes: give more and call again; TOO_LARGE; MEMORY; or NO_OPTIONS, if the form is
+ * invalid, k is 0, raster_len is less than (rows - 1) * stride + (width + 7) / 8, `total` is more
+ * than 65535, or all pages were added, of which there are never more than 65535; or, if some were,
+ * if `len` is less than 8 or more than 268435456, `link` less than 4 or more than `len` - 4, or
+ * `total` other than the last page says: it stays the same from the first page on. Nothing else is
+ * checked: the caller keeps `written` and the file as the last call left them; otherwise the bytes
+ * are no TIFF-F file. Except with DONE nothing is changed. The page is coded in memory of its own
+ * before it is known whether it has room. */
 uint32_t faxpages_add_page(const struct faxpages_form *form, uint32_t k, const uint8_t *raster,
                            size_t raster_len, size_t stride, uint8_t *file, size_t file_room,
                            struct faxpages_written *written);
 
+/* Tells each page of a file that faxpages_add_page wrote how many there are, whatever it said, and
+ * sets `total` to that: the file is then byte for byte the one whose number of pages was known from
+ * the first on, which faxpages_convert writes. No page is added after that. DONE; NO_ROOM, if the
+ * file has more than file_room bytes; or NO_OPTIONS, if no page was added, or more than 65535,
+ * `len` is less than 8 or more than 268435456, or as many directories as pages were added, each
+ * after the offset that leads to it and the last one just before `link`, do not stand in the `len`
+ * bytes. Except with DONE nothing is changed, and with DONE two bytes of each page at most. */
+uint32_t faxpages_end_pages(uint8_t *file, size_t file_room, struct faxpages_written *written);
+
 /* Writes a place as text where it has room, and tells in `len` how many bytes the text has: a page
  * and a row as 1:P:R, a place inside a strip as 2:P:R:B:n,n,.. with its bits and its runs, as the
- * program faxpages prints them. DONE; NO_ROOM, where it is longer than text_room; OUTSIDE, where
+ * program faxpages prints them. DONE; NO_ROOM, if it is longer than text_room; OUTSIDE, if
  * runs_room is less than the runs of the place, or MEMORY: then `len` is 0. The text of a place
  * that a call told has at most 131102 bytes, that of a page and a row 23. */
 uint32_t faxpages_place_text(const struct faxpages_place *place, const uint32_t *runs,
                              size_t runs_room, uint8_t *text, size_t text_room, size_t *len);
 
-/* Reads a place from such a text. DONE; NO_PLACE, also where it has more than FAXPAGES_RUNS runs;
- * NO_ROOM, where `runs` has no room for its runs; or MEMORY. Where it is not DONE nothing is
- * changed. Of a page and a row no run is changed, else no run after those of the place. */
+/* Reads a place from such a text. DONE; NO_PLACE, if the text is not that of a place, or has more
+ * than FAXPAGES_RUNS runs; NO_ROOM, if `runs` has no room for its runs; or MEMORY. If it is not
+ * DONE nothing is changed. A page and a row change no run, any other place none after its own. */
 uint32_t faxpages_place_parse(const uint8_t *text, size_t text_len, struct faxpages_place *place,
                               uint32_t *runs, size_t runs_room);
 
-/* What is worth a note in a file that is read. */
+/* The kinds of notes: what may trouble other readers of a file. */
 enum faxpages_note_kind {
     FAXPAGES_NO_END_OF_BLOCK = 1,      /* N1: a strip of MMR without the end of its block */
     FAXPAGES_RETURN_TO_CONTROL = 2,    /* N2: a strip of MH or MR with a return to control */
@@ -352,7 +410,7 @@ struct faxpages_note {
 struct faxpages_report {
     uint64_t pages; /* how many pages were read wholly */
     uint64_t rows;  /* how many rows were read */
-    size_t notes;   /* how many notes there are, which may be more than have room */
+    size_t notes;   /* how many notes there are, which may be more than notes_room */
     struct faxpages_fault fault;
 };
 
@@ -362,13 +420,13 @@ struct faxpages_report {
 uint32_t faxpages_check(const uint8_t *file, size_t file_len, struct faxpages_note *notes,
                         size_t notes_room, struct faxpages_report *report);
 
-/* How a file is written. For PBM only the target matters, but the others have to be in range. */
+/* How a file is written. For PBM only the target matters, but the others must be in range. */
 struct faxpages_options {
     uint32_t target;  /* 0 raw PBM; TIFF-F in 1 MH, 2 MR, 3 MMR */
     uint32_t order;   /* which bit of a byte is first: 1 the highest, 2 the lowest */
     uint32_t k;       /* in MR, a row in this many is coded by itself; at least 1 */
     uint32_t strip;   /* the rows of a strip, or 0 where a page is one strip */
-    uint32_t aligned; /* in MH and MR, 1 where each EOL is to end on a byte boundary, else 0 */
+    uint32_t aligned; /* in MH and MR, 1 if each EOL has to end on a byte boundary, else 0 */
 };
 
 /* How long the output is, or why there is none. */
@@ -379,23 +437,23 @@ struct faxpages_converted {
 };
 
 /* Turns a file into another: raw PBM where it begins with P4, and TIFF-F where it begins with II or
- * MM, into raw PBM or TIFF-F. DONE; NO_ROOM, where `len` tells how much is wanted, and nothing is
+ * MM, into raw PBM or TIFF-F. DONE; NO_ROOM, where `len` tells how much is needed, and nothing is
  * written; FAULT, where there is no output; NO_OPTIONS or MEMORY, where all that is told is 0. The
  * output has at most 268435456 bytes. To ask for its length alone, let out_room be 0. */
 uint32_t faxpages_convert(const uint8_t *file, size_t file_len,
                           const struct faxpages_options *options, uint8_t *out, size_t out_room,
                           struct faxpages_converted *converted);
 
-/* Writes the name of a fault by its number, as `DataEnds`, without a 0 after it, where it has room:
- * 16 bytes are enough. Answers how many bytes the name has, 0 where no fault has this number. */
+/* Writes the name of a fault by its number, as `DataEnds`, without a 0 after it, if it has room:
+ * 16 bytes are enough. Returns how many bytes the name has, 0 if no fault has this number. */
 size_t faxpages_fault_name(uint32_t number, uint8_t *name, size_t name_room);
 
-/* The same of a status, as `NoRoom`, and of a note's kind, as `ReturnToControl`: 17 bytes are
+/* The same for a status, as `NoRoom`, and for a note's kind, as `ReturnToControl`: 17 bytes are
  * enough. */
 size_t faxpages_status_name(uint32_t status, uint8_t *name, size_t name_room);
 size_t faxpages_note_name(uint32_t kind, uint8_t *name, size_t name_room);
 
-/* The version as a number, 10402 for 1.4.2; and as text, as faxpages_fault_name writes names. */
+/* The version as a number, 10500 for 1.5.0; and as text, as faxpages_fault_name writes names. */
 uint32_t faxpages_version(void);
 size_t faxpages_version_text(uint8_t *text, size_t text_room);
 

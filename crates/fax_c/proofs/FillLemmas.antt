@@ -2,22 +2,22 @@
 use Rattle.std.proofs.Common.{◌≡◌, ℕ, suc, ◌+◌, ◌<◌, ◌≤◌, List, [], ◌∷◌, ◌++◌, length, set, take, drop, refl, ap, sym, ◌∙◌, subst}
 use Rattle.std.proofs.Common.{append_assoc, append-nil, arith, inl, inr, length-append, Ok, Err}
 use Rattle.std.specs.Prelude.{Some, slice_get}
-use Rattle.std.proofs.lemmas.Bool.{cases_lt}
 use Rattle.std.proofs.lemmas.List.{length-drop, length-take-le}
 use Rattle.std.proofs.lemmas.Option.{slice_get_within}
 use Rattle.fax_rows.specs.Rows.{Colour}
 use Rattle.fax_walk.specs.declared.begun.Begun.{Begun}
 use Rattle.fax_walk.specs.declared.cursor.Cursor.{Cursor}
 use Rattle.fax_walk.specs.declared.end.End.{End}
+use Rattle.fax_walk.specs.Pages.{IsPageAt}
 use Rattle.fax_walk.specs.Items.{RowItem, IsTailFrom, begun_cursor, cursor_after}
 use Rattle.fax_walk.specs.views.InOrder.{IsNumber}
-use Rattle.fax_walk.specs.views.Walk.{EntersPage, WalkView, IsCursorOf}
+use Rattle.fax_walk.specs.views.Walk.{EntersPage, HasPage, WalkView, IsCursorOf}
 use Rattle.fax_walk.specs.laws.Tails.{BeginningsHaveOneTail}
 use Rattle.fax_c.specs.declared.filled.Stop.{Stop}
 use Rattle.fax_c.specs.declared.filled.Stop.TheVariants.{Done, Ended, Memory, NoRoom}
 use Rattle.fax_c.specs.declared.rows.FaxRow.{FaxRow}
-use Rattle.fax_c.specs.views.Filled.{AreRowsFilled, StopsAfterRows, all_numbers, cursor_after_rows, row_at, rows_at}
-use Rattle.fax_c.specs.code.Put.{IsPut, IsPutAt, IsPutTo, IsWalkAfter}
+use Rattle.fax_c.specs.views.Filled.{AreRowsFilled, StopsAfterRows, TakesRuns, all_numbers, cursor_after_rows, row_at, rows_at}
+use Rattle.fax_c.specs.code.Put.{IsPut, IsPutAt, IsPutTo, IsRefusedAt, IsWalkAfter}
 use Rattle.fax_c.proofs.ListLemmas.{more_put, one_set, take_at}
 use Rattle.fax_c.proofs.NumberLemmas.{end_is, number_is}
 
@@ -172,7 +172,7 @@ module _ {N : Type 0} (numbers : List Colour → List N) (file : List ℕ) (begu
   stops Memory new new_out below (enters, new_is, same) =
       let of_file = subst (λ f. EntersPage f walk.begun walk.given) so_far.same_file enters in
       let of_begun = subst (λ b. EntersPage file b walk.given) so_far.same_begun of_file in
-      ((below, subst (λ n. EntersPage file begun n) so_far.given of_begun), same)
+      ((below, inl (subst (λ n. EntersPage file begun n) so_far.given of_begun)), same)
 
   pub stopped : (stop : Stop) (new : WalkView) (new_out : List N) (at : Cursor) → count < length old_rows
       → IsPut numbers walk out used (Err stop) new new_out → IsCursorOf walk at
@@ -213,27 +213,30 @@ module _ {N : Type 0} (numbers : List Colour → List N) (file : List ℕ) (begu
   walk_stopped first stop new new_out at of begins put = grind arith
 
 -- where memory is refused before a walk begins, nothing is written
-pub refused_at_once : {N : Type 0} (numbers : List Colour → List N) (file : List ℕ) (begun : Begun) (at : Cursor) (rows : List FaxRow) (out : List N)
-    (stop : Stop) → BeginningsHaveOneTail → at ≡ begun_cursor begun → (length rows ≡ 0 → stop ≡ Done) → (0 < length rows → stop ≡ Memory)
-    → AreRowsFilled numbers file begun rows out (record { cursor = at; count = 0; used = 0; stop = stop }) rows out
-refused_at_once numbers file begun at rows out stop one is done refused =
-    let tail = one file begun in
-    record {
-      items = tail.items;
-      end = tail.end;
-      tail = tail.is;
-      few = omega arith;
-      asked = omega arith;
-      used = refl;
-      lie = refl;
-      written = refl;
-      cursor = is;
-      stops = elim (cases_lt 0 (length rows)) [
-        | inl some ↦
-            subst (λ (s : Stop). StopsAfterRows numbers file begun tail.items tail.end (length rows) (length out) 0 0 s) (sym (refused some))
-            (some, inl refl)
-        | inr none ↦
-            let zero : length rows ≡ 0 = omega (arith, none) in
-            subst (λ (s : Stop). StopsAfterRows numbers file begun tail.items tail.end (length rows) (length out) 0 0 s) (sym (done zero)) (sym zero)
-      ];
-    }
+module _ {N : Type 0} (numbers : List Colour → List N) (file : List ℕ) (begun : Begun) (at : Cursor) (rows : List FaxRow) (out : List N)
+    (is : at ≡ begun_cursor begun) where
+  none_filled : (stop : Stop) (items : List RowItem) (end : End) → IsTailFrom file begun items end
+      → StopsAfterRows numbers file begun items end (length rows) (length out) 0 0 stop
+      → AreRowsFilled numbers file begun rows out (record { cursor = at; count = 0; used = 0; stop = stop }) rows out
+  none_filled stop items end tail stops = record {
+    items = items;
+    end = end;
+    tail = tail;
+    few = omega arith;
+    asked = omega arith;
+    used = refl;
+    lie = refl;
+    written = refl;
+    cursor = is;
+    stops = stops;
+  }
+
+  pub refused_at_once : (stop : Stop) → BeginningsHaveOneTail → (HasPage file at.page → TakesRuns file begun 0)
+      → IsRefusedAt file at (length rows) stop
+      → AreRowsFilled numbers file begun rows out (record { cursor = at; count = 0; used = 0; stop = stop }) rows out
+  refused_at_once Done one takes none = let tail = one file begun in none_filled Done tail.items tail.end tail.is (sym none)
+  refused_at_once Memory one takes (some, page) =
+      let tail = one file begun in none_filled Memory tail.items tail.end tail.is (some, inr (takes page))
+  refused_at_once (Ended end) one takes (some, none) =
+      none_filled (Ended end) [] end (Err end, (Err end, subst (λ c. IsPageAt file c (Err end)) is none, refl), (refl, refl)) (some, refl, refl)
+  refused_at_once NoRoom one takes refused = absurd refused

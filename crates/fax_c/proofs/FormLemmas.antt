@@ -1,18 +1,21 @@
 -- Forms that are written one after another.
 use Rattle.std.proofs.Common.{◌≡◌, ℕ, ◌+◌, ◌<◌, ◌≤◌, List, [], ◌∷◌, ◌++◌, length, set, map, take, drop, refl, ap, sym, ◌∙◌, subst}
 use Rattle.std.proofs.Common.{arith, inl, inr}
-use Rattle.std.specs.Prelude.{Some, slice_get}
+use Rattle.std.proofs.lemmas.Grind.{common_steps}
+use Rattle.std.specs.Prelude.{MatchResult, Result, Ok, Err, Some, slice_get}
 use Rattle.std.proofs.lemmas.List.{length-map, length-take-le, map-append}
 use Rattle.std.proofs.lemmas.Option.{slice_get_within}
 use Rattle.fax_bits.specs.laws.Codes.{IsOne}
 use Rattle.fax_walk.specs.declared.cursor.Cursor.{Cursor}
 use Rattle.fax_walk.specs.declared.end.End.{End}
-use Rattle.fax_walk.specs.Pages.{FormItem, IsFormTail}
-use Rattle.fax_walk.specs.views.InOrder.{HasEndedAs, IsNumber}
+use Rattle.fax_walk.specs.declared.end.End.TheVariants.{Proper, Fault, Outside}
+use Rattle.fax_walk.specs.Pages.{AreFrom, FilePage, FormItem, IsForm, IsFormTail, IsPageAt}
+use Rattle.fax_walk.specs.views.InOrder.{EndsAfter, HasEndedAs, IsNumber}
 use Rattle.fax_walk.specs.views.Pages.{HandsOutPage, IsCursorOf, PagesView}
 use Rattle.fax_walk.specs.laws.Tails.{CursorsHaveOneFormTail}
 use Rattle.fax_c.specs.declared.filled.Stop.TheVariants.{Done, Ended}
 use Rattle.fax_c.specs.declared.forms.FaxForm.{FaxForm}
+use Rattle.fax_c.specs.code.Put.{end_at_row}
 use Rattle.fax_c.specs.Forms.{AreFormsFilled, cursor_after_pages, form_of}
 use Rattle.fax_c.proofs.ListLemmas.{one_set, take_at}
 use Rattle.fax_c.proofs.NumberLemmas.{end_is, number_is}
@@ -126,3 +129,22 @@ module _ (file : List ℕ) (from : Cursor) (pages : PagesView) (count : ℕ) (ol
     none_used = refl;
     stops = omega (arith, so_far.asked, all);
   }
+
+-- a file has no page with this number, and ends so there
+no_page_from : (file : List ℕ) (page : ℕ) (end : End) (all : List FormItem) (begin : Result ℕ End) (found : Result FilePage End)
+    → IsPageAt file (record { page = page; row = 0 }) found
+    → MatchResult found (λ here. begin ≡ Ok page) (λ none. begin ≡ Err none)
+    → MatchResult begin (λ p. AreFrom (IsForm file) p all end) (λ none. (all ≡ []) × (end ≡ none)) → length all ≡ 0
+    → IsPageAt file (record { page = page; row = 0 }) (Err end)
+no_page_from file page end all begin found is on rest none = grind (arith, common_steps)
+
+pub no_page : (file : List ℕ) (page : ℕ) (end : End) → EndsAfter (IsFormTail file (record { page = page; row = 0 })) 0 end
+    → IsPageAt file (record { page = page; row = 0 }) (Err end)
+no_page file page end (all, (begin, (found, is, on), rest), none) = no_page_from file page end all begin found is on rest none
+
+-- how it ends at each row of it
+pub no_row : (file : List ℕ) (page row : ℕ) (end : End) → IsPageAt file (record { page = page; row = 0 }) (Err end)
+    → IsPageAt file (record { page = page; row = row }) (Err (end_at_row end row))
+no_row file page row Proper is = grind (arith, common_steps)
+no_row file page row Outside is = grind (arith, common_steps)
+no_row file page row (Fault p r cause) is = grind (arith, common_steps)

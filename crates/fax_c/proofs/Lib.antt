@@ -11,4 +11,6 @@ pub mod ConversionLemmas
 pub mod PaddedLemmas
 pub mod StripLemmas
 pub mod WritingLemmas
+pub mod EndingLemmas
 pub mod RunRowLemmas
+pub mod PartLemmas

@@ -8,8 +8,9 @@ use Rattle.fax_walk.specs.declared.begun.Begun.{Begun}
 use Rattle.fax_walk.specs.declared.cursor.Cursor.{Cursor}
 use Rattle.fax_walk.specs.declared.walk.PlaceInside.{PlaceInside}
 use Rattle.fax_walk.specs.Items.{begun_cursor}
-use Rattle.fax_walk.specs.views.Walk.{IsLongOf, WalkView, place_inside}
+use Rattle.fax_walk.specs.views.Walk.{HasPage, IsLongOf, WalkView, place_inside}
 use Rattle.fax_c.specs.declared.places.FaxPlace.{FaxPlace}
+use Rattle.fax_c.specs.views.Filled.{TakesRuns}
 use Rattle.fax_c.specs.views.Places.{HasRuns, IsAfterRows, KeepsRuns, begun_of, cursor_of, most_runs, place_at}
 use Rattle.fax_c.specs.code.Put.{IsInsideTold, IsPutAt}
 
@@ -47,6 +48,11 @@ inside_told walk lent count old old_runs runs long few (count_is, within, runs_a
 -- a walk from a place begins at its cursor
 pub begun_cursor-begun_of : (place : FaxPlace) (runs : List ℕ) → cursor_of place ≡ begun_cursor (begun_of place runs)
 begun_cursor-begun_of place runs = grind arith
+
+-- a walk from a place inside a strip takes its runs
+pub takes_runs : (file : List ℕ) (place : FaxPlace) (runs : List ℕ) → 0 < place.runs → HasPage file place.page
+    → TakesRuns file (begun_of place runs) 0
+takes_runs file place runs some page = grind arith
 
 -- where nothing was written, a place inside a strip stays
 pub stays : (file : List ℕ) (place : FaxPlace) (runs : List ℕ) (cursor : Cursor) → HasRuns place runs

@@ -74,7 +74,7 @@ no_text text not = (
 pub place_read : (text : List ℕ) (found : LongPlace) (old place : FaxPlace) (old_runs runs : List ℕ) (status : ℕ) → TextsNameOne
     → IsLongCursor found → text ≡ long_cursor_text found → IsPlaceTold found old old_runs status place runs
     → ReadsPlace text old old_runs place runs status
-place_read text found old place old_runs runs status names is text_is (inl (done, has, same, kept)) = grind arith
+place_read text found old place old_runs runs status names is text_is (inl (done, has, few, same, kept)) = grind arith
 place_read text found old place old_runs runs status names is text_is (inr (same, same_runs, inl (no_room, longer, few))) = grind arith
 place_read text found old place old_runs runs status names is text_is (inr (same, same_runs, inr (status_is, many))) =
     inr (

@@ -3,6 +3,7 @@ use Rattle.std.proofs.Common.{◌≡◌, ℕ, ◌+◌, ◌-◌, ◌*◌, ◌<◌
 use Rattle.std.proofs.Common.{append_assoc, append-nil, arith, length-append}
 use Rattle.std.specs.Prelude.{Some, None, flat_map}
 use Rattle.fax_bits.specs.Bits.{bits}
+use Rattle.fax_bits.specs.laws.Codes.{AreBitsByPlace}
 use Rattle.fax_rows.specs.Rows.{Colour, runs_of}
 use Rattle.std.proofs.lemmas.List.{take_at, drop_at}
 use Rattle.fax_rows.specs.Coded.{packed_len}
@@ -27,11 +28,16 @@ the_cursor page row = record { page = page; row = row }
 
 -- one row more is read
 reads_more : (form : StripForm) (all : List Bool) (from : StripPlace) (rows : List (List Colour)) (mid : StripPlace) (n : ℕ) (row : List Colour)
-    → ReadsTo form all from rows mid → mid.row < form.rows → IsLine form mid.row mid.reference (drop mid.bits all) row (drop n all)
+    → ReadsTo form all from rows mid → n ≤ length all → mid.row < form.rows → IsLine form mid.row mid.reference (drop mid.bits all) row (drop n all)
     → ReadsTo form all from (rows ++ row ∷ []) (record { row = mid.row + 1; bits = n; reference = row })
-reads_more form all from [] mid n row same due line = grind arith
-reads_more form all from (first ∷ rows) mid n row (bits, before, first_line, reads) due line =
-    (bits, before, first_line, reads_more form all (record { row = from.row + 1; bits = bits; reference = first }) rows mid n row reads due line)
+reads_more form all from [] mid n row same inside due line = grind arith
+reads_more form all from (first ∷ rows) mid n row (bits, within, before, first_line, reads) inside due line = (
+  bits,
+  within,
+  before,
+  first_line,
+  reads_more form all (record { row = from.row + 1; bits = bits; reference = first }) rows mid n row reads inside due line,
+)
 
 rows-push : (stride : ℕ) (rows : List (List Colour)) (row : List Colour)
     → flat_map (padded_row stride) (rows ++ row ∷ []) ≡ flat_map (padded_row stride) rows ++ padded_row stride row
@@ -81,7 +87,7 @@ pub why_none : (form : StripForm) (bytes : List ℕ) (page stride left : ℕ) (o
 why_none form bytes page stride left old next stop same_form same_bytes room h = grind arith
 
 module _ (form : StripForm) (bytes : List ℕ) (stride : ℕ) (from : StripPlace) (old : List ℕ) (count used : ℕ) (state : StripState) (now : List ℕ)
-    (so_far : AreReadSoFar form bytes stride from old count used state now) where
+    (so_far : AreReadSoFar form bytes stride from old count used state now) (bits_stand : AreBitsByPlace) where
   pub one_more : (next : StripState) (to : ℕ) (new : List ℕ) → ReadsRow state next → packed_len (length next.reference) ≤ stride
       → IsPutAt (padded_row stride next.reference) now used (Some to) new → length now ≡ length old
       → AreReadSoFar form bytes stride from old (count + 1) to next new
@@ -92,7 +98,10 @@ module _ (form : StripForm) (bytes : List ℕ) (stride : ℕ) (from : StripPlace
       let step : IsLine form state.row state.reference (drop state.place (bits form.order bytes)) row (drop next.place (bits form.order bytes)) =
       rw (reads.same_form, reads.same_bytes, so_far.same_form, so_far.same_bytes) at reads.line in
       let due : state.row < form.rows = subst (λ (f : StripForm). state.row < f.rows) so_far.same_form reads.due in
-      let more = reads_more form (bits form.order bytes) from so_far.rows (place_due state) next.place row so_far.read due step in
+      let same_bytes = reads.same_bytes ∙ so_far.same_bytes in
+      let inside : next.place ≤ length (bits form.order bytes) =
+      omega (arith, reads.within, ap (λ (l : List ℕ). length l) same_bytes, bits_stand.count form.order bytes) in
+      let more = reads_more form (bits form.order bytes) from so_far.rows (place_due state) next.place row so_far.read inside due step in
       let rows_len : length (so_far.rows ++ row ∷ []) ≡ length so_far.rows + 1 = length-append so_far.rows (row ∷ []) in
       let product : (length so_far.rows + 1) * stride ≡ length so_far.rows * stride + stride = omega arith in
       let used_next : to ≡ length (so_far.rows ++ row ∷ []) * stride =
@@ -100,7 +109,7 @@ module _ (form : StripForm) (bytes : List ℕ) (stride : ℕ) (from : StripPlace
       let all = rows-push stride so_far.rows row in
       record {
         same_form = reads.same_form ∙ so_far.same_form;
-        same_bytes = reads.same_bytes ∙ so_far.same_bytes;
+        same_bytes = same_bytes;
         no_fault = reads.still_no_fault;
         rows = so_far.rows ++ row ∷ [];
         read = subst (λ n. ReadsTo form (bits form.order bytes) from (so_far.rows ++ row ∷ []) (record { row = n; bits = next.place; reference = row }))

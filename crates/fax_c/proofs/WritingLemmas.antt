@@ -13,7 +13,7 @@ use Rattle.fax_files.specs.views.Writing.{contents}
 use Rattle.fax_files.specs.Directory.{max_file}
 use Rattle.fax_files.specs.Layout.{Written, directory_place, four, page_bytes, with_page}
 use Rattle.fax_c.specs.declared.writing.FaxWritten.{FaxWritten}
-use Rattle.fax_c.specs.views.Written.{IsWriting, file_so_far}
+use Rattle.fax_c.specs.views.Written.{IsHeld, IsWriting, file_so_far}
 use Rattle.fax_c.specs.code.Writing.{place_of}
 use Rattle.std.proofs.lemmas.Bool.{cases_eq}
 use Rattle.fax_c.specs.Raster.{page_strips, raster_rows}
@@ -52,16 +52,16 @@ pub record IsSoFar (written : FaxWritten) (file : List ℕ) : Type 0 where
   pub inside : (file_so_far written file).link + 4 ≤ length (file_so_far written file).bytes
 
 so_far_by : (written : FaxWritten) (file : List ℕ)
-    → (written.added ≡ 0) ⊎ ((8 ≤ written.len) × (written.len ≤ length file) × (written.len ≤ max_file) × (written.link + 4 ≤ written.len))
-    → (written.added ≡ 0) ⊎ (written.added ≢ 0) → IsSoFar written file
-so_far_by written file place h = grind (arith, length-take-le)
+    → (written.added ≡ 0) ⊎ ((8 ≤ written.len) × (written.len ≤ max_file) × (4 ≤ written.link) × (written.link + 4 ≤ written.len))
+    → IsHeld written (length file) → (written.added ≡ 0) ⊎ (written.added ≢ 0) → IsSoFar written file
+so_far_by written file place held h = grind (arith, length-take-le)
 
-pub so_far : (written : FaxWritten) (file : List ℕ) → IsWriting written (length file) → IsSoFar written file
-so_far written file is = so_far_by written file is.place (cases_eq written.added 0)
+pub so_far : (written : FaxWritten) (file : List ℕ) → IsWriting written × IsHeld written (length file) → IsSoFar written file
+so_far written file (is, held) = so_far_by written file is.place held (cases_eq written.added 0)
 
 -- the page is added
 pub page_added : (written : FaxWritten) (old mid new : List ℕ) (form : PageForm) (strips : List (List ℕ)) (page : List ℕ) (directory start link : ℕ)
-    → IsWriting written (length old)
+    → IsWriting written × IsHeld written (length old)
     → start ≡ (place_of written).0 → link ≡ (place_of written).1
     → take start mid ≡ (file_so_far written old).bytes → drop start mid ≡ drop start old
     → page ≡ page_bytes start written.total written.added form strips → directory ≡ directory_place start strips
@@ -102,7 +102,7 @@ pub strips_are_counted : (form : PageForm) (k stride : ℕ) (raster : List ℕ) 
 strips_are_counted form k stride raster strips are = grind (arith, length-contents, length-map-range_with_len)
 
 -- how long a file is with the page
-pub page_len : (written : FaxWritten) (old : List ℕ) (form : PageForm) (strips : List (List ℕ)) (start : ℕ) → IsWriting written (length old)
+pub page_len : (written : FaxWritten) (old : List ℕ) (form : PageForm) (strips : List (List ℕ)) (start : ℕ) → IsWriting written × IsHeld written (length old)
     → start ≡ (place_of written).0 → start + length (page_bytes start written.total written.added form strips)
     ≡ length (with_page (file_so_far written old) written.total written.added form strips).bytes
 page_len written old form strips start writing start_is = grind (arith, so_far, len_with_page)

@@ -29,6 +29,10 @@ fault_number (Strip strip.OutOfRow) = 105
 fault_number (Strip strip.MissingEol) = 106
 fault_number (Strip strip.EndMarker) = 107
 
+-- the number of rows that nobody counted, where they are more than a strip has
+abbrev pub too_many_rows_number : ℕ
+too_many_rows_number = 108
+
 -- the number of a fault of a raw PBM
 abbrev pub pbm_fault_number : PbmFault → ℕ
 pbm_fault_number pbm.BadHeader = 201

@@ -9,7 +9,7 @@ use Rattle.fax_files.specs.Pbm.{pbm_fault_name}
 use Rattle.fax_walk.specs.declared.checking.NoteKind.{NoteKind}
 use Rattle.fax_walk.specs.Report.{number_and_name}
 use Rattle.fax_c.specs.Faults.{fault_number, output_too_large_number, pbm_fault_number}
-use Rattle.fax_c.specs.Faults.{unknown_input_number}
+use Rattle.fax_c.specs.Faults.{too_many_rows_number, unknown_input_number}
 
 -- a text is written where it has room, and nothing else is changed; how many bytes it has is told
 pub record IsTextPut (text old : List ℕ) (len : ℕ) (new : List ℕ) : Type 0 where
@@ -22,6 +22,7 @@ abbrev pub IsNameOf : ℕ → List ℕ → Type 0
 IsNameOf number name =
     ((cause : Cause) × (fault_number cause ≡ number) × (name ≡ fault_name cause))
     ⊎ ((fault : PbmFault) × (pbm_fault_number fault ≡ number) × (name ≡ pbm_fault_name fault))
+    ⊎ ((too_many_rows_number ≡ number) × (name ≡ codes "TooManyRows"))
     ⊎ ((unknown_input_number ≡ number) × (name ≡ codes "UnknownInput"))
     ⊎ ((output_too_large_number ≡ number) × (name ≡ codes "OutputTooLarge"))
 
@@ -35,7 +36,8 @@ NamesFault number old len new =
 abbrev pub status_names : List (List ℕ)
 status_names =
     codes "Done" ∷ codes "End" ∷ codes "Fault" ∷ codes "Outside" ∷ codes "Memory"
-    ∷ codes "NoRoom" ∷ codes "NoPlace" ∷ codes "NoOptions" ∷ codes "TooLarge" ∷ []
+    ∷ codes "NoRoom" ∷ codes "NoPlace" ∷ codes "NoOptions" ∷ codes "TooLarge"
+    ∷ codes "DataEnd" ∷ codes "More" ∷ []
 
 -- the name of a status is written, or nothing where none has this number
 abbrev pub NamesStatus : ℕ → List ℕ → ℕ → List ℕ → Type 0
@@ -51,7 +53,7 @@ NamesNote number old len new =
 
 -- the version, and its number
 abbrev pub version : List ℕ
-version = codes "1.4.2"
+version = codes "1.5.0"
 
 abbrev pub version_number : ℕ
-version_number = 10402
+version_number = 10500

@@ -3,6 +3,9 @@
 use Rattle.std.specs.Prelude.{◌≡◌, ℕ, unwrap_or}
 use Rattle.fax_files.specs.FaultNames.{fault_tag}
 use Rattle.fax_files.specs.declared.Cause.{Cause}
+use Rattle.fax_files.specs.declared.Cause.TheVariants.{Strip}
+use Rattle.fax_page.specs.declared.RowsEnd.{RowsEnd}
+use Rattle.fax_page.specs.declared.RowsEnd.TheVariants as rows
 use Rattle.fax_walk.specs.declared.end.End.{End}
 use Rattle.fax_walk.specs.declared.end.End.TheVariants.{Proper, Fault, Outside}
 use Rattle.fax_c.specs.declared.faults.FaxFault.{FaxFault}
@@ -10,7 +13,7 @@ use Rattle.fax_c.specs.declared.filled.Stop.{Stop}
 use Rattle.fax_c.specs.declared.filled.Stop.TheVariants.{Done, Ended, Memory, NoRoom}
 use Rattle.fax_c.specs.declared.filled.Filled.{Filled}
 use Rattle.fax_c.specs.declared.told.FaxTold.{FaxTold}
-use Rattle.fax_c.specs.Faults.{fault_number}
+use Rattle.fax_c.specs.Faults.{fault_number, too_many_rows_number}
 
 -- no fault
 abbrev pub no_fault : FaxFault
@@ -56,3 +59,18 @@ pub record IsTold (filled : Filled) (told : FaxTold) (status : ℕ) : Type 0 whe
   pub row : told.row ≡ filled.cursor.row
   pub fault : told.fault ≡ fault_of filled.stop
   pub answer : status ≡ status_of filled.stop
+
+-- the number that a call answers where rows end so that nobody counted
+abbrev pub end_status : RowsEnd → ℕ
+end_status rows.Marked = 1
+end_status rows.DataEnd = 9
+end_status (rows.Fault fault) = 2
+end_status rows.TooMany = 2
+
+-- the fault of rows that nobody counted, where this row of a page is due after them
+abbrev pub end_fault : ℕ → ℕ → RowsEnd → FaxFault
+end_fault page row rows.Marked = no_fault
+end_fault page row rows.DataEnd = no_fault
+end_fault page row (rows.Fault fault) = fault_of_cause page row (Strip fault)
+end_fault page row rows.TooMany =
+    record { number = too_many_rows_number; tag = 0; page = page; row = row }

@@ -4,3 +4,4 @@ pub mod Strips
 pub mod StripRuns
 pub mod Writing
 pub mod Conversion
+pub mod StripParts

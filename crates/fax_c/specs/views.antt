@@ -6,3 +6,5 @@ pub mod Strips
 pub mod StripReports
 pub mod StripRuns
 pub mod Written
+pub mod Ended
+pub mod StripParts

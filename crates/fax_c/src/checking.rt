@@ -3,6 +3,7 @@ ghost use Rattle.std.specs.Prelude.{◌≡◌, ◌≤◌, length};
 ghost use Rattle.fax_c.specs.Checked as Spec;
 
 use crate::faults::FaxFault;
+use crate::status;
 use fax_walk::{Note, Report, check};
 use std::alloc::Global;
 
@@ -91,10 +92,10 @@ pub extern "C" fn faxpages_check(
             put_notes(&found.notes, notes);
             *report = FaxReport::of(&found);
             match found.fault {
-                Some(_) => 2,
-                None => 1,
+                Some(_) => status::FAULT,
+                None => status::END,
             }
         }
-        Err(_) => 4,
+        Err(_) => status::MEMORY,
     }
 }

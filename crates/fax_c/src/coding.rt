@@ -7,6 +7,7 @@ ghost use Rattle.fax_c.specs.views.Strips as Spec;
 
 use crate::cursors::put_counted;
 use crate::raster::{holds_raster, packed_len};
+use crate::status;
 use crate::strip_form::FaxStrip;
 use fax_page::{Memory, StripForm, StripWriter};
 use fax_rows::Row;
@@ -55,13 +56,13 @@ pub extern "C" fn faxpages_strip_code(
 {
     *len = 0;
     let Some(form) = form.form() else {
-        return 7;
+        return status::NO_OPTIONS;
     };
     if k == 0 || !holds_raster(raster.len(), form.width, form.rows, stride) {
-        return 7;
+        return status::NO_OPTIONS;
     }
     match code_strip(alloc, form, k, raster, stride, 0) {
         Ok(strip) => put_counted(&strip, out, len),
-        Err(_) => 4,
+        Err(_) => status::MEMORY,
     }
 }

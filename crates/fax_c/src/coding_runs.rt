@@ -7,6 +7,7 @@ ghost use Rattle.fax_c.specs.code.StripRuns as Code;
 
 use crate::cursors::put_counted;
 use crate::rows::FaxRow;
+use crate::status;
 use crate::strip_form::FaxStrip;
 use fax_page::{Memory, StripForm, StripWriter};
 use fax_rows::Row;
@@ -73,14 +74,14 @@ pub extern "C" fn faxpages_strip_code_runs(
 {
     *len = 0;
     let Some(form) = form.form() else {
-        return 7;
+        return status::NO_OPTIONS;
     };
     if k == 0 {
-        return 7;
+        return status::NO_OPTIONS;
     }
     match code_rows(alloc, form, k, rows, runs) {
         Ok(Some(strip)) => put_counted(&strip, out, len),
-        Ok(None) => 7,
-        Err(_) => 4,
+        Ok(None) => status::NO_OPTIONS,
+        Err(_) => status::MEMORY,
     }
 }

@@ -5,6 +5,7 @@ ghost use Rattle.fax_c.specs.Converted as Spec;
 ghost use Rattle.fax_c.specs.code.Conversion as Code;
 
 use crate::faults::{FaxFault, pbm_fault_number};
+use crate::status;
 use crate::text::put_text;
 use fax_files::FillOrder;
 use fax_walk::{ConvertFault, Options, Target, convert};
@@ -104,8 +105,8 @@ fn refusal_status(fault: ConvertFault) -> u32
     ensures { result ≡ Code.refusal_status fault }
 {
     match fault {
-        ConvertFault::Memory => 4,
-        _ => 2,
+        ConvertFault::Memory => status::MEMORY,
+        _ => status::FAULT,
     }
 }
 
@@ -154,9 +155,9 @@ fn put_output(output: &[u8], out: &mut [u8], converted: &mut FaxConverted) -> u3
         fault: FaxFault::none(),
     };
     if put_text(output, out) <= out.len() {
-        0
+        status::DONE
     } else {
-        5
+        status::NO_ROOM
     }
 }
 
@@ -174,7 +175,7 @@ pub extern "C" fn faxpages_convert(
 {
     *converted = FaxConverted::none();
     let Some(options) = options_of(options) else {
-        return 7;
+        return status::NO_OPTIONS;
     };
     match convert(alloc, file, &options) {
         Ok(output) => put_output(&output, out, converted),

@@ -2,6 +2,7 @@
 ghost use Rattle.fax_c.specs.views.PlaceTexts as Spec;
 
 use crate::places::{FaxPlace, begun_at, tell_place};
+use crate::status;
 use crate::text::put_text;
 use fax_walk::{Begun, Cursor, LongCursor, LongFault};
 use std::alloc::Global;
@@ -11,7 +12,11 @@ pub(crate) fn put_counted(text: &[u8], out: &mut [u8], len: &mut usize) -> u32
     ensures { Spec.IsTextTold text.now out.old out.new len.new result }
 {
     *len = put_text(text, out);
-    if *len <= out.len() { 0 } else { 5 }
+    if *len <= out.len() {
+        status::DONE
+    } else {
+        status::NO_ROOM
+    }
 }
 
 /// Writes a place as text where it has room: as `1:P:R`, or inside a strip as `2:P:R:B:n,n,..`; and
@@ -28,17 +33,17 @@ pub extern "C" fn faxpages_place_text(
 {
     *len = 0;
     if place.lacks_runs(runs) {
-        return 3;
+        return status::OUTSIDE;
     }
     let mut written = String::new(alloc);
     let made = match begun_at(alloc, place, runs) {
         Some(Begun::At(cursor)) => cursor.put_text(&mut written),
         Some(Begun::Inside(found)) => found.put_text(&mut written),
-        None => return 4,
+        None => return status::MEMORY,
     };
     match made {
         Ok(()) => put_counted(written.as_bytes(), text, len),
-        Err(_) => 4,
+        Err(_) => status::MEMORY,
     }
 }
 
@@ -54,15 +59,15 @@ pub extern "C" fn faxpages_place_parse(
 {
     fax_walk::laws::cursors_are_named();
     let Ok(text) = str::from_utf8(text) else {
-        return 6;
+        return status::NO_PLACE;
     };
     if let Ok(cursor) = Cursor::parse(text) {
         *place = FaxPlace::at(cursor);
-        return 0;
+        return status::DONE;
     }
     match LongCursor::parse(alloc, text) {
         Ok(found) => tell_place(&found, place, runs),
-        Err(LongFault::NotACursor) => 6,
-        Err(LongFault::Memory) => 4,
+        Err(LongFault::NotACursor) => status::NO_PLACE,
+        Err(LongFault::Memory) => status::MEMORY,
     }
 }

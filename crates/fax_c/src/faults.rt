@@ -4,7 +4,11 @@ ghost use Rattle.std.specs.Prelude.{◌≡◌};
 ghost use Rattle.fax_c.specs.Faults as Spec;
 
 use fax_files::{Cause, FileFault, PbmFault, StripFault};
+use fax_page::RowsEnd;
 use fax_walk::End;
+
+/// The number of rows that nobody counted, where they are more than a strip has.
+pub(crate) const TOO_MANY_ROWS: u32 = 108;
 
 /// The fault that a call met: all 0 where it met none.
 #[repr(C)]
@@ -76,7 +80,7 @@ fn fault_number(cause: Cause) -> u32
 }
 
 impl FaxFault {
-    ghost use Rattle.fax_c.specs.Told.{no_fault, fault_of_end, fault_of_cause};
+    ghost use Rattle.fax_c.specs.Told.{end_fault, no_fault, fault_of_end, fault_of_cause};
     ghost use Rattle.fax_c.specs.Converted.{fault_of_number};
 
     /// No fault.
@@ -113,6 +117,22 @@ impl FaxFault {
             tag: u32::from(tag.unwrap_or(0)),
             page,
             row,
+        }
+    }
+
+    /// The fault of rows that nobody counted, where this row of a page is due after them.
+    pub(crate) fn of_rows_end(page: u32, row: u32, end: RowsEnd) -> Self
+        ensures { result ≡ end_fault page row end }
+    {
+        match end {
+            RowsEnd::Marked | RowsEnd::DataEnd => FaxFault::none(),
+            RowsEnd::Fault(fault) => FaxFault::of_cause(page, row, Cause::Strip(fault)),
+            RowsEnd::TooMany => FaxFault {
+                number: TOO_MANY_ROWS,
+                tag: 0,
+                page,
+                row,
+            },
         }
     }
 

@@ -1,7 +1,8 @@
 //! How far a call has written, and why it wrote no more.
-ghost use Rattle.std.specs.Prelude.{◌≡◌, ◌≢◌, ◌<◌, false, true};
+ghost use Rattle.std.specs.Prelude.{◌≡◌, ◌≢◌, false, true};
 
 use crate::faults::FaxFault;
+use crate::status;
 use crate::told::FaxTold;
 use fax_walk::{Cursor, End, WalkFault};
 
@@ -42,15 +43,6 @@ impl Stop {
         }
     }
 
-    /// Why a call stops that was refused memory before its first row: it may have been asked for
-    /// none.
-    pub(crate) fn at_refusal(asked: usize) -> Self
-        ensures none { asked ≡ 0 → result ≡ Stop.Done }
-        ensures some { 0 < asked → result ≡ Stop.Memory }
-    {
-        if asked == 0 { Stop::Done } else { Stop::Memory }
-    }
-
     /// Whether the next row has no room.
     pub(crate) fn is_no_room(self) -> bool
         ensures room { result ≡ false → self ≢ Stop.NoRoom }
@@ -64,12 +56,12 @@ impl Stop {
         ensures { result ≡ status_of self }
     {
         match self {
-            Stop::Done => 0,
-            Stop::Ended(End::Proper) => 1,
-            Stop::Ended(End::Fault { .. }) => 2,
-            Stop::Ended(End::Outside) => 3,
-            Stop::Memory => 4,
-            Stop::NoRoom => 5,
+            Stop::Done => status::DONE,
+            Stop::Ended(End::Proper) => status::END,
+            Stop::Ended(End::Fault { .. }) => status::FAULT,
+            Stop::Ended(End::Outside) => status::OUTSIDE,
+            Stop::Memory => status::MEMORY,
+            Stop::NoRoom => status::NO_ROOM,
         }
     }
 

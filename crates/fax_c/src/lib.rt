@@ -2,11 +2,13 @@
 //! the next.
 #![tactic(auto)]
 
+mod bytes;
 mod checking;
 mod coding;
 mod coding_runs;
 mod conversion;
 mod cursors;
+mod ending;
 mod faults;
 mod filled;
 mod format;
@@ -17,10 +19,13 @@ mod places;
 mod raster;
 mod rows;
 mod runs;
+mod status;
 mod strip_form;
+mod strip_part;
 mod strip_report;
 mod strips;
 mod text;
 mod told;
+mod uncounted;
 mod version;
 mod writing;

@@ -92,6 +92,7 @@ fn name_of(number: u32) -> Option<&'static str>
         return Some(fault.name());
     }
     match number {
+        108 => Some("TooManyRows"),
         301 => Some("UnknownInput"),
         302 => Some("OutputTooLarge"),
         _ => None,
@@ -124,6 +125,8 @@ fn status_name(number: u32) -> &'static str
         6 => "NoPlace",
         7 => "NoOptions",
         8 => "TooLarge",
+        9 => "DataEnd",
+        10 => "More",
         _ => "",
     }
 }

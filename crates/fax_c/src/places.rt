@@ -6,6 +6,7 @@ ghost use Rattle.fax_c.specs.code.Put as Code;
 
 use crate::filled::Filled;
 use crate::format::{RowFormat, Runs};
+use crate::status;
 use fax_walk::{Begun, Cursor, LongCursor, Walk};
 use std::alloc::Global;
 
@@ -84,10 +85,10 @@ pub(crate) fn tell_place(found: &LongCursor, place: &mut FaxPlace, runs: &mut [u
 {
     let count = found.runs.len();
     if count > MOST_RUNS {
-        return 6;
+        return status::NO_PLACE;
     }
     if count > runs.len() {
-        return 5;
+        return status::NO_ROOM;
     }
     runs[..count].copy_from_slice(&found.runs);
     *place = FaxPlace {
@@ -96,7 +97,7 @@ pub(crate) fn tell_place(found: &LongCursor, place: &mut FaxPlace, runs: &mut [u
         bits: found.bits,
         runs: count as u32,
     };
-    0
+    status::DONE
 }
 
 /// Tells the place inside a strip after the rows that a walk has handed out, where there is one and
@@ -127,6 +128,7 @@ fn tell_after(walk: &Walk, cursor: Cursor, count: usize, place: &mut FaxPlace, r
     requires begun { count ≡ 0 → Code.IsBegunAt walk.now.begun place.old runs.old }
     ensures place { Spec.IsAfterRows walk.now.file walk.now.begun cursor count place.new runs.new }
     ensures kept { Spec.KeepsRuns runs.old runs.new }
+    ensures no_runs { count ≡ 0 → runs.new ≡ runs.old }
 {
     if count > 0 {
         *place = FaxPlace::at(cursor);

@@ -1,17 +1,20 @@
 //! The rows of a file, written one after another.
-ghost use Rattle.std.specs.Prelude.{◌≡◌, ◌+◌, ◌<◌, ◌≤◌, length, Err};
+ghost use Rattle.std.specs.Prelude.{◌≡◌, ◌+◌, ◌<◌, ◌≤◌, length, Err, IfSome, None};
 ghost use Rattle.fax_c.specs.declared.filled.Stop.TheVariants.{NoRoom};
 ghost use Rattle.fax_rows.specs.Coded.{packed_row};
 ghost use Rattle.fax_walk.specs.declared.begun.Begun.TheVariants.{At};
+ghost use Rattle.fax_walk.specs.Pages.{IsPageAt};
+ghost use Rattle.fax_walk.specs.views.Walk.{HasPage};
 ghost use Rattle.fax_c.specs.code.Put as Code;
 ghost use Rattle.fax_c.specs.views.Filled as Spec;
 ghost use Rattle.fax_c.specs.views.Places as PlaceSpec;
 
 use crate::filled::{Filled, Stop};
 use crate::format::{Packed, RowFormat};
+use crate::forms::next_form;
 use crate::places::{FaxPlace, begun_at, place_after, place_before};
 use crate::told::FaxTold;
-use fax_walk::{Cursor, End, Walk};
+use fax_walk::{Cursor, End, Pages, Walk};
 use std::alloc::Global;
 
 /// A row that was written: where its numbers lie, and its place.
@@ -118,6 +121,48 @@ pub(crate) fn fill_at<F: RowFormat>(
     fill::<F>(&mut walk, &mut place, &mut [], rows, out).tell(told)
 }
 
+/// How the rows end at a row of a page that the file has not, where they end so at its first row.
+fn end_at_row(end: End, row: u32) -> End
+    ensures { result ≡ Code.end_at_row end row }
+{
+    match end {
+        End::Proper if row > 0 => End::Outside,
+        _ => end,
+    }
+}
+
+/// How the rows end at a cursor, where the file has not its page.
+fn end_without_page(file: &[u8], at: Cursor) -> Option<End>
+    ensures page { result ≡ None → HasPage file.now at.page }
+    ensures end { IfSome result (λ end. IsPageAt file.now at (Err end)) }
+{
+    let mut pages = Pages::resume(
+        file,
+        Cursor {
+            page: at.page,
+            row: 0,
+        },
+    );
+    match next_form(&mut pages) {
+        Ok(_) => None,
+        Err(end) => Some(end_at_row(end, at.row)),
+    }
+}
+
+/// Why a call stops that was refused memory before its first row: it may have been asked for none,
+/// and its page may not be there.
+fn stop_at_refusal(file: &[u8], at: Cursor, asked: usize) -> Stop
+    ensures { Code.IsRefusedAt file.now at asked result }
+{
+    if asked == 0 {
+        return Stop::Done;
+    }
+    match end_without_page(file, at) {
+        Some(end) => Stop::Ended(end),
+        None => Stop::Memory,
+    }
+}
+
 /// Writes the rows of a file from a place on, which is then the one after them. A place that lacks
 /// runs is told as one outside the file.
 pub(crate) fn fill_from<F: RowFormat>(
@@ -138,7 +183,8 @@ pub(crate) fn fill_from<F: RowFormat>(
         return Filled::nothing(cursor, Stop::Ended(End::Outside)).tell(told);
     }
     let Some(begun) = begun_at(alloc, place, runs) else {
-        return Filled::nothing(cursor, Stop::at_refusal(rows.len())).tell(told);
+        let stop = stop_at_refusal(file, cursor, rows.len());
+        return Filled::nothing(cursor, stop).tell(told);
     };
     let mut walk = Walk::begin(alloc, file, begun);
     fill::<F>(&mut walk, place, runs, rows, out).tell(told)

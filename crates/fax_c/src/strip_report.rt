@@ -3,10 +3,12 @@ ghost use Rattle.std.specs.Prelude.{◌≡◌};
 ghost use Rattle.fax_c.specs.views.StripReports as Spec;
 
 use crate::faults::FaxFault;
+use crate::status;
 use crate::strip_form::FaxStrip;
 use crate::strips::readable_form;
+use crate::uncounted::{end_status, uncounted_form};
 use fax_files::Cause;
-use fax_page::{NotesFault, StripFault, StripNotes, strip_notes};
+use fax_page::{NotesFault, NotesReader, RowsEnd, StripNotes, UncountedNotes, strip_notes};
 use std::alloc::Global;
 
 /// What was found in a strip, and after its last row.
@@ -27,7 +29,8 @@ pub struct FaxStripReport {
 }
 
 impl FaxStripReport {
-    ghost use Rattle.fax_c.specs.views.StripReports.{report_of_fault, report_of_notes};
+    ghost use Rattle.fax_c.specs.views.StripReports.{report_of_end, report_of_notes};
+    ghost use Rattle.fax_c.specs.views.StripReports.{report_without_notes};
 
     /// All rows were read, with these notes.
     fn noted(rows: u32, notes: StripNotes) -> Self
@@ -43,18 +46,50 @@ impl FaxStripReport {
         }
     }
 
-    /// This row could not be read.
-    fn stopped(row: u32, fault: StripFault) -> Self
-        ensures { result ≡ report_of_fault row fault }
+    /// So many rows were read, and then a fault was met.
+    fn stopped(rows: u32, fault: FaxFault) -> Self
+        ensures { result ≡ report_without_notes rows fault }
     {
         FaxStripReport {
-            rows: row,
+            rows,
             no_end_of_block: 0,
             return_to_control: 0,
             data_after_end: 0,
             not_t4_choice: 0,
-            fault: FaxFault::of_cause(0, row, Cause::Strip(fault)),
+            fault,
         }
+    }
+
+    /// What was found in rows that nobody counted.
+    fn found(found: &UncountedNotes) -> Self
+        ensures { result ≡ report_of_end found.now.rows found.now.end found.now.notes }
+    {
+        match found.end {
+            RowsEnd::Marked | RowsEnd::DataEnd => FaxStripReport::noted(found.rows, found.notes),
+            RowsEnd::Fault(_) | RowsEnd::TooMany => {
+                let fault = FaxFault::of_rows_end(0, found.rows, found.end);
+                FaxStripReport::stopped(found.rows, fault)
+            }
+        }
+    }
+}
+
+/// What `faxpages_strip_check` does where nobody counted the rows.
+fn check_uncounted(alloc: Global, strip: &[u8], form: &FaxStrip, report: &mut FaxStripReport) -> u32
+    ensures { Spec.TellsUncountedReport strip.now form.now report.old report.new result }
+{
+    let Some(form) = uncounted_form(strip, form) else {
+        return status::NO_OPTIONS;
+    };
+    let Ok(mut reader) = NotesReader::new(alloc, form.width) else {
+        return status::MEMORY;
+    };
+    match reader.uncounted_notes(strip, form) {
+        Ok(found) => {
+            *report = FaxStripReport::found(&found);
+            end_status(found.end)
+        }
+        Err(_memory) => status::MEMORY,
     }
 }
 
@@ -69,17 +104,18 @@ pub extern "C" fn faxpages_strip_check(
     ensures { Spec.TellsStripReport strip.now form.now report.old report.new result }
 {
     let Some(form) = readable_form(strip, form) else {
-        return 7;
+        return check_uncounted(alloc, strip, form, report);
     };
     match strip_notes(alloc, strip, form) {
         Ok(notes) => {
             *report = FaxStripReport::noted(form.rows, notes);
-            1
+            status::END
         }
         Err(NotesFault::Strip { row, fault }) => {
+            let fault = FaxFault::of_cause(0, row, Cause::Strip(fault));
             *report = FaxStripReport::stopped(row, fault);
-            2
+            status::FAULT
         }
-        Err(NotesFault::Memory) => 4,
+        Err(NotesFault::Memory) => status::MEMORY,
     }
 }

@@ -10,8 +10,10 @@ use crate::filled::{Filled, Stop};
 use crate::format::{RowFormat, Runs};
 use crate::places::FaxPlace;
 use crate::raster::{packed_len, put_padded};
+use crate::status;
 use crate::strip_form::FaxStrip;
 use crate::told::FaxTold;
+use crate::uncounted::{tell_uncounted, uncounted_form};
 use fax_files::Cause;
 use fax_page::{StripFault, StripForm, StripReader};
 use fax_rows::Row;
@@ -22,7 +24,7 @@ use std::alloc::Global;
 const MOST_BYTES: usize = 536_870_911;
 
 /// So many runs hold those of any row.
-const MOST_RUNS: usize = 65_536;
+pub(crate) const MOST_RUNS: usize = 65_536;
 
 /// The form in which a strip of so many bytes is read, if these numbers are one.
 pub(crate) fn readable_form(strip: &[u8], given: &FaxStrip) -> Option<StripForm>
@@ -124,6 +126,7 @@ fn fill_strip(reader: &mut StripReader, page: u32, stride: usize, out: &mut [u8]
     requires some { 0 < stride }
     ensures { Code.AreStripRowsFilled page stride reader.old out.old result reader.new out.new }
 {
+    fax_bits::laws::bits_stand_by_place();
     let mut count = 0;
     let mut used = 0;
     while out.len() - used >= stride {
@@ -187,7 +190,7 @@ fn stop_before(form: StripForm, place: &FaxPlace, stride: usize, room: usize) ->
 }
 
 /// Reads rows of a strip into a raster from a place on, which is then the one after them.
-fn read_strip(
+pub(crate) fn read_strip(
     alloc: Global,
     strip: &[u8],
     form: StripForm,
@@ -231,11 +234,15 @@ pub extern "C" fn faxpages_strip_rows(
     ensures { Spec.TellsStripRows strip.now form.now stride place.old runs.old out.old place.new
         runs.new out.new told.old told.new result }
 {
-    let Some(form) = readable_form(strip, form) else {
-        return 7;
-    };
     if runs.len() < MOST_RUNS {
-        return 7;
+        return status::NO_OPTIONS;
     }
-    read_strip(alloc, strip, form, place, runs, stride, out).tell(told)
+    if let Some(form) = readable_form(strip, form) {
+        return read_strip(alloc, strip, form, place, runs, stride, out).tell(told);
+    }
+    let Some(form) = uncounted_form(strip, form) else {
+        return status::NO_OPTIONS;
+    };
+    let filled = read_strip(alloc, strip, form, place, runs, stride, out);
+    tell_uncounted(&filled, strip, form, place, told)
 }

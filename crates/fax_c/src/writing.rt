@@ -20,12 +20,15 @@ ghost use Rattle.fax_files.specs.views.Page.{IsGoodRational, IsPageForm};
 ghost use Rattle.fax_files.specs.views.Writing.{contents};
 ghost use Rattle.fax_c.specs.Raster as Raster;
 ghost use Rattle.fax_c.specs.views.Written as Spec;
+ghost use Rattle.fax_c.specs.views.Ended.{AddsToPages};
 ghost use Rattle.fax_c.specs.code.Writing as Code;
 
+use crate::bytes::{put_bytes, put_four, two_at};
 use crate::coding::code_strip;
 use crate::conversion::order_of;
 use crate::forms::FaxForm;
 use crate::raster::holds_raster;
+use crate::status;
 use crate::strip_form::{coding_of, has_eols};
 use fax_files::{PageForm, WriteFault, write_page};
 use fax_page::Memory;
@@ -39,14 +42,16 @@ pub struct FaxWritten {
     pub len: usize,
     /// Where in it the offset of the next page's directory stands.
     pub link: u32,
-    /// How many pages it is to have, 1 to 65,535.
+    /// How many pages it is to have, 1 to 65,535; or 0, where that is not known.
     pub total: u32,
     /// How many were added.
     pub added: u32,
 }
 
-/// The most bytes of a file.
-const MOST_BYTES: usize = 268_435_456;
+/// The most bytes of a file, and the most pages.
+pub(crate) const MOST_BYTES: usize = 268_435_456;
+
+pub(crate) const MOST_PAGES: u32 = 65_535;
 
 /// Whether a fraction is one of numbers above 0.
 fn is_good(numerator: u32, denominator: u32) -> bool
@@ -125,26 +130,47 @@ fn code_strips(
 }
 
 /// Whether a page can be added to a file that is written so far.
-fn is_writing(written: &FaxWritten, room: usize) -> bool
-    ensures some { result ≡ true → Spec.IsWriting written.now room }
-    ensures none { result ≡ false → Spec.IsWriting written.now room → ⊥ }
+fn is_writing(written: &FaxWritten) -> bool
+    ensures some { result ≡ true → Spec.IsWriting written.now }
+    ensures none { result ≡ false → Spec.IsWriting written.now → ⊥ }
 {
-    if written.total == 0 || written.total > 65_535 || written.added >= written.total {
+    if written.total > MOST_PAGES || written.added >= MOST_PAGES {
+        return false;
+    }
+    if written.total != 0 && written.added >= written.total {
         return false;
     }
     if written.added == 0 {
         return true;
     }
     written.len >= 8
-        && written.len <= room
         && written.len <= MOST_BYTES
-        && written.link as usize + 4 <= written.len
+        && written.link >= 4
+        && written.link as usize <= written.len - 4
+}
+
+/// Whether a file that is written so far has at most so many bytes.
+fn is_held(written: &FaxWritten, room: usize) -> bool
+    ensures held { result ≡ true → Spec.IsHeld written.now room }
+    ensures more { result ≡ false → Spec.IsNotHeld written.now room }
+{
+    written.added == 0 || written.len <= room
+}
+
+/// Whether the last page of a file that is written so far, if there is one, says its total.
+fn is_total_said(written: &FaxWritten, file: &[u8]) -> bool
+    requires writing { Spec.IsWriting written.now }
+    requires held { Spec.IsHeld written.now (length file.now) }
+    ensures some { result ≡ true → Spec.IsTotalSaid written.now file.now }
+    ensures none { result ≡ false → Spec.IsTotalSaid written.now file.now → ⊥ }
+{
+    written.added == 0 || u32::from(two_at(file, written.link as usize - 2)) == written.total
 }
 
 /// Where a file that is written goes on, and where the offset of the next directory stands: after
 /// its header, or after the pages that were added.
 fn place_of(written: &FaxWritten) -> (u32, u32)
-    requires { (room : ℕ) × Spec.IsWriting written.now room }
+    requires { Spec.IsWriting written.now }
     ensures { result ≡ Code.place_of written.now }
 {
     if written.added == 0 {
@@ -152,22 +178,6 @@ fn place_of(written: &FaxWritten) -> (u32, u32)
     } else {
         (written.len as u32, written.link)
     }
-}
-
-/// Writes bytes at a place.
-fn put_bytes(file: &mut [u8], at: usize, bytes: &[u8])
-    requires { at + length bytes.now ≤ length file.old }
-    ensures { file.new ≡ take at file.old ++ bytes.now ++ drop (at + length bytes.now) file.old }
-{
-    file[at..at + bytes.len()].copy_from_slice(bytes);
-}
-
-/// Writes the bytes of a number of four bytes at a place, the lowest first.
-fn put_four(file: &mut [u8], at: usize, n: u32)
-    requires { at + 4 ≤ length file.old }
-    ensures { file.new ≡ take at file.old ++ four n ++ drop (at + 4) file.old }
-{
-    put_bytes(file, at, &n.to_le_bytes());
 }
 
 /// Whether so many bytes have room after a place.
@@ -219,24 +229,25 @@ fn add_page(
     requires exchanged { form.now.exchanged ≡ false }
     requires some_k { 0 < k }
     requires raster { Raster.HoldsRaster (length raster.now) form.now.width form.now.rows stride }
-    requires writing { Spec.IsWriting written.old (length file.old) }
+    requires writing { Spec.IsWriting written.old }
+    requires held { Spec.IsHeld written.old (length file.old) }
     ensures { Spec.AddsPage form.now k raster.now stride file.old file.new written.old written.new
         result }
 {
     let (start, link) = place_of(written);
     let Ok(strips) = code_strips(alloc, form, k, raster, stride) else {
-        return 4;
+        return status::MEMORY;
     };
     let number = written.added as u16;
     let total = written.total as u16;
     let page = match write_page(alloc, form, &strips, start, number, total) {
         Ok(page) => page,
-        Err(WriteFault::OutputTooLarge) => return 8,
-        Err(WriteFault::Memory) => return 4,
+        Err(WriteFault::OutputTooLarge) => return status::TOO_LARGE,
+        Err(WriteFault::Memory) => return status::MEMORY,
     };
     let bytes = &page.bytes;
     if !has_room(file.len(), start as usize, bytes.len()) {
-        return 5;
+        return status::NO_ROOM;
     }
     put_header(file, written);
     put_page(file, start as usize, link as usize, bytes, page.directory);
@@ -246,7 +257,38 @@ fn add_page(
         total: written.total,
         added: written.added + 1,
     };
-    0
+    status::DONE
+}
+
+/// Adds a page of the form that these numbers are, if it can be added, and answers how that ended.
+fn add_given(
+    alloc: Global,
+    form: &FaxForm,
+    k: u32,
+    raster: &[u8],
+    stride: usize,
+    file: &mut [u8],
+    written: &mut FaxWritten,
+) -> u32
+    ensures { Spec.TellsPageAdded form.now k raster.now stride file.old file.new written.old
+        written.new result }
+{
+    let Some(form) = page_form_of(form) else {
+        return status::NO_OPTIONS;
+    };
+    if k == 0 || !holds_raster(raster.len(), form.width, form.rows, stride) {
+        return status::NO_OPTIONS;
+    }
+    if !is_writing(written) {
+        return status::NO_OPTIONS;
+    }
+    if !is_held(written, file.len()) {
+        return status::NO_ROOM;
+    }
+    if !is_total_said(written, file) {
+        return status::NO_OPTIONS;
+    }
+    add_page(alloc, &form, k, raster, stride, file, written)
 }
 
 /// Codes the rows of a raster as a page, and adds it to a file of the caller, which is then a whole
@@ -261,17 +303,10 @@ pub extern "C" fn faxpages_add_page(
     file: &mut [u8],
     written: &mut FaxWritten,
 ) -> u32
-    ensures { Spec.TellsPageAdded form.now k raster.now stride file.old file.new written.old
+    ensures told { Spec.TellsPageAdded form.now k raster.now stride file.old file.new written.old
+        written.new result }
+    ensures pages { AddsToPages form.now k raster.now stride file.old file.new written.old
         written.new result }
 {
-    let Some(form) = page_form_of(form) else {
-        return 7;
-    };
-    if k == 0 || !holds_raster(raster.len(), form.width, form.rows, stride) {
-        return 7;
-    }
-    if !is_writing(written, file.len()) {
-        return 7;
-    }
-    add_page(alloc, &form, k, raster, stride, file, written)
+    add_given(alloc, form, k, raster, stride, file, written)
 }

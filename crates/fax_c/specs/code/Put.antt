@@ -1,19 +1,20 @@
 -- One step of a call: an item is written, or why it is not.
 use Rattle.std.specs.Prelude.{◌≡◌, ◌≢◌, ℕ, ◌+◌, ◌<◌, ◌≤◌, ◌⊎◌, List, ◌++◌, length, take, drop}
-use Rattle.std.specs.Prelude.{Option, Some, None, Result, Ok, Err}
+use Rattle.std.specs.Prelude.{Option, Some, None, Result, Ok, Err, nat_lt, if◌then◌else◌}
 use Rattle.fax_rows.specs.Rows.{Colour}
 use Rattle.fax_walk.specs.declared.begun.Begun.{Begun}
+use Rattle.fax_walk.specs.declared.cursor.Cursor.{Cursor}
 use Rattle.fax_walk.specs.declared.end.End.{End}
 use Rattle.fax_files.specs.declared.PageForm.{PageForm}
-use Rattle.fax_walk.specs.Pages.{FormItem, IsFormTail, LongPlace}
-use Rattle.fax_walk.specs.declared.end.End.TheVariants.{Fault, Outside}
+use Rattle.fax_walk.specs.Pages.{FormItem, IsFormTail, IsPageAt, LongPlace}
+use Rattle.fax_walk.specs.declared.end.End.TheVariants.{Fault, Outside, Proper}
 use Rattle.fax_walk.specs.declared.end.WalkFault.{WalkFault}
 use Rattle.fax_walk.specs.declared.end.WalkFault.TheVariants.{AtRow, CursorOutside}
 use Rattle.fax_walk.specs.declared.end.WalkFault.TheVariants.{Memory as Refused}
 use Rattle.fax_walk.specs.Items.{RowItem, IsTailFrom}
 use Rattle.fax_walk.specs.views.InOrder.{HandsOut, HasEndedAs}
 use Rattle.fax_walk.specs.views.Pages.{PagesView, HandsOutPage}
-use Rattle.fax_walk.specs.views.Walk.{EntersPage, WalkView, IsLongOf, row_limit}
+use Rattle.fax_walk.specs.views.Walk.{EntersPage, HasPage, WalkView, IsLongOf, row_limit}
 use Rattle.fax_c.specs.declared.filled.Filled.{Filled}
 use Rattle.fax_c.specs.declared.filled.Stop.{Stop}
 use Rattle.fax_c.specs.declared.filled.Stop.TheVariants.{Done, Ended, Memory, NoRoom}
@@ -85,13 +86,27 @@ IsInsideTold walk old old_runs new runs =
     ⊎ ((found : LongPlace) × IsLongOf walk (Some found) × (length runs < length found.runs))))
     ⊎ (HasRuns new runs × IsLongOf walk (Some (long_place_of new runs))))
 
--- a place inside a strip is told with its runs, and no other run is changed; or these have no room,
--- or are more than a row can have
+-- a place inside a strip is told with its runs, no more than a row can have, and no other run is
+-- changed; or these have no room, or are more than a row can have
 abbrev pub IsPlaceTold : LongPlace → FaxPlace → List ℕ → ℕ → FaxPlace → List ℕ → Type 0
 IsPlaceTold found old old_runs status new runs =
-    ((status ≡ 0) × HasRuns new runs × (long_place_of new runs ≡ found)
+    ((status ≡ 0) × HasRuns new runs × (new.runs ≤ most_runs) × (long_place_of new runs ≡ found)
     × (drop new.runs runs ≡ drop new.runs old_runs))
     ⊎ ((new ≡ old) × (runs ≡ old_runs)
     × (((status ≡ 5) × (length old_runs < length found.runs)
     × (length found.runs ≤ most_runs))
     ⊎ ((status ≡ 6) × (most_runs < length found.runs))))
+
+-- how the rows end at a row of a page that a file has not, where they end so at its first row: only
+-- row 0 of the page after the last one is a place
+abbrev pub end_at_row : End → ℕ → End
+end_at_row Proper row = if nat_lt 0 row then Outside else Proper
+end_at_row end row = end
+
+-- why a call stops at a cursor that was refused memory for the runs there: no row was asked for; or
+-- some were, and the file has the page, or it has not, and the rows end so
+abbrev pub IsRefusedAt : List ℕ → Cursor → ℕ → Stop → Type 0
+IsRefusedAt file at asked Done = asked ≡ 0
+IsRefusedAt file at asked Memory = (0 < asked) × HasPage file at.page
+IsRefusedAt file at asked (Ended end) = (0 < asked) × IsPageAt file at (Err end)
+IsRefusedAt file at asked NoRoom = ⊥

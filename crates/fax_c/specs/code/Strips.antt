@@ -14,6 +14,11 @@ use Rattle.fax_c.specs.declared.filled.Stop.{Stop}
 use Rattle.fax_c.specs.declared.filled.Stop.TheVariants.{Ended, Memory}
 use Rattle.fax_c.specs.declared.places.FaxPlace.{FaxPlace}
 use Rattle.fax_c.specs.Numbers.{coding_number}
+use Rattle.fax_c.specs.Told.{end_fault, end_status, fault_of, status_of}
+use Rattle.fax_page.specs.declared.RowsEnd.{RowsEnd}
+use Rattle.fax_c.specs.declared.told.FaxTold.{FaxTold}
+use Rattle.fax_c.specs.declared.faults.FaxFault.{FaxFault}
+use Rattle.fax_c.specs.views.Strips.{IsEndTold, IsStopTold}
 use Rattle.fax_c.specs.views.Strips.{AreRead, HasRoom, IsDueAt, IsPlace, IsPlaceAfter, ReadsNone}
 use Rattle.fax_c.specs.views.Strips.{StripPlace}
 
@@ -74,3 +79,29 @@ abbrev pub IsStopBefore : StripForm → FaxPlace → ℕ → ℕ → Option Stop
 IsStopBefore form place stride room None = HasRoom form stride room × (place.row < form.rows)
 IsStopBefore form place stride room (Some stop) =
     (strip runs : List ℕ) → ReadsNone form strip stride place runs room stop
+
+-- a strip stops its rows itself, and so; or something else does, of which this holds that is told
+-- of any strip
+abbrev pub IsMetInStrip : Stop → Option (Option StripFault) → Type 0
+IsMetInStrip stop (Some met) =
+    (form : StripForm) (strip : List ℕ) (place : FaxPlace) (fault : FaxFault) (status : ℕ)
+    → IsEndTold form strip place met fault status → IsStopTold form strip place stop fault status
+IsMetInStrip stop None =
+    (form : StripForm) (strip : List ℕ) (place : FaxPlace)
+    → IsStopTold form strip place stop (fault_of stop) (status_of stop)
+
+-- what was written is told, and that rows end so at a place
+pub record IsRowsEndTold (filled : Filled) (place : FaxPlace) (end : RowsEnd) (told : FaxTold)
+    (status : ℕ) : Type 0 where
+  pub count : told.count ≡ filled.count
+  pub used : told.used ≡ filled.used
+  pub page : told.page ≡ filled.cursor.page
+  pub row : told.row ≡ filled.cursor.row
+  pub fault : told.fault ≡ end_fault place.page place.row end
+  pub answer : status ≡ end_status end
+
+-- what of a strip stopped its rows
+abbrev pub IsMetBy : Stop → Option (Option StripFault) → Type 0
+IsMetBy (Ended Proper) found = found ≡ Some None
+IsMetBy (Ended (Fault page row (Strip fault))) found = found ≡ Some (Some fault)
+IsMetBy stop found = found ≡ None

@@ -1,13 +1,14 @@
 -- Rows that are written one after another, each as numbers.
 -- A definition without a citation is this project's profile.
-use Rattle.std.specs.Prelude.{◌≡◌, ℕ, ◌+◌, ◌<◌, ◌≤◌, List, [], ◌∷◌, ◌++◌, length, take, drop}
+use Rattle.std.specs.Prelude.{◌≡◌, ℕ, ◌+◌, ◌<◌, ◌≤◌, ◌⊎◌, List, [], ◌∷◌, ◌++◌, length, take, drop}
 use Rattle.std.specs.Prelude.{flat_map, slice_get, Some}
 use Rattle.fax_rows.specs.Rows.{Colour}
 use Rattle.fax_walk.specs.declared.begun.Begun.{Begun}
+use Rattle.fax_walk.specs.declared.begun.Begun.TheVariants.{At, Inside}
 use Rattle.fax_walk.specs.declared.cursor.Cursor.{Cursor}
 use Rattle.fax_walk.specs.declared.end.End.{End}
 use Rattle.fax_walk.specs.Items.{RowItem, IsTailFrom, begun_cursor, cursor_after}
-use Rattle.fax_walk.specs.views.Walk.{EntersPage}
+use Rattle.fax_walk.specs.views.Walk.{EntersPage, HasPage}
 use Rattle.fax_c.specs.declared.filled.Filled.{Filled}
 use Rattle.fax_c.specs.declared.filled.Stop.{Stop}
 use Rattle.fax_c.specs.declared.filled.Stop.TheVariants.{Done, Ended, Memory, NoRoom}
@@ -40,9 +41,15 @@ abbrev pub cursor_after_rows : Cursor → List RowItem → Cursor
 cursor_after_rows from [] = from
 cursor_after_rows from (item ∷ items) = cursor_after_rows (cursor_after item) items
 
+-- no row was written yet of what begins at a place inside a strip, whose runs are copied first, and
+-- the file has its page
+abbrev pub TakesRuns : List ℕ → Begun → ℕ → Type 0
+TakesRuns file (At at) count = ⊥
+TakesRuns file (Inside place) count = (count ≡ 0) × HasPage file place.at.page
+
 -- so many of these rows are written, of which so many were asked for, in so many numbers of so
 -- many: all of them; or fewer, since there are no more, or the next one has no room, or memory was
--- refused where a page is entered
+-- refused where a page is entered, or for the runs of a place
 abbrev pub StopsAfterRows : {N : Type 0} → (List Colour → List N) → List ℕ → Begun → List RowItem
     → End → ℕ → ℕ → ℕ → ℕ → Stop → Type 0
 StopsAfterRows numbers file begun items end asked room count used Done = count ≡ asked
@@ -53,7 +60,7 @@ StopsAfterRows numbers file begun items end asked room count used NoRoom =
     × ((item : RowItem) × (slice_get items count ≡ Some item)
     × (room < used + length (numbers item.pels)))
 StopsAfterRows numbers file begun items end asked room count used Memory =
-    (count < asked) × EntersPage file begun count
+    (count < asked) × (EntersPage file begun count ⊎ TakesRuns file begun count)
 
 -- the first rows of what a walk hands out that begins so are written, one after another, and where
 -- each lies, and nothing else is changed

@@ -24,11 +24,11 @@ TellsPlaceText place runs old new len status =
     × ((LacksRuns place runs × (status ≡ 3)) ⊎ ((place.runs ≤ length runs) × (status ≡ 4))))
 
 -- a text is this place's: a cursor's, and no run is changed; or that of a place inside a strip, whose
--- runs are written, and no other run is changed
+-- runs, which are no more than a row can have, are written, and no other run is changed
 abbrev pub IsPlaceRead : List ℕ → List ℕ → FaxPlace → List ℕ → Type 0
 IsPlaceRead text old_runs place runs =
     ((at : Cursor) × (text ≡ cursor_text at) × (place ≡ place_at at) × (runs ≡ old_runs))
-    ⊎ (HasRuns place runs × (text ≡ long_cursor_text (long_place_of place runs))
+    ⊎ (HasRuns place runs × (place.runs ≤ most_runs) × (text ≡ long_cursor_text (long_place_of place runs))
     × (drop place.runs runs ≡ drop place.runs old_runs))
 
 -- a text is no cursor's, and that of no place inside a strip that a row can have

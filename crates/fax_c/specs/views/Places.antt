@@ -72,10 +72,11 @@ abbrev pub KeepsRuns : List ℕ → List ℕ → Type 0
 KeepsRuns old_runs runs =
     (drop most_runs runs ≡ drop most_runs old_runs) × (length runs ≡ length old_runs)
 
--- the place after the rows that were written
+-- the place after the rows that were written; where there are none, no run is changed
 abbrev pub IsAfter : List ℕ → Begun → Filled → List ℕ → FaxPlace → List ℕ → Type 0
 IsAfter file begun filled old_runs place runs =
-    KeepsRuns old_runs runs × IsAfterRows file begun filled.cursor filled.count place runs
+    KeepsRuns old_runs runs × (filled.count ≡ 0 → runs ≡ old_runs)
+    × IsAfterRows file begun filled.cursor filled.count place runs
 
 -- nothing was written, since there is no such place
 abbrev pub outside_at : Cursor → Filled

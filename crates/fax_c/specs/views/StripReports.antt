@@ -8,13 +8,17 @@ use Rattle.fax_page.specs.declared.StripForm.{StripForm}
 use Rattle.fax_page.specs.declared.notes.NotesFault.TheVariants as Refused
 use Rattle.fax_page.specs.declared.notes.StripNotes.{StripNotes}
 use Rattle.fax_page.specs.Strip.{IsNotedAs}
-use Rattle.fax_page.specs.views.Strip.{IsNotesFault}
+use Rattle.fax_page.specs.declared.notes.UncountedNotes.{UncountedNotes}
+use Rattle.fax_page.specs.declared.RowsEnd.{RowsEnd}
+use Rattle.fax_page.specs.declared.RowsEnd.TheVariants.{DataEnd, Marked}
+use Rattle.fax_page.specs.views.Strip.{IsNotedUncounted, IsNotesFault}
 use Rattle.fax_files.specs.declared.Cause.TheVariants.{Strip}
+use Rattle.fax_c.specs.declared.faults.FaxFault.{FaxFault}
 use Rattle.fax_c.specs.declared.strip_form.FaxStrip.{FaxStrip}
 use Rattle.fax_c.specs.declared.strip_report.FaxStripReport.{FaxStripReport}
 use Rattle.fax_c.specs.Numbers.{bool_number}
-use Rattle.fax_c.specs.Told.{fault_of_cause, no_fault}
-use Rattle.fax_c.specs.views.Strips.{IsReadable}
+use Rattle.fax_c.specs.Told.{end_fault, end_status, fault_of_cause, no_fault}
+use Rattle.fax_c.specs.views.Strips.{IsReadable, IsReadableUncounted}
 
 -- all rows were read, with these notes
 abbrev pub report_of_notes : ℕ → StripNotes → FaxStripReport
@@ -27,19 +31,43 @@ report_of_notes rows notes = record {
   fault = no_fault;
 }
 
--- this row could not be read
-abbrev pub report_of_fault : ℕ → StripFault → FaxStripReport
-report_of_fault row fault = record {
-  rows = row;
+-- so many rows were read, and then a fault was met
+abbrev pub report_without_notes : ℕ → FaxFault → FaxStripReport
+report_without_notes rows fault = record {
+  rows = rows;
   no_end_of_block = 0;
   return_to_control = 0;
   data_after_end = 0;
   not_t4_choice = 0;
-  fault = fault_of_cause 0 row (Strip fault);
+  fault = fault;
 }
 
+-- this row could not be read
+abbrev pub report_of_fault : ℕ → StripFault → FaxStripReport
+report_of_fault row fault = report_without_notes row (fault_of_cause 0 row (Strip fault))
+
+-- so many rows that nobody counted were read, with these notes where they end well
+abbrev pub report_of_end : ℕ → RowsEnd → StripNotes → FaxStripReport
+report_of_end rows Marked notes = report_of_notes rows notes
+report_of_end rows DataEnd notes = report_of_notes rows notes
+report_of_end rows end notes = report_without_notes rows (end_fault 0 rows end)
+
+-- the rows of a strip that nobody counted are read, and their notes told where they end well, or
+-- the fault in the way of the next; or memory was refused; or the strip can be read so in no form of
+-- these numbers; then nothing is changed
+abbrev pub TellsUncountedReport : List ℕ → FaxStrip → FaxStripReport → FaxStripReport → ℕ → Type 0
+TellsUncountedReport strip given old report status =
+    ((form : StripForm) × IsReadableUncounted strip given form
+    × (((rows : List (List Colour)) × (found : UncountedNotes)
+    × IsNotedUncounted form (bits form.order strip) rows found
+    × (report ≡ report_of_end found.rows found.end found.notes) × (status ≡ end_status found.end))
+    ⊎ ((status ≡ 4) × (report ≡ old))))
+    ⊎ ((status ≡ 7) × ((form : StripForm) → IsReadableUncounted strip given form → ⊥)
+    × (report ≡ old))
+
 -- the rows of a strip are read, and its notes told, or the first row that cannot be read; or memory
--- was refused; or the strip can be read in no form of these numbers; then nothing is changed
+-- was refused, and nothing is changed; or the strip can be read in no form of these numbers, but
+-- where nobody counted its rows
 abbrev pub TellsStripReport : List ℕ → FaxStrip → FaxStripReport → FaxStripReport → ℕ → Type 0
 TellsStripReport strip given old report status =
     ((form : StripForm) × IsReadable strip given form
@@ -50,4 +78,5 @@ TellsStripReport strip given old report status =
     × IsNotesFault form (bits form.order strip) (Refused.Strip row fault)
     × (report ≡ report_of_fault row fault))
     ⊎ ((status ≡ 4) × (report ≡ old))))
-    ⊎ ((status ≡ 7) × ((form : StripForm) → IsReadable strip given form → ⊥) × (report ≡ old))
+    ⊎ (((form : StripForm) → IsReadable strip given form → ⊥)
+    × TellsUncountedReport strip given old report status)

@@ -1,16 +1,20 @@
 -- The rows of a strip with no file around it, read into a raster, and coded from one.
 -- A definition without a citation is this project's profile.
 use Rattle.std.specs.Prelude.{◌≡◌, ◌≢◌, ℕ, ◌+◌, ◌-◌, ◌*◌, ◌<◌, ◌≤◌, ◌⊎◌, Bool, List, [], ◌∷◌, ◌++◌}
-use Rattle.std.specs.Prelude.{length, take, drop, flat_map}
+use Rattle.std.specs.Prelude.{length, take, drop, flat_map, Option, Some, None}
 use Rattle.fax_bits.specs.Bits.{bits}
 use Rattle.fax_rows.specs.Rows.{Colour, runs_of}
 use Rattle.fax_rows.specs.Coded.{packed_len}
 use Rattle.fax_page.specs.declared.StripForm.{StripForm}
 use Rattle.fax_page.specs.Lines.{IsCause, IsLine, white_row}
-use Rattle.fax_page.specs.Strip.{coded_strip}
+use Rattle.fax_page.specs.Strip.{coded_strip, most_rows}
+use Rattle.fax_page.specs.declared.StripFault.{StripFault}
+use Rattle.fax_page.specs.declared.RowsEnd.{RowsEnd}
+use Rattle.fax_page.specs.Uncounted.{EndsSo}
 use Rattle.fax_page.specs.views.Strip.{IsStripForm}
 use Rattle.fax_files.specs.declared.Cause.TheVariants.{Strip}
 use Rattle.fax_walk.specs.declared.end.End.TheVariants.{Proper, Fault, Outside}
+use Rattle.fax_c.specs.declared.faults.FaxFault.{FaxFault}
 use Rattle.fax_c.specs.declared.filled.Filled.{Filled}
 use Rattle.fax_c.specs.declared.filled.Stop.{Stop}
 use Rattle.fax_c.specs.declared.filled.Stop.TheVariants.{Done, Ended, Memory, NoRoom}
@@ -19,7 +23,7 @@ use Rattle.fax_c.specs.declared.strip_form.FaxStrip.{FaxStrip}
 use Rattle.fax_c.specs.declared.told.FaxTold.{FaxTold}
 use Rattle.fax_c.specs.Numbers.{bool_number, coding_number, order_number}
 use Rattle.fax_c.specs.Raster.{HoldsRaster, padded_row, raster_rows}
-use Rattle.fax_c.specs.Told.{IsTold}
+use Rattle.fax_c.specs.Told.{IsTold, end_fault, end_status, fault_of, status_of}
 use Rattle.fax_c.specs.views.Places.{HasRuns, cursor_of, most_runs}
 use Rattle.fax_c.specs.views.PlaceTexts.{IsTextTold}
 
@@ -35,6 +39,12 @@ pub record IsForm (given : FaxStrip) (form : StripForm) : Type 0 where
 -- a strip can be read in this form: each place of a bit in it has 32 bits
 abbrev pub IsReadable : List ℕ → FaxStrip → StripForm → Type 0
 IsReadable strip given form = IsForm given form × (length strip ≤ 536870911)
+
+-- a strip can be read in this form whose rows nobody counted, which are 0 by the numbers: it may have
+-- as many as a strip has at most
+abbrev pub IsReadableUncounted : List ℕ → FaxStrip → StripForm → Type 0
+IsReadableUncounted strip given form =
+    (given.rows ≡ 0) × IsReadable strip (record given { rows = most_rows }) form
 
 -- where a row of a strip is due: its number, the bits before it, and the row before it
 pub record StripPlace : Type 0 where
@@ -56,12 +66,13 @@ abbrev pub IsDueAt : StripForm → List ℕ → FaxPlace → List ℕ → StripP
 IsDueAt form strip place runs at =
     IsPlace form.width place runs at × (at.row < form.rows) × (at.bits ≤ 8 * length strip)
 
--- from a place of these bits to another stand these rows, each over the row before it
+-- from a place of these bits to another stand these rows, each over the row before it, and each ends
+-- inside the bits
 -- (T.4, section 4.2.1.1; T.6, section 2.2.1)
 abbrev pub ReadsTo : StripForm → List Bool → StripPlace → List (List Colour) → StripPlace → Type 0
 ReadsTo form all from [] to = from ≡ to
 ReadsTo form all from (row ∷ rows) to =
-    (bits : ℕ) × (from.row < form.rows)
+    (bits : ℕ) × (bits ≤ length all) × (from.row < form.rows)
     × IsLine form from.row from.reference (drop from.bits all) row (drop bits all)
     × ReadsTo form all (record { row = from.row + 1; bits = bits; reference = row }) rows to
 
@@ -125,16 +136,47 @@ ReadsOn form strip stride old_place old_runs old filled place runs new =
     × (filled.count ≡ 0) × (filled.used ≡ 0) × (filled.cursor ≡ cursor_of old_place)
     × (place ≡ old_place) × (runs ≡ old_runs) × (new ≡ old))
 
--- the rows of a strip from a place on are read and told; or it can be read in no form of these
--- numbers, or not all runs of any row have room, and nothing is changed
+-- rows that nobody counted end at a place, where this fault is in the way of the next one, or none
+-- is, and their end is told
+abbrev pub IsEndTold : StripForm → List ℕ → FaxPlace → Option StripFault → FaxFault → ℕ → Type 0
+IsEndTold form strip place met fault status =
+    (end : RowsEnd) × EndsSo form.coding place.row (drop place.bits (bits form.order strip)) met end
+    × (fault ≡ end_fault place.page place.row end) × (status ≡ end_status end)
+
+-- rows that nobody counted are read up to a place, and why no more are: how they end, where there
+-- is no more row of a strip, or it cannot be read; else what is told of any strip
+abbrev pub IsStopTold : StripForm → List ℕ → FaxPlace → Stop → FaxFault → ℕ → Type 0
+IsStopTold form strip place (Ended Proper) fault status =
+    IsEndTold form strip place None fault status
+IsStopTold form strip place (Ended (Fault page row (Strip met))) fault status =
+    IsEndTold form strip place (Some met) fault status
+IsStopTold form strip place stop fault status =
+    (fault ≡ fault_of stop) × (status ≡ status_of stop)
+
+-- what was written of rows that nobody counted, up to a place, is told, and the number answered
+pub record IsUncountedTold (form : StripForm) (strip : List ℕ) (place : FaxPlace) (filled : Filled)
+    (told : FaxTold) (status : ℕ) : Type 0 where
+  pub count : told.count ≡ filled.count
+  pub used : told.used ≡ filled.used
+  pub page : told.page ≡ filled.cursor.page
+  pub row : told.row ≡ filled.cursor.row
+  pub stop : IsStopTold form strip place filled.stop told.fault status
+
+-- the rows of a strip from a place on are read and told, counted ones or such as nobody counted; or
+-- it can be read in no form of these numbers, or not all runs of any row have room, and nothing is
+-- changed
 abbrev pub TellsStripRows : List ℕ → FaxStrip → ℕ → FaxPlace → List ℕ → List ℕ → FaxPlace → List ℕ
     → List ℕ → FaxTold → FaxTold → ℕ → Type 0
 TellsStripRows strip given stride old_place old_runs old place runs new old_told told status =
     ((form : StripForm) × IsReadable strip given form × (most_runs ≤ length old_runs)
     × (filled : Filled) × ReadsOn form strip stride old_place old_runs old filled place runs new
     × IsTold filled told status)
+    ⊎ ((form : StripForm) × IsReadableUncounted strip given form × (most_runs ≤ length old_runs)
+    × (filled : Filled) × ReadsOn form strip stride old_place old_runs old filled place runs new
+    × IsUncountedTold form strip place filled told status)
     ⊎ ((status ≡ 7)
     × ((form : StripForm) → IsReadable strip given form → most_runs ≤ length old_runs → ⊥)
+    × ((form : StripForm) → IsReadableUncounted strip given form → most_runs ≤ length old_runs → ⊥)
     × (place ≡ old_place) × (runs ≡ old_runs) × (new ≡ old) × (told ≡ old_told))
 
 -- these numbers are a form, and the bytes hold its raster

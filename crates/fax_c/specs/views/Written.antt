@@ -1,9 +1,10 @@
 -- Files that are written page by page, in memory of the caller.
 -- A definition without a citation is this project's profile.
-use Rattle.std.specs.Prelude.{◌≡◌, ℕ, ◌+◌, ◌<◌, ◌≤◌, ◌⊎◌, ◌==◌, if◌then◌else◌, false, List, ◌++◌}
+use Rattle.std.specs.Prelude.{◌≡◌, ℕ, ◌+◌, ◌-◌, ◌<◌, ◌≤◌, ◌⊎◌, ◌==◌, if◌then◌else◌, false, List, ◌++◌}
 use Rattle.std.specs.Prelude.{length, take, drop}
 use Rattle.fax_files.specs.declared.PageForm.{PageForm}
-use Rattle.fax_files.specs.Directory.{max_file}
+use Rattle.fax_files.specs.declared.Endian.TheVariants.{Little}
+use Rattle.fax_files.specs.Directory.{max_file, number_at}
 use Rattle.fax_files.specs.Layout.{Written, with_page}
 use Rattle.fax_files.specs.views.Page.{IsPageForm}
 use Rattle.fax_files.specs.views.Writing.{empty_file}
@@ -18,12 +19,27 @@ pub record IsFormGiven (given : FaxForm) (form : PageForm) : Type 0 where
   pub limits : IsPageForm form
   pub exchanged : form.exchanged ≡ false
 
--- a page can be added to a file that is written so far, in so much room
-pub record IsWriting (written : FaxWritten) (room : ℕ) : Type 0 where
+-- a page can be added to a file that is written so far, whose header has no link but the first; a
+-- total of 0 is not available (TIFF 6.0, PageNumber)
+pub record IsWriting (written : FaxWritten) : Type 0 where
   pub few : written.total ≤ 65535
-  pub fewer : written.added < written.total
-  pub place : (written.added ≡ 0) ⊎ ((8 ≤ written.len) × (written.len ≤ room)
-      × (written.len ≤ max_file) × (written.link + 4 ≤ written.len))
+  pub most : written.added < 65535
+  pub fewer : (written.total ≡ 0) ⊎ (written.added < written.total)
+  pub place : (written.added ≡ 0) ⊎ ((8 ≤ written.len) × (written.len ≤ max_file)
+      × (4 ≤ written.link) × (written.link + 4 ≤ written.len))
+
+-- a file that is written so far has as many bytes as this at most; or it has more
+abbrev pub IsHeld : FaxWritten → ℕ → Type 0
+IsHeld written room = (written.added ≡ 0) ⊎ (written.len ≤ room)
+
+abbrev pub IsNotHeld : FaxWritten → ℕ → Type 0
+IsNotHeld written room = (0 < written.added) × (room < written.len)
+
+-- the last page of a file that is written so far, if there is one, says its total: PageNumber is
+-- the last field of its directory, and this number the last two bytes (TIFF 6.0, PageNumber)
+abbrev pub IsTotalSaid : FaxWritten → List ℕ → Type 0
+IsTotalSaid written file =
+    (written.added ≡ 0) ⊎ (number_at Little 2 file (written.link - 2) ≡ written.total)
 
 -- a file that is written so far: an empty one, before the first page
 abbrev pub file_so_far : FaxWritten → List ℕ → Written
@@ -55,17 +71,22 @@ AddsPage form k raster stride old_file file old written status =
     ⊎ ((status ≡ 8) × (max_file < length next.bytes)) ⊎ (status ≡ 4)))
 
 -- a page can be written of these numbers and this raster, and added to a file
-abbrev pub IsAddable : FaxForm → ℕ → List ℕ → ℕ → FaxWritten → ℕ → PageForm → Type 0
-IsAddable given k raster stride written room form =
+abbrev pub IsAddable : FaxForm → ℕ → List ℕ → ℕ → FaxWritten → PageForm → Type 0
+IsAddable given k raster stride written form =
     IsFormGiven given form × (0 < k) × HoldsRaster (length raster) form.width form.rows stride
-    × IsWriting written room
+    × IsWriting written
 
--- a page is added; or the numbers are no form, or the raster is too short, or no page can be added
--- to such a file, and nothing is changed
+-- a page is added; or the file so far has more bytes than there is room; or its last page says
+-- another total; or the numbers are no form, or the raster is too short, or no page can be added to
+-- such a file; then nothing is changed
 abbrev pub TellsPageAdded : FaxForm → ℕ → List ℕ → ℕ → List ℕ → List ℕ → FaxWritten → FaxWritten
     → ℕ → Type 0
 TellsPageAdded given k raster stride old_file file old written status =
-    ((form : PageForm) × IsAddable given k raster stride old (length old_file) form
+    ((form : PageForm) × IsAddable given k raster stride old form
+    × ((IsHeld old (length old_file) × IsTotalSaid old old_file
     × AddsPage form k raster stride old_file file old written status)
+    ⊎ (IsNotHeld old (length old_file) × (status ≡ 5) × (file ≡ old_file) × (written ≡ old))
+    ⊎ (IsHeld old (length old_file) × (IsTotalSaid old old_file → ⊥) × (status ≡ 7)
+    × (file ≡ old_file) × (written ≡ old))))
     ⊎ ((status ≡ 7) × (file ≡ old_file) × (written ≡ old)
-    × ((form : PageForm) → IsAddable given k raster stride old (length old_file) form → ⊥))
+    × ((form : PageForm) → IsAddable given k raster stride old form → ⊥))

@@ -54,14 +54,16 @@ returns-in-Err-clause-place g c =
     c.args.walk.now c.in-Err.stop c.put_next.new.walk c.put_next.new.out c.cursor-cursor.result refl refl c.in-Err.ensures.put in
     let kept = kept_on c.args.runs.now c.loop-count.runs c.place_before.new.runs c.loop-count.invariant.kept c.place_before.ensures.kept in (
       kept_on c.args.runs.now c.place_before.new.runs c.place_after.new.runs kept c.place_after.ensures.0,
+      (λ none. c.place_after.ensures.1 none ∙ c.place_before.ensures.no_runs none ∙ c.loop-count.invariant.runs none),
       after_of c.put_next.new.walk.file c.args.walk.now.file c.put_next.new.walk.begun c.args.walk.now.begun c.cursor-cursor.result
-          c.loop-count.count c.place_after.new.place c.place_after.new.runs walk.same_file walk.same_begun c.place_after.ensures.1,
+          c.loop-count.count c.place_after.new.place c.place_after.new.runs walk.same_file walk.same_begun c.place_after.ensures.2,
     )
 
 pub returns-clause-place : goal.returns-clause-place
 returns-clause-place g c =
     let so_far = c.loop-count.invariant.so_far in (
       kept_on c.args.runs.now c.loop-count.runs c.place_after-2.new.runs c.loop-count.invariant.kept c.place_after-2.ensures.0,
+      (λ none. c.place_after-2.ensures.1 none ∙ c.loop-count.invariant.runs none),
       after_of c.loop-count.walk.file c.args.walk.now.file c.loop-count.walk.begun c.args.walk.now.begun c.cursor.result
-          c.loop-count.count c.place_after-2.new.place c.place_after-2.new.runs so_far.same_file so_far.same_begun c.place_after-2.ensures.1,
+          c.loop-count.count c.place_after-2.new.place c.place_after-2.new.runs so_far.same_file so_far.same_begun c.place_after-2.ensures.2,
     )

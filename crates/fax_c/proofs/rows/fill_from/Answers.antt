@@ -1,6 +1,6 @@
 use Rattle.std.proofs.Common.{◌∙◌, inl, refl}
 use Rattle.fax_c.proofs.FillLemmas.{refused_at_once}
-use Rattle.fax_c.proofs.PlaceLemmas.{begun_cursor-begun_of, stays}
+use Rattle.fax_c.proofs.PlaceLemmas.{begun_cursor-begun_of, stays, takes_runs}
 use Rattle.fax_c.specs.views.Places.{begun_of}
 use Rattle.fax_c.proofs.rows.fill_from.Goals as goal
 
@@ -9,15 +9,16 @@ returns-in_default g c =
     let place = c.args.place.now in
     let runs = c.args.runs.now in
     let at = c.cursor-cursor.result in
-    let stop = c.at_refusal.result in
+    let stop = c.stop_at_refusal-stop.result in
     let begins = c.cursor-cursor.ensures ∙ begun_cursor-begun_of place runs in
     let within = c.lacks_runs.ensures.has c.if-lacks_runs.false in
     inl (
       within,
       record { cursor = at; count = 0; used = 0; stop = stop },
-      refused_at_once g.F.RowFormat.numbers c.args.file.now (begun_of place runs) at c.args.rows.now c.args.out.now stop
-          c.beginnings_have_one_tail.ensures begins c.at_refusal.ensures.none c.at_refusal.ensures.some,
-      ((refl, refl), stays c.args.file.now place runs at (c.in_default.ensures, within)),
+      refused_at_once g.F.RowFormat.numbers c.args.file.now (begun_of place runs) at c.args.rows.now c.args.out.now begins stop
+          c.beginnings_have_one_tail.ensures (λ page. takes_runs c.args.file.now place runs c.in_default.ensures (rw c.cursor-cursor.ensures at page))
+          c.stop_at_refusal-stop.ensures,
+      ((refl, refl), (λ none. refl), stays c.args.file.now place runs at (c.in_default.ensures, within)),
       rw c.nothing-in_default.ensures at c.tell-in_default.ensures,
     )
 

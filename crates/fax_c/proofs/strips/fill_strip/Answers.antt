@@ -34,5 +34,5 @@ loop-out-preserved c =
     let same = c.in_default.ensures.same_form ∙ so_far.same_form in
     let short = fits c.reference.result.now next.form old.form c.args.stride c.reference.ensures.width same c.requires.stride in
     one_more old.form old.bytes c.args.stride (place_due old) c.args.out.now c.loop-out.count c.loop-out.used c.loop-out.reader c.loop-out.out so_far
-    next c.in-Some-put_padded.to c.put_padded.new.out c.in_default.ensures (rw c.reference.ensures.pels at short)
+    c.bits_stand_by_place.ensures next c.in-Some-put_padded.to c.put_padded.new.out c.in_default.ensures (rw c.reference.ensures.pels at short)
     (rw c.reference.ensures.pels at c.in-Some-put_padded.ensures) c.loop-out.auto.out

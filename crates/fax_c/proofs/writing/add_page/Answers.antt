@@ -15,7 +15,7 @@ returns-in-Err-OutputTooLarge c =
     let too_large = c.write_page.ensures.too_large (c.in-Err-OutputTooLarge.is ∙ ap Err c.in-Err-OutputTooLarge.field-0-is) in
     let long = rw strips at too_large in
     let len = page_len c.args.written.now c.args.file.now c.args.form.now
-    (page_strips c.args.form.now c.args.k c.args.stride c.args.raster.now) c.place_of-start.result.0 c.requires.writing
+    (page_strips c.args.form.now c.args.k c.args.stride c.args.raster.now) c.place_of-start.result.0 (c.requires.writing, c.requires.held)
     (ap (λ p. p.0) c.place_of-start.ensures) in
     inr (refl, refl, inr (inl (refl, omega (arith, long, len))))
 
@@ -24,7 +24,7 @@ returns-then-not-has_room c =
     let strips = ap contents c.deref.ensures.value ∙ c.in-Ok.ensures in
     let page = rw strips at c.in-Ok-write_page.ensures.bytes in
     let len = page_len c.args.written.now c.args.file.now c.args.form.now
-    (page_strips c.args.form.now c.args.k c.args.stride c.args.raster.now) c.place_of-start.result.0 c.requires.writing
+    (page_strips c.args.form.now c.args.k c.args.stride c.args.raster.now) c.place_of-start.result.0 (c.requires.writing, c.requires.held)
     (ap (λ p. p.0) c.place_of-start.ensures) in
     let none = c.has_room.ensures.none c.if-not-has_room.true in
     let count = ap (λ (l : List ℕ). length l) page in
@@ -41,7 +41,7 @@ returns c =
     let place = rw strips at c.in-Ok-write_page.ensures.directory in
     let all = page_added c.args.written.now old mid c.put_page.new.file c.args.form.now
     (page_strips c.args.form.now c.args.k c.args.stride c.args.raster.now) c.deref-2.result.now c.in-Ok-write_page.page.directory
-    c.place_of-start.result.0 c.place_of-start.result.1 c.requires.writing (ap (λ p. p.0) at) (ap (λ p. p.1) at)
+    c.place_of-start.result.0 c.place_of-start.result.1 (c.requires.writing, c.requires.held) (ap (λ p. p.0) at) (ap (λ p. p.1) at)
     (ap (λ p. take p.0 mid) at ∙ c.put_header.ensures.front)
     (ap (λ p. drop p.0 mid) at ∙ c.put_header.ensures.rest ∙ sym (ap (λ p. drop p.0 old) at))
     (c.deref-2.ensures.value ∙ page) place c.put_page.ensures in

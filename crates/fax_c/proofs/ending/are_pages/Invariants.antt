@@ -1,0 +1,10 @@
+use Rattle.std.proofs.Common.{◌+◌, ◌-◌, ◌≤◌, length}
+use Rattle.fax_c.specs.views.Ended.{ArePagesAfter}
+use Rattle.fax_c.proofs.ending.are_pages.Given as goal
+
+-- what is left of the pages stands from the link on
+abbrev pub invariant-loop : goal.invariant-loop
+invariant-loop l =
+    (l.link + 4 ≤ length l.fn.file)
+    × (ArePagesAfter l.fn.file (l.fn.count - l.counter) l.link l.fn.last → ArePagesAfter l.fn.file l.fn.count 4 l.fn.last)
+    × (ArePagesAfter l.fn.file l.fn.count 4 l.fn.last → ArePagesAfter l.fn.file (l.fn.count - l.counter) l.link l.fn.last)

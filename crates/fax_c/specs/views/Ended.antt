@@ -1,0 +1,85 @@
+-- Files that were written page by page, once their number of pages is told in each.
+-- A definition without a citation is this project's profile.
+use Rattle.std.specs.Prelude.{◌≡◌, ℕ, zero, suc, ◌+◌, ◌-◌, ◌<◌, ◌≤◌, ◌⊎◌, List, [], ◌∷◌, ◌++◌, length}
+use Rattle.std.specs.Prelude.{take, drop}
+use Rattle.fax_files.specs.declared.Endian.TheVariants.{Little}
+use Rattle.fax_files.specs.Directory.{max_file, number_at}
+use Rattle.fax_files.specs.Layout.{WrittenPage, file_of, to_link, two, with_pages}
+use Rattle.fax_files.specs.declared.PageForm.{PageForm}
+use Rattle.fax_files.specs.views.Writing.{empty_file}
+use Rattle.fax_c.specs.declared.forms.FaxForm.{FaxForm}
+use Rattle.fax_c.specs.declared.writing.FaxWritten.{FaxWritten}
+use Rattle.fax_c.specs.Raster.{page_strips}
+use Rattle.fax_c.specs.views.Written.{IsFormGiven, file_so_far}
+
+-- where the link of a page stands to whose directory a link leads
+abbrev pub next_link : List ℕ → ℕ → ℕ
+next_link file link = number_at Little 4 file link + to_link
+
+-- this page lies in the file after the link
+abbrev pub IsLinkToPage : List ℕ → ℕ → Type 0
+IsLinkToPage file link =
+    (link + 4 ≤ number_at Little 4 file link) × (next_link file link + 4 ≤ length file)
+
+-- so many pages stand in a file after a link, and the last has its link here
+abbrev pub ArePagesAfter : List ℕ → ℕ → ℕ → ℕ → Type 0
+ArePagesAfter file zero link last = link ≡ last
+ArePagesAfter file (suc n) link last =
+    IsLinkToPage file link × ArePagesAfter file n (next_link file link) last
+
+-- a file in which the page of this link says that there are so many pages: PageNumber is the last
+-- field of its directory, and this number the last two bytes (TIFF 6.0, PageNumber)
+abbrev pub with_total : ℕ → ℕ → List ℕ → List ℕ
+with_total total link file = take (link - 2) file ++ two total ++ drop link file
+
+-- a file in which each of so many pages after a link says so
+abbrev pub with_totals : ℕ → ℕ → ℕ → List ℕ → List ℕ
+with_totals total zero link file = file
+with_totals total (suc n) link file =
+    let next = next_link file link in with_totals total n next (with_total total next file)
+
+-- the numbers of a file that is written so far can be those of one with pages
+pub record IsEndable (written : FaxWritten) : Type 0 where
+  pub some : 1 ≤ written.added
+  pub few : written.added ≤ 65535
+  pub header : 8 ≤ written.len
+  pub limit : written.len ≤ max_file
+
+-- as many pages as were added stand in it
+abbrev pub HasItsPages : FaxWritten → List ℕ → Type 0
+HasItsPages written file = ArePagesAfter (take written.len file) written.added 4 written.link
+
+-- each page of a file in memory of the caller says how many were added, and nothing else is
+-- changed; or the file has more bytes than there is room, or these are no pages of a file, and
+-- nothing is changed
+abbrev pub TellsPagesEnded : List ℕ → List ℕ → FaxWritten → FaxWritten → ℕ → Type 0
+TellsPagesEnded old_file file old written status =
+    (IsEndable old × (old.len ≤ length old_file) × HasItsPages old old_file × (status ≡ 0)
+    × (file ≡ with_totals old.added old.added 4 (take old.len old_file) ++ drop old.len old_file)
+    × (written ≡ record old { total = old.added }))
+    ⊎ ((file ≡ old_file) × (written ≡ old)
+    × (((status ≡ 5) × IsEndable old × (length old_file < old.len))
+    ⊎ ((status ≡ 7)
+    × (IsEndable old → (old.len ≤ length old_file) × (HasItsPages old old_file → ⊥)))))
+
+-- a file that is written so far is that of these pages, each of which says this total
+pub record IsFileSoFar (total : ℕ) (pages : List WrittenPage) (written : FaxWritten)
+    (file : List ℕ) : Type 0 where
+  pub added : written.added ≡ length pages
+  pub held : written.len ≤ length file
+  pub is : file_so_far written file ≡ with_pages empty_file total 0 pages
+
+-- a page that is added to such a file makes it that of one page more
+abbrev pub AddsToPages : FaxForm → ℕ → List ℕ → ℕ → List ℕ → List ℕ → FaxWritten → FaxWritten → ℕ
+    → Type 0
+AddsToPages given k raster stride old_file file old written status =
+    (pages : List WrittenPage) → IsFileSoFar old.total pages old old_file → status ≡ 0
+    → (form : PageForm) × IsFormGiven given form
+    × IsFileSoFar old.total
+    (pages ++ record { form = form; strips = page_strips form k stride raster } ∷ []) written file
+
+-- such a file, whatever each page said, is then the file of these pages
+abbrev pub EndsWholeFile : List ℕ → List ℕ → FaxWritten → ℕ → Type 0
+EndsWholeFile old_file file old status =
+    (total : ℕ) (pages : List WrittenPage) → IsEndable old → IsFileSoFar total pages old old_file
+    → (status ≡ 0) × (file ≡ file_of pages ++ drop old.len old_file)

@@ -1,0 +1,100 @@
+-- The rows of a strip of which the first bytes are there, where more may follow.
+-- A definition without a citation is this project's profile.
+use Rattle.std.specs.Prelude.{◌≡◌, ℕ, ◌*◌, ◌<◌, ◌≤◌, ◌⊎◌, List, [], ◌++◌, length, drop, flat_map, ⊤}
+use Rattle.std.specs.Prelude.{Option, None}
+use Rattle.fax_bits.specs.Bits.{bits}
+use Rattle.fax_rows.specs.Rows.{Colour}
+use Rattle.fax_page.specs.declared.RowsEnd.{RowsEnd}
+use Rattle.fax_page.specs.declared.RowsEnd.TheVariants.{Marked, DataEnd, Fault, TooMany}
+use Rattle.fax_page.specs.declared.StripFault.{StripFault}
+use Rattle.fax_page.specs.declared.StripFault.TheVariants.{DataEnds, EndMarker}
+use Rattle.fax_page.specs.declared.StripForm.{StripForm}
+use Rattle.fax_page.specs.Lines.{IsCause}
+use Rattle.fax_page.specs.Strip.{AreLines}
+use Rattle.fax_page.specs.Uncounted.{EndsSo}
+use Rattle.fax_c.specs.declared.places.FaxPlace.{FaxPlace}
+use Rattle.fax_c.specs.declared.strip_form.FaxStrip.{FaxStrip}
+use Rattle.fax_c.specs.declared.told.FaxTold.{FaxTold}
+use Rattle.fax_c.specs.Raster.{padded_row}
+use Rattle.fax_c.specs.Told.{no_fault}
+use Rattle.fax_c.specs.views.Places.{most_runs}
+use Rattle.fax_c.specs.views.Strips.{HasRoom, IsDueAt, IsPlaceAfter, IsReadable, IsReadableUncounted}
+use Rattle.fax_c.specs.views.Strips.{ReadsTo, StripPlace, TellsStripRows}
+
+-- the rows from one place of a strip to another are written and told, each in so many bytes, and
+-- are the same whatever bytes follow; the place is the one after them, and no fault is told
+pub record ArePartRead (form : StripForm) (strip : List ℕ) (stride : ℕ) (old_place : FaxPlace)
+    (old_runs old : List ℕ) (place : FaxPlace) (runs new : List ℕ) (told : FaxTold)
+    (to : StripPlace) : Type 0 where
+  pub from : StripPlace
+  pub due : IsDueAt form strip old_place old_runs from
+  pub rows : List (List Colour)
+  pub read : (more : List ℕ) → ReadsTo form (bits form.order (strip ++ more)) from rows to
+  pub count : told.count ≡ length rows
+  pub used : told.used ≡ length rows * stride
+  pub written : new ≡ flat_map (padded_row stride) rows ++ drop told.used old
+  pub page : told.page ≡ old_place.page
+  pub row : told.row ≡ to.row
+  pub place_is : IsPlaceAfter form.width told.count old_place old_runs place runs to
+
+-- nothing is read, and nothing changed
+pub record IsNothingRead (old_place : FaxPlace) (old_runs old : List ℕ) (place : FaxPlace)
+    (runs new : List ℕ) (told : FaxTold) : Type 0 where
+  pub same_place : place ≡ old_place
+  pub same_runs : runs ≡ old_runs
+  pub same_bytes : new ≡ old
+  pub count : told.count ≡ 0
+  pub used : told.used ≡ 0
+  pub page : told.page ≡ old_place.page
+  pub row : told.row ≡ old_place.row
+
+-- rows that nobody counted may end otherwise where more bytes follow
+abbrev pub MayChange : RowsEnd → Type 0
+MayChange Marked = ⊥
+MayChange DataEnd = ⊤
+MayChange (Fault fault) = (fault ≡ DataEnds) ⊎ (fault ≡ EndMarker)
+MayChange TooMany = ⊤
+
+-- the row that is due at a place is not settled by these bytes: they end in it; or nobody counted
+-- the rows, and those up to there may end otherwise where more follow
+abbrev pub IsUnsettled : FaxStrip → StripForm → List ℕ → StripPlace → Type 0
+IsUnsettled given form strip to =
+    let left = drop to.bits (bits form.order strip) in
+    IsCause form to.row to.reference left DataEnds
+    ⊎ ((given.rows ≡ 0) × (stop : Option StripFault) × (end : RowsEnd)
+    × AreLines form to.row to.reference left [] stop left
+    × EndsSo form.coding to.row left stop end × MayChange end)
+
+-- no row is read from a place that these bytes do not settle: they end before it; or nobody counted
+-- the rows, they are as many as a strip has, and may end otherwise where more follow
+abbrev pub IsUnsettledAt : FaxStrip → StripForm → List ℕ → FaxPlace → Type 0
+IsUnsettledAt given form strip place =
+    ((place.row < form.rows) × (8 * length strip < place.bits))
+    ⊎ ((given.rows ≡ 0) × (place.row ≡ form.rows) × (end : RowsEnd)
+    × EndsSo form.coding place.row (drop place.bits (bits form.order strip)) None end
+    × MayChange end)
+
+-- rows are read up to one that is not settled
+abbrev pub AwaitsMore : FaxStrip → StripForm → List ℕ → ℕ → FaxPlace → List ℕ → List ℕ → FaxPlace
+    → List ℕ → List ℕ → FaxTold → Type 0
+AwaitsMore given form strip stride old_place old_runs old place runs new told =
+    HasRoom form stride (length old) × (told.fault ≡ no_fault)
+    × (((to : StripPlace)
+    × ArePartRead form strip stride old_place old_runs old place runs new told to
+    × IsUnsettled given form strip to)
+    ⊎ (IsNothingRead old_place old_runs old place runs new told
+    × IsUnsettledAt given form strip old_place))
+
+-- what is told of these bytes is told of them alone, and of all bytes, whatever follows; or rows are
+-- read up to one that is not settled, and more bytes are waited for
+abbrev pub TellsStripPart : List ℕ → FaxStrip → ℕ → FaxPlace → List ℕ → List ℕ → FaxPlace → List ℕ
+    → List ℕ → FaxTold → FaxTold → ℕ → Type 0
+TellsStripPart strip given stride old_place old_runs old place runs new old_told told status =
+    (TellsStripRows strip given stride old_place old_runs old place runs new old_told told status
+    × ((more : List ℕ) → length (strip ++ more) ≤ 536870911
+    → TellsStripRows (strip ++ more) given stride old_place old_runs old place runs new old_told
+    told status))
+    ⊎ ((status ≡ 10) × (form : StripForm)
+    × (IsReadable strip given form ⊎ IsReadableUncounted strip given form)
+    × (most_runs ≤ length old_runs)
+    × AwaitsMore given form strip stride old_place old_runs old place runs new told)

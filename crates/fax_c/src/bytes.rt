@@ -1,0 +1,39 @@
+//! Bytes of a file that is written, and numbers in them, each with its lowest byte first.
+ghost use Rattle.std.specs.Prelude.{◌≡◌, ◌+◌, ◌≤◌, ◌++◌, length, take, drop};
+ghost use Rattle.fax_files.specs.declared.Endian.TheVariants.{Little};
+ghost use Rattle.fax_files.specs.Directory.{number_at};
+ghost use Rattle.fax_files.specs.Layout.{four};
+
+/// Writes bytes at a place.
+pub(crate) fn put_bytes(file: &mut [u8], at: usize, bytes: &[u8])
+    requires { at + length bytes.now ≤ length file.old }
+    ensures { file.new ≡ take at file.old ++ bytes.now ++ drop (at + length bytes.now) file.old }
+{
+    file[at..at + bytes.len()].copy_from_slice(bytes);
+}
+
+/// Writes the bytes of a number of four bytes at a place.
+pub(crate) fn put_four(file: &mut [u8], at: usize, n: u32)
+    requires { at + 4 ≤ length file.old }
+    ensures { file.new ≡ take at file.old ++ four n ++ drop (at + 4) file.old }
+{
+    put_bytes(file, at, &n.to_le_bytes());
+}
+
+/// The number of two bytes at a place.
+#[tactic(auto, unfolding(fax_files::specs::Directory::number_at))]
+pub(crate) fn two_at(file: &[u8], at: usize) -> u16
+    requires { at + 2 ≤ length file.now }
+    ensures { result ≡ number_at Little 2 file.now at }
+{
+    u16::from_le_bytes([file[at], file[at + 1]])
+}
+
+/// The number of four bytes at a place.
+#[tactic(auto, unfolding(fax_files::specs::Directory::number_at))]
+pub(crate) fn four_at(file: &[u8], at: usize) -> u32
+    requires { at + 4 ≤ length file.now }
+    ensures { result ≡ number_at Little 4 file.now at }
+{
+    u32::from_le_bytes([file[at], file[at + 1], file[at + 2], file[at + 3]])
+}

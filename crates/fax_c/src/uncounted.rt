@@ -1,0 +1,128 @@
+//! Rows of a strip that nobody counted.
+ghost use Rattle.std.specs.Prelude.{◌≡◌, ◌≤◌, drop, length, MatchOption};
+ghost use Rattle.fax_bits.specs.Bits.{bits};
+ghost use Rattle.fax_page.specs.Uncounted.{EndsSo};
+ghost use Rattle.fax_page.specs.declared.StripForm.{StripForm as Form};
+ghost use Rattle.fax_c.specs.Told as Told;
+ghost use Rattle.fax_c.specs.code.Strips as Code;
+ghost use Rattle.fax_c.specs.views.Strips as Spec;
+
+use crate::faults::FaxFault;
+use crate::filled::{Filled, Stop};
+use crate::places::FaxPlace;
+use crate::status;
+use crate::strip_form::FaxStrip;
+use crate::strips::readable_form;
+use crate::told::FaxTold;
+use fax_files::Cause;
+use fax_page::{MOST_ROWS, RowsEnd, StripFault, StripForm, end_of_rows};
+use fax_rows::BitSource;
+use fax_walk::End;
+
+/// The form in which a strip of so many bytes is read whose rows nobody counted, if these numbers
+/// are one.
+pub(crate) fn uncounted_form(strip: &[u8], given: &FaxStrip) -> Option<StripForm>
+    ensures { MatchOption result
+        ((form : Form) → Spec.IsReadableUncounted strip.now given.now form → ⊥)
+        (Spec.IsReadableUncounted strip.now given.now) }
+{
+    if given.rows != 0 {
+        return None;
+    }
+    let most = FaxStrip {
+        rows: MOST_ROWS,
+        ..*given
+    };
+    readable_form(strip, &most)
+}
+
+/// The number that a call answers where rows end so that nobody counted.
+pub(crate) fn end_status(end: RowsEnd) -> u32
+    ensures { result ≡ Told.end_status end }
+{
+    match end {
+        RowsEnd::Marked => status::END,
+        RowsEnd::DataEnd => status::DATA_END,
+        RowsEnd::Fault(_) | RowsEnd::TooMany => status::FAULT,
+    }
+}
+
+/// Goes on by so many bits, or past all of them where there are fewer.
+fn go_on(source: &mut BitSource, bits: u64)
+    ensures { source.new.left ≡ drop bits source.old.left }
+{
+    let left = source.remaining();
+    if bits < left {
+        source.skip(bits);
+    } else {
+        source.skip(left);
+    }
+}
+
+/// How rows end that nobody counted and that are read up to a place, where this fault is in the way
+/// of the next one, or none is.
+pub(crate) fn end_at(
+    strip: &[u8],
+    form: StripForm,
+    place: &FaxPlace,
+    met: Option<StripFault>,
+) -> RowsEnd
+    requires count { length strip.now ≤ 536870911 }
+    ensures { EndsSo form.coding place.now.row
+        (drop place.now.bits (bits form.order strip.now)) met result }
+{
+    let mut source = BitSource::new(strip, form.order);
+    go_on(&mut source, u64::from(place.bits));
+    end_of_rows(&source, form.coding, place.row, met)
+}
+
+/// What stopped the rows of a strip, where that is the strip itself: a fault is in the way of the
+/// next row, or there is none.
+pub(crate) fn met_in_strip(stop: Stop) -> Option<Option<StripFault>>
+    ensures told { Code.IsMetInStrip stop result }
+    ensures met { Code.IsMetBy stop result }
+{
+    match stop {
+        Stop::Ended(End::Proper) => Some(None),
+        Stop::Ended(
+            End::Fault {
+                cause: Cause::Strip(fault),
+                ..
+            },
+        ) => Some(Some(fault)),
+        _ => None,
+    }
+}
+
+/// Tells what was written of rows that end so at a place, and answers how the call ended.
+pub(crate) fn tell_end(filled: &Filled, place: &FaxPlace, end: RowsEnd, told: &mut FaxTold) -> u32
+    ensures { Code.IsRowsEndTold filled.now place.now end told.new result }
+{
+    *told = FaxTold {
+        count: filled.count,
+        used: filled.used,
+        page: filled.cursor.page,
+        row: filled.cursor.row,
+        fault: FaxFault::of_rows_end(place.page, place.row, end),
+    };
+    end_status(end)
+}
+
+/// Tells what was written of rows that nobody counted, up to a place, and answers how the call
+/// ended.
+pub(crate) fn tell_uncounted(
+    filled: &Filled,
+    strip: &[u8],
+    form: StripForm,
+    place: &FaxPlace,
+    told: &mut FaxTold,
+) -> u32
+    requires count { length strip.now ≤ 536870911 }
+    ensures { Spec.IsUncountedTold form strip.now place.now filled.now told.new result }
+{
+    let Some(met) = met_in_strip(filled.stop) else {
+        return filled.tell(told);
+    };
+    let end = end_at(strip, form, place, met);
+    tell_end(filled, place, end, told)
+}
