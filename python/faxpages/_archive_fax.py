@@ -6,6 +6,7 @@ import ctypes
 import hashlib
 import itertools
 import os
+import stat
 import subprocess
 import time
 from fractions import Fraction
@@ -13,9 +14,12 @@ from typing import Dict, Iterator, NamedTuple, Optional, Tuple
 
 import faxpages
 
+from . import _archive_files as files
 from . import _library as _c
+from ._archive_files import Seen, Stood
+from ._archive_lacks import PRINTED, lacks
 
-# The largest fax, as of the program faxpages.
+# The largest fax, as of the program faxpages; a copy may have as much again, and what stands before its rows.
 _MOST = 268435456
 GOOD, FAULTY, NOT_READ = 0, 1, 3
 # What the name of a copy's fields ends with.
@@ -23,13 +27,16 @@ FIELDS = b".fields"
 
 
 class Waiting(NamedTuple):
-    """A fax that is due: its path, its size and mtime when it was found, and whether the table says that its copy was
-    written before."""
+    """A fax that is due: its path below the tree, its size and mtime when it was found, the digests that the table
+    knows of its copy and of the copy's fields, and whether the copy is of this fax as it is, so that a copy which has
+    that digest need not be made again."""
 
     path: bytes
     size: int
     mtime: float
-    copied: bool = False
+    copy: str = ""
+    fields: str = ""
+    proven: bool = False
 
 
 class Found(NamedTuple):
@@ -49,12 +56,25 @@ class Found(NamedTuple):
     fault: Optional[str] = None
     fault_page: Optional[int] = None
     fault_row: Optional[int] = None
+    fault_tag: Optional[int] = None
+    why: Optional[str] = None
+    lacks: Optional[str] = None
     seconds: Optional[float] = None
+
+
+class Done(NamedTuple):
+    """What came of a fax: its row; its copy and the copy's fields, if they stand; and, of a fax that was compared with
+    its copy, what it is known by."""
+
+    found: Found
+    copy: Optional[Stood] = None
+    fields: Optional[Stood] = None
+    seen: Optional[Seen] = None
 
 
 class Job(NamedTuple):
     """What is done with each fax below a tree: a check; or, where a target is named, a conversion; or a comparison
-    with the copy that is there."""
+    with the copy that is there. owner is the number of the table; adopt takes over copies that have the right bytes."""
 
     tree: bytes
     target: Optional[bytes] = None
@@ -66,97 +86,165 @@ class Job(NamedTuple):
     fields: bool = False
     follow: bool = False
     compare: bool = False
+    owner: str = ""
+    adopt: bool = False
 
     def copy_of(self, path: bytes) -> bytes:
-        """The file that a fax is converted into: the same name below the target."""
+        """The file below the target that a fax is converted into."""
+        return path + (b".pbm" if self.to == "pbm" else b"")
+
+    def target_root(self) -> files.Root:
+        """The folder of copies."""
         assert self.target is not None
-        ending = b".pbm" if self.to == "pbm" else b""
-        return os.path.join(self.target, os.path.relpath(path, self.tree)) + ending
+        return files.root_of(self.target, self.tree)
 
-    def is_copied(self, path: bytes) -> bool:
-        """Whether the copy of a fax is there, and its fields where they are asked for."""
-        copy = self.copy_of(path)
-        return os.path.exists(copy) and (not self.fields or os.path.exists(copy + FIELDS))
-
-    def do(self, fax: Waiting) -> Found:
-        """The row of a fax."""
+    def do(self, fax: Waiting) -> Done:
+        """What comes of a fax."""
         began = time.perf_counter()
-        found = self._done(fax)
-        return found._replace(seconds=round(time.perf_counter() - began, 6))
+        done = self._done(fax)
+        return done._replace(found=done.found._replace(seconds=round(time.perf_counter() - began, 6)))
 
-    def _done(self, fax: Waiting) -> Found:
+    def _done(self, fax: Waiting) -> Done:
         try:
-            data, now = _read(fax)
+            data, told = _read(os.path.join(self.tree, fax.path), self.follow)
+            same = (told.st_size, told.st_mtime) == (fax.size, fax.mtime)
+            # What is known of the copy is of the fax as it was found.
+            now = fax._replace(size=told.st_size, mtime=told.st_mtime, proven=fax.proven and same)
             if self.compare:
-                return self._compared(data, fax, now)
+                return self._compared(data, fax, now, told)
             found = _checked(data, now)
-            return self._converted(data, now, found) if self.target is not None and found.status == GOOD else found
+            good = self.target is not None and found.status == GOOD
+            return self._converted(data, now, told, found) if good else Done(found)
         except _NotRead as error:
-            return not_read(fax, str(error))
+            return Done(not_read(fax, *error.args))
         except MemoryError:
-            return not_read(fax, "Memory")
+            return Done(not_read(fax, "Memory"))
+        except Exception as error:  # whatever it is, it is of this fax alone
+            return Done(not_read(fax, "WorkerDied", why=f"{type(error).__name__}: {error}"))
 
-    def _converted(self, data: bytes, fax: Waiting, found: Found) -> Found:
-        """The row of a good fax, after its copy is written."""
+    def _converted(self, data: bytes, fax: Waiting, told: os.stat_result, found: Found) -> Done:
+        """What comes of a good fax: its copy is written."""
+        found = found._replace(lacks=lacks(data, found.notes or "", self.to, self.fields))
         try:
-            copy = faxpages.convert(data, self.to, self.order, self.k, self.strip, self.align)
-            self._write(fax, copy, data)
+            copy, fields = self._written(data, fax, told)
+            return Done(found, copy, fields)
         except faxpages.OutputTooLarge:
-            return found._replace(status=FAULTY, fault="OutputTooLarge")
+            return Done(found._replace(status=FAULTY, fault="OutputTooLarge"))
         except _NotWritten as error:
-            return found._replace(status=NOT_READ, fault=str(error))
-        except OSError:
-            return found._replace(status=NOT_READ, fault="Write")
-        return found
+            fault, why = error.args
+            return Done(found._replace(status=NOT_READ, fault=fault, why=why))
+        except files.NotOurs as error:
+            return Done(found._replace(status=NOT_READ, fault="Exists", why=str(error)))
+        except files.NotRight:
+            return Done(found._replace(status=NOT_READ, fault="RowsDiffer"))
+        except OSError as error:
+            return Done(found._replace(status=NOT_READ, fault="Write", why=error.strerror))
 
-    def _write(self, fax: Waiting, copy: bytes, data: bytes) -> None:
-        """Writes the copy of a fax, and its fields where they are asked for."""
+    def _written(self, data: bytes, fax: Waiting, told: os.stat_result) -> Tuple[Stood, Optional[Stood]]:
+        """The copy of a fax, and its fields where they are asked for, as they stand in the end."""
         name = self.copy_of(fax.path)
-        if not fax.copied and os.path.lexists(name) and not _has_rows(name, data):
-            raise _NotWritten("Exists")
-        fields = _fields_of(fax.path) if self.fields else None
-        _put(name, copy, data)
-        if fields is not None:
-            _put(name + FIELDS, fields, None)
+        with self.target_root().place(name, self.tree) as place:
+            beside = place._replace(name=place.name + FIELDS)
+            kept = self._kept(place, beside, fax)
+            if kept is not None:
+                return kept
+            copy = files.Copy(faxpages.convert(data, self.to, self.order, self.k, self.strip, self.align), told,
+                              fax.copy, self.owner, self.adopt)
+            if not self.fields:
+                return files.put(place, copy, lambda written: _has_rows(written, data)), None
+            fields = files.Copy(_fields_of(os.path.join(self.tree, fax.path), data), told, fax.fields,
+                                self.owner, self.adopt)
+            # Nothing is written where one of the two places is another's.
+            files.stands(place, copy)
+            stood = files.put(beside, fields, None)
+            return files.put(place, copy, lambda written: _has_rows(written, data)), stood
 
-    def _compared(self, data: bytes, fax: Waiting, now: Waiting) -> Found:
+    def _kept(self, place: files.Place, beside: files.Place, fax: Waiting) -> Optional[Tuple[Stood, Optional[Stood]]]:
+        """The copy and its fields where they are of this fax, and still have their digests."""
+        if not fax.proven or self.fields != bool(fax.fields):
+            return None
+        copy = _as_known(place, fax.copy)
+        fields = _as_known(beside, fax.fields) if self.fields else None
+        return (copy, fields) if copy is not None and (fields is not None or not self.fields) else None
+
+    def _compared(self, data: bytes, fax: Waiting, now: Waiting, told: os.stat_result) -> Done:
         """A good row of a fax whose copy has its rows, and which is as it was found; else one that says why not."""
         if now != fax:
-            return not_read(fax, "Changed")
-        if not self.is_copied(fax.path):
-            return not_read(fax, "NoCopy")
-        right = _has_rows(self.copy_of(fax.path), data)
-        return Found(*fax[:3], GOOD) if right else not_read(fax, "RowsDiffer")
+            return Done(not_read(fax, "Changed"))
+        fields = None
+        try:
+            with self.target_root().place(self.copy_of(fax.path)) as place:
+                copy, written = _stands(place, fax.copy, told)
+                if self.fields:
+                    fields, _ = _stands(place._replace(name=place.name + FIELDS), fax.fields, told)
+                # The names of the copies have to be on the disk, wherever this runs.
+                os.fsync(place.folder)
+        except _NotWritten as error:
+            return Done(not_read(fax, *error.args))
+        except OSError as error:
+            return Done(not_read(fax, "NoCopy", why=error.strerror))
+        if not _has_rows(written, data):
+            return Done(not_read(fax, "RowsDiffer"))
+        notes = " ".join(note.name for note in faxpages.check(data).notes)
+        row = Found(*fax[:3], GOOD, lacks=lacks(data, notes, self.to, self.fields))
+        return Done(row, copy, fields, files.seen_of(told))
 
 
 class _NotRead(Exception):
-    """A fax cannot be read: Open or Read, as the program says it."""
+    """A fax cannot be read: Open or Read, as the program says it, and why."""
 
 
 class _NotWritten(Exception):
-    """A copy is not written: another file is in its place, it has other rows, or its fields cannot be told."""
+    """A copy is not there, or is not written: its fields cannot be told; and why."""
 
 
-def not_read(fax: Waiting, why: str, seconds: Optional[float] = None) -> Found:
+def not_read(fax: Waiting, fault: str, why: Optional[str] = None, seconds: Optional[float] = None) -> Found:
     """The row of a fax that was not read, and why."""
-    return Found(fax.path, fax.size, fax.mtime, NOT_READ, fault=why, seconds=seconds)
+    return Found(fax.path, fax.size, fax.mtime, NOT_READ, fault=fault, why=why, seconds=seconds)
 
 
-def _read(fax: Waiting) -> Tuple[bytes, Waiting]:
-    """The bytes of a fax, with the size and the mtime that it had before they were read."""
+def _as_known(place: files.Place, digest: str) -> Optional[Stood]:
+    """A file that has this digest."""
     try:
-        file = open(fax.path, "rb", buffering=0)
-    except OSError:
-        raise _NotRead("Open") from None
-    with file:
+        with files.opened(place) as file:
+            if file is None or files.digest_of(file) != digest:
+                return None
+            told = os.fstat(file)
+            return Stood(told.st_size, told.st_mtime_ns, digest, True)
+    except files.NotOurs:
+        return None
+
+
+def _stands(place: files.Place, digest: str, fax: os.stat_result) -> Tuple[Stood, bytes]:
+    """A copy that has the digest that the table knows, and is not the fax itself under another name; and its bytes."""
+    try:
+        data, told = files.read(place, 2 * _MOST)
+    except files.NotOurs as error:
+        raise _NotWritten("NoCopy", str(error)) from None
+    if (told.st_dev, told.st_ino) == (fax.st_dev, fax.st_ino):
+        raise _NotWritten("NoCopy", "the copy is the fax itself")
+    if hashlib.sha256(data).hexdigest() != digest:
+        raise _NotWritten("RowsDiffer", "changed since it was written")
+    return Stood(told.st_size, told.st_mtime_ns, digest, True), data
+
+
+def _read(path: bytes, follow: bool) -> Tuple[bytes, os.stat_result]:
+    """The bytes of a fax, and what the system told of it before they were read."""
+    way = os.O_RDONLY | os.O_NONBLOCK | os.O_CLOEXEC | (0 if follow else os.O_NOFOLLOW)
+    try:
+        file = os.open(path, way)
+    except OSError as error:
+        raise _NotRead("Open", error.strerror) from None
+    with open(file, "rb", buffering=0) as opened:
         try:
-            told = os.fstat(file.fileno())
+            told = os.fstat(file)
+            if not stat.S_ISREG(told.st_mode):
+                raise _NotRead("Read", "no regular file")
             if told.st_size > _MOST:
-                raise _NotRead("Read")
-            data = file.readall()
-        except OSError:
-            raise _NotRead("Read") from None
-    return data, fax._replace(size=told.st_size, mtime=told.st_mtime)
+                raise _NotRead("Read", f"more than {_MOST} bytes")
+            return opened.readall(), told
+        except OSError as error:
+            raise _NotRead("Read", error.strerror) from None
 
 
 def _checked(data: bytes, fax: Waiting) -> Found:
@@ -167,8 +255,8 @@ def _checked(data: bytes, fax: Waiting) -> Found:
     found = _described(data, Found(
         *fax[:3], status, report.pages, report.rows, notes=" ".join(name for _, name in notes)))
     if report.fault:
-        return found._replace(
-            fault=report.fault.name, fault_page=report.fault.page, fault_row=report.fault.row)
+        return found._replace(fault=report.fault.name, fault_page=report.fault.page, fault_row=report.fault.row,
+                              fault_tag=report.fault.tag)
     return found
 
 
@@ -191,40 +279,30 @@ def _to_the_inch(resolution: Fraction, unit: int) -> float:
     return float(resolution * Fraction(254, 100) if unit == 3 else resolution)
 
 
-def _fields_of(path: bytes) -> bytes:
-    """The fields of a fax, as libtiff's tiffdump prints them."""
-    ran = subprocess.run([b"tiffdump", b"-m", b"1000000", path], stdin=subprocess.DEVNULL, stdout=subprocess.PIPE,
-                         stderr=subprocess.DEVNULL, check=False)
-    if ran.returncode:
-        raise _NotWritten("Fields")
-    return ran.stdout
-
-
-def _put(name: bytes, data: bytes, original: Optional[bytes]) -> None:
-    """Writes a file whole or not at all. Where an original is given, what stands on the disk must have its rows."""
-    folder, last = os.path.split(name)
-    os.makedirs(folder, exist_ok=True)
-    # One name for each copy, so that a run that was killed leaves nothing that the next does not write over.
-    part = os.path.join(folder, b".faxpages-%s.part" % hashlib.sha256(last).hexdigest()[:32].encode())
+def _fields_of(path: bytes, data: bytes) -> bytes:
+    """The fields of a fax, as libtiff's tiffdump prints them: of the bytes that were read, under the fax's name."""
+    file = os.memfd_create("fax")
     try:
-        with open(part, "wb") as file:
-            file.write(data)
-            file.flush()
-            os.fsync(file.fileno())
-        if original is not None and not _has_rows(part, original):
-            raise _NotWritten("RowsDiffer")
-        os.replace(part, name)
+        with open(os.dup(file), "wb") as whole:
+            whole.write(data)
+        name = b"/dev/fd/%d" % file
+        ran = subprocess.run([b"tiffdump", b"-m", b"%d" % PRINTED, name], stdin=subprocess.DEVNULL,
+                             stdout=subprocess.PIPE, stderr=subprocess.DEVNULL, check=False, pass_fds=[file])
+    except OSError as error:
+        raise _NotWritten("Fields", error.strerror) from None
     finally:
-        if os.path.lexists(part):
-            os.unlink(part)
+        os.close(file)
+    if ran.returncode:
+        raise _NotWritten("Fields", f"tiffdump ended with status {ran.returncode}")
+    head = name + b":\n"
+    return path + b":\n" + ran.stdout[len(head):] if ran.stdout.startswith(head) else ran.stdout
 
 
-def _has_rows(name: bytes, original: bytes) -> bool:
-    """Whether a file can be read and has the rows of an original."""
+def _has_rows(copy: bytes, original: bytes) -> bool:
+    """Whether a copy can be read and has the rows of an original."""
     try:
-        with open(name, "rb") as file:
-            return same_rows(original, file.read())
-    except (OSError, faxpages.Fault):
+        return same_rows(original, copy)
+    except faxpages.FaxError:
         return False
 
 

@@ -8,6 +8,7 @@ import time
 from typing import Any, Optional
 
 _MINUTE = 60.0
+_BLINK = 0.2
 
 
 class Progress:
@@ -42,3 +43,23 @@ class Progress:
         """Leaves the bar as it stands."""
         if self._bar is not None:
             self._bar.close()
+
+
+class Gathering:
+    """Says on a terminal how many names were found so far."""
+
+    def __init__(self) -> None:
+        self._count, self._said = 0, 0.0
+        self._shows = sys.stderr.isatty()
+
+    def add(self, count: int) -> None:
+        """So many more are found."""
+        self._count += count
+        if self._shows and time.monotonic() - self._said >= _BLINK:
+            self._said = time.monotonic()
+            print(f"\r{self._count} faxes found", end="", file=sys.stderr, flush=True)
+
+    def close(self) -> None:
+        """Ends the line."""
+        if self._shows and self._said:
+            print(f"\r{self._count} faxes found", file=sys.stderr, flush=True)

@@ -1,40 +1,64 @@
-"""The table of an archive, in SQLite: a row for each fax."""
+"""The table of an archive, in SQLite: a row for each fax, what is known of its copy, and the runs that were at it."""
 
 from __future__ import annotations
 
-import fcntl
+import heapq
 import json
 import os
 import sqlite3
+import sys
 import time
-from typing import Any, Dict, Iterator, List, NamedTuple, Optional, Tuple, Union
+import urllib.parse
+from typing import Any, Callable, Dict, Iterator, List, NamedTuple, Optional, Tuple, Union
 
-from ._archive_fax import Found, Job, Waiting
+from . import _archive_files as files
+from ._archive_fax import Done, Found, Job, Waiting
+from ._archive_files import Seen, Stood
 
 COLUMNS = Found._fields
 # A commit waits for the disk: at most one a second.
 _COMMIT = 1.0
-# A batch has at most so many faxes, or so many bytes.
-_FAXES, _BYTES = 64, 1 << 24
+# How long a commit waits for a reader before the run goes on, and how long all else waits for a writer.
+_WAIT, _LONG = 0.25, 60.0
+# How many rows are read at a time.
+_READ = 1000
+_FORMAT = 2
 _SCHEMA = """
 CREATE TABLE IF NOT EXISTS faxes (
     path PRIMARY KEY NOT NULL, size INTEGER, mtime REAL, status INTEGER NOT NULL, pages INTEGER, rows INTEGER,
     width INTEGER, x REAL, y REAL, codings TEXT, notes TEXT, fault TEXT, fault_page INTEGER, fault_row INTEGER,
-    seconds REAL);
-CREATE TABLE IF NOT EXISTS times (path PRIMARY KEY NOT NULL, since REAL NOT NULL, checked REAL NOT NULL);
+    fault_tag INTEGER, why TEXT, lacks TEXT, seconds REAL);
+CREATE TABLE IF NOT EXISTS times (
+    path PRIMARY KEY NOT NULL, since REAL NOT NULL, checked REAL NOT NULL, run INTEGER NOT NULL, origin TEXT NOT NULL);
+CREATE TABLE IF NOT EXISTS copies (
+    path PRIMARY KEY NOT NULL, size INTEGER, mtime INTEGER, digest TEXT NOT NULL, ours INTEGER NOT NULL,
+    fields_size INTEGER, fields_mtime INTEGER, fields_digest TEXT, fields_ours INTEGER);
+CREATE TABLE IF NOT EXISTS deleted (
+    path NOT NULL, size INTEGER, mtime REAL, digest TEXT, deleted REAL NOT NULL);
+CREATE INDEX IF NOT EXISTS deleted_paths ON deleted (path);
+CREATE TABLE IF NOT EXISTS runs (
+    number INTEGER PRIMARY KEY, command TEXT NOT NULL, words TEXT NOT NULL, began REAL NOT NULL, ended REAL,
+    unread INTEGER NOT NULL);
 CREATE TABLE IF NOT EXISTS job (name TEXT PRIMARY KEY NOT NULL, value TEXT NOT NULL);
-CREATE TEMP TABLE waiting (
-    path BLOB NOT NULL, size INTEGER NOT NULL, mtime REAL NOT NULL, copied INTEGER NOT NULL);
 """
+_TEMPORARY = """
+CREATE TEMP TABLE waiting (
+    path BLOB NOT NULL, size INTEGER NOT NULL, mtime REAL NOT NULL, copy TEXT NOT NULL, fields TEXT NOT NULL,
+    proven INTEGER NOT NULL);
+CREATE TEMP TABLE compared (path BLOB NOT NULL, device, inode, size, mtime, ctime, copy_size, copy_mtime);
+"""
+# Its values are path, since, checked, run, origin, status, fault, fault_page and fault_row.
 _PUT_TIME = """
-INSERT INTO times VALUES (:path, :since, :checked) ON CONFLICT (path) DO UPDATE SET checked = excluded.checked,
+INSERT INTO times VALUES (?1, ?2, ?3, ?4, ?5) ON CONFLICT (path) DO UPDATE SET
+    checked = excluded.checked, run = excluded.run, origin = excluded.origin,
     since = CASE WHEN EXISTS (
-        SELECT 1 FROM faxes WHERE path = :path AND status IS :status AND fault IS :fault
-            AND fault_page IS :fault_page AND fault_row IS :fault_row) THEN min(since, excluded.since)
+        SELECT 1 FROM faxes WHERE path = ?1 AND status IS ?6 AND fault IS ?7
+            AND fault_page IS ?8 AND fault_row IS ?9) THEN min(since, excluded.since)
     ELSE excluded.since END
 """
-_PUT = (f"INSERT INTO faxes VALUES ({', '.join(':' + name for name in COLUMNS)}) ON CONFLICT (path) DO UPDATE SET "
+_PUT = (f"INSERT INTO faxes VALUES ({', '.join('?' * len(COLUMNS))}) ON CONFLICT (path) DO UPDATE SET "
         + ", ".join(f"{name} = excluded.{name}" for name in COLUMNS[1:]))
+_PUT_COPY = "INSERT OR REPLACE INTO copies VALUES (?, ?, ?, ?, ?, ?, ?, ?, ?)"
 
 Path = Union[str, bytes]
 
@@ -56,6 +80,48 @@ class Known(NamedTuple):
     status: int
 
 
+class Look(NamedTuple):
+    """When a fax was looked at last, by which run of which table, and since when it is as it is."""
+
+    since: float
+    checked: float
+    run: int
+    origin: str
+
+
+class Copied(NamedTuple):
+    """What a table knows of the copy of a fax, and of the copy's fields."""
+
+    copy: Stood
+    fields: Optional[Stood]
+
+    def known(self) -> Tuple[str, str]:
+        """The digests of what may be written over."""
+        return (self.copy.digest if self.copy.ours else "",
+                self.fields.digest if self.fields is not None and self.fields.ours else "")
+
+
+class Runs(NamedTuple):
+    """A run: its number, its command and words, when it began and ended, and how many folders it could not read."""
+
+    number: int
+    command: str
+    words: str
+    began: float
+    ended: Optional[float]
+    unread: int
+
+    def finished(self) -> bool:
+        """Whether it went to its end, and read all folders."""
+        return self.ended is not None and not self.unread
+
+    def told(self) -> str:
+        """How it ended."""
+        if self.ended is None:
+            return "not finished"
+        return "finished" if not self.unread else f"{self.unread} folders or parts not read"
+
+
 def kept_path(path: bytes) -> Path:
     """A path as it is kept: a text where it is UTF-8, else its bytes as a BLOB."""
     try:
@@ -69,6 +135,11 @@ def bytes_of(path: Path) -> bytes:
     return path.encode() if isinstance(path, str) else path
 
 
+def text_of(path: bytes) -> str:
+    """A path in JSON: a byte that is no UTF-8 is a lone surrogate."""
+    return path.decode("utf-8", "surrogateescape")
+
+
 class Table:
     """A table that is open. Rows are committed each second, and where it is closed without an exception."""
 
@@ -76,26 +147,84 @@ class Table:
         self.name = name
         if not new and not os.path.exists(name):
             raise TableError(f"there is no table {name}")
-        self._lock = open(f"{name}-lock", "ab") if new else None
-        if self._lock:
-            try:
-                fcntl.flock(self._lock, fcntl.LOCK_EX | fcntl.LOCK_NB)
-            except BlockingIOError:
-                raise TableError(f"another run writes to {name}") from None
-        self._base = sqlite3.connect(name, timeout=60, isolation_level=None)
-        if new:
-            self._base.executescript(_SCHEMA)
+        self._lock = self._locked() if new else None
         self._began: Optional[float] = None
+        # Nothing but a commit has to wait for readers.
+        self._base = sqlite3.connect(_address(name, new), timeout=_LONG, isolation_level=None, uri=True)
+        try:
+            self._base.execute("PRAGMA cache_spill = 0")
+            if new:
+                self._make()
+            elif self._format() != _FORMAT:
+                raise TableError(f"{name} is none of this version's tables; a run of check or convert makes it one")
+        except BaseException:
+            self._close()
+            raise
 
     def __enter__(self) -> "Table":
         return self
 
     def __exit__(self, kind: object, *_: object) -> None:
         if kind is None:
-            self.commit()
+            self.commit_all()
+        self._close()
+
+    def _close(self) -> None:
         self._base.close()
         if self._lock:
             self._lock.close()
+
+    def _locked(self) -> Any:
+        try:
+            return files.lock(f"{self.name}-lock")
+        except BlockingIOError:
+            raise TableError(f"another run writes to {self.name}") from None
+
+    def _format(self) -> int:
+        return int(self._base.execute("PRAGMA user_version").fetchone()[0])
+
+    def _make(self) -> None:
+        """Makes the tables, and brings those of an earlier version up to date."""
+        self._base.executescript(_TEMPORARY)
+        if self._format() == _FORMAT:
+            return
+        self.begin()
+        old = [row[1] for row in self._base.execute("PRAGMA table_info(faxes)")]
+        if old:
+            for name in ("faxes", "times"):
+                self._base.execute(f"ALTER TABLE {name} RENAME TO old_{name}")
+        for statement in filter(str.strip, _SCHEMA.split(";")):
+            self._base.execute(statement)
+        if old:
+            self._upgrade(old)
+        number = os.urandom(8).hex()
+        self._base.execute("INSERT OR REPLACE INTO job VALUES ('table', ?)", (number,))
+        self._base.execute("UPDATE times SET origin = ?", (number,))
+        self._base.execute(f"PRAGMA user_version = {_FORMAT}")
+        self.commit_all()
+
+    def _upgrade(self, columns: List[str]) -> None:
+        """Takes over the rows of version 1.4, whose paths were whole. What it wrote is known without a digest."""
+        told = json.loads(self._value("job") or "{}")
+        tree = os.path.join(str(told.get("tree", "")).encode("utf-8", "surrogateescape"), b"")
+        names = ", ".join(columns)
+        for path, *rest in self._base.execute(f"SELECT {names} FROM old_faxes").fetchall():
+            whole = bytes_of(path)
+            if not whole.startswith(tree):
+                continue
+            below = kept_path(whole[len(tree):])
+            marks = ", ".join("?" * len(columns))
+            self._base.execute(f"INSERT INTO faxes ({names}) VALUES ({marks})", (below, *rest))
+            self._base.execute("INSERT INTO times SELECT ?, since, checked, 0, '' FROM old_times WHERE path = ?",
+                               (below, path))
+            if told.get("job") == "convert" and rest[columns.index("status") - 1] == 0:
+                unknown = (None, None, files.NOT_KEPT, 1)
+                self._base.execute(_PUT_COPY, (below, *unknown, *unknown))
+        for name in ("old_faxes", "old_times"):
+            self._base.execute(f"DROP TABLE {name}")
+        where = {name: told.pop(name) for name in ("tree", "target") if name in told}
+        self._base.executemany("INSERT OR REPLACE INTO job VALUES (?, ?)", [
+            ("job", json.dumps(told)), ("where", json.dumps(where))])
 
     def begin(self) -> None:
         """Begins a transaction, where there is none."""
@@ -103,29 +232,88 @@ class Table:
             self._base.execute("BEGIN IMMEDIATE")
             self._began = time.monotonic()
 
-    def commit(self, late: float = 0) -> None:
-        """Ends the transaction, where one began at least so many seconds ago."""
-        if self._began is not None and time.monotonic() - self._began >= late:
+    def commit(self) -> bool:
+        """Ends the transaction, where there is one; not where a reader has the table meanwhile. Whether it is ended."""
+        if self._began is None or not self._base.in_transaction:
+            self._began = None
+            return True
+        try:
+            self._base.execute(f"PRAGMA busy_timeout = {int(_WAIT * 1000)}")
             self._base.execute("COMMIT")
             self._began = None
+            return True
+        except sqlite3.OperationalError as error:
+            if "locked" not in str(error):
+                raise
+            self._began = time.monotonic()
+            return False
+        finally:
+            self._base.execute(f"PRAGMA busy_timeout = {int(_LONG * 1000)}")
+
+    def commit_all(self) -> None:
+        """Ends the transaction, however long a reader has the table."""
+        said = False
+        while not self.commit():
+            if not said:
+                print(f"faxpages-archive: another program reads {self.name}: waiting for it", file=sys.stderr,
+                      flush=True)
+            said = True
 
     def turn(self) -> None:
-        """Commits where it is time to."""
-        self.commit(_COMMIT)
+        """Commits, where that is due."""
+        if self._began is not None and time.monotonic() - self._began >= _COMMIT:
+            self.commit()
 
-    def job(self) -> Optional[Dict[str, Any]]:
-        """The job that the table is of."""
-        for (value,) in self._base.execute("SELECT value FROM job WHERE name = 'job'"):
-            job: Dict[str, Any] = json.loads(value)
-            return job
+    def _value(self, name: str) -> Optional[str]:
+        for (value,) in self._base.execute("SELECT value FROM job WHERE name = ?", (name,)):
+            return str(value)
         return None
 
-    def set_job(self, job: Dict[str, Any]) -> None:
-        """Says which job the table is of, and refuses another one than before."""
+    def number(self) -> str:
+        """The number of the table, by which its rows and its copies are known."""
+        return self._value("table") or ""
+
+    def job(self) -> Optional[Dict[str, Any]]:
+        """Which job the table is of, or None where it is new."""
+        told = self._value("job")
+        return dict(json.loads(told)) if told is not None else None
+
+    def where(self) -> Dict[str, str]:
+        """The tree of the table, and its target, as they were named last."""
+        return dict(json.loads(self._value("where") or "{}"))
+
+    def set_job(self, job: Dict[str, Any], where: Dict[str, str]) -> None:
+        """Notes which job the table is of, and refuses another one than before; and where the tree stands now."""
         before = self.job()
         if before is not None and before != job:
             raise WrongTable(f"{self.name} is of another job: {json.dumps(before)}, not {json.dumps(job)}")
-        self._base.execute("INSERT OR REPLACE INTO job VALUES ('job', ?)", (json.dumps(job),))
+        self.begin()
+        self._base.executemany("INSERT OR REPLACE INTO job VALUES (?, ?)", [
+            ("job", json.dumps(job)), ("where", json.dumps(where))])
+
+    def last_run(self) -> Optional[Runs]:
+        """The last run."""
+        for row in self._base.execute("SELECT * FROM runs ORDER BY number DESC LIMIT 1"):
+            return Runs(*row)
+        return None
+
+    def next_run(self, command: str, words: str) -> int:
+        """The number of a run by these words: that of the last one, if it was by these and has not finished."""
+        last = self.last_run()
+        if last is None:
+            return 1
+        return last.number + ((last.command, last.words) != (command, words) or last.ended is not None)
+
+    def begin_run(self, number: int, command: str, words: str) -> None:
+        """Notes that a run is at work, or again."""
+        self.begin()
+        self._base.execute("INSERT OR IGNORE INTO runs VALUES (?, ?, ?, ?, NULL, 0)",
+                           (number, command, words, time.time()))
+
+    def end_run(self, number: int, unread: int) -> None:
+        """Notes that a run went to its end."""
+        self.begin()
+        self._base.execute("UPDATE runs SET ended = ?, unread = ? WHERE number = ?", (time.time(), unread, number))
 
     def known(self, path: bytes) -> Optional[Known]:
         """What the table knows of a fax."""
@@ -134,102 +322,196 @@ class Table:
             return Known(*row)
         return None
 
+    def why(self, path: bytes) -> Tuple[Optional[str], Optional[float], int]:
+        """The fault of a fax, how long it took, and which run looked at it last."""
+        found = self._base.execute("SELECT fault, seconds, run FROM faxes JOIN times USING (path) WHERE path = ?",
+                                   (kept_path(path),))
+        for fault, seconds, run in found:
+            return fault, seconds, run
+        return None, None, 0
+
+    def copied(self, path: bytes) -> Optional[Copied]:
+        """What the table knows of the copy of a fax."""
+        for row in self._base.execute("SELECT * FROM copies WHERE path = ?", (kept_path(path),)):
+            fields = Stood(row[5], row[6], row[7], bool(row[8])) if row[7] is not None else None
+            return Copied(Stood(row[1], row[2], row[3], bool(row[4])), fields)
+        return None
+
     def last(self) -> int:
         """The greatest number of a row."""
         (last,) = self._base.execute("SELECT ifnull(max(rowid), 0) FROM faxes").fetchone()
         return int(last)
 
-    def put(self, rows: List[Found], since: Optional[float] = None, checked: Optional[float] = None) -> None:
-        """Writes rows, each in place of an older one of its path."""
+    def count(self) -> int:
+        """How many rows there are."""
+        (count,) = self._base.execute("SELECT count(*) FROM faxes").fetchone()
+        return int(count)
+
+    def count_deleted(self) -> int:
+        """How many faxes were deleted after they had been copied."""
+        (count,) = self._base.execute("SELECT count(*) FROM deleted").fetchone()
+        return int(count)
+
+    def was_deleted(self, fax: Waiting) -> bool:
+        """Whether a fax of this name, size and time was deleted, or was about to be."""
+        found = self._base.execute("SELECT 1 FROM deleted WHERE path = ? AND size = ? AND mtime = ?",
+                                   (kept_path(fax.path), fax.size, fax.mtime)).fetchone()
+        return found is not None
+
+    def put(self, done: List[Done], run: int, origin: str) -> None:
+        """Writes what came of faxes, each in place of an older row of its path. A copy that is known stays known where
+        none is written."""
         now = time.time()
-        for row in rows:
-            self.begin()
-            values = dict(row._asdict(), path=kept_path(row.path), since=since or now, checked=checked or now)
-            self._base.execute(_PUT_TIME, values)
-            self._base.execute(_PUT, values)
+        look = Look(now, now, run, origin)
+        self._put([(one.found, look) for one in done])
+        copies = [one for one in done if one.copy is not None]
+        self._base.executemany(_PUT_COPY, (
+            (kept_path(one.found.path), *(one.copy or ()), *(one.fields or (None,) * 4)) for one in copies))
 
-    def forget(self, seen: bytearray, tree: bytes) -> int:
-        """Takes out the rows of faxes below a tree that were not seen, by their numbers; how many these are."""
-        below = os.path.join(tree, b"")
-        rows = self._base.execute("SELECT rowid, path FROM faxes WHERE rowid < ?", (len(seen),))
-        gone = [path for number, path in rows if not seen[number] and bytes_of(path).startswith(below)]
+    def _put(self, rows: List[Tuple[Found, Look]]) -> None:
         self.begin()
-        self.delete(gone)
-        self.commit()
-        return len(gone)
+        self._base.executemany(_PUT_TIME, (
+            (kept_path(row.path), *look, row.status, row.fault, row.fault_page, row.fault_row) for row, look in rows))
+        self._base.executemany(_PUT, ((kept_path(row.path), *row[1:]) for row, _ in rows))
 
-    def forget_these(self, paths: List[bytes]) -> None:
-        """Takes out the rows of these faxes at once."""
+    def unseen(self, seen: bytearray) -> Iterator[bytes]:
+        """The faxes whose rows, by their numbers, were not seen."""
+        for number, path in self._base.execute("SELECT rowid, path FROM faxes WHERE rowid < ?", (len(seen),)):
+            if not seen[number]:
+                yield bytes_of(path)
+
+    def forget(self, paths: List[bytes]) -> None:
+        """Takes out the rows of these faxes, and what is known of their copies."""
         self.begin()
-        self.delete([kept_path(path) for path in paths])
-        self.commit()
+        kept = [(kept_path(path),) for path in paths]
+        for name in ("faxes", "times", "copies"):
+            self._base.executemany(f"DELETE FROM {name} WHERE path = ?", kept)
 
-    def delete(self, paths: List[Path]) -> None:
-        """Takes out rows."""
-        self._base.executemany("DELETE FROM faxes WHERE path = ?", ((path,) for path in paths))
-        self._base.executemany("DELETE FROM times WHERE path = ?", ((path,) for path in paths))
+    def forget_deleted(self, paths: List[bytes]) -> None:
+        """Takes out the rows of faxes that are about to be deleted, and keeps their sizes and times. Committed."""
+        self.begin()
+        self._base.executemany(
+            "DELETE FROM deleted WHERE (path, size, mtime) IN (SELECT path, size, mtime FROM faxes WHERE path = ?)",
+            ((kept_path(path),) for path in paths))
+        self._base.executemany(
+            "INSERT INTO deleted SELECT path, faxes.size, faxes.mtime, digest, ? FROM faxes JOIN copies USING (path) "
+            "WHERE path = ?", ((time.time(), kept_path(path)) for path in paths))
+        self.forget(paths)
+        self.commit_all()
 
     def wait(self, fax: Waiting) -> None:
         """Notes that a fax is due. It is kept outside the table, and goes with this process."""
-        self._base.execute("INSERT INTO waiting VALUES (?, ?, ?, ?)", fax)
+        self._base.execute("INSERT INTO waiting VALUES (?, ?, ?, ?, ?, ?)", fax)
 
     def wait_for_all(self) -> None:
-        """Notes that all faxes of the table are due."""
+        """Notes that all faxes of the table are due, with what is known of their copies."""
         self._base.execute("DELETE FROM waiting")
-        self._base.execute("INSERT INTO waiting SELECT CAST(path AS BLOB), size, mtime, 1 FROM faxes")
+        self._base.execute(
+            "INSERT INTO waiting SELECT CAST(path AS BLOB), faxes.size, faxes.mtime, ifnull(digest, ''), "
+            "ifnull(fields_digest, ''), ifnull(ours, 0) AND ifnull(fields_ours, 1) FROM faxes LEFT JOIN copies "
+            "USING (path)")
 
-    def batches(self) -> Iterator[List[Waiting]]:
-        """The faxes that are due, in order, some at a time."""
+    def taker(self) -> Callable[[int], List[Waiting]]:
+        """What hands out the faxes that are due, in order, so many at a time."""
+        last = 0
+
+        def take(count: int) -> List[Waiting]:
+            nonlocal last
+            found = self._base.execute(
+                "SELECT rowid, * FROM waiting WHERE rowid > ? ORDER BY rowid LIMIT ?", (last, count)).fetchall()
+            last = found[-1][0] if found else last
+            return [Waiting(row[1], row[2], row[3], row[4], row[5], bool(row[6])) for row in found]
+
+        return take
+
+    def compared(self, path: bytes, fax: Seen, copy: Stood) -> None:
+        """Notes that a fax was compared with its copy, and what both are known by."""
+        self._base.execute("INSERT INTO compared VALUES (?, ?, ?, ?, ?, ?, ?, ?)",
+                           (path, *fax, copy.size, copy.mtime))
+
+    def all_compared(self) -> Iterator[List[Tuple[bytes, Seen, Tuple[int, int]]]]:
+        """The faxes that were compared, some at a time, each with its copy's size and time."""
         last = 0
         while True:
-            found = self._base.execute(
-                "SELECT rowid, path, size, mtime, copied FROM waiting WHERE rowid > ? ORDER BY rowid LIMIT ?",
-                (last, _FAXES)).fetchall()
+            found = self._base.execute("SELECT rowid, * FROM compared WHERE rowid > ? ORDER BY rowid LIMIT 64",
+                                       (last,)).fetchall()
             if not found:
                 return
-            batch, together = [], 0
-            for last, path, size, mtime, copied in found:
-                batch.append(Waiting(path, size, mtime, bool(copied)))
-                together += size
-                if together > _BYTES:
-                    break
-            yield batch
+            last = found[-1][0]
+            yield [(row[1], Seen(*row[2:7]), (row[7], row[8])) for row in found]
 
     def rows(self) -> Iterator[Found]:
-        """All rows in order of their paths' bytes."""
-        found = self._base.execute(f"SELECT {', '.join(COLUMNS)} FROM faxes ORDER BY CAST(path AS BLOB)")
-        return (Found(bytes_of(path), *rest) for path, *rest in found)
+        """All rows in order of their paths' bytes. Some are read at a time, so that whoever takes them slowly keeps no
+        run from its table."""
+        names = ", ".join(COLUMNS)
+        # A BLOB comes after each text.
+        query = f"SELECT {names} FROM faxes WHERE path {{}} ? %s ORDER BY path LIMIT {_READ}"
+        texts, others = self._paged(query % "AND path < x''", ""), self._paged(query % "", b"")
+        for path, *rest in heapq.merge(texts, others, key=lambda row: bytes_of(row[0])):
+            yield Found(bytes_of(path), *rest)
 
-    def merge(self, part: "Table") -> None:
-        """Takes over the rows of a part, but where a later look at a fax is here."""
-        columns = ", ".join(f"faxes.{name}" for name in COLUMNS)
-        found = part._base.execute(f"SELECT {columns}, since, checked FROM faxes JOIN times USING (path)")
-        for path, *rest, since, checked in found:
-            mine = self._base.execute("SELECT checked FROM times WHERE path = ?", (path,)).fetchone()
-            if mine is None or mine[0] < checked:
-                self.put([Found(bytes_of(path), *rest)], since, checked)
+    def _paged(self, query: str, first: Path) -> Iterator[Tuple[Any, ...]]:
+        """The rows of a query, some at a time."""
+        found = self._base.execute(query.format(">="), (first,)).fetchall()
+        while found:
+            yield from found
+            found = self._base.execute(query.format(">"), (found[-1][0],)).fetchall()
 
-    def keep_only(self, parts: List["Table"], tree: bytes) -> None:
-        """Takes out the rows below a tree that are in none of these parts, which are all of it."""
-        self._base.execute("CREATE TEMP TABLE there (path PRIMARY KEY NOT NULL)")
-        for part in parts:
-            paths = part._base.execute("SELECT path FROM faxes")
-            self._base.executemany("INSERT OR IGNORE INTO there VALUES (?)", paths)
-        below = os.path.join(tree, b"")
-        gone = self._base.execute("SELECT path FROM faxes WHERE path NOT IN (SELECT path FROM there)").fetchall()
-        self.delete([path for (path,) in gone if bytes_of(path).startswith(below)])
+    def looks(self) -> Iterator[Tuple[Found, Look, Optional[Tuple[Any, ...]]]]:
+        """All rows with the looks at their faxes, and what is known of their copies, in no order."""
+        names = ", ".join(f"faxes.{name}" for name in COLUMNS)
+        copies = ("copies.digest, copies.size, copies.mtime, copies.ours, fields_size, fields_mtime, fields_digest, "
+                  "fields_ours")
+        found = self._base.execute(f"SELECT {names}, since, checked, run, origin, {copies} FROM faxes JOIN times "
+                                   "USING (path) LEFT JOIN copies USING (path)")
+        size = len(COLUMNS)
+        for path, *rest in found:
+            copy = rest[size + 3:]
+            kept = (copy[1], copy[2], copy[0], *copy[3:]) if copy[0] is not None else None
+            yield Found(bytes_of(path), *rest[:size - 1]), Look(*rest[size - 1:size + 3]), kept
+
+    def look(self, path: bytes) -> Optional[Tuple[float, int, Look]]:
+        """The mtime and the status of a fax, and when it was looked at."""
+        query = "SELECT mtime, status, since, checked, run, origin FROM faxes JOIN times USING (path) WHERE path = ?"
+        found = self._base.execute(query, (kept_path(path),))
+        for mtime, status, *look in found:
+            return mtime, status, Look(*look)
+        return None
+
+    def put_looks(self, looks: List[Tuple[Found, Look, Optional[Tuple[Any, ...]]]]) -> None:
+        """Writes rows of another table."""
+        self._put([(row, look) for row, look, _ in looks])
+        self._base.executemany(_PUT_COPY, ((kept_path(row.path), *copy) for row, _, copy in looks if copy is not None))
+
+    def counts(self) -> Dict[int, int]:
+        """How many rows have each status."""
+        found = {0: 0, 1: 0, 3: 0}
+        found.update(self._base.execute("SELECT status, count(*) FROM faxes GROUP BY status"))
+        return found
+
+    def faults(self) -> Dict[str, int]:
+        """How many rows have each fault."""
+        return dict(self._base.execute(
+            "SELECT fault, count(*) FROM faxes WHERE fault IS NOT NULL GROUP BY fault ORDER BY fault"))
+
+
+def _address(name: str, new: bool) -> str:
+    """How SQLite is told a file, whatever its name. It makes none where there has to be one."""
+    return f"file:{urllib.parse.quote(os.fsencode(os.path.abspath(name)))}?mode={'rwc' if new else 'rw'}"
 
 
 def job_of(job: Job, share: Tuple[int, int]) -> Dict[str, Any]:
-    """A job as a table keeps it: of a check the tree alone, and whether links are followed. A table is of one."""
-    told = job._asdict() if job.target is not None else {"tree": job.tree}
-    told = {name: value for name, value in told.items() if name not in ("fields", "compare", "follow")}
+    """A job as a table keeps it, wherever its folders stand: of a check the share, and whether links are followed. A
+    table is of one."""
+    kept = ("to", "order", "k", "strip", "align") if job.target is not None else ()
+    told = {name: getattr(job, name) for name in kept}
     told.update({"follow": True} if job.follow else {})
-    texts = {name: value.decode("utf-8", "surrogateescape") if isinstance(value, bytes) else value
-             for name, value in told.items()}
-    return {"job": "check" if job.target is None else "convert", "share": list(share), **texts}
+    return {"job": "check" if job.target is None else "convert", "share": list(share), **told}
 
 
-def tree_of(told: Dict[str, Any]) -> bytes:
-    """The tree of a job that a table keeps."""
-    return str(told["tree"]).encode("utf-8", "surrogateescape")
+def where_of(job: Job) -> Dict[str, str]:
+    """Where the folders of a job stand."""
+    told = {"tree": text_of(job.tree)}
+    if job.target is not None:
+        told["target"] = text_of(job.target)
+    return told

@@ -5,7 +5,7 @@ from __future__ import annotations
 import os
 import stat
 import zlib
-from typing import Callable, Dict, FrozenSet, Iterator, List, Mapping, NamedTuple, Optional, Tuple
+from typing import Callable, FrozenSet, Iterator, List, Mapping, NamedTuple, Optional, Tuple
 
 from ._archive_fax import Waiting
 
@@ -18,6 +18,10 @@ WHOLE: Share = (0, 1)
 
 class WrongShare(ValueError):
     """A share is none, or the array of Slurm has uneven steps."""
+
+
+class WrongTarget(Exception):
+    """The folder of copies stands in the tree, or the tree in it."""
 
 
 def share_of(text: str) -> Share:
@@ -44,63 +48,136 @@ def share_in_array(environment: Mapping[str, str]) -> Share:
     return part, count
 
 
-class Way(NamedTuple):
-    """Which faxes of a tree are gone through: those of this share, through links or not, and never those below the
-    folder of copies."""
-
-    share: Share = WHOLE
-    follow: bool = False
-    copies: Optional[bytes] = None
-
-
-def faxes(tree: bytes, way: Way, failed: Failed) -> Iterator[Waiting]:
-    """The faxes below a tree, folder by folder in order of their names: files that end with .tif or .tiff, of this
-    share. Which share a fax is of depends on its name below the tree alone. Where links are followed, one that leads
-    back to a folder above it is passed, and one that leads nowhere is a fax."""
-    for folder, names in _folders(tree, way, failed):
-        for name in sorted(names):
-            path = os.path.join(folder, name)
-            share = way.share
-            if not name.lower().endswith(_ENDINGS) or zlib.crc32(path[len(tree):]) % share[1] != share[0]:
-                continue
-            fax = _regular(path, way.follow, failed)
-            if fax is not None:
-                yield fax
-
-
-def _folders(tree: bytes, way: Way, failed: Failed) -> Iterator[Tuple[bytes, List[bytes]]]:
-    """Each folder of a tree in order, with the names of what is no folder."""
-    above: Dict[bytes, FrozenSet[Optional[Place]]] = {}
-    passed = frozenset([_place(way.copies)] if way.copies is not None else [])
-    for folder, below, names in os.walk(tree, onerror=failed, followlinks=way.follow):
-        if way.follow:
-            line = above.pop(folder, passed) | {_place(folder)}
-            below[:] = [name for name in below if _place(os.path.join(folder, name)) not in line]
-            above.update((os.path.join(folder, name), line) for name in below)
-        below.sort()
-        yield folder, names
-
-
-def _place(folder: bytes) -> Optional[Place]:
+def place_of(folder: bytes) -> Place:
     """What a folder is known by, whatever it is called."""
-    try:
-        told = os.stat(folder)
-    except OSError:
-        return None
+    told = os.stat(folder)
     return told.st_dev, told.st_ino
 
 
-def _regular(path: bytes, follow: bool, failed: Failed) -> Optional[Waiting]:
-    """A regular file, with its size and mtime; None where it is none, or is gone. Where links are followed, one that
-    leads to no file is there, and cannot be read."""
-    try:
-        told = os.lstat(path)
-        link = follow and stat.S_ISLNK(told.st_mode)
-        if link and os.path.exists(path):
-            told, link = os.stat(path), False
-    except FileNotFoundError:
-        return None
-    except OSError as error:
-        failed(error)
-        return None
-    return Waiting(path, told.st_size, told.st_mtime) if link or stat.S_ISREG(told.st_mode) else None
+def is_within(inner: bytes, outer: bytes) -> bool:
+    """Whether a folder is another one, or stands in it, by whatever name. What is not there yet is to stand where its
+    name says."""
+    above = os.path.realpath(inner)
+    while not os.path.isdir(above):
+        above = os.path.dirname(above)
+    found = place_of(outer)
+    while place_of(above) != found:
+        if above == os.path.dirname(above):
+            return False
+        above = os.path.dirname(above)
+    return True
+
+
+def refuse_one_in_the_other(tree: bytes, target: bytes) -> None:
+    """WrongTarget where TREE and TARGET are one, or one stands in the other."""
+    if is_within(target, tree) or os.path.isdir(target) and is_within(tree, target):
+        raise WrongTarget("TREE and TARGET are one in the other")
+
+
+class Way(NamedTuple):
+    """How a tree is gone through: which share of its faxes, through links or not, and the folder of copies, which
+    must not be met."""
+
+    share: Share = WHOLE
+    follow: bool = False
+    target: Optional[bytes] = None
+
+
+class Walk:
+    """The faxes below a tree, folder by folder in order of their names: files that end with .tif or .tiff, of this
+    share. Which share a fax is of depends on its name below the tree alone. Where links are followed, one that leads
+    back to a folder above it is passed, and one that leads nowhere is a fax if it is called so, and else told.
+    all counts the faxes of all shares."""
+
+    def __init__(self, tree: bytes, way: Way, failed: Failed) -> None:
+        self._tree, self._way, self._failed = tree, way, failed
+        self._target = place_of(way.target) if way.target is not None else None
+        self._inside = os.path.join(os.path.realpath(way.target), b"") if way.target is not None else None
+        self.all = 0
+
+    def faxes(self) -> Iterator[Waiting]:
+        """Each fax, by its path below the tree."""
+        share = self._way.share
+        for folder, names in self._folders():
+            for name in names:
+                if not name.lower().endswith(_ENDINGS):
+                    continue
+                path = folder + name
+                self.all += 1
+                if share[1] > 1 and zlib.crc32(b"/" + path) % share[1] != share[0]:
+                    continue
+                fax = self._regular(path)
+                if fax is not None:
+                    yield fax
+
+    def _folders(self) -> Iterator[Tuple[bytes, List[bytes]]]:
+        """Each folder in order, as what stands before the names in it, with the names of the files there."""
+        waiting: List[Tuple[bytes, FrozenSet[Place]]] = [(b"", frozenset())]
+        while waiting:
+            folder, above = waiting.pop()
+            try:
+                line = self._entered(folder, above)
+                if line is None:
+                    continue
+                folders, names = self._listed(folder)
+            except OSError as error:
+                # A folder that has gone meanwhile is gone; but not the tree itself.
+                if not folder or not isinstance(error, FileNotFoundError):
+                    self._failed(error)
+                continue
+            yield folder, sorted(names)
+            waiting += [(folder + name + b"/", line) for name in sorted(folders, reverse=True)]
+
+    def _entered(self, folder: bytes, above: FrozenSet[Place]) -> Optional[FrozenSet[Place]]:
+        """The folders from the tree to this one; None where it is one of those above it."""
+        if self._target is None and not self._way.follow:
+            return above
+        path = os.path.join(self._tree, folder)
+        place = place_of(path)
+        if place == self._target:
+            raise WrongTarget(f"TREE leads to TARGET by {os.fsdecode(folder)!r}")
+        if self._inside is not None and self._way.follow and os.path.realpath(path).startswith(self._inside):
+            raise WrongTarget(f"TREE leads into TARGET by {os.fsdecode(folder)!r}")
+        if place in above:
+            return None
+        return above | {place} if self._way.follow else above
+
+    def _listed(self, folder: bytes) -> Tuple[List[bytes], List[bytes]]:
+        """The names of the folders in a folder, and of the files; and of links, where they are followed."""
+        folders: List[bytes] = []
+        names: List[bytes] = []
+        with os.scandir(os.path.join(self._tree, folder)) as entries:
+            for entry in entries:
+                linked = self._way.follow and entry.is_symlink()
+                if self._leads_to_folder(entry) if linked else entry.is_dir(follow_symlinks=False):
+                    folders.append(entry.name)
+                elif linked or entry.is_file(follow_symlinks=False):
+                    names.append(entry.name)
+        return folders, names
+
+    def _leads_to_folder(self, entry: "os.DirEntry[bytes]") -> bool:
+        """Whether a link leads to a folder. One that cannot be followed is told, unless it is called as a fax."""
+        try:
+            return stat.S_ISDIR(os.stat(entry.path).st_mode)
+        except OSError as error:
+            if not entry.name.lower().endswith(_ENDINGS):
+                self._failed(error)
+            return False
+
+    def _regular(self, path: bytes) -> Optional[Waiting]:
+        """A regular file, with its size and mtime; None where it is none, or is gone. Where links are followed, one
+        that leads to no file is there, and cannot be read."""
+        whole = os.path.join(self._tree, path)
+        try:
+            told = os.lstat(whole)
+            if stat.S_ISLNK(told.st_mode) and self._way.follow:
+                try:
+                    told = os.stat(whole)
+                except OSError:
+                    return Waiting(path, told.st_size, told.st_mtime)
+        except FileNotFoundError:
+            return None
+        except OSError as error:
+            self._failed(error)
+            return None
+        return Waiting(path, told.st_size, told.st_mtime) if stat.S_ISREG(told.st_mode) else None

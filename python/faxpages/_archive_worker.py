@@ -1,21 +1,37 @@
 """Processes that do the faxes of an archive. Where one dies, or takes too long, its fax has a row that says so, and
 another goes on.
 
-A worker ends by itself when the process that started it has ended, however that ended."""
+A worker loads this very package and nothing else but Python's own modules, whatever the current folder and the
+variables of Python name. It ends by itself when the process that started it has ended, however that ended."""
 
 from __future__ import annotations
 
 import os
+import select
 import signal
 import subprocess
 import sys
+import threading
+import time
 from multiprocessing.connection import Connection, Pipe
-from typing import List, Optional, Tuple
+from typing import Any, List, Optional, Tuple
 
-from ._archive_fax import Found, Job, Waiting, not_read
+from ._archive_fax import Done, Found, Job, Waiting, not_read
 
 # The seconds in which a worker has to start, and in which one that is killed has to end.
 _START, _END = 120.0, 2.0
+# How long a worker is waited for at a time, where a fax may not take longer than so much.
+_SLICE = 0.1
+# After so many seconds a batch is handed back with what is done of it.
+_BATCH = 0.5
+_CODE = """
+import importlib.util, sys
+spec = importlib.util.spec_from_file_location("faxpages", sys.argv[1])
+sys.modules["faxpages"] = module = importlib.util.module_from_spec(spec)
+spec.loader.exec_module(module)
+from faxpages import _archive_worker
+_archive_worker.main(int(sys.argv[2]))
+"""
 
 
 class NoWorker(Exception):
@@ -30,20 +46,22 @@ class Worker:
         self._process: "Optional[subprocess.Popen[bytes]]" = None
         self._pipe: Optional[Connection] = None
 
-    def run(self, batch: List[Waiting]) -> List[Found]:
-        """The rows of these faxes. A fax that took too long is not tried again; one whose worker died is, once."""
-        found: List[Found] = []
+    def run(self, batch: List[Waiting]) -> List[Done]:
+        """What came of these faxes, or of the first ones of them, where they take long. A fax that took too long is
+        not tried again; one whose worker died is, once."""
+        found: List[Done] = []
         tried = 0
-        while len(found) < len(batch):
+        until = time.monotonic() + _BATCH
+        while len(found) < len(batch) and (not found or time.monotonic() < until):
             left = batch[len(found):]
-            got = self._some(left)
+            got, ended = self._some(left, until)
             found += got
-            if len(got) < len(left):
+            if ended:
                 late = self._end()
                 tried = 1 if got else tried + 1
                 if late or tried > 1:
-                    why = "Timeout" if late else "WorkerDied"
-                    found.append(not_read(left[len(got)], why, self._timeout if late else None))
+                    fault = "Timeout" if late else "WorkerDied"
+                    found.append(Done(not_read(left[len(got)], fault, seconds=self._timeout if late else None)))
                     tried = 0
         return found
 
@@ -51,36 +69,66 @@ class Worker:
         """Ends the process, which has nothing to do."""
         if self._process is not None and self._pipe is not None:
             self._pipe.close()
-            self._process.wait(_END)
+            try:
+                self._process.wait(_END)
+            except subprocess.TimeoutExpired:
+                self._process.kill()
         self._process = self._pipe = None
 
-    def _some(self, batch: List[Waiting]) -> List[Found]:
-        """The rows of these faxes up to the one whose worker died or was too slow."""
-        pipe, got = self._started(), []
+    def _some(self, batch: List[Waiting], until: float) -> Tuple[List[Done], bool]:
+        """What came of these faxes up to the end of the time, or to the one whose worker died or was too slow; and
+        whether one was."""
+        pipe = self._started()
+        got: List[Done] = []
         try:
-            pipe.send(batch)
+            # Plain tuples go through a pipe in half the time.
+            pipe.send(([tuple(fax) for fax in batch], until - time.monotonic()))
             for _ in batch:
-                if not pipe.poll(self._timeout):
-                    break
-                got.append(pipe.recv())
+                if not self._answers(pipe):
+                    return got, True
+                done = pipe.recv()
+                if done is None:
+                    return got, False
+                got.append(Done(Found._make(done[0]), *done[1:]))
         except (EOFError, OSError):
-            pass
-        return got
+            return got, True
+        return got, False
+
+    def _answers(self, pipe: Connection) -> bool:
+        """Whether an answer, or an end, comes in time. Time in which this process or the worker is stopped does not
+        count, so that no fax is called slow which nobody was reading."""
+        if self._timeout is None:
+            return pipe.poll(None)
+        left = self._timeout
+        while True:
+            wait = min(_SLICE, max(left, 0.001))
+            if pipe.poll(wait):
+                return True
+            left -= 0 if self._is_stopped() else wait
+            if left <= 0:
+                return pipe.poll(0)
+
+    def _is_stopped(self) -> bool:
+        """Whether the worker is stopped by a signal."""
+        try:
+            with open(f"/proc/{self._process.pid if self._process else 0}/stat", "rb") as file:
+                return file.read().rpartition(b") ")[2][:1] in (b"T", b"t")
+        except OSError:
+            return False
 
     def _started(self) -> Connection:
         """The way to the process, which is ready."""
         if self._pipe is not None:
             return self._pipe
         pipe, its = Pipe()
-        folder = os.path.dirname(os.path.dirname(os.path.abspath(__file__)))
-        path = os.pathsep.join([folder, *filter(None, [os.environ.get("PYTHONPATH")])])
+        package = os.path.join(os.path.dirname(os.path.abspath(__file__)), "__init__.py")
         with its:
             self._process = subprocess.Popen(
-                [sys.executable, "-m", "faxpages._archive_worker", str(its.fileno())], stdin=subprocess.DEVNULL,
-                env=dict(os.environ, PYTHONPATH=path), pass_fds=[its.fileno()])
+                [sys.executable, "-I", "-c", _CODE, package, str(its.fileno())], stdin=subprocess.DEVNULL,
+                pass_fds=[its.fileno()])
         self._pipe = pipe
         try:
-            pipe.send((self._job, 0.0 if self._timeout is None else self._timeout + _END))
+            pipe.send(self._job)
             if pipe.poll(_START) and pipe.recv():
                 return pipe
         except (EOFError, OSError):
@@ -112,30 +160,38 @@ def _closed(pipe: Connection) -> bool:
         return True
 
 
+def _end_with(pipe: Connection) -> None:
+    """Ends this process as soon as nobody holds the other end, whatever it is waiting for."""
+    watched = select.poll()
+    watched.register(pipe.fileno(), 0)
+    watched.poll()
+    os._exit(0)
+
+
 def _serve(pipe: Connection) -> None:
-    """Takes the job, and then faxes, until nobody asks any more. A fax that takes much too long ends the process, also
-    where nobody waits for it any more."""
-    told: Tuple[Job, float] = pipe.recv()
-    job, limit = told
+    """Takes the job, and then faxes, until nobody asks any more."""
+    job: Job = pipe.recv()
     pipe.send(True)
     while True:
-        for fax in pipe.recv():
-            signal.setitimer(signal.ITIMER_REAL, limit)
-            pipe.send(job.do(fax))
-        signal.setitimer(signal.ITIMER_REAL, 0)
+        asked: Tuple[List[Tuple[Any, ...]], float] = pipe.recv()
+        batch, seconds = asked
+        until = time.monotonic() + seconds
+        for number, fax in enumerate(batch):
+            if number and time.monotonic() > until:
+                pipe.send(None)
+                break
+            found, *rest = job.do(Waiting._make(fax))
+            pipe.send((tuple(found), *rest))
 
 
-def main() -> None:
-    """A worker."""
+def main(number: int) -> None:
+    """A worker, which is asked by this open file."""
     # A terminal and Slurm send these to all processes: the one that started this one says what comes of them.
-    for number in (signal.SIGINT, signal.SIGTERM):
-        signal.signal(number, signal.SIG_IGN)
-    pipe = Connection(int(sys.argv[1]))
+    for ignored in (signal.SIGINT, signal.SIGTERM, signal.SIGHUP):
+        signal.signal(ignored, signal.SIG_IGN)
+    pipe = Connection(number)
+    threading.Thread(target=_end_with, args=(pipe,), daemon=True).start()
     try:
         _serve(pipe)
     except (EOFError, BrokenPipeError, ConnectionResetError):
         pass
-
-
-if __name__ == "__main__":
-    main()

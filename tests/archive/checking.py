@@ -19,6 +19,10 @@ from room import PATIENCE, TOP, wait_for
 # Who runs what root must not, by a number that no account has to have.
 OTHER_USER = 65534
 FEW = 40
+# What is said of faxes that break a worker, and why.
+BROKEN = [("WorkerDied", ""), ("WorkerDied", "RuntimeError: broken for a test"), ("Timeout", ""), ("Memory", ""),
+          (None, ""),
+          ("Read", "more than 268435456 bytes")]
 LARGEST = 268435456
 
 
@@ -34,6 +38,13 @@ def ask(room, table, query):
         return base.execute(query).fetchall()
 
 
+def since_in(room):
+    """Since when each fax of the tree resumed is as it is, by its whole path."""
+    tree = os.fsencode(room("resumed"))
+    found = ask(room, "resumed.sqlite", "SELECT CAST(path AS BLOB), since FROM times")
+    return {os.path.join(tree, path): since for path, since in found}
+
+
 def add(path, data):
     with open(path, "ab") as file:
         file.write(data)
@@ -45,8 +56,12 @@ def resumed(room, *_):
     words = ["check", "resumed", "--table", "resumed.sqlite"]
     room.run(*words)
     before = room.rows("resumed.sqlite")
-    since = dict(ask(room, "resumed.sqlite", "SELECT CAST(path AS BLOB), since FROM times"))
-    room.claim("nothing is done twice", room.summary(*words)[1].partition("; ")[2], f"0 done now, {FEW} before, 0 gone")
+    since = since_in(room)
+    room.claim(
+        "nothing is done twice",
+        room.summary(
+            *words)[1].partition("; ")[2],
+        f"0 done now, {FEW} before, 0 gone")
     os.unlink(paths[3])
     add(paths[20], b"more")
     shutil.copy(paths[21], os.path.join(os.path.dirname(paths[21]), b"new.tif"))
@@ -54,7 +69,7 @@ def resumed(room, *_):
                f"2 done now, {FEW - 2} before, 1 gone")
     rows = room.rows("resumed.sqlite")
     room.claim("what is gone is out", set(before) - set(rows), {paths[3]})
-    times = dict(ask(room, "resumed.sqlite", "SELECT CAST(path AS BLOB), since FROM times"))
+    times = since_in(room)
     room.claim("times go too", set(times), set(rows))
     room.claim("since when", [times[path] == since[path] for path in paths[20:22]], [True, True])
     faulty = sum(row["status"] == "1" for row in rows.values())
@@ -72,13 +87,15 @@ def names(room, paths, reference):
     """CSV and JSON have each name, with all its bytes."""
     status, out, _ = room.run("table", "one.sqlite", "--json")
     lines = [json.loads(line) for line in out.decode("ascii").splitlines()]
-    room.claim("JSON has each name", (status, [line["path"].encode("utf-8", "surrogateescape") for line in lines]),
-               (0, sorted(paths)))
-    wanted = "path size mtime status pages rows width x y codings notes fault fault_page fault_row seconds"
+    tree = os.fsencode(room("tree"))
+    room.claim("JSON has each name", (status, [
+        os.path.join(tree, line["path"].encode("utf-8", "surrogateescape")) for line in lines]), (0, sorted(paths)))
+    wanted = ("path size mtime status pages rows width x y codings notes fault fault_page fault_row fault_tag why "
+              "lacks seconds")
     room.claim("JSON has the columns", {tuple(line) for line in lines}, {tuple(wanted.split())})
     room.claim("CSV has the columns", room.run("table", "one.sqlite", "--csv")[1].split(b"\n")[0].decode().split(","),
                wanted.split())
-    texts = {line["path"].encode("utf-8", "surrogateescape"): line for line in lines}
+    texts = {os.path.join(tree, line["path"].encode("utf-8", "surrogateescape")): line for line in lines}
     room.claim("JSON says what CSV says", {path: str(line["pages"]) for path, line in texts.items()},
                {path: line["pages"] for path, line in reference.items()})
     mtimes = [(os.lstat(path).st_size, os.lstat(path).st_mtime) for path in paths]
@@ -103,10 +120,11 @@ def broken(room, *_):
         large.truncate(2000)
     room.run("check", "broken", "--table", "added.sqlite")
     wanted = room.rows("added.sqlite")
-    for path, fault in zip(paths[10:], ("WorkerDied", "WorkerDied", "Timeout", "Memory", None, "Read")):
+    for path, fault, why in zip(paths[10:], *zip(*BROKEN)):
         if fault:
             wanted[path] = dict.fromkeys(wanted[path], "") | {
-                "status": "3", "fault": fault, "size": str(os.stat(path).st_size), "mtime": str(os.stat(path).st_mtime)}
+                "status": "3", "fault": fault, "why": why, "size": str(os.stat(path).st_size),
+                "mtime": str(os.stat(path).st_mtime)}
     ways = {"three workers": (["--processes", "3"], sys.executable)}
     if room.dask:
         ways["Dask"] = ["--dask", "--processes", "2"], room.dask
@@ -165,7 +183,15 @@ def orphaned(room, *_):
     paths = few(room, "orphaned")
     add(paths[0], b"hangs")
     mark = room("mark")
-    process = room.start("check", "orphaned", "--table", "orphaned.sqlite", "--timeout", "3", broken="hangs", MARK=mark)
+    process = room.start(
+        "check",
+        "orphaned",
+        "--table",
+        "orphaned.sqlite",
+        "--timeout",
+        "3",
+        broken="hangs",
+        MARK=mark)
     wait_for(lambda: os.path.exists(mark) or process.poll() is not None)
     process.kill()
     process.wait()
@@ -181,7 +207,6 @@ def wrong(room, *_):
                   [*check, "--dask", "--scheduler", "x"], [*check, "--share", "3/3"], [*check, "--proc", "2"],
                   ["table", "wrong.sqlite"], ["table", "wrong.sqlite", "--csv", "--json"], ["merge", "new.sqlite"],
                   [*check, "--scheduler", "tcp://127.0.0.1:1", "--processes", "2"], [*check, "--share", "0/2"],
-                  ["check", "tree", "--table", "wrong.sqlite"],
                   ["convert", "wrong", "out", "--to", "gif", "--table", "wrong.sqlite"],
                   ["convert", "wrong", "out", "--to", "mmr", "--align", "--table", "wrong.sqlite"],
                   ["convert", "wrong", "wrong/out", "--to", "mmr", "--table", "new.sqlite"],
@@ -192,6 +217,7 @@ def wrong(room, *_):
     with open(room("text.sqlite"), "w", encoding="utf-8") as file:
         file.write("no table of SQLite, and long enough to be seen as none\n" * 40)
     for words in (["check", "nowhere", "--table", "new.sqlite"], ["check", "wrong", "--table", "text.sqlite"],
+                  ["check", "tree", "--table", "wrong.sqlite"],
                   ["check", "wrong", "--table", "nowhere/x.sqlite"], ["table", "nowhere.sqlite", "--csv"],
                   ["table", "text.sqlite", "--json"], ["merge", "new.sqlite", "text.sqlite"]):
         status, out, error = room.run(*words)
@@ -222,8 +248,8 @@ def documented(room, *_):
         manual = file.read()
     commands = ([], ["check"], ["convert"], ["table"], ["merge"])
     said = "".join(room.run(*command, "--help")[1].decode() for command in commands)
-    options = set(re.findall(r"--[a-z]+", said)) - {"--help"}
-    found = {f"-{it}" for it in re.findall(r"(?:Fl |\| )(-[a-z]+)", manual)}
+    options = set(re.findall(r"--[a-z]+(?:-[a-z]+)*", said)) - {"--help"}
+    found = {f"-{it}" for it in re.findall(r"(?:Fl |\| )(-[a-z]+(?:-[a-z]+)*)", manual)}
     room.claim("the manual page has the options", found, options)
     for name in ("check", "convert", "table", "merge"):
         room.claim(f"the manual page and the help have {name}", f".Cm {name}\n" in manual and f"  {name} " in said)
@@ -246,7 +272,8 @@ def progress(room, paths, _):
     """A line now and then, or a bar on a terminal."""
     error = room.run("check", "tree", "--table", "said.sqlite", "--processes", "4", broken="slow minutes")[2]
     room.claim("a line a minute", f" of {len(paths)} faxes, " in error and " minutes left" in error)
-    if not room.dask or subprocess.run([room.dask, "-c", "from tqdm import tqdm"], capture_output=True, check=False).returncode:
+    if not room.dask or subprocess.run([room.dask, "-c", "from tqdm import tqdm"],
+                                       capture_output=True, check=False).returncode:
         print("SKIPPED: tqdm (python3-tqdm) is not installed, so: no bar is drawn")
         return
     ours, its = pty.openpty()

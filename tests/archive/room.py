@@ -3,6 +3,7 @@
 import contextlib
 import csv
 import io
+import json
 import os
 import signal
 import sqlite3
@@ -12,6 +13,7 @@ import sys
 TOP = os.path.dirname(os.path.dirname(os.path.dirname(os.path.abspath(__file__))))
 sys.path.insert(0, os.path.join(TOP, "tests"))
 
+from breaking import MODULE, broken_module  # noqa: E402
 from waiting import PATIENCE, wait_for  # noqa: E402
 
 
@@ -33,10 +35,16 @@ class Room:
 
     def start(self, *words, python=sys.executable, broken="", **more):
         """Starts the command, with what is broken for it and more variables."""
-        path = [os.path.join(TOP, "tests", "archive", "broken")] if broken else []
+        module = broken_module(self.folder) if broken else MODULE
         told = {name: value for name, value in os.environ.items() if not name.startswith("SLURM_")}
-        told.update(FAXPAGES_LIBRARY=self.library, PYTHONPATH=os.pathsep.join([*path, os.path.join(TOP, "python")]),
-                    BROKEN=broken, PYTHONDONTWRITEBYTECODE="1", LC_ALL="C", TMPDIR=self.folder, **more)
+        told.update(
+            FAXPAGES_LIBRARY=self.library,
+            PYTHONPATH=module,
+            BROKEN=broken,
+            PYTHONDONTWRITEBYTECODE="1",
+            LC_ALL="C",
+            TMPDIR=self.folder,
+            **more)
         return subprocess.Popen([python, "-m", "faxpages.archive", *words], env=told, stdin=subprocess.DEVNULL,
                                 stdout=subprocess.PIPE, stderr=subprocess.PIPE, cwd=self.folder, start_new_session=True)
 
@@ -52,11 +60,12 @@ class Room:
         return status, out.decode().rpartition("; ")[0] or error
 
     def rows(self, table):
-        """The rows of a table as CSV, by their paths as bytes, without the seconds."""
+        """The rows of a table as CSV, by their whole paths as bytes, without the seconds."""
+        tree = json.loads(self.run("table", table, "--summary")[1])["tree"].encode("utf-8", "surrogateescape")
         status, out, error = self.run("table", table, "--csv")
         self.claim(f"{table} as CSV", (status, error), (0, ""))
         lines = list(csv.DictReader(io.StringIO(out.decode("utf-8", "surrogateescape"), newline="")))
-        found = {line.pop("path").encode("utf-8", "surrogateescape"): line for line in lines}
+        found = {os.path.join(tree, line.pop("path").encode("utf-8", "surrogateescape")): line for line in lines}
         for line in found.values():
             line.pop("seconds")
         return found

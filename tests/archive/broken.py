@@ -1,4 +1,5 @@
-"""Has the workers of an archive break: each fax whose last bytes ask for it, by what BROKEN says. For tests alone."""
+"""Has the workers of an archive break: each fax whose last bytes ask for it, by what BROKEN says. For tests
+alone, which add it to a copy of the module (Room.broken)."""
 
 import os
 import signal
@@ -27,6 +28,8 @@ def broken_check(data):
         time.sleep(0.004)
     if "stops" in WAYS:
         wait_at_gate()
+    if "naps" in WAYS and data.endswith(b"naps"):
+        time.sleep(3)
     if "dies" in WAYS and data.endswith(b"dies"):
         os.kill(os.getpid(), signal.SIGSEGV)
     if "raises" in WAYS and data.endswith(b"raises"):

@@ -1,0 +1,135 @@
+"""Makes one table of the parts of an array."""
+
+from __future__ import annotations
+
+import argparse
+import itertools
+import json
+import os
+from typing import Any, Dict, List, Optional, Set, Tuple
+
+from . import _archive_walk as walk
+from ._archive_fax import FAULTY, GOOD, NOT_READ, Found
+from ._archive_run import say, state_of
+from ._archive_table import Look, Table, TableError
+
+# How many rows are taken over at a time.
+_BATCH = 1000
+
+
+def merge(words: argparse.Namespace) -> int:
+    """One table of the parts, whose job is one but for the share. The status is that of all faxes, or says that a part
+    is missing, or has not finished."""
+    if os.path.realpath(words.name) in map(os.path.realpath, words.parts):
+        raise TableError(f"{words.name} cannot be a part of itself")
+    parts = [Table(name, new=False) for name in words.parts]
+    with Table(words.name) as table:
+        shares = [_job_of(table, part) for part in parts]
+        lacking = _lacking(parts, shares)
+        number = table.next_run("merge", "[]")
+        table.begin_run(number, "merge", "[]")
+        there = _take(table, parts)
+        if not lacking:
+            table.forget([row.path for row in table.rows() if row.path not in there])
+            table.end_run(number, 0)
+        counts = table.counts()
+        print(f"faxes {sum(counts.values())}: {counts[GOOD]} good, {counts[FAULTY]} faulty, "
+              f"{counts[NOT_READ]} not read")
+        table.commit_all()
+        if lacking:
+            print(state_of(table))
+    for line in lacking:
+        say(line)
+    return NOT_READ if counts[NOT_READ] or lacking else FAULTY if counts[FAULTY] else GOOD
+
+
+def _job_of(table: Table, part: Table) -> walk.Share:
+    """The share of a part, whose job becomes that of the table."""
+    job = part.job()
+    if job is None:
+        raise TableError(f"{part.name} is no table of faxpages-archive")
+    share = job.pop("share")
+    before = table.where()
+    where = part.where()
+    if before and before.get("tree") != where.get("tree"):
+        say(f"{part.name} is of {where.get('tree')}, and not of {before.get('tree')}")
+    told: Dict[str, Any] = dict(job=job.pop("job"), share=list(walk.WHOLE), **job)
+    table.set_job(told, where)
+    return share[0], share[1]
+
+
+def _lacking(parts: List[Table], shares: List[walk.Share]) -> List[str]:
+    """What is missing for a whole: parts, and parts of parts."""
+    lines = []
+    count = shares[0][1]
+    there = {share[0] for share in shares if share[1] == count}
+    missing = sorted(set(range(count)) - there)
+    if missing:
+        lines.append(f"no part of share {', '.join(f'{it}/{count}' for it in missing)}")
+    for part in parts:
+        last = part.last_run()
+        if last is None or not last.finished():
+            lines.append(f"{part.name}: {state_of(part)}")
+    return lines
+
+
+def _take(table: Table, parts: List[Table]) -> Set[bytes]:
+    """Takes over the rows of parts, but where a newer one is here. The paths of all faxes of the parts."""
+    there: Set[bytes] = set()
+    for part in parts:
+        looks = part.looks()
+        while batch := list(itertools.islice(looks, _BATCH)):
+            table.put_looks([(row, look, copy) for row, look, copy in batch
+                             if _is_newer(row, look, table.look(row.path), row.path in there)])
+            there.update(row.path for row, _, _ in batch)
+    return there
+
+
+def _is_newer(row: Found, look: Look, mine: Optional[Tuple[float, int, Look]], from_part: bool) -> bool:
+    """Whether a row of a part is newer than mine. Of one table, the later run is newer. Else the fax that is newer by
+    its own time is, then the later run, then the worse one of two parts; no clock counts."""
+    if mine is None:
+        return True
+    mtime, status, its = mine
+    if its.origin == look.origin:
+        return look.run > its.run or (look.run == its.run and not from_part)
+    if row.mtime != mtime:
+        return row.mtime > mtime
+    if look.run != its.run:
+        return look.run > its.run
+    return not from_part or row.status > status
+
+
+def summary(table: Table) -> Dict[str, Any]:
+    """What a table comes to."""
+    counts, last, where = table.counts(), table.last_run(), table.where()
+    job = table.job() or {}
+    return {
+        "tree": where.get("tree"), "target": where.get("target"), "job": job.get("job"), "share": job.get("share"),
+        "run": last.number if last else None, "began": last.began if last else None,
+        "ended": last.ended if last else None, "finished": bool(last and last.finished()),
+        "unread_folders": last.unread if last else None, "faxes": sum(counts.values()), "good": counts[GOOD],
+        "faulty": counts[FAULTY], "not_read": counts[NOT_READ], "deleted": table.count_deleted(),
+        "faults": table.faults()}
+
+
+def prometheus(told: Dict[str, Any]) -> str:
+    """A summary in Prometheus' text format."""
+    lines = ["# HELP faxpages_archive_faxes Faxes of the archive, by their status.",
+             "# TYPE faxpages_archive_faxes gauge"]
+    labels = f"tree={json.dumps(told['tree'])}"
+    if told["share"] and told["share"][1] > 1:
+        labels += f',share="{told["share"][0]}/{told["share"][1]}"'
+    for name in ("good", "faulty", "not_read"):
+        lines.append(f'faxpages_archive_faxes{{{labels},status="{name}"}} {told[name]}')
+    lines += ["# HELP faxpages_archive_faults Faxes that are not good, by their fault.",
+              "# TYPE faxpages_archive_faults gauge"]
+    lines += [f'faxpages_archive_faults{{{labels},fault="{name}"}} {count}' for name, count in told["faults"].items()]
+    for name, help_text in (("began", "When the last run began, in seconds since 1970."),
+                            ("ended", "When the last run ended, in seconds since 1970."),
+                            ("finished", "Whether the last run went to its end."),
+                            ("deleted", "Faxes that were deleted after they had been copied.")):
+        if told[name] is not None:
+            lines += [f"# HELP faxpages_archive_{name} {help_text}", f"# TYPE faxpages_archive_{name} gauge",
+                      f"faxpages_archive_{name}{{{labels}}} {told[name] + 0}"]
+    return "\n".join(lines) + "\n"

@@ -1,0 +1,370 @@
+"""One run over a tree: what is due is noted first, then done, and then, where it is asked for, deleted."""
+
+from __future__ import annotations
+
+import argparse
+import contextlib
+import json
+import os
+import signal
+import sys
+import time
+from typing import Any, Iterator, List, Optional, Tuple
+
+from . import _archive_engine as engine
+from . import _archive_files as files
+from . import _archive_walk as walk
+from ._archive_fax import FAULTY, FIELDS, GOOD, NOT_READ, Done, Found, Job, Waiting
+from ._archive_files import Seen, Stood
+from ._archive_lacks import NAMES
+from ._archive_progress import Gathering, Progress
+from ._archive_table import Copied, Known, Table, text_of
+
+# Of how many rows one may be gone at once.
+_TENTH = 10
+# The signals that ask for the end.
+_ENDING = (signal.SIGTERM, signal.SIGINT)
+_LEAST = {None: NOT_READ, "unread": NOT_READ, "faulty": FAULTY, "copies": GOOD, "all": GOOD}
+
+
+class Stopped(BaseException):
+    """A signal asks for the end."""
+
+
+class Signals:
+    """Signals that ask for the end. They wait while rows are written, so that no row is half there."""
+
+    def __init__(self) -> None:
+        self._held, self._came = False, 0
+
+    def begin(self) -> None:
+        """Has them ask for the end from now on."""
+        for number in _ENDING:
+            signal.signal(number, self._stop)
+
+    def end(self) -> None:
+        """Has them end the process at once, as they do of themselves."""
+        for number in _ENDING:
+            signal.signal(number, signal.SIG_DFL)
+
+    def _stop(self, number: int, _: object) -> None:
+        """What a signal calls. One that comes after it ends the process at once."""
+        if not self._held:
+            self.end()
+            raise Stopped(number)
+        self._came = number
+
+    @contextlib.contextmanager
+    def held(self) -> Iterator[None]:
+        """Has signals wait."""
+        self._held = True
+        try:
+            yield
+        finally:
+            self._held = False
+        if self._came:
+            raise Stopped(self._came)
+
+
+signals = Signals()
+
+
+def shown(path: Any) -> str:
+    """A path in a line of text, whatever its bytes."""
+    return ascii(os.fsdecode(path))[1:-1] if path is not None else "?"
+
+
+def told(row: Found) -> str:
+    """What a row says of a fax that is not good."""
+    if row.status == FAULTY and row.fault_page is not None:
+        tag = f" {row.fault_tag}" if row.fault_tag is not None else ""
+        return f"fault page {row.fault_page} row {row.fault_row}: {row.fault}{tag}"
+    why = f": {shown(row.why)}" if row.why else ""
+    return f"not read: {row.fault}{why}" if row.status == NOT_READ else f"fault: {row.fault}{why}"
+
+
+def say(line: str) -> None:
+    """A line on the error stream."""
+    print(f"faxpages-archive: {line}", file=sys.stderr, flush=True)
+
+
+class Run:
+    """One run over a tree."""
+
+    def __init__(self, words: argparse.Namespace, job: Job, table: Table) -> None:
+        self._words, self._job, self._table = words, job, table
+        self._counts = {GOOD: 0, FAULTY: 0, NOT_READ: 0}
+        self._kept = self._due = self._gone = self._failed = self._changed = 0
+        self._began = time.monotonic()
+        self._target = job.target_root() if job.target is not None else None
+        self._run_words = json.dumps([words.again, bool(job.fields)])
+        self._number = table.next_run(words.command, self._run_words)
+
+    def do(self) -> int:
+        """The status of the run."""
+        before = self._table.count()
+        rows_seen, empty = self._note()
+        unseen = [] if self._failed else list(self._table.unseen(rows_seen))
+        refused = self._refused(before, len(unseen), empty)
+        if refused:
+            say(f"{refused}; nothing is changed (--gone allows it)")
+            return NOT_READ
+        self._forget(unseen)
+        self._begin()
+        self._do_all()
+        self._table.end_run(self._number, self._failed)
+        self._table.commit_all()
+        self._sum_up()
+        status = self._status()
+        if self._words.command == "convert" and self._words.delete:
+            return self._delete(status)
+        return GOOD if status == FAULTY and self._words.faults_ok else status
+
+    def _refused(self, before: int, gone: int, empty: bool) -> str:
+        """Why nothing is done, where the tree does not look as if it was there."""
+        if self._words.gone:
+            return ""
+        if empty and not before and not self._failed and not self._table.count_deleted():
+            return f"no fax stands below {shown(self._job.tree)}"
+        if gone * _TENTH > before:
+            return f"{gone} of {before} faxes are gone from {shown(self._job.tree)}"
+        if self._is_moved() and (gone + self._changed) * _TENTH > before:
+            return f"{gone + self._changed} of {before} faxes are gone or others below {shown(self._job.tree)}"
+        return ""
+
+    def _is_moved(self) -> bool:
+        """Whether the tree of the table stood elsewhere."""
+        return self._table.where().get("tree", text_of(self._job.tree)) != text_of(self._job.tree)
+
+    def _begin(self) -> None:
+        """Notes in the table that this run is at work."""
+        table, job = self._table, self._job
+        where = {"tree": text_of(job.tree)}
+        if job.target is not None:
+            where["target"] = text_of(job.target)
+        kept = table.job()
+        assert kept is not None
+        table.set_job(kept, where)
+        table.begin_run(self._number, self._words.command, self._run_words)
+        table.commit_all()
+
+    def _note(self) -> Tuple[bytearray, bool]:
+        """Notes which faxes are due. The rows that were seen, by their numbers, and whether the tree has no fax."""
+        table = self._table
+        seen = bytearray(table.last() + 1)
+        way = walk.Way(self._words.share, self._job.follow, self._job.target)
+        tree = walk.Walk(self._job.tree, way, self._fail)
+        gathering = Gathering()
+        for fax in tree.faxes():
+            gathering.add(1)
+            known = table.known(fax.path)
+            if known is not None:
+                seen[known.number] = 1
+            due = self._due_now(fax, known)
+            if due is None:
+                assert known is not None
+                self._counts[known.status] += 1
+                self._kept += 1
+            else:
+                table.wait(due)
+                self._due += 1
+        gathering.close()
+        return seen, not tree.all
+
+    def _due_now(self, fax: Waiting, known: Optional[Known]) -> Optional[Waiting]:
+        """A fax that is to be done, with what is known of its copy; or None."""
+        copied = self._table.copied(fax.path) if self._target is not None and known is not None else None
+        same = known is not None and (known.size, known.mtime) == (fax.size, fax.mtime)
+        if known is not None:
+            self._changed += not same
+            if same and not self._is_asked(fax.path, known) and self._is_copied(fax.path, known, copied):
+                return None
+        if self._target is not None and known is None and self._table.was_deleted(fax):
+            # It was about to be deleted when a run was killed: its copy is ours, if it is this one.
+            return fax._replace(copy=files.NOT_KEPT, fields=files.NOT_KEPT)
+        if copied is None:
+            return fax
+        copy, fields = copied.known()
+        proven = same and known is not None and known.status == GOOD and self._words.again != "all" and bool(copy)
+        return fax._replace(copy=copy, fields=fields, proven=proven)
+
+    def _is_asked(self, path: bytes, known: Known) -> bool:
+        """Whether a fax that is as it was is to be done again: one that could not be read, but for one that took too
+        long and may take no longer now; or one that the words ask for. What this very run has done is not."""
+        words = self._words
+        if known.status < _LEAST[words.again] or (words.again == "copies" and known.status == FAULTY):
+            return False
+        fault, seconds, run = self._table.why(path)
+        if run == self._number:
+            return False
+        if words.again is None and fault == "Timeout":
+            return words.timeout is None or words.timeout > (seconds or 0)
+        return True
+
+    def _is_copied(self, path: bytes, known: Known, copied: Optional[Copied]) -> bool:
+        """Whether the copy of a good fax, and its fields, are there as they were written, by their sizes and times."""
+        if self._target is None or known.status != GOOD:
+            return True
+        name = self._job.copy_of(path)
+        if copied is None or not self._stands(name, copied.copy):
+            return False
+        return not self._job.fields or (copied.fields is not None and self._stands(name + FIELDS, copied.fields))
+
+    def _stands(self, name: bytes, stood: Stood) -> bool:
+        assert self._target is not None
+        now = self._target.look(name)
+        return now is not None and (now.st_size, now.st_mtime_ns) == (stood.size, stood.mtime)
+
+    def _fail(self, error: OSError) -> None:
+        self._failed += 1
+        say(f"not read: {shown(error.filename)}: {error.strerror}")
+
+    def _forget(self, paths: List[bytes]) -> None:
+        """Takes the rows of faxes that are gone out of the table. Their copies stay, and are replaced by no other."""
+        if self._target is not None:
+            for path in paths:
+                self._disown(path)
+        self._table.forget(paths)
+        self._table.commit_all()
+        self._gone = len(paths)
+
+    def _disown(self, path: bytes) -> None:
+        assert self._target is not None
+        name = self._job.copy_of(path)
+        for each in (name, name + FIELDS):
+            files.disown(self._target, each, self._job.owner)
+
+    def _do_all(self) -> None:
+        """Does what is due."""
+        progress = Progress(self._due)
+        try:
+            for done in self._done() if self._due else ():
+                self._put(done)
+                progress.add(len(done))
+        except BaseException:
+            with contextlib.suppress(Exception):  # what went wrong is told by the exception that came first
+                self._table.commit()
+            raise
+        finally:
+            progress.close()
+        self._table.commit_all()
+
+    def _done(self) -> Iterator[List[Done]]:
+        """What comes of the faxes that are due, by the engine that was chosen."""
+        words = self._words
+        batches = engine.Batches(self._table.taker())
+        if words.dask or words.scheduler is not None:
+            return engine.by_dask(self._job, words.timeout, batches, words.scheduler, words.processes)
+        return engine.by_processes(self._job, words.timeout, batches, words.processes or 1)
+
+    def _put(self, done: List[Done]) -> None:
+        with signals.held():
+            if done:
+                self._table.put(done, self._number, self._job.owner)
+            self._table.turn()
+        for one in done:
+            self._counts[one.found.status] += 1
+            if self._words.names and one.found.status != GOOD:
+                say(f"{shown(one.found.path)}: {told(one.found)}")
+
+    def _sum_up(self) -> None:
+        seconds = time.monotonic() - self._began
+        counts = self._counts
+        print(f"faxes {sum(counts.values())}: {counts[GOOD]} good, {counts[FAULTY]} faulty, "
+              f"{counts[NOT_READ]} not read; {self._due} done now, {self._kept} before, {self._gone} gone; "
+              f"{seconds:.1f} s, {self._due / max(seconds, 1e-9):.0f} faxes a second")
+        print(state_of(self._table))
+
+    def _status(self) -> int:
+        if self._failed or self._counts[NOT_READ]:
+            return NOT_READ
+        return FAULTY if self._counts[FAULTY] else GOOD
+
+    def _delete(self, status: int) -> int:
+        """Deletes the faxes of the table, if all are copied, each is compared with its copy once more, and all copies
+        are on the disk. What a copy lacks keeps its fax, unless the words give it up. The status."""
+        if status != GOOD:
+            say("not all is copied; nothing is deleted")
+            return status
+        self._table.wait_for_all()
+        lacking, kept = self._compare()
+        if lacking:
+            say("not all copies are right; nothing is deleted")
+            return NOT_READ
+        os.sync()
+        count = changed = outside = 0
+        for batch in self._table.all_compared():
+            gone, others, away = self._delete_some(batch)
+            count, changed, outside = count + gone, changed + others, outside + away
+        told_kept = f"; {outside} kept, since they stand outside TREE" if outside else ""
+        told_kept += f"; {kept} kept, since their copies lack something" if kept else ""
+        print(f"deleted {count} faxes{told_kept}")
+        return GOOD if not changed and not kept else NOT_READ
+
+    def _compare(self) -> Tuple[int, int]:
+        """How many faxes have not the rows of their copy, or are not as they were; and how many are kept, since their
+        copy lacks something. Each is named."""
+        self._job = self._job._replace(compare=True)
+        given_up = {NAMES[it] for it in self._words.give_up}
+        tree = files.root_of(self._job.tree)
+        lacking = kept = 0
+        for done in self._done():
+            for row, copy, _, seen in done:
+                if row.status != GOOD or copy is None or seen is None:
+                    lacking += 1
+                    say(f"{row.fault}: {shown(row.path)}" + (f": {row.why}" if row.why else ""))
+                    continue
+                missed = set((row.lacks or "").split()) - given_up
+                copied = self._table.copied(row.path)
+                if copied is None or not copied.copy.ours or (copied.fields is not None and not copied.fields.ours):
+                    missed.add("NotOurs")
+                if missed and files.stays(tree, row.path, seen) != "OutsideTree":
+                    kept += 1
+                    say(f"kept: {shown(row.path)}: {' '.join(sorted(missed))}")
+                else:
+                    self._table.compared(row.path, seen, copy)
+        return lacking, kept
+
+    def _delete_some(self, batch: List[Tuple[bytes, Seen, Tuple[int, int]]]) -> Tuple[int, int, int]:
+        """Deletes some faxes: how many are deleted, how many are not as they were, and how many stand outside."""
+        tree = files.root_of(self._job.tree)
+        ready: List[Tuple[bytes, Seen]] = []
+        changed = outside = 0
+        for path, seen, copy in batch:
+            why = files.stays(tree, path, seen) or self._lost(path, copy)
+            outside += why == "OutsideTree"
+            if why is None:
+                ready.append((path, seen))
+            elif why != "OutsideTree":
+                changed += 1
+                say(f"{why}: {shown(path)}")
+        # A row that is left, or a mark, would have the next fax of this name be written over the copy.
+        self._table.forget_deleted([path for path, _ in ready])
+        for path, _ in ready:
+            self._disown(path)
+        gone = 0
+        for path, seen in ready:
+            if files.delete(tree, path, seen):
+                gone += 1
+            else:
+                say(f"Changed: {shown(path)}")
+        return gone, changed + len(ready) - gone, outside
+
+    def _lost(self, path: bytes, copy: Tuple[int, int]) -> Optional[str]:
+        """Whether a copy has gone, or changed, since it was compared."""
+        assert self._target is not None
+        self._target.forget()
+        now = self._target.look(self._job.copy_of(path))
+        return None if now is not None and (now.st_size, now.st_mtime_ns) == copy else "NoCopy"
+
+
+def state_of(table: Table) -> str:
+    """What a table says of itself: its job, its share, and its last run."""
+    job, where, last = table.job() or {}, table.where(), table.last_run()
+    share = job.get("share", [0, 1])
+    part = f", share {share[0]}/{share[1]}" if share[1] > 1 else ""
+    tree = shown(where.get("tree", "?"))
+    if last is None:
+        return f"no run of {job.get('job')} {tree}{part}"
+    began = time.strftime("%Y-%m-%d %H:%M:%S", time.gmtime(last.began))
+    return f"run {last.number}, {last.command} of {tree}{part}, began {began} UTC, {last.told()}"

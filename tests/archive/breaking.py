@@ -1,0 +1,20 @@
+"""Which module of archives is tried, and a copy of it whose workers break."""
+
+import os
+import shutil
+
+HERE = os.path.dirname(os.path.abspath(__file__))
+# Another one where a test plants something in a copy.
+MODULE = os.environ.get("OPERATED", os.path.join(HERE, "..", "..", "python"))
+
+
+def broken_module(folder):
+    """A folder with a copy of the module whose workers break (broken.py)."""
+    made = os.path.join(folder, "broken module")
+    if not os.path.exists(made):
+        shutil.copytree(os.path.join(MODULE, "faxpages"), f"{made}.new/faxpages")
+        shutil.copy(os.path.join(HERE, "broken.py"), f"{made}.new/faxpages/_broken.py")
+        with open(f"{made}.new/faxpages/__init__.py", "a", encoding="utf-8") as module:
+            module.write("\nfrom . import _broken  # noqa\n")
+        os.rename(f"{made}.new", made)
+    return made

@@ -1,0 +1,123 @@
+"""The faxes that the drawn operator puts into its trees: what each is by construction, and what the program says."""
+
+import functools
+import hashlib
+import os
+import re
+import struct
+import subprocess
+import sys
+from typing import FrozenSet, List, NamedTuple, Optional, Tuple
+
+HERE = os.path.dirname(os.path.abspath(__file__))
+sys.path[:0] = [os.path.join(HERE, ".."), os.path.join(HERE, "..", "..", "convert")]
+
+import pages  # noqa: E402
+
+ENTRY = 12
+
+
+class Content(NamedTuple):
+    """The bytes of a fax, and what a converted copy of it lacks, by how it was made."""
+
+    data: bytes
+    lacks: FrozenSet[str] = frozenset()
+
+
+class Verdict(NamedTuple):
+    """What the program says of a fax."""
+
+    status: int
+    fault: Optional[str] = None
+    page: Optional[int] = None
+    row: Optional[int] = None
+    tag: Optional[int] = None
+
+
+def with_field(fax: bytes, tag: int, value: bytes) -> bytes:
+    """A fax of one page with one more field of bytes. Where its directory stood are zeros."""
+    (at,) = struct.unpack_from("<I", fax, 4)
+    (count,) = struct.unpack_from("<H", fax, at)
+    end = at + 2 + ENTRY * count
+    entries = [fax[at + 2 + ENTRY * number:at + 2 + ENTRY * (number + 1)] for number in range(count)]
+    whole = bytearray(fax)
+    whole[at:end + 4] = bytes(end + 4 - at)
+    whole += bytes(len(whole) % 2)
+    place = len(whole)
+    whole += value + bytes(len(value) % 2)
+    entries.append(struct.pack("<HHII", tag, 2, len(value), place))
+    entries.sort(key=lambda entry: struct.unpack_from("<H", entry))
+    whole[4:8] = struct.pack("<I", len(whole))
+    return bytes(whole + struct.pack("<H", count + 1) + b"".join(entries) + bytes(4))
+
+
+def with_value(fax: bytes, tags, value: int) -> bytes:
+    """A fax of one page whose fields of these tags have another value."""
+    whole = bytearray(fax)
+    (at,) = struct.unpack_from("<I", fax, 4)
+    (count,) = struct.unpack_from("<H", fax, at)
+    for number in range(count):
+        (tag,) = struct.unpack_from("<H", fax, at + 2 + ENTRY * number)
+        if tag in tags:
+            struct.pack_into("<I", whole, at + 2 + ENTRY * number + 8, value)
+    return bytes(whole)
+
+
+def drawn(faxpages, seed: int) -> List[Content]:
+    """Some faxes: good ones in each coding, some with what a copy lacks, and damaged ones."""
+    rng = pages.seeded("operator", seed)
+    image = pages.image(40, [pages.draw_row(rng, "noise", 40, number, 0) for number in range(8)])
+    second = pages.image(16, pages.draw_page(rng, "marks", 16))
+    plain = [faxpages.convert(image, to, order) for to, order in (("mh", 1), ("mr", 2), ("mmr", 1))]
+    found = [Content(data) for data in plain]
+    found.append(Content(faxpages.convert(image + second, "mmr")))
+    found.append(Content(faxpages.convert(second, "mh")))
+    found.append(Content(with_value(plain[2], (257, 278), 3), frozenset(["data"])))
+    found.append(Content(with_field(plain[0], 270, b"a description\0"), frozenset(["fields"])))
+    found.append(Content(with_field(plain[1], 34909, b"a sub address\0"), frozenset(["fields"])))
+    found.append(Content(with_field(plain[2], 65000, b"what nobody knows\0"), frozenset(["private"])))
+    found.append(Content(plain[0] + b"\0\0\0\0more of it", frozenset(["bytes"])))
+    found.append(Content(plain[0][:-20]))
+    found.append(Content(with_value(plain[2], (259,), 5)))
+    found.append(Content(b""))
+    found.append(Content(b"no fax at all"))
+    return found
+
+
+class Teller:
+    """What the program and the library say of bytes, each asked once."""
+
+    def __init__(self, faxpages, program: str) -> None:
+        self._faxpages, self._program = faxpages, program
+        self.verdict = functools.lru_cache(maxsize=None)(self._verdict)
+        self.copy = functools.lru_cache(maxsize=4096)(self._copy)
+        self.fields = functools.lru_cache(maxsize=4096)(self._fields)
+
+    def _verdict(self, data: bytes) -> Verdict:
+        ran = subprocess.run([self._program, "check"], input=data, capture_output=True, check=False)
+        if ran.returncode == 0:
+            return Verdict(0)
+        page, row, name, _, tag = re.match(r"fault page (\d+) row (\d+): (\w+)( (\d+))?", ran.stderr.decode()).groups()
+        return Verdict(ran.returncode, name, int(page), int(row), int(tag) if tag else None)
+
+    def _copy(self, data: bytes, words: Tuple[str, ...]) -> bytes:
+        """The copy as the program writes it."""
+        ran = subprocess.run([self._program, "convert", "-o", *words], input=data, capture_output=True, check=True)
+        return ran.stdout
+
+    def _fields(self, data: bytes, name: bytes) -> bytes:
+        """The fields as tiffdump prints them, under a name."""
+        file = os.memfd_create("fields")
+        with os.fdopen(file, "wb") as whole:
+            whole.write(data)
+            whole.flush()
+            path = b"/dev/fd/%d" % file
+            said = subprocess.run([b"tiffdump", b"-m", b"1000000", path], capture_output=True, check=True,
+                                  pass_fds=[file]).stdout
+        return name + said[len(path):]
+
+
+def digest(data: bytes) -> str:
+    return hashlib.sha256(data).hexdigest()[:12]
+
+

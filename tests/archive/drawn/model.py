@@ -1,0 +1,257 @@
+"""What faxpages-archive promises, as a plain model: which faxes there are, what comes of each, what may be written and
+deleted. It looks at folders and at the rows of tables, and knows nothing of how the command does it."""
+
+import contextlib
+import json
+import os
+import sqlite3
+import stat
+from typing import Dict, List, NamedTuple, Optional, Set, Tuple
+
+from contents import Teller, Verdict
+from world import Entry, World
+
+ENDINGS = (b".tif", b".tiff")
+GOOD, FAULTY, NOT_READ = 0, 1, 3
+
+
+class Job(NamedTuple):
+    """A table, and what it is of."""
+
+    table: str
+    to: Tuple[str, ...] = ()
+    follow: bool = False
+    fields: bool = False
+    share: Tuple[int, int] = (0, 1)
+
+    def copy_of(self, path: bytes) -> bytes:
+        return path + (b".pbm" if self.to[0] == "pbm" else b"")
+
+
+class Words(NamedTuple):
+    """The words of one run beside the job."""
+
+    again: Optional[str] = None
+    gone: bool = False
+    delete: bool = False
+    give_up: Tuple[str, ...] = ()
+    adopt: bool = False
+    faults_ok: bool = False
+
+
+class Fax(NamedTuple):
+    """A fax as a run sees it: its bytes, or None where it cannot be opened; its size and times, its mode and owner, and
+    whether it stands in the tree itself."""
+
+    data: Optional[bytes]
+    size: int
+    mtime: float
+    mtime_ns: int
+    mode: int
+    owner: Tuple[int, int]
+    inside: bool
+
+
+class Row(NamedTuple):
+    """A row of a table, and which run wrote it."""
+
+    size: int
+    mtime: float
+    verdict: Verdict
+    lacks: Optional[str]
+    run: int
+
+
+class Stood(NamedTuple):
+    """A copy and its fields as a table knows them: size, time, and bytes."""
+
+    size: int
+    mtime: int
+    data: bytes
+
+
+class Seen(NamedTuple):
+    """A tree as a run sees it."""
+
+    faxes: Dict[bytes, Fax]
+    failed: int
+    into_target: bool
+
+
+def see(world: World, job: Job, other_user: bool) -> Seen:
+    """The faxes of the tree, as root sees them, or as the other user, who owns all, and opens what its owner may."""
+    faxes: Dict[bytes, Fax] = {}
+    failed, into = 0, False
+    target = os.path.realpath(world.target)
+    waiting: List[Tuple[bytes, List[str], bool]] = [(b"", [], True)]
+    while waiting:
+        folder, above, inside = waiting.pop()
+        whole = os.path.join(world.tree, folder)
+        real = os.path.realpath(whole)
+        if job.to and (real + b"/").startswith(target + b"/"):
+            into = True
+            continue
+        if real in above:
+            continue
+        if other_user and os.stat(whole).st_mode & 0o500 != 0o500:
+            failed += 1
+            continue
+        for name in os.listdir(whole):
+            path = os.path.join(folder, name)
+            kind = _kind(os.path.join(world.tree, path), job.follow)
+            if kind == "folder":
+                linked = os.path.islink(os.path.join(world.tree, path))
+                waiting.append((path, above + [real] if job.follow else [], inside and not linked))
+            elif kind == "lost" and not name.lower().endswith(ENDINGS):
+                failed += 1
+            elif kind in ("file", "lost") and name.lower().endswith(ENDINGS):
+                faxes[path] = _fax(os.path.join(world.tree, path), kind, other_user, inside)
+    return Seen(faxes, failed, into)
+
+
+def _kind(path: bytes, follow: bool) -> str:
+    told = os.lstat(path)
+    if stat.S_ISLNK(told.st_mode):
+        if not follow:
+            return "link"
+        try:
+            told = os.stat(path)
+        except OSError:
+            return "lost"
+    return "folder" if stat.S_ISDIR(told.st_mode) else "file" if stat.S_ISREG(told.st_mode) else "pipe"
+
+
+def _fax(path: bytes, kind: str, other_user: bool, inside: bool) -> Fax:
+    told = os.lstat(path) if kind == "lost" else os.stat(path)
+    data = None
+    if kind == "file" and not (other_user and not told.st_mode & 0o400):
+        with open(path, "rb") as file:
+            data = file.read()
+    return Fax(data, told.st_size, told.st_mtime, told.st_mtime_ns,
+               stat.S_IMODE(told.st_mode), (told.st_uid, told.st_gid), inside)
+
+
+def rows_of(table: str) -> Tuple[Dict[bytes, Row], Optional[Tuple[int, str, bool]]]:
+    """The rows of a table by their paths, and its last run: its number, its words, and whether it has finished."""
+    if not os.path.exists(table):
+        return {}, None
+    with contextlib.closing(sqlite3.connect(table)) as base:
+        try:
+            found = base.execute(
+                "SELECT CAST(path AS BLOB), size, mtime, status, fault, fault_page, fault_row, fault_tag, lacks, run "
+                "FROM faxes JOIN times USING (path)").fetchall()
+            last = base.execute("SELECT number, words, ended IS NOT NULL AND NOT unread, ended IS NOT NULL FROM runs "
+                                "ORDER BY number DESC LIMIT 1").fetchone()
+        except sqlite3.OperationalError:
+            return {}, None
+    rows = {row[0]: Row(row[1], row[2], Verdict(*row[3:8]), row[8], row[9]) for row in found}
+    return rows, last
+
+
+def deleted_in(table: str) -> int:
+    """How many faxes a table says were deleted."""
+    if not os.path.exists(table):
+        return 0
+    with contextlib.closing(sqlite3.connect(table)) as base:
+        try:
+            return int(base.execute("SELECT count(*) FROM deleted").fetchone()[0])
+        except sqlite3.OperationalError:
+            return 0
+
+
+def where_in(table: str) -> Optional[bytes]:
+    """Where a table says that its tree stands."""
+    if not os.path.exists(table):
+        return None
+    with contextlib.closing(sqlite3.connect(table)) as base:
+        try:
+            found = base.execute("SELECT value FROM job WHERE name = 'where'").fetchone()
+        except sqlite3.OperationalError:
+            return None
+    return json.loads(found[0])["tree"].encode("utf-8", "surrogateescape") if found else None
+
+
+class Model:
+    """What is known of one episode: what each table wrote and still owns, and the copies as its rows know them."""
+
+    def __init__(self, teller: Teller) -> None:
+        self.teller = teller
+        self.ours: Dict[str, Dict[bytes, bytes]] = {}
+        self.maybe: Dict[str, Set[bytes]] = {}
+        self.stood: Dict[str, Dict[bytes, Stood]] = {}
+
+    def owned(self, job: Job, name: bytes) -> Optional[bytes]:
+        return self.ours.setdefault(job.table, {}).get(name)
+
+    def wanted(self, world: World, job: Job, path: bytes, fax: Fax) -> Dict[bytes, bytes]:
+        """What is to stand below the target for a good fax, by its names."""
+        assert fax.data is not None
+        name = job.copy_of(path)
+        found = {name: self.teller.copy(fax.data, job.to)}
+        if job.fields:
+            found[name + b".fields"] = self.teller.fields(fax.data, os.path.join(world.tree, path))
+        return found
+
+    def may_replace(self, job: Job, name: bytes, there: Optional[Entry], wanted: bytes) -> bool:
+        """Whether what stands in a place may be replaced."""
+        if there is None:
+            return True
+        if there.kind != "file":
+            return False
+        owned = self.owned(job, name)
+        return owned is not None and (there.data == owned or (
+            len(there.data) < len(wanted) and wanted.startswith(there.data)))
+
+    def stands(self, job: Job, name: bytes, target: Dict[bytes, Entry]) -> bool:
+        """Whether a copy has the size and the time that its row knows."""
+        known, there = self.stood.setdefault(job.table, {}).get(name), target.get(name)
+        return known is not None and there is not None and there.kind == "file" and (
+            (len(there.data), there.mtime) == (known.size, known.mtime))
+
+    def is_due(self, world: World, job: Job, words: Words, path: bytes, fax: Fax, row: Optional[Row], number: int,
+               target: Dict[bytes, Entry]) -> bool:
+        """Whether a fax is done by a run of this number."""
+        if row is None or (row.size, row.mtime) != (fax.size, fax.mtime):
+            return True
+        least = {None: 3, "unread": 3, "faulty": 1, "copies": 0, "all": 0}[words.again]
+        asked = row.verdict.status >= least and not (words.again == "copies" and row.verdict.status == FAULTY)
+        if asked and row.run != number:
+            return True
+        if not job.to or row.verdict.status != GOOD:
+            return False
+        name = job.copy_of(path)
+        return not self.stands(job, name, target) or (
+            job.fields and not self.stands(job, name + b".fields", target))
+
+    def outcome(self, world: World, job: Job, path: bytes, fax: Fax, target: Dict[bytes, Entry]) -> Verdict:
+        """What comes of a fax that is done."""
+        if fax.data is None:
+            return Verdict(NOT_READ, "Open")
+        verdict = self.teller.verdict(fax.data)
+        if verdict.status or not job.to:
+            return verdict
+        folder = os.path.dirname(path)
+        while folder:
+            if folder in target and target[folder].kind != "folder":
+                return Verdict(NOT_READ, "Write")
+            folder = os.path.dirname(folder)
+        for name, wanted in self.wanted(world, job, path, fax).items():
+            there = target.get(name)
+            same = there is not None and there.kind == "file" and there.data == wanted
+            if not same and not self.may_replace(job, name, there, wanted):
+                return Verdict(NOT_READ, "Exists")
+        return verdict
+
+    def is_proven(self, job: Job, words: Words, path: bytes, fax: Fax, row: Optional[Row],
+                  target: Dict[bytes, Entry]) -> bool:
+        """Whether a copy is as it was written, so that it is left as it stands."""
+        if row is None or (row.size, row.mtime, row.verdict.status) != (
+                fax.size, fax.mtime, GOOD) or words.again == "all":
+            return False
+        names = [job.copy_of(path)] + ([job.copy_of(path) + b".fields"] if job.fields else [])
+        return all(self._is_as_written(job, name, target) for name in names)
+
+    def _is_as_written(self, job: Job, name: bytes, target: Dict[bytes, Entry]) -> bool:
+        there = target.get(name)
+        return there is not None and there.kind == "file" and there.data == self.owned(job, name) and (
+            name in self.stood.setdefault(job.table, {}))
