@@ -1,0 +1,285 @@
+# mypy: disable-error-code="import,attr-defined"
+# pyright: reportMissingImports=false
+"""A fax as a PDF, for the filter faxtopdf of CUPS: MMR data on pages of their true size. Only share/cups/faxtopdf
+imports this: it needs pikepdf."""
+
+from __future__ import annotations
+
+import os
+import re
+import shutil
+import sys
+import tempfile
+from fractions import Fraction
+from typing import IO, Any, Iterator, List, NamedTuple, Sequence, Tuple, Union
+
+import pikepdf
+
+from ._cups import Job, Other, Refused, say, seconds_of, within
+from ._cursor import Cursor
+from ._fax import Fax, Page
+from ._raster import Raster
+from ._report import check
+from ._writing import encode_strip
+from .faults import Fault, OutsideError
+
+# The most seconds, pages, and pels of a page and of all.
+SECONDS, PAGES, PELS, ALL_PELS = 120, 5000, 100_000_000, 40_000_000_000
+# What a fax is drawn with where its fields say nothing that can be, and the least and most that they may say.
+_DPI, _LEAST_DPI, _MOST_DPI = (204.0, 196.0), 20.0, 3000.0
+# The largest side of a page of PDF, the height of a line of text, and the width of a letter at most, in points.
+_SIDE, _LINE, _LETTER = 14400.0, 14.0, 5.0
+# How many lines a page has about what it lacks, before the rest is counted.
+_LINES = 6
+# Fields by which a TIFF file is another picture, and no fax: BitsPerSample, Compression, SamplesPerPixel.
+_NO_FAX = (258, 259, 277)
+# Options that pdftopdf sees to, after a filter that would too.
+_LATER = ("page-ranges", "page-set", "number-up", "number-up-layout", "page-border", "outputorder", "mirror", "collate",
+          "multiple-document-handling", "orientation-requested", "landscape", "sides")
+
+
+class Lost(NamedTuple):
+    """Rows that cannot be read, from one to another, and the fault."""
+
+    first: int
+    last: int
+    name: str
+
+
+class Sheet(NamedTuple):
+    """A page as it is printed: its pels, of which there are none if its form cannot be read, and what it lacks."""
+
+    raster: Raster
+    lost: List[Lost]
+    lines: List[str]
+
+
+def is_other(data: bytes) -> bool:
+    """Whether a TIFF file is another picture than a fax, by the fields of its first page."""
+    try:
+        Fax(data).page(0)
+    except Fault as fault:
+        return fault.name == "Unsupported" and fault.tag in _NO_FAX
+    return False
+
+
+def sheets(data: bytes, salvage: bool) -> Iterator[Sheet]:
+    """The pages of a fax. Refuses one that has a fault, unless it is to be salvaged."""
+    fax = Fax(data)
+    bound(fax)
+    if not salvage:
+        fault = check(data).fault
+        if fault:
+            raise Refused(f"fault {fault}: the fax is damaged, and not printed; with -o faxpages=salvage what can be "
+                          "read of it is printed")
+    for page in forms(fax):
+        yield Sheet(page.raster(), [], []) if not salvage else salvaged(page)
+
+
+def forms(fax: Fax) -> Iterator[Union[Page, Any]]:
+    """The pages in order, and the fault of each whose form cannot be read; after the chain of pages breaks, no more."""
+    number = 0
+    while True:
+        try:
+            yield fax.page(number)
+        except OutsideError:
+            return
+        except Fault as fault:
+            if fault.page < number:
+                return
+            yield fault
+        number += 1
+
+
+def bound(fax: Fax) -> None:
+    """Refuses a fax of too many pages or pels."""
+    pels = 0
+    for number, page in enumerate(forms(fax)):
+        if number == PAGES:
+            raise Refused(f"it has more than {PAGES} pages")
+        if isinstance(page, Fault):
+            continue
+        pels += page.width * page.rows
+        if page.width * page.rows > PELS:
+            raise Refused(f"page {number} has more than {PELS} pels")
+        if pels > ALL_PELS:
+            raise Refused(f"its pages have more than {ALL_PELS} pels")
+
+
+def salvaged(page: Union[Page, Fault]) -> Sheet:
+    """What can be read of a page, with lines that say what cannot."""
+    if isinstance(page, Fault):
+        blank = Raster(1728, 1143, bytes(216 * 1143), y=Fraction(98))
+        where = f"page {page.page}" if page.row == 0 else f"page {page.page} row {page.row}"
+        return Sheet(blank, [Lost(0, blank.rows - 1, page.name)], [f"{where} is missing: {page.name}"])
+    packed, lost = bytearray(page.rows * ((page.width + 7) // 8)), []
+    at = 0
+    while at < page.rows:
+        end, fault = readable(page, at, packed)
+        at = end
+        if fault:
+            at = min(page.rows, (end // page.rows_per_strip + 1) * page.rows_per_strip)
+            lost.append(Lost(end, at - 1, fault.name))
+    raster = Raster(page.width, page.rows, bytes(packed), page.x or Fraction(1), page.y or Fraction(1), page.unit)
+    lines = [f"page {page.number} rows {it.first} to {it.last} are missing: {it.name}" for it in lost]
+    return Sheet(raster, lost, lines)
+
+
+def readable(page: Page, at: int, packed: bytearray) -> Tuple[int, Union[Fault, None]]:
+    """Puts the rows of a page, from one on up to a fault, where they belong; and tells how far it came, and the
+    fault."""
+    stride = (page.width + 7) // 8
+    while at < page.rows:
+        try:
+            rows, _ = page.fax.read_rows(Cursor(page.number, at), page.rows - at)
+        except Fault as fault:
+            return at, fault
+        for row in rows:
+            packed[row.number * stride:(row.number + 1) * stride] = row.packed
+        at = rows[-1].number + 1
+    return at, None
+
+
+def dpi_of(raster: Raster) -> Tuple[float, float]:
+    """The pels and rows in an inch with which a page is drawn: its own, if they can be, or else 204 across."""
+    across, down = raster.dpi or (_DPI[0], _DPI[0] * float(raster.y / raster.x))
+    if not all(_LEAST_DPI <= number <= _MOST_DPI for number in (across, down)):
+        return _DPI
+    return across, down
+
+
+def size_of(raster: Raster) -> Tuple[float, float]:
+    """The size of a page in points: its true one, but for a page that PDF has no room for, which is made smaller."""
+    across, down = dpi_of(raster)
+    width, height = 72 * raster.width / across, 72 * raster.rows / down
+    factor = min(1.0, (_SIDE - _LINE * (_LINES + 2)) / max(width, height))
+    return max(3.0, width * factor), max(3.0, height * factor)
+
+
+def lines_of(sheet: Sheet) -> List[str]:
+    """The lines of a page about what it lacks."""
+    lines = sheet.lines[:_LINES]
+    if len(sheet.lines) > _LINES:
+        lines.append(f"and {len(sheet.lines) - _LINES} more stretches of rows are missing")
+    return [f"faxpages: {line} (numbered from 0)" for line in lines]
+
+
+def content_of(sheet: Sheet, width: float, height: float) -> bytes:
+    """What is drawn on a page: its image, grey over the rows that it lacks, and the lines below it."""
+    lines = lines_of(sheet)
+    foot = _LINE * len(lines)
+    drawn = [f"q {width:.4f} 0 0 {height:.4f} 0 {foot:.4f} cm /I Do Q"]
+    for lost in sheet.lost:
+        top, rows = height * (1 - lost.first / sheet.raster.rows), lost.last - lost.first + 1
+        drawn.append(f"q 0.75 g 0 {foot + top - height * rows / sheet.raster.rows:.4f} {width:.4f} "
+                     f"{height * rows / sheet.raster.rows:.4f} re f Q")
+    for number, line in enumerate(lines, 1):
+        text = re.sub(r"([\\()])", r"\\\1", line)
+        drawn.append(f"BT /F 9 Tf 9 {foot - _LINE * number + 4:.4f} Td ({text}) Tj ET")
+    return "\n".join(drawn).encode("ascii", "replace")
+
+
+def add_page(pdf: Any, font: Any, sheet: Sheet) -> None:
+    """Adds a page to a PDF; its rows are MMR data."""
+    name, dictionary, raster = pikepdf.Name, pikepdf.Dictionary, sheet.raster
+    width, height = size_of(raster)
+    lines = lines_of(sheet)
+    box = [0, 0, round(max([width] + [_LETTER * len(line) + 18 for line in lines]), 4),
+           round(height + _LINE * len(lines), 4)]
+    image = pikepdf.Stream(
+        pdf, encode_strip(raster, "mmr"), Type=name.XObject, Subtype=name.Image, Width=raster.width,
+        Height=raster.rows, ColorSpace=name.DeviceGray, BitsPerComponent=1, Filter=name.CCITTFaxDecode,
+        DecodeParms=dictionary(K=-1, Columns=raster.width, Rows=raster.rows))
+    content = pikepdf.Stream(pdf, content_of(sheet, width, height))
+    pdf.pages.append(pikepdf.Page(dictionary(
+        Type=name.Page, MediaBox=box, Contents=content,
+        Resources=dictionary(XObject=dictionary(I=image), Font=dictionary(F=font)))))
+
+
+def write_pdf(data: bytes, file: IO[bytes], salvage: bool) -> None:
+    """Writes a PDF of a fax. What is lost is told in a line, too."""
+    pdf, read = pikepdf.new(), 0
+    font = pdf.make_indirect(pikepdf.Dictionary(
+        Type=pikepdf.Name.Font, Subtype=pikepdf.Name.Type1, BaseFont=pikepdf.Name.Helvetica))
+    for sheet in sheets(data, salvage):
+        read += sheet.raster.rows - sum(lost.last - lost.first + 1 for lost in sheet.lost)
+        for line in sheet.lines[:_LINES]:
+            say("WARNING", line)
+        add_page(pdf, font, sheet)
+    if read == 0:
+        raise Refused("no row of the fax can be read")
+    pdf.save(file, compress_streams=False)
+    file.flush()
+
+
+def hand_on(job: Job, file: IO[bytes]) -> None:
+    """Has the filter of cups-filters print a TIFF file that is no fax; pdftopdf sees to the rest after it."""
+    left = [f"{name}={quoted(value)}" for name, value in job.options.items() if is_named() or name not in _LATER]
+    become("imagetopdf", file, job, job.copies if is_named() else "1", " ".join(left))
+
+
+def is_named() -> bool:
+    """Whether the client named the format: then no pdftopdf comes after this filter."""
+    return os.environ.get("CONTENT_TYPE") == "image/tiff"
+
+
+def become(name: str, file: IO[bytes], job: Job, copies: str, options: str) -> None:
+    """Runs a filter of CUPS over a file, in place of this one."""
+    path = os.path.join(os.environ.get("CUPS_SERVERBIN", "/usr/lib/cups"), "filter", name)
+    if not os.access(path, os.X_OK):
+        raise Refused(f"there is no {path}, which is needed for this file")
+    file.flush()
+    file.seek(0)
+    os.dup2(file.fileno(), 0)
+    sys.stderr.flush()
+    os.execv(path, [path, job.number, job.user, job.title, copies, options])
+
+
+def quoted(value: str) -> str:
+    """A value as a text of options has it."""
+    return re.sub(r"([\\'\"\s{}])", r"\\\1", value)
+
+
+def work(job: Job, file: IO[bytes], salvage: bool) -> None:
+    """Writes a job's fax as a PDF; or a picture that is no fax, as it is."""
+    data = job.read()
+    if is_other(data):
+        file.write(data)
+        file.flush()
+        raise Other("it is another picture than a fax")
+    write_pdf(data, file, salvage)
+
+
+def main(words: Sequence[str]) -> int:
+    """The filter: all of a PDF on the standard output, or nothing."""
+    try:
+        job = Job.of(words)
+        salvage = salvage_of(job)
+        with tempfile.TemporaryFile() as file:
+            try:
+                within(seconds_of(SECONDS), lambda: work(job, file, salvage))
+            except Other:
+                hand_on(job, file)
+            if is_named():
+                become("pdftopdf", file, job, job.copies, words[5])
+            file.seek(0)
+            shutil.copyfileobj(file, sys.stdout.buffer)
+            sys.stdout.buffer.flush()
+    except Refused as refused:
+        say("ERROR", str(refused))
+        return 1
+    except BrokenPipeError:
+        os.dup2(os.open(os.devnull, os.O_WRONLY), sys.stdout.fileno())
+        return 1
+    except OSError as error:
+        say("ERROR", error.strerror or str(error))
+        return 1
+    return 0
+
+
+def salvage_of(job: Job) -> bool:
+    """Whether a damaged fax is to be salvaged."""
+    how = job.options.get("faxpages", "whole")
+    if how not in ("salvage", "whole"):
+        raise Refused("faxpages is salvage or whole")
+    return how == "salvage"

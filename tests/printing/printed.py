@@ -1,0 +1,290 @@
+"""Faxes that are printed: what the printers receive is what `convert` writes of the faxes, and of damaged ones
+nothing, or with faxpages=salvage what can be read of them."""
+
+import collections
+import os
+import re
+import shutil
+import subprocess
+
+import made
+import server
+
+SAMPLES = f"{server.TOP}/samples"
+# A page of this paper is larger than a fax, and the difference is even in pels: nothing is scaled, and no pel is cut.
+PAPER = ["-o", "media=na_legal_8.5x14in", "-o", "print-scaling=none"]
+# A line about what is lost.
+LINE = re.compile(r"faxpages: (page .*?) (?:is|are) missing: (\w+(?: \d+)?) \(numbered from 0\)")
+PAPER_SIZE = (1734, {196: 2744, 98: 1372})
+
+
+def sent(room, jobs):
+    """Prints files, each with its title and options, on the printers in turn; and tells by title what came of each."""
+    numbers = {}
+    for number, (title, words, path) in enumerate(jobs):
+        numbers[title] = room.server.print(f"printer{number % len(room.printers)}", "-t", title, *words, path)
+    told = dict(zip(numbers, room.server.ended(*numbers.values())))
+    return told, received(room)
+
+
+def received(room):
+    """What the printers have kept, by the titles."""
+    found = {}
+    for printer in room.printers:
+        for path in printer.received():
+            found[os.path.basename(path).split("-", 1)[1].rsplit(".", 1)[0]] = path
+    return found
+
+
+def cut_out(paper, rows, width, count):
+    """So many rows of this width in the middle of a page of paper."""
+    left, top, size = (paper - width) // 2, (len(rows) - count) // 2, (width + 7) // 8
+    pels = [(int.from_bytes(row, "big") >> 8 * len(row) - left - width) & (1 << width) - 1 for row in rows]
+    return [(row << 8 * size - width).to_bytes(size, "big") for row in pels[top : top + count]]
+
+
+def rasterised(path, lines):
+    """The pages of a PDF, drawn by Ghostscript."""
+    drawn = subprocess.run(
+        ["gs", "-q", "-dNOPAUSE", "-dBATCH", "-dSAFER", "-sDEVICE=pbmraw", f"-r204x{lines}", "-o", "-", path],
+        capture_output=True, check=True, timeout=server.PATIENCE)  # fmt: skip
+    return made.pictures_of(drawn.stdout)
+
+
+def whole(room):
+    """Samples and faxes of other programs, of which all pels come to the printer, and the ink where it belongs."""
+    faxes = made.others(room.folder + "/made")
+    samples = [f"{SAMPLES}/{name}" for name in sorted(os.listdir(SAMPLES)) if name.endswith(".tif")]
+    good = [it for it in samples if room.run(room.program, "check", it)[0] == 0] + faxes
+    room.claim("faxes of other programs", len(faxes), 20)
+    jobs = [(re.sub(r"\W", "_", os.path.basename(it)), PAPER, it) for it in good]
+    told, got = sent(room, jobs)
+    for title, _, path in jobs:
+        wanted = room.pages(path)
+        room.claim(f"{title}: printed", told[title].state, "completed")
+        room.claim(f"{title}: pels", title in got and room.images(got[title]) == wanted)
+        if path in faxes and title in got:
+            lines = 98 if "-98-" in path else 196
+            pages = rasterised(got[title], lines)
+            room.claim(f"{title}: paper", {(w, len(r)) for w, r in pages}, {(PAPER_SIZE[0], PAPER_SIZE[1][lines])})
+            drawn = [cut_out(*page, width, len(rows)) for page, (width, rows) in zip(pages, wanted)]
+            room.claim(f"{title}: row by row", drawn == [rows for _, rows in wanted])
+    return faxes
+
+
+def as_they_are(room):
+    """MMR data that `check` has no note on are in the PDF as they are in the fax."""
+    path = room.made("gs-tiffg4-196-3.tif")
+    mmr = room.made("as-it-is.tif")
+    with open(mmr, "wb") as file:
+        file.write(room.run(room.program, "convert", "-o", "mmr", path)[1])
+    status, pdf, said = room.run(
+        f"{room.server.folder}/bin/filter/faxtopdf", "1", "user", "title", "1", "", mmr, env=environment(room))
+    room.claim("the filter by hand", (status, said), (0, ""))
+    with open(room.made("as-it-is.pdf"), "wb") as file:
+        file.write(pdf)
+    made.run(room.folder + "/made", "pdfimages", "-ccitt", "as-it-is.pdf", "as-it-is")
+    with open(mmr, "rb") as file:
+        data = file.read()
+    strips = [open(room.made(f"as-it-is-{page:03}.ccitt"), "rb").read() for page in range(3)]
+    room.claim("MMR data as they are", [strip in data and len(strip) > 1000 for strip in strips], [True] * 3)
+
+
+def environment(room):
+    """What the filter has in its environment, when it is called by hand."""
+    module = f"{room.server.folder}/module"
+    return {"PATH": "/usr/bin:/bin", "FAXPAGES_MODULE": module, "FAXPAGES_LIBRARY": f"{module}/libfaxpages.so.1",
+            "CUPS_SERVERBIN": f"{room.server.folder}/bin"}  # fmt: skip
+
+
+def damaged(room, faxes):
+    """Damaged faxes stop with the fault, and nothing is printed; with salvage what can be read is."""
+    spoiled = [made.damaged(path, room.program, number) for number, path in enumerate(faxes)]
+    spoiled += [(f"{SAMPLES}/{name}.tif", fault) for name, fault in
+                (("damaged-fourth-page", "fault page 3 row 5: OutOfRow"),
+                 ("three-pages", "fault page 2 row 1: DataEnds"))]  # fmt: skip
+    jobs = [(re.sub(r"\W", "_", os.path.basename(path)), [], path) for path, _ in spoiled]
+    before = set(received(room))
+    told, got = sent(room, jobs)
+    log = room.server.get("log/error").decode(errors="replace")
+    for (title, _, _), (_, fault) in zip(jobs, spoiled):
+        room.claim(f"{title}: it stops", told[title].state, "processing-stopped")
+        is_told = told[title].message.startswith(f"{fault}: the fax is damaged")
+        room.claim(f"{title}: its message: {told[title].message}", is_told)
+        room.claim(f"{title}: its line in the log", f"] {fault}: the fax is damaged" in log)
+    room.claim("nothing damaged is printed", set(got) - before, set())
+    salvaged(room, spoiled)
+
+
+def salvaged(room, spoiled):
+    """With salvage a line says what each page lacks, and no row is another than the program prints."""
+    jobs = [(f"salvaged_{number}", ["-o", "faxpages=salvage"], fax) for number, (fax, _) in enumerate(spoiled)]
+    told, got = sent(room, jobs)
+    for number, (title, _, fax) in enumerate(jobs):
+        name = f"{title} {os.path.basename(fax)}"
+        if title not in got:
+            room.claim(f"{name}: nothing can be read", told[title].message, "no row of the fax can be read")
+            continue
+        room.claim(f"{name}: printed", told[title].state, "completed")
+        said = room.run("pdftotext", "-layout", got[title], "-")[1].decode()
+        lost = [f"{where}: {why}" for where, why in LINE.findall(said)]
+        room.claim(f"{name}: lines", bool(lost) and fault_of(lost[0]), told_fault(spoiled[number][1]))
+        room.claim(f"{name}: rows", readable_rows(room, fax, got[title], lost))
+        if number % 5 == 0:
+            room.claim(f"{name}: as faxpages-salvage has it", lost, as_salvage_has_it(room, fax)[: len(lost)])
+
+
+def fault_of(line):
+    """The page, the first row and the name of a line about what is lost."""
+    page, row, name = re.match(r"page (\d+)(?: rows? (\d+))?.*?: (.*)", line).groups()
+    return int(page), int(row or 0), name
+
+
+def told_fault(fault):
+    """The same of the program's line."""
+    page, row, name = re.match(r"fault page (\d+) row (\d+): (.*)", fault).groups()
+    return int(page), int(row), name
+
+
+def as_salvage_has_it(room, fax):
+    """The lines of faxpages-salvage."""
+    path = f"{server.TOP}/share/recipes:{os.path.dirname(room.program)}:{os.environ['PATH']}"
+    shutil.rmtree(room.made("lost"), ignore_errors=True)
+    room.run("faxpages-salvage", fax, room.made("lost"), env={**os.environ, "PATH": path})
+    with open(room.made("lost/lost.txt")) as file:
+        return [line.strip() for line in file if " is not in pages.tif" not in line]
+
+
+def readable_rows(room, fax, path, lost):
+    """Whether each row before, between and after what is lost is the program's, and what is lost has no ink, and
+    cannot be read."""
+    gone = collections.defaultdict(list)
+    for line in lost:
+        page, first, last = re.match(r"page (\d+)(?: rows (\d+) to (\d+))?", line).groups()
+        gone[int(page)].append((int(first), int(last)) if first else None)
+    for page, (width, rows) in enumerate(room.images(path)):
+        if None in gone[page]:
+            continue
+        at = 0
+        for first, last in [*gone[page], (len(rows), len(rows))]:
+            if any(map(any, rows[first : last + 1])):
+                return f"page {page}: there is ink in rows {first} to {last}"
+            read = rows_from(room, fax, page, at, first - at) if first > at else []
+            if read != [(at + number, runs_of(width, row)) for number, row in enumerate(rows[at:first])]:
+                return f"page {page}: rows {at} to {first - 1} are others"
+            if first < len(rows) and rows_from(room, fax, page, first, 1):
+                return f"page {page} row {first} can be read"
+            at = last + 1
+    return True
+
+
+def rows_from(room, fax, page, row, count):
+    """The rows that the program prints from there on: their numbers and their runs."""
+    told = room.run(room.program, "rows", "--cursor", f"1:{page}:{row}", "--max", str(count), fax)[1].decode()
+    lines = [[int(it) for it in line.split()[1:]] for line in told.splitlines() if line.startswith("row ")]
+    return [(number, runs) for _, number, *runs in lines]
+
+
+def runs_of(width, row):
+    """The runs of a row, white first."""
+    pels = bin(int.from_bytes(row, "big") | 1 << 8 * len(row))[3 : 3 + width]
+    runs = [len(run) for run in re.findall(r"0+|1+", pels)]
+    return runs if pels[0] == "0" else [0, *runs]
+
+
+def grey(room):
+    """What is lost is grey on paper, and only that, and the page has its line below."""
+    path, fault = made.damaged(room.made("gs-tiffg4-196-1.tif"), room.program, 5)
+    row = int(re.search(r"row (\d+)", fault).group(1))
+    told, got = sent(room, [("grey", ["-o", "faxpages=salvage", *PAPER], path)])
+    drawn = subprocess.run(
+        ["gs", "-q", "-dNOPAUSE", "-dBATCH", "-dSAFER", "-sDEVICE=pgmraw", "-r36", "-o", "-", got["grey"]],
+        capture_output=True, check=True, timeout=server.PATIENCE).stdout  # fmt: skip
+    width, height = map(int, re.search(rb"\n(\d+) (\d+)\n255\n", drawn).groups())
+    column = [drawn[len(drawn) - width * height + width * line + 8] for line in range(height)]
+    shades = [line for line, shade in enumerate(column) if 180 < shade < 200]
+    # The page and its line stand in the middle of the paper.
+    top = (1008 - 2292 * 72 / 196 - 14) / 2 / 2
+    room.claim("grey: from where", abs(shades[0] - (top + row * 36 / 196)) <= 1.5)
+    room.claim("grey: to where", abs(shades[-1] - (top + 2292 * 36 / 196)) <= 1.5)
+    room.claim("grey: all between", len(shades), shades[-1] - shades[0] + 1)
+
+
+def asked_for(room):
+    """Pages, copies, paper, turned and fitted pages."""
+    fax = room.made("gs-tiffg4-196-3.tif")
+    pages = room.pages(fax)
+    told, got = sent(room, [
+        ("ranges", ["-o", "page-ranges=2-3"], fax), ("copies", ["-n", "2"], fax), ("a4", ["-o", "media=A4"], fax),
+        ("standard", ["-o", "media=A4", "-o", "fit-to-page"], room.made("gs-tiffg3-98-1.tif")),
+        ("landscape", ["-o", "media=A4", "-o", "landscape"], fax), ("two", ["-o", "number-up=2"], fax)])  # fmt: skip
+    room.claim("options: printed", {it.state for it in told.values()}, {"completed"})
+    room.claim("page-ranges", room.images(got["ranges"]) == pages[1:])
+    room.claim("copies", room.images(got["copies"]) in (pages, 2 * pages))
+    for title, sizes in (("a4", (595.276, 841.89)), ("landscape", (841.89, 595.276)), ("ranges", (612, 792))):
+        told = room.run("pdfinfo", got[title])[1].decode()
+        size = tuple(float(it) for it in re.search(r"Page size: +([0-9.]+) x ([0-9.]+)", told).groups())
+        room.claim(f"{title}: paper", size in (sizes, sizes[::-1]))
+    for title, ratio in (("a4", 204 / 196), ("standard", 204 / 98), ("two", 204 / 196)):
+        across, down = listed(room, got[title])
+        room.claim(f"{title}: proportions {across} by {down}", abs(across / down / ratio - 1) < 0.015)
+    room.claim("two on a page", int(re.search(rb"Pages: +(\d+)", room.run("pdfinfo", got["two"])[1]).group(1)), 2)
+
+
+def listed(room, path):
+    """The pels to the inch of the first image."""
+    line = room.run("pdfimages", "-list", path)[1].decode().splitlines()[2].split()
+    return int(line[12]), int(line[13])
+
+
+def what_it_is(room):
+    """A fax is one by what it is; another picture goes to imagetopdf; a fax whose format is named is checked too."""
+    shutil.copy(room.made("gs-tiffg4-196-1.tif"), room.made("fax.txt"))
+    spoiled, fault = made.damaged(room.made("gs-tiffg4-196-1.tif"), room.program, 3)
+    shutil.copy(spoiled, room.made("spoiled.jpg"))
+    with open(room.made("text.tif"), "w") as file:
+        file.write("no fax, but text\n" * 30)
+    with open(room.made("picture.tif"), "wb") as file:
+        subprocess.run("pbmmake 60 40 | ppmchange white red | pnmtotiff", shell=True, check=True, stdout=file,
+                       stderr=subprocess.DEVNULL)  # fmt: skip
+    named = ["-o", "document-format=image/tiff"]
+    told, got = sent(room, [
+        ("text", [], room.made("fax.txt")), ("spoiled", [], room.made("spoiled.jpg")),
+        ("other", [], room.made("text.tif")), ("picture", [], room.made("picture.tif")),
+        ("named_picture", named, room.made("picture.tif")),
+        ("named", [*named, "-o", "page-ranges=2-3"], room.made("gs-tiffg4-196-3.tif")),
+        ("named_spoiled", named, spoiled), ("no_word", ["-o", "faxpages=some"], room.made("fax.txt"))])  # fmt: skip
+    room.claim("fax.txt", room.images(got["text"]) == room.pages(room.made("fax.txt")))
+    room.claim("spoiled.jpg", told["spoiled"].message.startswith(fault))
+    room.claim("text.tif", told["other"].message.startswith("fault page 0 row 0: ByteOrder"))
+    for title in ("picture", "named_picture"):
+        room.claim(f"{title}: printed", (told[title].state, title in got), ("completed", True))
+        image = room.run("pdfimages", "-list", got[title])[1].decode().splitlines()[2].split()
+        room.claim(f"{title}: its image", image[3:5], ["60", "40"])
+    room.claim("named image/tiff", room.images(got["named"]) == room.pages(room.made("gs-tiffg4-196-3.tif"))[1:])
+    room.claim("named image/tiff, damaged", told["named_spoiled"].message.startswith(fault))
+    room.claim("another word", told["no_word"].message, "faxpages is salvage or whole")
+
+
+def as_raster(room):
+    """A printer that takes raster alone gets pages of a fax, and none of a damaged one, whether its format is named."""
+    spoiled, fault = made.damaged(room.made("gs-tiffg4-98-1.tif"), room.program, 4)
+    named = ["-o", "document-format=image/tiff"]
+    jobs = [room.server.print("raster", "-t", title, *words, path) for title, words, path in (
+        ("good", [], room.made("gs-tiffg3-98-2.tif")), ("bad", [], spoiled), ("named_bad", named, spoiled))]  # fmt: skip
+    good, bad, named_bad = room.server.ended(*jobs)
+    room.claim("raster: printed", good.state, "completed")
+    room.claim("raster: damaged", [it.message.startswith(fault) for it in (bad, named_bad)], [True, True])
+    # Four bytes begin PWG raster, and each page has more than 1796.
+    sizes = [os.path.getsize(path) for path in room.for_raster.received()]
+    room.claim(f"raster: pages {sizes}", (sizes[0] > 10000, [size > 4 for size in sizes[1:]]), (True, [False, False]))
+
+
+def play(room):
+    faxes = whole(room)
+    as_they_are(room)
+    damaged(room, faxes)
+    grey(room)
+    asked_for(room)
+    what_it_is(room)
+    as_raster(room)

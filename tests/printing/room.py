@@ -1,0 +1,83 @@
+"""What each part of this test has: the servers, the program, and claims that are counted."""
+
+import os
+import shutil
+import subprocess
+
+import made
+import server
+
+
+class Room:
+    def __init__(self, folder, program, library):
+        self.folder, self.program, self.library = folder, program, library
+        self.counts = {True: 0, False: 0}
+        os.makedirs(f"{folder}/made")
+        self.server = self.bus = None
+        self.printers = []
+        self.for_raster = None
+
+    def start(self, queues):
+        """Starts cupsd, and so many printers with a queue for each, one for faxes too."""
+        self.server = server.Server(f"{self.folder}/cups", self.program, self.library)
+        self.server.start()
+        self.bus = server.Bus(self.folder)
+        for number in range(queues):
+            self.printers.append(server.Printer(self.folder, f"printer{number}", self.bus))
+            self.server.do("lpadmin", "-p", f"printer{number}", "-E", "-v", self.printers[-1].uri, "-m", "everywhere")
+        for number in range(queues):
+            told = f'Printer "printer{number}" is now available'.encode()
+            server.wait_for(lambda: told in self.server.get("log/error"))
+        # One that takes raster alone.
+        self.for_raster = server.Printer(self.folder, "raster", self.bus, "image/pwg-raster")
+        self.server.do("lpadmin", "-p", "raster", "-E", "-v", self.for_raster.uri, "-m", "everywhere")
+        server.wait_for(lambda: b'Printer "raster" is now available' in self.server.get("log/error"))
+        self.spool = self.new_spool("faxes")
+        self.fax_queue("Fax", self.spool)
+
+    def fax_queue(self, name, folder, more=""):
+        self.server.do(
+            "lpadmin", "-p", name, "-E", "-v", f"faxpages:{folder}{more}", "-P", f"{server.TOP}/share/cups/fax.ppd"
+        )
+
+    def new_spool(self, name):
+        """A folder for faxes, into which the backend may write."""
+        path = f"{self.folder}/cups/{name}"
+        os.mkdir(path)
+        os.chown(path, self.server.user.pw_uid, self.server.user.pw_gid)
+        os.chmod(path, 0o2770)
+        return path
+
+    def stop(self):
+        for it in [self.server, *self.printers, self.for_raster, self.bus]:
+            if it:
+                it.stop()
+
+    def claim(self, name, got, wanted=True):
+        self.counts[got == wanted] += 1
+        if got != wanted:
+            print(f"FAILED: {name}: {str(got)[:400]}, wanted {str(wanted)[:400]}".encode(errors="replace").decode())
+
+    def made(self, name):
+        return f"{self.folder}/made/{name}"
+
+    def run(self, *words, **more):
+        """Runs a program: its status, its output and what it says."""
+        ran = subprocess.run(words, capture_output=True, timeout=server.PATIENCE, **more)
+        return ran.returncode, ran.stdout, ran.stderr.decode(errors="replace")
+
+    def received(self):
+        """What the printers have, by the number of its job and queue, as the title begins with these."""
+        return {os.path.basename(it).split("-", 1)[1]: it for printer in self.printers for it in printer.received()}
+
+    def pages(self, path):
+        return made.pages_of(self.program, path)
+
+    def images(self, path):
+        return made.images_of(self.folder, path)
+
+
+def lacks(names):
+    """Which of these programs are not here."""
+    path = f"{os.environ['PATH']}:/usr/sbin:/sbin"
+    return [name for name in names if not shutil.which(name, path=path)]

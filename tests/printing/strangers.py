@@ -1,0 +1,184 @@
+"""What strangers send: words that a shell or CUPS could take for their own, files that are made to take long, and
+folders that are not as they should be. The filter and the backend run as the user lp, with few rights."""
+
+import os
+import struct
+import subprocess
+import uuid
+
+import made
+import server
+
+TITLE = "x\nATTR: job-state=9\nERROR: owned; $(touch {0}) `touch {0}` '\"\\ | touch {0} & fax:0301250"
+USER = "-u; touch {0}"
+
+
+def by_hand(room, backend, options, path, more=None, title="fax:1"):
+    """Runs the filter or the backend as CUPS does, as the user lp: its status, its output and what it says."""
+    user = room.server.user
+    module = f"{room.server.folder}/module"
+    environment = {
+        "PATH": f"{room.server.folder}/bin/filter:/usr/bin:/bin", "FAXPAGES_MODULE": module,
+        "FAXPAGES_LIBRARY": f"{module}/libfaxpages.so.1", "TMPDIR": f"{room.server.folder}/temporary",
+        "CUPS_SERVERBIN": f"{room.server.folder}/bin", "PRINTER": "Fax", "DEVICE_URI": f"faxpages:{room.spool}",
+        **(more or {})}  # fmt: skip
+    name = "backend/faxpages" if backend else "filter/faxtopdf"
+    ran = subprocess.run([f"{room.server.folder}/bin/{name}", "1", "user", title, "1", options, path], env=environment,
+                         user=user.pw_uid, group=user.pw_gid, extra_groups=[], umask=0o077, capture_output=True,
+                         timeout=server.PATIENCE, check=False)  # fmt: skip
+    return ran.returncode, ran.stdout, ran.stderr.decode(errors="replace")
+
+
+def new_identity():
+    """The option by which CUPS names a job, and the name that a fax gets of it."""
+    name = str(uuid.uuid4())
+    return f"job-uuid=urn:uuid:{name}", name
+
+
+def words(room):
+    """A title, a user and options with words of a shell and lines of CUPS, on both ways."""
+    owned = f"{room.server.folder}/temporary/owned"
+    option, name = new_identity()
+    pdf = room.made("gs-1.pdf") if os.path.exists(room.made("gs-1.pdf")) else made.pdf(room.made(""), "gs-1.pdf", 1)
+    fax = room.made("plain.tif")
+    with open(fax, "wb") as file:
+        file.write(room.run(room.program, "convert", "-o", "mh", f"{server.TOP}/samples/three-mmr-rows.tif")[1])
+    # CUPS takes no title of several lines.
+    title, user = TITLE.format(owned).replace("\n", " "), USER.format(owned)
+    jobs = [room.server.print("Fax", "-t", title, "-U", user, pdf),
+            room.server.print("printer0", "-t", title, "-U", user, fax)]  # fmt: skip
+    told = room.server.ended(*jobs)
+    room.claim(f"words: done: {told[0].message}", [it.state for it in told], ["completed"] * 2)
+    hostile = f"{option} x='a\nERROR: y' FaxCoding=`touch\\ {owned}`"
+    status, _, said = by_hand(room, True, hostile, pdf, title=TITLE.format(owned))
+    room.claim("words: an option", (status, said.count("\n")), (3, 1))
+    status, _, said = by_hand(room, True, option, pdf, title=TITLE.format(owned))
+    room.claim("words: by hand", (status, said.count("\n"), said.startswith("INFO: ")), (0, 1, True))
+    with open(f"{room.spool}/{name}.job", encoding="utf-8") as file:
+        lines = file.read().splitlines()
+    room.claim("words: lines of the job file", [line.split(":")[0] for line in lines], [
+        "number", "user", "title", "pages", "coding", "resolution", "width", "fax", "queue", "job"])  # fmt: skip
+    room.claim("words: number", lines[0], "number: 0301250")
+    status, _, said = by_hand(room, False, "faxpages=`id`\nERROR:x", fax)
+    room.claim("words: the filter", (status, said), (1, "ERROR: faxpages is salvage or whole\n"))
+    room.claim("no word was run", os.path.exists(owned), False)
+    room.claim("the fax is the user's", os.stat(f"{room.spool}/{name}.tif").st_uid, room.server.user.pw_uid)
+    room.claim("who may read it", os.stat(f"{room.spool}/{name}.tif").st_mode & 0o777, 0o660)
+
+
+def repeated(pages, width, rows, strip):
+    """A fax of so many pages that all have the same strip."""
+    data, at = [b"II*\0" + struct.pack("<I", 8)], 8
+    size = 2 + 12 * 8 + 4
+    place = 8 + pages * size
+    for page in range(pages):
+        entries = [(256, 4, width), (257, 4, rows), (259, 3, 4), (262, 3, 0), (273, 4, place), (278, 4, rows),
+                   (279, 4, len(strip)), (292, 4, 0)]  # fmt: skip
+        at += size
+        data.append(struct.pack("<H", 8) + b"".join(struct.pack("<HHII", tag, kind, 1, it) for tag, kind, it in entries)
+                    + struct.pack("<I", at if page + 1 < pages else 0))  # fmt: skip
+    return b"".join(data) + strip
+
+
+def bounds(room):
+    """Files that are made to take long: pages, pels, strips and time are bounded."""
+    # Each row as the row before, which is white at first.
+    white = b"\xff" * 13000 + b"\0\x10\x01"
+    cases = {
+        "many pages": (repeated(60000, 1728, 8, white), None, "it has more than 5000 pages"),
+        "large pages": (repeated(1, 65535, 100000, white), None, "page 0 has more than 100000000 pels"),
+        "many large pages": (repeated(4999, 1000, 99999, white), None, "its pages have more than 40000000000 pels"),
+        "slow": (repeated(200, 1000, 99999, white), {"FAXPAGES_SECONDS": "1"}, "it takes longer than 1 seconds"),
+    }  # fmt: skip
+    for name, (data, more, wanted) in cases.items():
+        for option in ("", "faxpages=salvage"):
+            with open(room.made("long.tif"), "wb") as file:
+                file.write(data)
+            status, out, said = by_hand(room, False, option, room.made("long.tif"), more)
+            room.claim(f"{name} {option}", (status, out, said), (1, b"", f"ERROR: {wanted}\n"))
+    with open(room.made("large.tif"), "wb") as file:
+        file.truncate((1 << 28) + 1)
+    for backend in (False, True):
+        status, _, said = by_hand(room, backend, new_identity()[0], room.made("large.tif"))
+        room.claim("many bytes", (status, "it has more than 268435456 bytes" in said), (3 if backend else 1, True))
+
+
+def pdf_of(pages, content, size=(595, 842)):
+    """A PDF whose pages have this content."""
+    kids = " ".join(f"{5 + number} 0 R" for number in range(pages))
+    objects = [b"<< /Type /Catalog /Pages 2 0 R >>", f"<< /Type /Pages /Count {pages} /Kids [{kids}] >>".encode(),
+               b"<< /Length %d >>\nstream\n%s\nendstream" % (len(content), content), b"<< >>"]  # fmt: skip
+    page = b"<< /Type /Page /Parent 2 0 R /MediaBox [0 0 %d %d] /Contents 3 0 R /Resources 4 0 R >>" % size
+    objects += [page] * pages
+    made_of, places = b"%PDF-1.4\n", []
+    for number, text in enumerate(objects, 1):
+        places.append(len(made_of))
+        made_of += b"%d 0 obj\n%s\nendobj\n" % (number, text)
+    table = b"".join(b"%010d 00000 n \n" % place for place in places)
+    count, at = len(objects) + 1, len(made_of)
+    made_of += b"xref\n0 %d\n0000000000 65535 f \n" % count + table
+    return made_of + b"trailer << /Size %d /Root 1 0 R >>\nstartxref\n%d\n%%%%EOF\n" % (count, at)
+
+
+def documents(room):
+    """PDFs that are none, or too large, or slow: they are held, and nothing is left."""
+    slow = b"0 0 595 842 re 0 0 m " + b"595 842 l 3 8 l 590 1 l 1 800 l " * 30000 + b"f*\n"
+    cases = {
+        "empty": (b"", {}, "nothing is printed"),
+        "no PDF": (b"\x1b%-12345X@PJL", {}, "what is printed is no PDF"),
+        "broken PDF": (b"%PDF-1.4\nno more\n%%EOF\n", {}, "pdfinfo: "),
+        "cut short": (pdf_of(3, b"0 0 100 100 re f\n")[:-20], {}, "the PDF is cut short"),
+        "many pages": (pdf_of(501, b""), {}, "the PDF has 501 pages, and a fax from 1 to 500"),
+        "narrow": (pdf_of(1, b"", (3, 14400)), {}, "faxpages-from-pdf: faxpages-from-pdf: a page is too narrow"),
+        "slow": (pdf_of(40, slow), {"FAXPAGES_SECONDS": "1"}, "faxpages-from-pdf takes longer than 1 seconds"),
+    }
+    for name, (data, more, wanted) in cases.items():
+        with open(room.made("hostile.pdf"), "wb") as file:
+            file.write(data)
+        option, identity = new_identity()
+        status, _, said = by_hand(room, True, option, room.made("hostile.pdf"), more)
+        last = said.splitlines()[-1]
+        room.claim(f"{name}: held: {last}", (status, last.startswith(f"ERROR: the fax is held: {wanted}")), (3, True))
+        left = [it for folder in (room.spool, f"{room.spool}/.faxpages") for it in os.listdir(folder) if identity in it]
+        room.claim(f"{name}: nothing is left", left, [])
+    left = [it for it in os.listdir(f"{room.server.folder}/temporary") if "faxpages" in it]
+    room.claim("no temporary file is left", left, [])
+
+
+def folders(room):
+    """Folders that are not there, are not the user's, or are anyone's; and files in the way, which stay."""
+    pdf, base = room.made("gs-1.pdf"), room.server.folder
+    roots = f"{base}/roots"
+    os.mkdir(roots, 0o755)
+    anyones = room.new_spool("anyones")
+    os.chmod(anyones, 0o777)
+    linked = room.new_spool("linked")
+    elsewhere = room.new_spool("elsewhere")
+    os.symlink(elsewhere, f"{linked}/.faxpages")
+    for path, wanted in ((f"{base}/none", "No such file"), (roots, "Permission denied"),
+                         (anyones, "anyone may write into"), (linked, "Not a directory"),
+                         ("relative", "the device is")):  # fmt: skip
+        status, _, said = by_hand(room, True, new_identity()[0], pdf, {"DEVICE_URI": f"faxpages:{path}"})
+        room.claim(f"{path}: {said.strip()}", (status, wanted in said), (3, True))
+    room.claim("nothing is elsewhere", (os.listdir(elsewhere), os.listdir(roots)), ([], []))
+    victim = f"{base}/temporary/victim"
+    with open(victim, "w") as file:
+        file.write("a victim")
+    os.chown(victim, room.server.user.pw_uid, room.server.user.pw_gid)
+    for kind in ("tif", "job"):
+        option, name = new_identity()
+        os.symlink(victim, f"{room.spool}/{name}.{kind}")
+        status, _, _ = by_hand(room, True, option, pdf)
+        with open(victim) as file:
+            room.claim(f"a link in the way of {kind}", (status, file.read()), (3, "a victim"))
+        room.claim(f"a link in the way of {kind}: it stays", os.path.islink(f"{room.spool}/{name}.{kind}"))
+        left = sorted(it for it in os.listdir(room.spool) + os.listdir(f"{room.spool}/.faxpages") if name in it)
+        room.claim(f"{kind}: nothing else is there", left, [f"{name}.{kind}"])
+        os.remove(f"{room.spool}/{name}.{kind}")
+
+
+def play(room):
+    words(room)
+    bounds(room)
+    documents(room)
+    folders(room)
