@@ -1,0 +1,180 @@
+"""How the page behaves: keys, names for screen readers, narrow and dark screens, and no request to anywhere."""
+
+import json
+import os
+import re
+import urllib.parse
+
+import faxes
+
+SAMPLE = f"{faxes.TOP}/samples/three-pages.tif"
+# Each text whose contrast with what is below it is less than 4.5 to 1.
+FAINT = """(() => {
+    const parse = (text) => text.match(/[\\d.]+/g).map(Number);
+    const light = (colour) => colour.slice(0, 3).map((it) => it / 255)
+        .map((it) => it <= 0.03928 ? it / 12.92 : ((it + 0.055) / 1.055) ** 2.4)
+        .reduce((sum, it, at) => sum + it * [0.2126, 0.7152, 0.0722][at], 0);
+    const below = (element) => {
+        for (let at = element; at; at = at.parentElement) {
+            const colour = parse(getComputedStyle(at).backgroundColor);
+            if (colour.length === 3 || colour[3] > 0) return colour;
+        }
+        return [255, 255, 255];
+    };
+    return [...document.querySelectorAll("body *")].filter((element) => {
+        const hasText = [...element.childNodes].some((it) => it.nodeType === 3 && it.data.trim());
+        if (!hasText || !element.checkVisibility() || element.closest("[disabled], .unseen, script")) return false;
+        const [one, other] = [light(parse(getComputedStyle(element).color)), light(below(element))];
+        return (Math.max(one, other) + 0.05) / (Math.min(one, other) + 0.05) < 4.5;
+    }).map((it) => it.outerHTML.slice(0, 80));
+})()"""
+
+
+def opened(browser):
+    browser.run("while (app.fax) app.close()")
+    browser.choose("#choose", SAMPLE)
+    browser.until('app.fax && app.fax.state === "done" && app.view.fax === app.fax && app.view.form')
+    browser.run("document.activeElement.blur()")
+
+
+def keys(browser, _program, _room):
+    """Pages are gone through by keys, and to what is wrong."""
+    opened(browser)
+    for key, page in (("n", 1), ("n", 2), ("n", 2), ("p", 1), ("Home", 0), ("End", 2), ("p", 1), ("f", 2), ("Home", 0),
+                      ("f", 2)):
+        browser.press(key, number={"Home": 36, "End": 35}.get(key, 0))
+        yield f"{key}: the page", browser.run('[app.page, Number(document.getElementById("page").value)]'), [page, page]
+    yield "the page is said", browser.run('document.getElementById("said").textContent'), "Page 2, damaged."
+    browser.run('document.getElementById("thumbs").focus()')
+    for key, number, page in (("ArrowUp", 38, 1), ("ArrowDown", 40, 2), ("PageUp", 33, 0), ("PageDown", 34, 2)):
+        browser.press(key, number=number)
+        yield f"{key} in the list: the page", browser.run("app.page"), page
+    yield "the list says which is chosen", browser.run("""[
+        document.getElementById("thumbs").getAttribute("aria-activedescendant"),
+        document.querySelector('#thumbs [aria-selected="true"]').id]"""), ["thumb-2", "thumb-2"]
+    browser.run('document.getElementById("page").focus()')
+    browser.press("p")
+    yield "a key in a field is none of the page's", browser.run("app.page"), 2
+    seen = []
+    browser.run("document.activeElement.blur()")
+    for _ in range(60):
+        browser.press("Tab", number=9)
+        seen.append(browser.run("document.activeElement.id || document.activeElement.name"))
+    wanted = {"choose", "close", "kind", "thumbs", "before", "page", "smaller", "larger", "whole", "wide", "left",
+              "right", "view"}
+    yield "all is reached by the Tab key", wanted - set(seen), set()
+
+
+def zoom(browser, _program, _room):
+    """Zoomed and turned by keys and buttons; a page is as high as its resolution says."""
+    opened(browser)
+    size = "[app.view.sheet.clientWidth, app.view.sheet.clientHeight]"
+    browser.run("app.goTo(1)")
+    browser.press("1")
+    yield "1: a pel is a pel", browser.run(size), [8, round(3 * 204 / 196)]
+    browser.press("+", shift=True)
+    wide = browser.run("app.view.scale")
+    yield "+: larger", wide > 1.2, True
+    browser.press("-")
+    yield "-: smaller", abs(browser.run("app.view.scale") - 1) < 0.01, True
+    browser.press("1")
+    browser.press("r")
+    yield "r: turned", browser.run(f"[app.view.turns, ...{size}]"), [1, 3, 8]
+    browser.press("l")
+    browser.press("l")
+    yield "l: turned back", browser.run("app.view.turns"), 3
+    browser.press("r")
+    for button in ("larger", "larger", "right", "left", "wide"):
+        browser.run(f'document.getElementById("{button}").click()')
+    yield "buttons do the same", browser.run("[app.view.turns, app.view.zoom]"), [0, "wide"]
+    browser.press("0")
+    yield "0: the whole page", browser.run("app.view.zoom"), "whole"
+
+
+def names(browser, _program, _room):
+    """All that can be used has a name and a role in the tree of accessibility."""
+    opened(browser)
+    browser.call("Accessibility.enable")
+    nodes = browser.call("Accessibility.getFullAXTree")["nodes"]
+    used = [it for it in nodes if not it.get("ignored") and it["role"]["value"] in
+            ("button", "textbox", "spinbutton", "combobox", "listbox", "option", "link", "checkbox", "image", "toolbar",
+             "region")]
+    nameless = [it["role"]["value"] for it in used if not it.get("name", {}).get("value")]
+    yield "things that can be used are named", (nameless, len(used) > 20), ([], True)
+    roles = {it["role"]["value"] for it in nodes}
+    wanted = {"banner", "main", "heading", "status", "listbox", "option", "toolbar", "image", "list"}
+    yield "roles", wanted - roles, set()
+    image = [it["name"]["value"] for it in nodes if it["role"]["value"] == "image" and "Picture" in it["name"]["value"]]
+    yield "the picture says what it is", image, ["Picture of page 0: whole"]
+    yield "the verdict is told", browser.run('document.getElementById("verdict").getAttribute("role")'), "status"
+    browser.call("Accessibility.disable")
+
+
+def narrow(browser, _program, _room):
+    """On a narrow screen nothing is wider than it; light and dark, each text stands out."""
+    opened(browser)
+    for width in (1280, 360):
+        browser.resize(width, 800)
+        for scheme in ("light", "dark"):
+            browser.call("Emulation.setEmulatedMedia", features=[{"name": "prefers-color-scheme", "value": scheme}])
+            browser.until(f"innerWidth === {width} && matchMedia('(prefers-color-scheme: {scheme})').matches")
+            wide = browser.run("document.documentElement.scrollWidth")
+            yield f"{width}, {scheme}: not wider", wide <= width, True
+            yield f"{width}, {scheme}: texts stand out", browser.run(FAINT), []
+    yield "dark is another picture", browser.run("getComputedStyle(document.body).backgroundColor"), "rgb(27, 28, 30)"
+    browser.resize(1280, 900)
+    browser.call("Emulation.setEmulatedMedia", features=[])
+
+
+def refusals(browser, _program, _room):
+    """The page's own policy refuses requests, code from texts, and frames."""
+    refused = browser.run("""(async () => {
+        const seen = [];
+        document.addEventListener("securitypolicyviolation", (event) => seen.push(event.effectiveDirective));
+        const tried = await Promise.all([
+            fetch("refused").then(() => "fetched", () => "refused"),
+            new Promise((resolve) => {
+                const image = new Image();
+                image.onload = () => resolve("loaded");
+                image.onerror = () => resolve("refused");
+                image.src = "http://192.0.2.1/refused.png";
+            }),
+        ]);
+        try { tried.push(String((0, eval)("1"))); } catch { tried.push("refused"); }
+        const frame = document.createElement("iframe");
+        frame.src = "refused.html";
+        document.body.append(frame);
+        const script = document.createElement("script");
+        script.textContent = "window.wasRun = true";
+        document.body.append(script);
+        const wanted = ["connect-src", "frame-src", "img-src", "script-src", "script-src-elem"];
+        for (let turn = 0; turn < 2000 && !wanted.every((it) => seen.includes(it)); turn++) {
+            await new Promise((resolve) => setTimeout(resolve, 10));
+        }
+        frame.remove();
+        tried.push(String(window.wasRun));
+        return [tried, [...new Set(seen)].sort()];
+    })()""")
+    yield "fetch, image, eval and script are refused", refused[0], ["refused", "refused", "refused", "undefined"]
+    yield "each by the policy", refused[1], ["connect-src", "frame-src", "img-src", "script-src", "script-src-elem"]
+
+
+def nothing_is_asked(browser, address):
+    """Whatever was done, the page asked for its own files alone, and keeps nothing."""
+    folder = address.rsplit("/", 1)[0] + "/"
+    asked = [it["params"]["request"]["url"] for it in browser.events if it["method"] == "Network.requestWillBeSent"]
+    elsewhere = [url for url in asked if not url.startswith((folder, "blob:", "data:")) and "refused" not in url]
+    yield f"{address}: requests elsewhere", elsewhere, []
+    yield f"{address}: its own files were asked for", sum(url.startswith(folder) for url in asked) >= 10, True
+    yield f"{address}: nothing is kept", browser.run("""(async () => [document.cookie, localStorage.length,
+        sessionStorage.length, (await indexedDB.databases()).length])()"""), ["", 0, 0, 0]
+    errors = [it["params"] for it in browser.events if it["method"] == "Runtime.exceptionThrown"]
+    yield f"{address}: no error", [json.dumps(it)[:300] for it in errors], []
+
+
+def only_its_files(server):
+    """A server of the folder was asked for files of the folder, and for nothing else."""
+    there = {f"/{name}" for name in os.listdir(os.path.join(faxes.TOP, "web"))}
+    asked = {urllib.parse.unquote(re.sub(r"\?.*", "", path)) for path in server.asked}
+    yield "the server was asked for files of web/ alone", asked - there, set()
+    yield "it was asked for the page", asked >= {"/index.html", "/faxpages.js", "/faxpages.wasm.js"}, True

@@ -1,0 +1,209 @@
+"""What the page saves is what the program makes, and shows what the program shows."""
+
+import base64
+import json
+import os
+import re
+import shutil
+import struct
+import subprocess
+import sys
+
+import faxes
+
+sys.path.insert(0, os.path.join(faxes.TOP, "tests", "convert"))
+import files as parts_of  # noqa: E402
+
+BLOB = """app.made.blob.arrayBuffer().then((buffer) => {
+    const bytes = new Uint8Array(buffer);
+    let text = "";
+    for (let at = 0; at < bytes.length; at += 8192) text += String.fromCharCode(...bytes.subarray(at, at + 8192));
+    return btoa(text);
+})"""
+
+
+def opened(browser, path):
+    """Opens a file, and waits until it was read."""
+    browser.choose("#choose", path)
+    browser.until(f'app.fax && app.fax.state === "done" && app.fax.file.name === {json.dumps(os.path.basename(path))}')
+
+
+def made(browser, kind):
+    """Has the page make a file, and takes it, with its name and what is said."""
+    browser.run(f"""app.made = null; document.getElementById("save").elements.kind.value = "{kind}";
+        document.querySelector("#save button").click()""")
+    browser.until('app.made || /was not made|nothing to save/.test(document.getElementById("saved").textContent)')
+    said = browser.run('document.getElementById("saved").textContent')
+    if not browser.run("Boolean(app.made)"):
+        return None, None, said
+    return base64.b64decode(browser.run(BLOB)), browser.run("app.made.name"), said
+
+
+def close_all(browser):
+    browser.run("while (app.fax) app.close()")
+
+
+def whole(browser, program, room):
+    """Of a whole fax: as TIFF-F and PBM byte for byte what the program converts, as PDF image for image."""
+    for number, size in enumerate(("204/196", "204/98", "none")):
+        data = faxes.drawn(program, 1000 + number)
+        if size == "204/98":
+            data = data.replace(struct.pack("<2I", 196, 1), struct.pack("<2I", 98, 1))
+        path = faxes.put(f"{room}/whole {number}.tif", data)
+        opened(browser, path)
+        for at, coding in enumerate(faxes.CODINGS, 1):
+            got, name, said = made(browser, f"tiff{at}")
+            yield f"{size}: {coding}", got == faxes.convert(program, data, "-o", coding), True
+            yield f"{size}: {coding}: its name", name, f"whole {number}-{coding}.tif"
+            yield f"{size}: {coding}: it says so", said.startswith(f"{name} was made, read again and compared"), True
+        image = faxes.convert(program, data, "-o", "pbm")
+        yield f"{size}: pbm", made(browser, "pbm")[0] == image, True
+        yield f"{size}: text", made(browser, "text")[0].decode(), browser.run("app.fax.text()")
+        yield from as_pdf(made(browser, "pdf")[0], image, room, size)
+        close_all(browser)
+
+
+def as_pdf(pdf, image, room, size):
+    """A PDF, as poppler reads it: its images, and how large its pages are."""
+    if not shutil.which("pdfimages"):
+        print("SKIPPED: PDFs of the page beside poppler (poppler-utils)")
+        return
+    path = faxes.put(f"{room}/made.pdf", pdf)
+    subprocess.run(["pdfimages", path, f"{room}/image"], capture_output=True, check=True)
+    names = sorted(name for name in os.listdir(room) if name.startswith("image-"))
+    wanted = faxes.pels_of_pbm(image)
+    got = [faxes.pels_of_pbm(faxes.get(f"{room}/{name}"))[0] for name in names]
+    yield f"{size}: images of the PDF", got == wanted, True
+    sizes = [re.findall(r"[\d.]+", line) for line in subprocess.run(
+        ["pdfinfo", "-l", "9", path], capture_output=True, check=True).stdout.decode().splitlines()
+        if re.match(r"Page +\d+ size", line)]
+    down = 98 if size == "204/98" else 196
+    yield f"{size}: sizes of the PDF's pages", [(float(it[1]), float(it[2])) for it in sizes], [
+        (round(72 * wide / 204, 3), round(72 * high / down, 3)) for wide, high, _ in wanted]
+    for name in names:
+        os.remove(f"{room}/{name}")
+
+
+def damaged(browser, program, room):
+    """Of damaged faxes: the pages that can be read wholly, row for row, and how many they are."""
+    tried = 0
+    for path in faxes.damaged(program, room)[:15]:
+        opened(browser, path)
+        pages = browser.run("app.fax.wholePages()")
+        count = browser.run("app.fax.pages")
+        if not count:
+            close_all(browser)
+            continue
+        wanted = [line for at, page in enumerate(pages) for line in rows_of(program, path, page, at)]
+        got, name, said = made(browser, "tiff3")
+        if pages:
+            saved = faxes.put(f"{room}/saved.tif", got)
+            yield f"{path}: rows", faxes.said(program, "rows", saved).splitlines(), [*wanted, "end"]
+            yield f"{path}: it says how many", f"made of {len(pages)} of {count} page" in said, len(pages) < count
+            tried += 1
+        else:
+            yield f"{path}: nothing is made", (got, "nothing to save" in said), (None, True)
+        close_all(browser)
+    yield "some have pages that can be read", tried > 5, True
+
+
+def rows_of(program, path, page, number):
+    """The rows of a page, as those of a page with this number."""
+    form = faxes.said(program, "list", "--cursor", f"1:{page}:0", "--max", "1", path).split()
+    lines = faxes.said(program, "rows", "--cursor", f"1:{page}:0", "--max", form[3], path).splitlines()
+    return [re.sub(r"^row \d+", f"row {number}", line) for line in lines if line.startswith("row ")]
+
+
+def pictures(browser, program, room):
+    """PNGs are what faxpages-picture draws, grey rows and repeated ones among them."""
+    if not shutil.which("pngtopnm"):
+        print("SKIPPED: PNGs of the page beside faxpages-picture (netpbm)")
+        return
+    fine = faxes.drawn(program, 77)
+    tried = [f"{faxes.TOP}/samples/damaged-fourth-page.tif", faxes.put(f"{room}/fine.tif", fine)]
+    for lines in (98, 391, 49):
+        data = fine.replace(struct.pack("<2I", 196, 1), struct.pack("<2I", lines, 1))
+        tried.append(faxes.put(f"{room}/{lines}.tif", data))
+    for path in tried + faxes.damaged(program, room)[:8]:
+        opened(browser, path)
+        for page in range(min(4, browser.run("app.fax.pages"))):
+            drawn = faxes.picture(program, path, page)
+            if drawn:
+                browser.run(f"app.goTo({page})")
+                got = made(browser, "png")[0]
+                yield f"{os.path.basename(path)}: page {page} as PNG", faxes.pels_of_png(got) == drawn[:3], True
+        close_all(browser)
+
+
+def images(browser, program, room):
+    """PBM is read as the program converts it; one that is cut is refused by name."""
+    image = faxes.convert(program, faxes.drawn(program, 5), "-o", "pbm")
+    opened(browser, faxes.put(f"{room}/images.pbm", image))
+    fax = faxes.put(f"{room}/images.tif", faxes.convert(program, image, "-o", "mmr"))
+    yield "PBM: the list", browser.run("app.fax.text()").split("\n\n")[1] + "\n", faxes.said(program, "list", fax)
+    yield "PBM: as PBM", made(browser, "pbm")[0] == image, True
+    close_all(browser)
+    for data, name in ((image[:-5], "Its rows are not all there."), (b"P4 x", "does not begin as raw PBM does")):
+        opened(browser, faxes.put(f"{room}/cut.pbm", data))
+        fault = faxes.said(program, "convert", "-o", "mmr", f"{room}/cut.pbm")
+        number = re.search(r"image (\d+):", fault).group(1)
+        yield f"PBM: {fault}", name in browser.run("app.fax.verdict()"), True
+        yield f"PBM: {fault}: the image", f"Image {number} " in browser.run("app.fax.verdict()"), True
+        close_all(browser)
+
+
+def bare(browser, program, room):
+    """Bare data, by the form: each coding and bit order, with and without EOLs, on bytes, cut, and counted."""
+    image = faxes.image("marks", 30)
+    rows = faxes.said(program, "rows", faxes.put(f"{room}/rows.tif", faxes.convert(program, image, "-o", "mmr")))
+    for at, coding in enumerate(faxes.CODINGS, 1):
+        for order in (1, 2):
+            data = faxes.convert(program, image, "-o", coding, "--order", str(order))
+            (strip,) = parts_of.strips_of(data, next(parts_of.directories_of(data)))
+            words = {"coding": at, "order": order, "width": 40, "rows": 0}
+            for number in (0, 30):
+                yield from as_bare(browser, program, room, strip, {**words, "rows": number}, rows,
+                                   "read to their end: 30 rows")
+            half = strip[:len(strip) // 2]
+            yield from as_bare(browser, program, room, half, {**words, "rows": 30}, None, "are missing")
+    bits = ["1000111000", "10011", "1000111000"]
+    few = "row 0 0 3 2 3\nrow 0 1 8\nrow 0 2 3 2 3\nend\n"
+    for aligned in (False, True):
+        text = "".join(it + "0" * (-len(it) % 8 if aligned else 0) for it in bits)
+        data = int(text + "0" * (-len(text) % 8), 2).to_bytes(-(-len(text) // 8), "big")
+        words = {"coding": 1, "order": 1, "width": 8, "rows": 3, "eols": False, "aligned": aligned}
+        yield from as_bare(browser, program, room, data, words, few, "read to their end: 3 rows")
+        if aligned:
+            yield from as_bare(browser, program, room, data, {**words, "rows": 0}, few, "read to their end: 3 rows")
+    words = {"coding": 1, "order": 1, "width": 8, "rows": 0}
+    yield from as_bare(browser, program, room, b"\xff" * 40, words, "", "No row can be read")
+    yield "a wrong width is refused", browser.run("""(() => {
+        const form = document.getElementById("bare");
+        form.elements.width.removeAttribute("max");
+        form.elements.width.value = "65536";
+        form.querySelector("button").click();
+        return document.getElementById("bare-said").textContent;
+    })()""").startswith("Say a width"), True
+    close_all(browser)
+
+
+def as_bare(browser, program, room, data, words, rows, verdict):
+    """Fills the form in, and compares the rows of the fax that it makes."""
+    close_all(browser)
+    opened(browser, faxes.put(f"{room}/bare.g3", data))
+    name = f"bare {words}"
+    if browser.run('document.getElementById("bare").hidden'):
+        browser.until('!document.getElementById("bare").hidden')
+    browser.run(f"""(() => {{
+        const form = document.getElementById("bare");
+        for (const [name, value] of Object.entries({json.dumps({"eols": True, "aligned": False, **words})})) {{
+            const field = form.elements[name];
+            if (field.type === "checkbox") field.checked = value; else field.value = String(value);
+        }}
+        form.querySelector("button").click();
+    }})()""")
+    browser.until('app.fax.told && app.fax.state === "done"')
+    yield f"{name}: what is said", verdict in browser.run("app.fax.verdict()"), True
+    if rows:
+        saved = faxes.put(f"{room}/saved.tif", made(browser, "tiff3")[0])
+        yield f"{name}: rows", faxes.said(program, "rows", saved), rows

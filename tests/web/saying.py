@@ -1,0 +1,157 @@
+"""What the page says of files is what the program says of each; and what canvases show is what the program converts."""
+
+import base64
+import json
+import os
+import re
+import shutil
+
+import faxes
+
+# The pels of the page that is shown, from its canvases: 0, 1 or 2 a pel.
+PELS = """(() => {
+    const { form, tiles } = app.view;
+    const pels = new Uint8Array(form.width * form.rows).fill(9);
+    for (const [key, canvas] of tiles) {
+        const [column, line, across, down] = key.split(" ").map(Number);
+        if (across !== 1 || down !== 1 || !canvas.dataset.drawn) continue;
+        const { data } = canvas.getContext("2d").getImageData(0, 0, canvas.width, canvas.height);
+        for (let y = 0; y < canvas.height; y++) {
+            for (let x = 0; x < canvas.width; x++) {
+                const value = data[4 * (y * canvas.width + x)];
+                pels[(y + line * View.DOWN) * form.width + x + column * View.ACROSS] = { 0: 1, 255: 0 }[value] ?? 2;
+            }
+        }
+    }
+    let text = "";
+    for (let at = 0; at < pels.length; at += 8192) text += String.fromCharCode(...pels.subarray(at, at + 8192));
+    return btoa(text);
+})()"""
+READ = "app.faxes.length === {} && app.faxes.every((fax) => !fax.isBusy())"
+DRAWN = """app.fax.state === "done" && app.view.page === {} && app.view.form && app.view.shrinking().join() === "1,1" &&
+    app.view.tiles.size > 0 && [...app.view.tiles.values()].every((tile) => tile.dataset.drawn)"""
+FINDINGS = '[...document.querySelectorAll("#findings li button")].map((it) => it.textContent)'
+
+
+def close_all(browser):
+    browser.run("while (app.fax) app.close()")
+
+
+def texts(browser, program, room):
+    """Of each file: the list of pages, what check says, and that the page as a whole says whether it is damaged."""
+    names = faxes.all_files(program, room)
+    browser.drop(*names)
+    browser.until(READ.format(len(names)))
+    told = json.loads(browser.run("""JSON.stringify(app.faxes.map((fax) => ({ text: fax.text(), name: fax.file.name,
+        verdict: fax.verdict(), lost: fax.lost.size + fax.refused.size + Number(Boolean(fax.end)) })))"""))
+    yield f"{len(names)} files are read", len(told), len(names)
+    for path, fax in zip(names, told):
+        name = os.path.basename(path)
+        listed, checked, lost = parts(fax["text"])
+        wanted = re.sub("^next .*\n", "", faxes.said(program, "list", path), flags=re.M)
+        yield f"{name}: the list", first_part(listed), wanted
+        yield f"{name}: check", checked, faxes.said(program, "check", path)
+        is_damaged = re.search("^fault", wanted + checked, re.M) is not None
+        yield f"{name}: damaged or whole", (fax["lost"] > 0, "whole" in fax["verdict"].split(":")[0]), (
+            is_damaged, not is_damaged and "note" not in checked)
+        yield f"{name}: it says which rows are lost", (lost != "") <= is_damaged, True
+    close_all(browser)
+
+
+def lost(browser, program, room):
+    """The rows that are lost are those that faxpages-picture names, in as many words."""
+    if not shutil.which("pngtopnm"):
+        print("SKIPPED: lost rows beside faxpages-picture (netpbm)")
+        return
+    names = faxes.damaged(program, room)[:20]
+    browser.choose("#choose", *names)
+    browser.until(READ.format(len(names)))
+    count = 0
+    for path, text in zip(names, browser.run("app.faxes.map((fax) => fax.text())")):
+        told = [faxes.picture(program, path, page) for page in range(3)]
+        lines = [line for it in told if it for line in it[3].splitlines()]
+        yield f"{os.path.basename(path)}: the rows that are lost", parts(text)[2].splitlines(), lines
+        count += len(lines)
+    yield "rows are lost", count > 10, True
+    close_all(browser)
+
+
+def parts(text):
+    """The list, the lines of check, and the rows that are lost, of a report."""
+    _, _, rest = text.partition("\n\n")
+    listed, checked, lost = (f"{rest}\n\n\n".split("\n\n") + ["", ""])[:3]
+    return [listed + "\n", checked.strip("\n") + "\n", lost.strip("\n")]
+
+
+def first_part(listed):
+    """The lines up to the first fault, as the program lists them."""
+    lines = listed.splitlines(keepends=True)
+    for at, line in enumerate(lines):
+        if line.startswith("fault"):
+            return "".join(lines[:at + 1])
+    return listed
+
+
+def findings(browser, program, room):
+    """The faults, the notes and their words stand in the page, each once, and lead to where they are."""
+    wanted = {
+        "damaged-fourth-page.tif": (["Page 3, rows 5 to 10 cannot be read: OutOfRow"], 3),
+        "return-to-control.tif": (["Page 0, strip 0: ReturnToControl"], 0),
+        "three-pages.tif": (["Page 2, row 1 cannot be read: DataEnds"], 2),
+        "one-mh-page.tif": ([], 0),
+    }
+    for name, (lines, page) in wanted.items():
+        browser.choose("#choose", f"{faxes.TOP}/samples/{name}")
+        browser.until(f'app.fax && app.fax.state === "done" && document.getElementById("name").textContent === "{name}"'
+                      f' && document.querySelectorAll("#findings li").length === {len(lines)}')
+        yield f"{name}: findings", browser.run(FINDINGS), lines
+        browser.run('document.getElementById("report").open = true')
+        browser.until('document.getElementById("report-text").textContent === app.fax.text()')
+        if lines:
+            browser.run('document.querySelector("#findings button").click()')
+            yield f"{name}: the first leads there", browser.run("app.page"), page
+            browser.until('document.querySelector("#paper .mark")')
+            yield f"{name}: a mark on the page", browser.run(
+                'document.querySelector("#paper .mark").textContent.includes("%s")' % lines[0].split(": ")[1]), True
+    close_all(browser)
+
+
+def canvases(browser, program, room):
+    """The pels of canvases at a pel a pel, of whole and of damaged pages."""
+    wide = faxes.pages.image(3000, [faxes.pages.draw_row(faxes.random.Random(7), "noise", 3000, 0, 0)] * 5)
+    long = faxes.image("noise", 2500)
+    faxes.put(f"{room}/large.tif", faxes.convert(program, wide + long, "-o", "mmr"))
+    samples = f"{faxes.TOP}/samples"
+    whole = [f"{samples}/three-mmr-rows.tif", f"{samples}/return-to-control.tif", f"{room}/large.tif"]
+    for path in whole:
+        images = faxes.pels_of_pbm(faxes.convert(program, faxes.get(path), "-o", "pbm"))
+        yield from shown(browser, path, enumerate(images))
+    if not shutil.which("pngtopnm"):
+        print("SKIPPED: pictures of damaged pages beside faxpages-picture (netpbm)")
+        return
+    yield from shown(browser, f"{faxes.TOP}/samples/damaged-fourth-page.tif", [
+        (3, faxes.picture(program, f"{faxes.TOP}/samples/damaged-fourth-page.tif", 3)[:3])])
+    for path in faxes.damaged(program, room)[:12]:
+        drawn = [(page, faxes.picture(program, path, page)) for page in range(3)]
+        yield from shown(browser, path, [(page, it[:3]) for page, it in drawn if it and it[3]][:1])
+
+
+def shown(browser, path, wanted):
+    """The pels of pages of a file."""
+    name = os.path.basename(path)
+    browser.choose("#choose", path)
+    browser.until(f'app.fax && app.fax.state === "done" && app.fax.file.name === "{name}"')
+    browser.run("document.activeElement.blur()")
+    for page, (width, height, pels) in wanted:
+        browser.run(f"app.goTo({page})")
+        browser.press("1")
+        got = bytearray(b"\x09") * (width * height)
+        for top in range(0, height, 400):
+            browser.run(f"app.view.view.scrollTo(0, {top})")
+            for left in (0, 2000) if width > 1000 else (0,):
+                browser.run(f"app.view.view.scrollLeft = {left}; app.view.fill()")
+                browser.until(DRAWN.format(page))
+                part = base64.b64decode(browser.run(PELS))
+                got = bytearray(new if new != 9 else old for old, new in zip(got, part))
+        yield f"{name}: the pels of page {page}", bytes(got) == pels, True
+    close_all(browser)

@@ -1,0 +1,89 @@
+"""The sources of the page: the library inside is of these sources, the words are those of TROUBLESHOOTING, and nothing
+names another place."""
+
+import base64
+import glob
+import os
+import re
+import shutil
+import subprocess
+
+import faxes
+
+WEB = os.path.join(faxes.TOP, "web")
+MOST_LINES, MOST_COLUMNS = 800, 120
+NO_WORDS_OF_THE_PAGE = {"Open", "Read", "Write", "CursorOutside", "NotACursor"}
+
+
+def read(*name):
+    with open(os.path.join(faxes.TOP, *name), encoding="utf-8") as file:
+        return file.read()
+
+
+def printed(*words):
+    return subprocess.run(words, cwd=faxes.TOP, capture_output=True, check=False).stdout.decode().strip()
+
+
+def claims():
+    yield from module_is_of_these_sources()
+    yield from words_are_those_of_troubleshooting()
+    yield from sources_are_in_form()
+
+
+def module_is_of_these_sources():
+    """The module was built of the sources as they stand: share/build-web makes it anew."""
+    head = dict(re.findall(r"^// (version|rustc|sources|module) (\S+)$", read("web", "faxpages.wasm.js"), re.M))
+    yield "web/faxpages.wasm.js: its version", head.get("version"), read("VERSION").strip()
+    yield "web/faxpages.wasm.js: its sources (share/build-web makes it anew)", head.get("sources"), printed(
+        "share/build-web", "--sources")
+    text = re.search(r"^const FAXPAGES_WASM = `\n([^`]*)`;$", read("web", "faxpages.wasm.js"), re.M)
+    module = base64.b64decode(text[1])
+    yield "web/faxpages.wasm.js: it is a module", module[:8], b"\0asm\1\0\0\0"
+    yield "web/faxpages.wasm.js: no path of a machine", re.findall(rb"/(?:usr|tmp|root|home|work|var)/", module), []
+    yield "web/faxpages.wasm.js: its module", head.get("module"), printed("share/build-web", "--digest")
+
+
+def words_are_those_of_troubleshooting():
+    """Each fault and note of TROUBLESHOOTING has words in the page, and what they mean stands there too."""
+    document = re.sub(r"\[([^\]]*)\]\([^)]*\)", r"\1", read("docs", "TROUBLESHOOTING.md")).replace("`", "")
+    names = set(re.findall(r"^\| (?:N\d )?(?:fault: )?([A-Z]\w+)(?: \d+)? \|", document, re.M)) - NO_WORDS_OF_THE_PAGE
+    names.discard("Message")
+    names -= {"Fault", "Note", "Status"}
+    table = dict(re.findall(r'^        ([A-Z]\w+): \["([^"]*)"', read("web", "texts.js"), re.M))
+    yield "faults and notes were found", len(names) > 25, True
+    yield "each has words in the page", names - {re.sub(r"\d+$", "", name) for name in table}, set()
+    for name, means in table.items():
+        if name != "TooManyRows":
+            yield f"{name}: what it means stands in TROUBLESHOOTING: {means}", means.lower() in document.lower(), True
+
+
+def sources_are_in_form():
+    """Scripts parse; no file is long, no line wide; and nothing names a place elsewhere."""
+    scripts = [name for name in sorted(glob.glob(f"{WEB}/*.js")) if not name.endswith("wasm.js")]
+    yield "there are scripts", len(scripts) >= 8, True
+    if shutil.which("node"):
+        for name in glob.glob(f"{WEB}/*.js"):
+            looked = subprocess.run(["node", "--check", name], check=False, capture_output=True)
+            yield f"{name} parses", looked.stderr, b""
+    else:
+        print("SKIPPED: node does not look at the scripts of web/ (nodejs)")
+    if shutil.which("tsc"):
+        checked = subprocess.run(
+            ["tsc", "--noEmit", "--allowJs", "--checkJs", "--strict", "--target", "es2022", "--lib",
+             "es2022,dom,dom.iterable", *sorted(glob.glob(f"{WEB}/*.js"))], check=False, capture_output=True)
+        yield "types of the scripts", checked.stdout.decode(), ""
+    else:
+        print("SKIPPED: types of the scripts of web/ are not checked (node-typescript)")
+    for name in scripts + [f"{WEB}/faxpages.css"]:
+        lines = read("web", os.path.basename(name)).splitlines()
+        yield f"{name}: lines", len(lines) < MOST_LINES, True
+        yield f"{name}: wide lines", [at for at, line in enumerate(lines, 1) if len(line) > MOST_COLUMNS], []
+    page = read("web", "index.html")
+    for text in [page] + [read("web", os.path.basename(name)) for name in scripts + [f"{WEB}/faxpages.css"]]:
+        yield "no place elsewhere", re.findall(r"https?:|\bimportScripts\b|(?<!-)\beval\b|innerHTML", text), []
+    policy = re.search(r'Content-Security-Policy" content="([^"]*)"', page)
+    yield "the policy", policy is not None and {"default-src 'none'", "connect-src 'none'", "base-uri 'none'"} <= set(
+        policy.group(1).split("; ")), True
+    named = set(re.findall(r'(?:src|href)="([^":#,]+)"', page))
+    there = {os.path.basename(name) for name in glob.glob(f"{WEB}/*")}
+    yield "the page names what is there", named, there - {"index.html"}

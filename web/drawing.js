@@ -1,0 +1,205 @@
+"use strict";
+
+/** Draws parts of pages, as pels of four bytes: white, black, and grey where a row cannot be read. */
+class Drawing {
+    static WHITE = 0xffffffff;
+    static BLACK = 0xff000000;
+    static GREY = 0xffa8a8a8;
+    /** Places are kept where they have no more runs than this, and so many of them. */
+    static KEPT_RUNS = 4096;
+    static KEPT = 256;
+    /** Longer pages have no thumbnail. */
+    static MOST_ROWS = 20000;
+
+    /** @param {Library} library */
+    constructor(library) {
+        this.library = library;
+        this.cursor = library.cursor(0, 0);
+        /** @type {Map<string, Uint32Array>} */
+        this.kept = new Map();
+    }
+
+    /** Hands out the rows of a page from one on, each once: its bytes, or none where it cannot be read.
+     * @param {number} page @param {Form} form @param {number} from @param {number} to
+     * @param {(row: number, bytes: Uint8Array | null) => void} use */
+    eachRow(page, form, from, to, use) {
+        const kept = this.kept.get(`${page} ${from}`);
+        this.cursor.set(page, from);
+        if (kept) {
+            this.cursor.comeBack(kept);
+        }
+        for (let due = from, faults = 0; due < to;) {
+            const told = this.library.readRows(this.cursor, to - due);
+            for (let index = 0; index < told.count; index++) {
+                use(due++, this.library.row(index).bytes);
+            }
+            if (told.status === Library.FAULT) {
+                faults++;
+                const next = form.stripAfter(Math.max(due, told.fault.row));
+                const after = faults < Reading.MOST_FAULTS ? Math.min(to, next) : to;
+                for (; due < after; due++) {
+                    use(due, null);
+                }
+                this.cursor.set(page, due);
+            } else if (told.count === 0) {
+                throw new Error(`rows end with status ${told.status}`);
+            }
+        }
+        this.keep(page, to);
+    }
+
+    /** Keeps the place, so that rows from there on can be read without those above them.
+     * @param {number} page @param {number} row */
+    keep(page, row) {
+        const place = this.cursor.page === page && this.cursor.row === row && this.cursor.keep(Drawing.KEPT_RUNS);
+        if (place && this.kept.size >= Drawing.KEPT) {
+            this.kept.delete(this.kept.keys().next().value);
+        }
+        if (place) {
+            this.kept.set(`${page} ${row}`, place);
+        }
+    }
+
+    /** A part of a page, a number for each pel; or, where it is shrunk, for so many pels across and rows down.
+     * @param {{ page: number, x: number, y: number, width: number, height: number, across: number, down: number }} part
+     */
+    part({ page, x, y, width, height, across, down }) {
+        const form = /** @type {Form} */ (this.library.form(page));
+        if (across > 1 || down > 1) {
+            const shrunk = new Shrunk(x, width, height, across, down);
+            this.eachRow(page, form, y, y + height, (row, bytes) => shrunk.add(row - y, bytes));
+            return shrunk.pels();
+        }
+        const pels = new Uint32Array(width * height);
+        this.eachRow(page, form, y, y + height, (row, bytes) => {
+            const at = (row - y) * width;
+            if (bytes) {
+                Drawing.putRow(pels, at, bytes, x, width);
+            } else {
+                pels.fill(Drawing.GREY, at, at + width);
+            }
+        });
+        return pels;
+    }
+
+    /** @param {Uint32Array} pels @param {number} at @param {Uint8Array} bytes @param {number} x
+     * @param {number} width */
+    static putRow(pels, at, bytes, x, width) {
+        for (let pel = 0; pel < width; pel++) {
+            const isBlack = bytes[(x + pel) >> 3] & (0x80 >> ((x + pel) & 7));
+            pels[at + pel] = isBlack ? Drawing.BLACK : Drawing.WHITE;
+        }
+    }
+
+    /** A page in small, of the size of a box at most; none where the page is too long.
+     * @param {number} page @param {number} most */
+    small(page, most) {
+        const form = this.library.form(page);
+        if (!form || form.rows > Drawing.MOST_ROWS) {
+            return null;
+        }
+        const high = form.rows * form.shape;
+        const scale = Math.min(1, most / Math.max(form.width, high));
+        const width = Math.max(1, Math.min(form.stride, Math.round(form.width * scale)));
+        const height = Math.max(1, Math.min(form.rows, Math.round(high * scale)));
+        const cells = new Cells(form, width, height);
+        this.eachRow(page, form, 0, form.rows, (row, bytes) => cells.add(row, bytes));
+        return { width, height, pels: cells.pels() };
+    }
+}
+
+/** Counts the black pels of a part of a page in cells of so many pels across and rows down. */
+class Shrunk {
+    /** Ink is drawn darker than it is, so that thin strokes are seen. */
+    static INK = 1.4;
+
+    /** @param {number} x @param {number} width @param {number} height @param {number} across @param {number} down */
+    constructor(x, width, height, across, down) {
+        this.x = x;
+        this.width = width;
+        this.height = height;
+        this.across = across;
+        this.down = down;
+        this.columns = Math.ceil(width / across);
+        this.black = new Uint32Array(this.columns * Math.ceil(height / down));
+        this.lost = new Uint8Array(Math.ceil(height / down));
+    }
+
+    /** @param {number} row @param {Uint8Array | null} bytes */
+    add(row, bytes) {
+        const line = Math.floor(row / this.down);
+        if (!bytes) {
+            this.lost[line] = 1;
+            return;
+        }
+        for (let pel = 0; pel < this.width; pel++) {
+            const at = this.x + pel;
+            if (bytes[at >> 3] === 0 && (at & 7) === 0) {
+                pel += 7;
+            } else if (bytes[at >> 3] & (0x80 >> (at & 7))) {
+                this.black[line * this.columns + Math.floor(pel / this.across)]++;
+            }
+        }
+    }
+
+    pels() {
+        return Uint32Array.from(this.black, (black, cell) => {
+            const line = Math.floor(cell / this.columns);
+            const column = cell % this.columns;
+            const all = Math.min(this.across, this.width - column * this.across) *
+                Math.min(this.down, this.height - line * this.down);
+            const grey = Math.round(255 * (1 - Math.min(1, (Shrunk.INK * black) / all)));
+            return this.lost[line] ? Drawing.GREY : (0xff000000 | (grey << 16) | (grey << 8) | grey) >>> 0;
+        });
+    }
+}
+
+/** Counts the black pels of a page in cells, whose columns are whole bytes. */
+class Cells {
+    static COUNTS = Uint8Array.from({ length: 256 }, (_, byte) => {
+        let count = 0;
+        for (let bits = byte; bits; bits >>= 1) {
+            count += bits & 1;
+        }
+        return count;
+    });
+
+    /** @param {Form} form @param {number} width @param {number} height */
+    constructor(form, width, height) {
+        this.form = form;
+        this.width = width;
+        this.height = height;
+        this.black = new Uint32Array(width * height);
+        this.all = new Uint32Array(width * height);
+        this.lost = new Uint32Array(width * height);
+        this.ends = Uint32Array.from({ length: width }, (_, column) =>
+            Math.floor(((column + 1) * form.stride) / width));
+    }
+
+    /** @param {number} row @param {Uint8Array | null} bytes */
+    add(row, bytes) {
+        const line = Math.floor((row * this.height) / this.form.rows) * this.width;
+        for (let column = 0, at = 0; column < this.width; column++) {
+            const cell = line + column;
+            this.all[cell] += 8 * (this.ends[column] - at);
+            if (!bytes) {
+                this.lost[cell]++;
+                at = this.ends[column];
+            }
+            for (; bytes && at < this.ends[column]; at++) {
+                this.black[cell] += Cells.COUNTS[bytes[at]];
+            }
+        }
+    }
+
+    /** The cells, a number for each; ink is drawn darker than it is, so that it is seen in small. */
+    pels() {
+        return Uint32Array.from(this.black, (black, cell) => {
+            if (this.lost[cell]) {
+                return Drawing.GREY;
+            }
+            const grey = Math.round(255 * (1 - Math.min(1, (1.6 * black) / Math.max(1, this.all[cell]))));
+            return (0xff000000 | (grey << 16) | (grey << 8) | grey) >>> 0;
+        });
+    }
+}

@@ -1,0 +1,427 @@
+"use strict";
+
+/** @param {string} id @returns {any} */
+function the(id) {
+    return document.getElementById(id);
+}
+
+/** The page: the files that are open, the one that is shown, and what the reader asks for. */
+class App {
+    /** So many files are read at once, and so many that are not shown keep a worker. */
+    static READERS = 3;
+    static WORKERS = 4;
+    static MOST_FINDINGS = 200;
+    /** So many letters of a report are shown; all are saved. */
+    static MOST_REPORT = 50000;
+
+    constructor() {
+        /** @type {Fax[]} */
+        this.faxes = [];
+        /** @type {Fax | null} */
+        this.fax = null;
+        this.page = 0;
+        this.isDue = false;
+        /** What was made last, for who saves it.
+         * @type {{ blob: Blob, name: string } | null} */
+        this.made = null;
+        this.found = "";
+        this.view = new View(the("view"), the("sheet"), the("paper"));
+        this.thumbs = new Thumbs(the("thumbs"), the("thumbs-all"), (page) => this.goTo(page));
+        this.listen();
+        this.listenForFiles();
+        this.render();
+    }
+
+    /** What buttons do. */
+    listen() {
+        const on = (/** @type {string} */ id, /** @type {() => void} */ does) =>
+            the(id).addEventListener("click", does);
+        on("before", () => this.goTo(this.page - 1));
+        on("next", () => this.goTo(this.page + 1));
+        on("smaller", () => this.view.zoomBy(-1));
+        on("larger", () => this.view.zoomBy(1));
+        on("whole", () => this.view.setZoom("whole"));
+        on("wide", () => this.view.setZoom("wide"));
+        on("left", () => this.view.turn(-1));
+        on("right", () => this.view.turn(1));
+        on("stop", () => this.fax?.stop());
+        on("notes", () => this.lookForNotes());
+        on("close", () => this.close());
+        the("report").addEventListener("toggle", () => this.renderReport());
+        the("page").addEventListener("change", () => this.goTo(Number(the("page").value)));
+        the("findings").addEventListener("click", (/** @type {Event} */ event) => {
+            const button = /** @type {HTMLElement} */ (event.target).closest("button");
+            if (button) {
+                this.goTo(Number(button.dataset.page), Number(button.dataset.row));
+            }
+        });
+        for (const [id, does] of /** @type {[string, () => void][]} */ (
+            [["bare", () => this.readBare()], ["save", () => this.save()]])) {
+            the(id).addEventListener("submit", (/** @type {Event} */ event) => {
+                event.preventDefault();
+                does();
+            });
+        }
+        document.addEventListener("keydown", (event) => this.key(event));
+    }
+
+    /** Files that are chosen, or dropped. */
+    listenForFiles() {
+        the("choose").addEventListener("change", () => {
+            this.open([...the("choose").files]);
+            the("choose").value = "";
+        });
+        for (const name of ["dragover", "dragenter", "dragleave", "drop"]) {
+            document.addEventListener(name, (event) => {
+                event.preventDefault();
+                document.body.classList.toggle("dropping", name === "dragover" || name === "dragenter");
+                if (name === "drop") {
+                    this.open([...(/** @type {DragEvent} */ (event).dataTransfer?.files ?? [])]);
+                }
+            });
+        }
+    }
+
+    /** @param {File[]} files */
+    open(files) {
+        const faxes = files.map((file) => new Fax(file, () => this.changed()));
+        this.faxes.push(...faxes);
+        if (faxes.length > 0) {
+            this.show(faxes[0]);
+            this.announce(say(TEXTS.announce.opened, faxes.map((fax) => fax.file.name).join(", ")));
+        }
+        this.startNext();
+    }
+
+    /** Starts files that wait, while there is room; and ends workers that have nothing to do. */
+    startNext() {
+        const reading = this.faxes.filter((fax) => fax.isBusy() && fax.state !== "waits").length;
+        const waiting = this.faxes.filter((fax) => fax.state === "waits");
+        waiting.sort((one, other) => Number(other === this.fax) - Number(one === this.fax));
+        for (const fax of waiting.slice(0, Math.max(0, App.READERS - reading))) {
+            fax.start(true);
+        }
+        const idle = this.faxes.filter(
+            (fax) => fax !== this.fax && fax.worker && !fax.isBusy() && fax.calls.size === 0);
+        for (const fax of idle.slice(0, Math.max(0, idle.length - App.WORKERS))) {
+            fax.endWorker();
+        }
+    }
+
+    /** @param {Fax | null} fax */
+    show(fax) {
+        this.fax = fax;
+        this.page = 0;
+        this.made = null;
+        this.found = "";
+        the("saved").replaceChildren();
+        the("bare-said").textContent = "";
+        this.changed();
+    }
+
+    close() {
+        const { fax } = this;
+        if (fax) {
+            fax.endWorker();
+            const at = this.faxes.indexOf(fax);
+            this.faxes.splice(at, 1);
+            this.show(this.faxes[Math.min(at, this.faxes.length - 1)] ?? null);
+            this.announce(say(TEXTS.announce.closed, fax.file.name));
+            this.startNext();
+            (this.fax ? the("close") : the("choose")).focus();
+        }
+    }
+
+    /** @param {string} text */
+    announce(text) {
+        the("said").textContent = text;
+    }
+
+    /** Goes to a page, and to a row of it.
+     * @param {number} page @param {number} [row] */
+    goTo(page, row) {
+        const last = Math.max(0, (this.fax?.pages ?? 0) - 1);
+        const wanted = Number.isInteger(page) ? Math.max(0, Math.min(last, page)) : this.page;
+        const hasMoved = wanted !== this.page;
+        this.page = wanted;
+        this.render();
+        if (row !== undefined) {
+            this.view.goTo(row);
+        }
+        if (hasMoved) {
+            const state = /** @type {Fax} */ (this.fax).stateOf(wanted);
+            this.announce(say(TEXTS.announce.page, String(wanted), TEXTS.pages[state]));
+        }
+    }
+
+    lookForNotes() {
+        const { fax } = this;
+        if (fax) {
+            fax.move("checks");
+            fax.ask("notes", {}).catch((error) => fax.fail(error.message));
+        }
+    }
+
+    /** Shows what has changed before the next picture is painted; or soon, where none is painted. */
+    changed() {
+        if (!this.isDue) {
+            this.isDue = true;
+            setTimeout(() => {
+                this.isDue = false;
+                this.startNext();
+                this.render();
+            }, 50);
+        }
+    }
+
+    render() {
+        const { fax } = this;
+        the("welcome").hidden = Boolean(fax);
+        the("fax").hidden = !fax;
+        document.title = fax ? `${fax.file.name}: ${TEXTS.title}` : TEXTS.title;
+        this.renderFiles();
+        if (fax) {
+            this.renderAbout(fax);
+            this.renderFindings(fax);
+            this.renderPage(fax);
+        }
+        this.thumbs.show(fax, this.page);
+        this.view.show(fax, this.page);
+    }
+
+    renderFiles() {
+        const { faxes } = this;
+        the("files").hidden = faxes.length < 2;
+        const buttons = faxes.map((fax) => {
+            const button = the(`file-${fax.number}`) ?? this.fileButton(fax);
+            button.className = fax.isBusy() ? "busy" : fax.isWhole() ? "whole" : "damaged";
+            button.setAttribute("aria-pressed", String(fax === this.fax));
+            return button;
+        });
+        if (buttons.length !== the("files").childElementCount || buttons.some((button) => !button.isConnected)) {
+            the("files").replaceChildren(...buttons);
+        }
+    }
+
+    /** @param {Fax} fax */
+    fileButton(fax) {
+        const button = document.createElement("button");
+        button.type = "button";
+        button.id = `file-${fax.number}`;
+        button.textContent = fax.file.name;
+        button.addEventListener("click", () => this.show(fax));
+        return button;
+    }
+
+    /** @param {Fax} fax */
+    renderAbout(fax) {
+        const put = (/** @type {string} */ id, /** @type {string} */ text) => {
+            if (the(id).textContent !== text) {
+                the(id).textContent = text;
+            }
+        };
+        put("name", fax.file.name);
+        put("verdict", fax.verdict());
+        const isReading = fax.isBusy() && fax.state !== "waits";
+        const state = fax.state !== "done" ? "left" : fax.isWhole() ? "whole" : "damaged";
+        the("verdict").className = isReading ? "busy" : state;
+        the("progress").hidden = !isReading;
+        if (isReading && fax.state === "reads" && fax.pages > 0) {
+            the("progress").max = fax.pages;
+            the("progress").value = fax.page;
+        } else {
+            the("progress").removeAttribute("value");
+        }
+        the("stop").hidden = !isReading;
+        the("notes").hidden = !fax.isLong;
+        the("save").hidden = fax.pages === 0 || fax.isBusy();
+        the("bare").hidden = !(fax.told?.kind === "bare" || (fax.state === "done" && fax.pages === 0 && fax.end &&
+            ["ByteOrder", "ShortHeader", "Magic"].includes(fax.end.name)));
+    }
+
+    /** @param {Fax} fax */
+    renderFindings(fax) {
+        const count = Math.min(fax.refused.size + fax.lost.size, fax.isBusy() ? App.MOST_FINDINGS : Infinity);
+        const key = [fax.number, count, fax.notes.size, fax.state, Boolean(fax.end)].join(" ");
+        if (key === this.found) {
+            return;
+        }
+        this.found = key;
+        const { found, all } = fax.findings(App.MOST_FINDINGS);
+        the("findings-part").hidden = found.length === 0 && !fax.isLong;
+        the("findings").replaceChildren(...found.map((finding) => this.findingItem(finding)));
+        the("findings-more").textContent = [all > found.length ? say(TEXTS.findings.more, all - found.length) : "",
+            fax.isLong ? TEXTS.findings.unchecked : ""].join(" ").trim();
+        this.view.mark();
+        this.renderReport();
+    }
+
+    /** The report as text, where it is asked for: as much of it as can be looked through. */
+    renderReport() {
+        const text = this.fax && the("report").open ? this.fax.text() : "";
+        the("report-text").textContent = text.length > App.MOST_REPORT
+            ? `${text.slice(0, App.MOST_REPORT)}\n${TEXTS.findings.reportGoesOn}` : text;
+    }
+
+    /** @param {Finding} finding */
+    findingItem({ page, row, head, name, tag, kind }) {
+        const item = document.createElement("li");
+        const button = document.createElement("button");
+        const notes = /** @type {Record<string, string[]>} */ (TEXTS.notes);
+        const [means, does] = kind === "note" ? notes[name] : sayOfFault(name, tag);
+        item.className = kind;
+        button.type = "button";
+        button.dataset.page = String(page);
+        button.dataset.row = String(row);
+        button.textContent = `${head}: ${name}${tag ? ` ${tag}` : ""}`;
+        const text = document.createElement("p");
+        text.textContent = `${means} ${does}`.trim();
+        item.append(button, text);
+        return item;
+    }
+
+    /** @param {Fax} fax */
+    renderPage(fax) {
+        const form = fax.form(this.page);
+        const texts = TEXTS.pages;
+        the("view-part").hidden = fax.pages === 0;
+        if (document.activeElement !== the("page")) {
+            the("page").value = String(this.page);
+        }
+        the("page").max = String(Math.max(0, fax.pages - 1));
+        the("of").textContent = `of 0 to ${Math.max(0, fax.pages - 1)}`;
+        the("before").disabled = this.page === 0;
+        the("next").disabled = this.page >= fax.pages - 1;
+        const resolution = form && form.across > 0 && form.down > 0 && TEXTS.units[form.unit]
+            ? say(texts.resolution, Math.round(form.across), Math.round(form.down), TEXTS.units[form.unit])
+            : texts.noResolution;
+        the("form").textContent = form
+            ? say(texts.form, form.width, form.rows, TEXTS.codings[form.coding], resolution)
+            : fax.pages > 0 ? say(TEXTS.findings.page, String(this.page)) : "";
+        the("sheet").setAttribute("aria-label", say(texts.picture, String(this.page), texts[fax.stateOf(this.page)]));
+    }
+
+    readBare() {
+        const words = new FormData(the("bare"));
+        const number = (/** @type {string} */ name) => Number(words.get(name));
+        const bare = { width: number("width"), rows: number("rows"), coding: number("coding"), order: number("order"),
+            hasEols: number("coding") === Library.MMR || number("coding") === Library.MR || words.has("eols"),
+            isAligned: words.has("aligned"), isFine: words.get("fine") === "1" };
+        const isRight = Number.isInteger(bare.width) && bare.width >= 1 && bare.width <= 65535 &&
+            Number.isInteger(bare.rows) && bare.rows >= 0 && bare.rows <= 1000000;
+        the("bare-said").textContent = isRight ? "" : TEXTS.bare.refused;
+        if (isRight && this.fax) {
+            this.fax.coded = bare;
+            this.found = "";
+            this.page = 0;
+            this.fax.start(true);
+        }
+    }
+
+    /** Makes a file, and offers it once it was read again and compared. */
+    async save() {
+        const { fax } = this;
+        const kind = the("save").elements.kind.value;
+        const said = the("saved");
+        if (!fax) {
+            return;
+        }
+        const pages = kind === "png" ? [this.page] : fax.wholePages();
+        const name = App.nameOf(fax, kind, this.page);
+        this.made = null;
+        if (kind !== "text" && (pages.length === 0 || !fax.form(pages[0]))) {
+            said.textContent = TEXTS.saving.nothing;
+            return;
+        }
+        said.textContent = say(TEXTS.saving.works, name, 0);
+        try {
+            const blob = kind === "text" ? new Blob([fax.text()], { type: "text/plain" }) : await fax.ask("save",
+                { kind: kind.replace(/\d/, ""), coding: Number(kind.slice(-1)) || 0, pages },
+                (/** @type {number} */ done, /** @type {number} */ all) => {
+                    said.textContent = say(TEXTS.saving.works, name, Math.floor((100 * done) / all));
+                });
+            if (fax === this.fax) {
+                const isLess = !["png", "text"].includes(kind) && pages.length < fax.pages;
+                this.offer(blob, name, isLess
+                    ? say(TEXTS.saving.less, name, pages.length, sayCount(fax.pages, "page", "pages"))
+                    : say(kind === "text" ? TEXTS.saving.report : TEXTS.saving.ready, name));
+            }
+        } catch (error) {
+            said.textContent = say(TEXTS.saving.failed, name, /** @type {Error} */ (error).message);
+        }
+    }
+
+    /** @param {Fax} fax @param {string} kind @param {number} page */
+    static nameOf(fax, kind, page) {
+        const base = fax.file.name.replace(/\.[^.]*$/, "") || "fax";
+        const endings = /** @type {Record<string, string>} */ ({ text: "-report.txt", png: `-page-${page}.png`,
+            tiff1: "-mh.tif", tiff2: "-mr.tif", tiff3: "-mmr.tif" });
+        return base + (endings[kind] ?? `.${kind}`);
+    }
+
+    /** @param {Blob} blob @param {string} name @param {string} said */
+    offer(blob, name, said) {
+        const link = document.createElement("a");
+        const text = document.createElement("span");
+        const before = the("saved").querySelector("a");
+        if (before) {
+            URL.revokeObjectURL(before.href);
+        }
+        this.made = { blob, name };
+        link.className = "button";
+        link.download = name;
+        link.href = URL.createObjectURL(blob);
+        link.textContent = say(TEXTS.saving.link, name);
+        text.textContent = said;
+        the("saved").replaceChildren(text, " ", link);
+        link.focus();
+    }
+
+    /** @param {KeyboardEvent} event */
+    key(event) {
+        const target = /** @type {HTMLElement} */ (event.target);
+        if (event.ctrlKey || event.metaKey || event.altKey || target.closest("input, select, textarea")) {
+            return;
+        }
+        if (event.key === "o") {
+            event.preventDefault();
+            the("choose").click();
+            return;
+        }
+        const does = this.fax && this.keys()[event.key];
+        const scrolls = ["ArrowUp", "ArrowDown", "PageUp", "PageDown"].includes(event.key);
+        if (does && (!scrolls || target.closest("#thumbs"))) {
+            event.preventDefault();
+            does();
+        }
+    }
+
+    /** @returns {Record<string, () => void>} */
+    keys() {
+        const { view } = this;
+        const last = (this.fax?.pages ?? 1) - 1;
+        return {
+            n: () => this.goTo(this.page + 1), p: () => this.goTo(this.page - 1),
+            ArrowDown: () => this.goTo(this.page + 1), ArrowUp: () => this.goTo(this.page - 1),
+            PageDown: () => this.goTo(this.page + 10), PageUp: () => this.goTo(this.page - 10),
+            Home: () => this.goTo(0), End: () => this.goTo(last),
+            "+": () => view.zoomBy(1), "=": () => view.zoomBy(1), "-": () => view.zoomBy(-1),
+            0: () => view.setZoom("whole"), w: () => view.setZoom("wide"), 1: () => view.setZoom(1 / devicePixelRatio),
+            r: () => view.turn(1), l: () => view.turn(-1), f: () => this.nextFinding(),
+        };
+    }
+
+    /** Goes to the next place where something is wrong, and from the last to the first. */
+    nextFinding() {
+        const { found } = /** @type {Fax} */ (this.fax).findings(App.MOST_FINDINGS);
+        const after = found.findIndex(({ page, row }) => this.last ? page > this.last.page ||
+            (page === this.last.page && row > this.last.row) : true);
+        const next = found[Math.max(0, after)];
+        if (next) {
+            this.last = { page: next.page, row: next.row };
+            this.goTo(next.page, next.row);
+        }
+    }
+}
+
+const app = new App();

@@ -1,0 +1,299 @@
+"use strict";
+
+/**
+ * The calls of faxpages.h, over one instance of the library in WebAssembly, whose memory is a file's. The page runs
+ * this in its workers, never by itself.
+ *
+ * @typedef {{ number: number, tag: number, page: number, row: number }} Fault
+ * @typedef {{ status: number, count: number, page: number, row: number, fault: Fault }} Told
+ */
+class Library {
+    static DONE = 0;
+    static END = 1;
+    static FAULT = 2;
+    static OUTSIDE = 3;
+    static MEMORY = 4;
+    static NO_ROOM = 5;
+    static TOO_LARGE = 8;
+    static DATA_END = 9;
+    static NO_STRIP = 4294967295;
+    static RUNS = 65536;
+    static ROWS = 4096;
+    static OUT = 1 << 20;
+    static FORMS = 512;
+    static FORM_NUMBERS = 13;
+    static MOST_BYTES = 268435456;
+    static MH = 1;
+    static MR = 2;
+    static MMR = 3;
+
+    /** @param {WebAssembly.Module} module */
+    constructor(module) {
+        this.calls = /** @type {any} */ (new WebAssembly.Instance(module).exports);
+        this.memory = /** @type {WebAssembly.Memory} */ (this.calls.memory);
+        this.told = this.take(64);
+        this.rows = this.take(20 * Library.ROWS);
+        this.out = this.take(Library.OUT);
+        this.file = this.told;
+        this.length = 0;
+        /** @type {Map<string, { at: number, size: number }>} */
+        this.rooms = new Map();
+    }
+
+    /** Takes memory that nothing else uses: the library's own allocator grows by other pages. It is never given back.
+     * @param {number} bytes */
+    take(bytes) {
+        return this.memory.grow(Math.max(1, Math.ceil(bytes / 65536))) * 65536;
+    }
+
+    /** Memory that has a name, and grows: what it held is kept only where it need not grow.
+     * @param {string} name @param {number} bytes */
+    room(name, bytes) {
+        let room = this.rooms.get(name);
+        if (!room || room.size < bytes) {
+            const size = room ? Math.max(bytes, Math.ceil(1.5 * room.size)) : bytes;
+            room = { at: this.take(size), size };
+            this.rooms.set(name, room);
+        }
+        return room.at;
+    }
+
+    /** @param {number} at @param {number} count */
+    numbers(at, count) {
+        return new Uint32Array(this.memory.buffer, at, count);
+    }
+
+    /** @param {number} at @param {number} length */
+    bytes(at, length) {
+        return new Uint8Array(this.memory.buffer, at, length);
+    }
+
+    /** Makes room for a file, and answers where it stands.
+     * @param {number} length */
+    takeFile(length) {
+        this.file = this.room("file", length + 1);
+        this.length = length;
+        return this.file;
+    }
+
+    /** @param {number} at @returns {Fault} */
+    faultAt(at) {
+        const [number, tag, page, row] = this.numbers(at, 4);
+        return { number, tag, page, row };
+    }
+
+    /** @param {number} status @returns {Told} */
+    toldOf(status) {
+        const [count, , page, row] = this.numbers(this.told, 4);
+        return { status, count, page, row, fault: this.faultAt(this.told + 16) };
+    }
+
+    /** A place that rows are read from, with the runs of the row before it.
+     * @param {number} page @param {number} row */
+    cursor(page, row) {
+        return new Cursor(this, this.take(16 + 4 * Library.RUNS)).set(page, row);
+    }
+
+    /** The same, in memory that has a name, at the beginning of the file.
+     * @param {string} name */
+    cursorNamed(name) {
+        return new Cursor(this, this.room(`cursor ${name}`, 16 + 4 * Library.RUNS)).set(0, 0);
+    }
+
+    /** Forms from a page on; they stand in `out`.
+     * @param {number} page */
+    forms(page) {
+        return this.toldOf(
+            this.calls.faxpages_forms(this.file, this.length, page, this.out, Library.FORMS, this.told));
+    }
+
+    /** The form of a page, or none.
+     * @param {number} page @returns {Form | null} */
+    form(page) {
+        const told = this.toldOf(this.calls.faxpages_forms(this.file, this.length, page, this.out, 1, this.told));
+        return told.count === 1 ? new Form(this.numbers(this.out, Library.FORM_NUMBERS).slice()) : null;
+    }
+
+    /** Reads rows from a cursor on, and leaves it after them; where they stand is told by `row`.
+     * @param {Cursor} cursor @param {number} most */
+    readRows(cursor, most) {
+        return this.toldOf(this.calls.faxpages_rows_from(this.file, this.length, cursor.at, cursor.runs, Library.RUNS,
+            this.rows, Math.min(most, Library.ROWS), this.out, Library.OUT, this.told));
+    }
+
+    /** The packed bytes of a row that was read last, its page and its number.
+     * @param {number} index */
+    row(index) {
+        const [at, length, page, row] = this.numbers(this.rows + 20 * index, 4);
+        return { page, row, bytes: this.bytes(this.out + at, length) };
+    }
+
+    /** Reads all rows, and tells how many there are, notes on them and the first fault.
+     * @param {number} room for notes */
+    check(room) {
+        const notes = this.room("notes", 12 * room);
+        const report = this.room("report", 40);
+        this.calls.faxpages_check(this.file, this.length, notes, room, report);
+        const [pages, pagesHigh, rows, rowsHigh, count] = this.numbers(report, 5);
+        return {
+            pages: pages + 4294967296 * pagesHigh,
+            rows: rows + 4294967296 * rowsHigh,
+            count,
+            notes: this.numbers(notes, 3 * Math.min(count, room)).slice(),
+            fault: this.faultAt(report + 20),
+        };
+    }
+
+    /** Converts the file, to raw PBM (0) or TIFF-F in a coding, into memory that is taken for it.
+     * @param {number} target */
+    convert(target) {
+        const options = this.room("options", 20);
+        this.numbers(options, 5).set([target, 1, 4, 0, 0]);
+        const call = (/** @type {number} */ out, /** @type {number} */ room) =>
+            this.calls.faxpages_convert(this.file, this.length, options, out, room, this.told);
+        let status = call(this.out, 0);
+        const length = this.numbers(this.told, 1)[0];
+        let at = this.out;
+        if (status === Library.NO_ROOM) {
+            at = this.room("converted", length);
+            status = call(at, length);
+        }
+        const image = this.numbers(this.told, 4)[2];
+        return { status, at, length, image, fault: this.faultAt(this.told + 16) };
+    }
+
+    /** Codes a raster of this form as a page, and adds it to a file of which `written` tells how far it is. `status`
+     * is NO_ROOM where the file needs more room.
+     * @param {Uint32Array} form @param {number} raster @param {number} stride
+     * @param {{ at: number, size: number }} file @param {number} written */
+    addPage(form, raster, stride, file, written) {
+        const at = this.room("form", 4 * Library.FORM_NUMBERS);
+        this.numbers(at, Library.FORM_NUMBERS).set(form);
+        return this.calls.faxpages_add_page(at, 4, raster, form[1] * stride, stride, file.at, file.size, written);
+    }
+
+    /** Codes a raster as a strip of MMR, and answers where it stands.
+     * @param {Form} form @param {number} raster */
+    codeStrip(form, raster) {
+        const strip = this.room("strip form", 20);
+        this.numbers(strip, 5).set([form.width, form.rows, Library.MMR, 1, 0]);
+        const call = (/** @type {number} */ out, /** @type {number} */ room) => this.calls.faxpages_strip_code(
+            strip, 4, raster, form.rows * form.stride, form.stride, out, room, this.told);
+        let at = this.out;
+        let status = call(at, Library.OUT);
+        const length = this.numbers(this.told, 1)[0];
+        if (status === Library.NO_ROOM) {
+            at = this.room("strip", length);
+            status = call(at, length);
+        }
+        return { status, at, length };
+    }
+
+    /** Reads rows of a strip into a raster, from a cursor on.
+     * @param {number} strip @param {number} length @param {number[]} form of a strip
+     * @param {Cursor} cursor @param {number} raster @param {number} room @param {number} stride */
+    readStrip(strip, length, form, cursor, raster, room, stride) {
+        const at = this.room("strip form", 20);
+        this.numbers(at, 5).set(form);
+        return this.toldOf(this.calls.faxpages_strip_rows(
+            strip, length, at, cursor.at, cursor.runs, Library.RUNS, raster, room, stride, this.told));
+    }
+
+    /** The name of a fault, or of a note.
+     * @param {"fault" | "note"} kind @param {number} number */
+    name(kind, number) {
+        const length = this.calls[`faxpages_${kind}_name`](number, this.out, 64);
+        return String.fromCharCode(...this.bytes(this.out, length));
+    }
+}
+
+/** A place in the file of a library, and the runs of the row before it. */
+class Cursor {
+    /** @param {Library} library @param {number} at */
+    constructor(library, at) {
+        this.library = library;
+        this.at = at;
+        this.runs = at + 16;
+    }
+
+    /** Goes to the beginning of a row.
+     * @param {number} page @param {number} row */
+    set(page, row) {
+        this.library.numbers(this.at, 4).set([page, row, 0, 0]);
+        return this;
+    }
+
+    get page() {
+        return this.library.numbers(this.at, 1)[0];
+    }
+
+    get row() {
+        return this.library.numbers(this.at, 2)[1];
+    }
+
+    /** The place and its runs, to come back to; none where they are too many to be kept.
+     * @param {number} most */
+    keep(most) {
+        const [, , , runs] = this.library.numbers(this.at, 4);
+        return runs <= most ? this.library.numbers(this.at, 4 + runs).slice() : null;
+    }
+
+    /** @param {Uint32Array} kept */
+    comeBack(kept) {
+        this.library.numbers(this.at, kept.length).set(kept);
+        return this;
+    }
+}
+
+/** The form of a page, as faxpages.h has it. */
+class Form {
+    /** @param {Uint32Array} numbers */
+    constructor(numbers) {
+        this.numbers = numbers;
+        this.width = numbers[0];
+        this.rows = numbers[1];
+        this.coding = numbers[2];
+        this.order = numbers[3];
+        this.exchanged = numbers[5];
+        this.rowsOfStrip = numbers[6];
+        this.strips = numbers[7];
+        this.acrossAbove = numbers[8];
+        this.acrossBelow = numbers[9];
+        this.downAbove = numbers[10];
+        this.downBelow = numbers[11];
+        this.unit = numbers[12];
+    }
+
+    /** The bytes of a row. */
+    get stride() {
+        return (this.width + 7) >> 3;
+    }
+
+    /** The first row after the strip that has a row.
+     * @param {number} row */
+    stripAfter(row) {
+        return Math.min(this.rows, (Math.floor(row / this.rowsOfStrip) + 1) * this.rowsOfStrip);
+    }
+
+    /** Pels of a row in a unit, and rows in a unit: 0 where the file does not say. */
+    get across() {
+        return this.acrossBelow ? this.acrossAbove / this.acrossBelow : 0;
+    }
+
+    get down() {
+        return this.downBelow ? this.downAbove / this.downBelow : 0;
+    }
+
+    /** How many times as high as wide a pel is. */
+    get shape() {
+        return this.across > 0 && this.down > 0 ? this.across / this.down : 1;
+    }
+
+    /** The line that `faxpages list` prints.
+     * @param {number} page */
+    line(page) {
+        const coding = ["", "mh", "mr", "mmr"][this.coding];
+        return `page ${page} ${this.width} ${this.rows} ${coding} ${this.order} ${this.exchanged} ${this.strips} ` +
+            `${this.acrossAbove}/${this.acrossBelow} ${this.downAbove}/${this.downBelow} ${this.unit}`;
+    }
+}

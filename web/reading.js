@@ -1,0 +1,143 @@
+"use strict";
+
+/**
+ * Reads a file in slices, between which the worker answers other calls: first the forms of all pages, then all rows.
+ * After a row that cannot be read it goes on at the next strip, or at the next page.
+ *
+ * @typedef {{ from: number, to: number, fault: Fault }} Lost
+ */
+class Reading {
+    /** How long a slice is to take, in milliseconds. */
+    static SLICE = 20;
+    /** After so many faults the rest of a page is given up. */
+    static MOST_FAULTS = 100;
+
+    /**
+     * @param {Library} library
+     * @param {(message: object) => void} send
+     * @param {() => Promise<void>} pause
+     */
+    constructor(library, send, pause) {
+        this.library = library;
+        this.send = send;
+        this.pause = pause;
+        this.most = 64;
+        this.rows = 0;
+        this.faults = 0;
+        this.faultsOfPage = -1;
+        this.pages = 0;
+        this.told = 0;
+    }
+
+    /** Whether a fault is of one page's fields: the pages after it can be read.
+     * @param {Fault} fault */
+    static isOfFields(fault) {
+        return fault.number >= 7 && fault.number <= 10;
+    }
+
+    /** Whether a fault is of rows of a page: of the data of a strip, or of its place.
+     * @param {Fault} fault */
+    static isOfRows(fault) {
+        return fault.number >= 11 && fault.number < 200;
+    }
+
+    /** Lists all pages. A page whose fields are refused is listed with its fault. */
+    async list() {
+        for (let next = 0; ;) {
+            const told = this.library.forms(next);
+            if (told.count > 0) {
+                const numbers = this.library.numbers(this.library.out, Library.FORM_NUMBERS * told.count).slice();
+                this.send({ event: "forms", page: next, numbers });
+                next += told.count;
+            }
+            if (told.status === Library.FAULT && Reading.isOfFields(told.fault) && told.fault.page >= next) {
+                this.send({ event: "refused", fault: told.fault, name: this.nameOf(told.fault) });
+                next = told.fault.page + 1;
+            } else if (told.status === Library.FAULT && told.fault.page >= next) {
+                this.send({ event: "listed", pages: next, fault: told.fault, name: this.nameOf(told.fault) });
+                return next;
+            } else if (told.status !== Library.DONE) {
+                this.send({ event: "listed", pages: next, fault: null });
+                return next;
+            }
+            await this.pause();
+        }
+    }
+
+    /** @param {Fault} fault */
+    nameOf(fault) {
+        return this.library.name("fault", fault.number);
+    }
+
+    /** Reads all rows, and tells those that are lost. Answers how long the calls took, in milliseconds. */
+    async walk() {
+        const cursor = this.library.cursor(0, 0);
+        let took = 0;
+        for (;;) {
+            const began = performance.now();
+            const told = this.library.readRows(cursor, this.most);
+            const slice = performance.now() - began;
+            took += slice;
+            this.rows += told.count;
+            this.most = Reading.nextMost(this.most, slice);
+            const page = told.count > 0 ? this.library.row(told.count - 1).page : cursor.page;
+            if (told.status === Library.FAULT ? !this.skip(cursor, told.fault) : !Reading.goesOn(told.status)) {
+                this.tell(page, true, told.status);
+                return took;
+            }
+            this.tell(page, false, told.status);
+            await this.pause();
+        }
+    }
+
+    /** @param {number} status */
+    static goesOn(status) {
+        return status === Library.DONE || status === Library.NO_ROOM;
+    }
+
+    /** How many rows the next slice reads, where the last one took so long.
+     * @param {number} most @param {number} took */
+    static nextMost(most, took) {
+        if (took > 2 * Reading.SLICE) {
+            return Math.max(1, most >> 1);
+        }
+        return took < Reading.SLICE ? Math.min(Library.ROWS, 2 * most) : most;
+    }
+
+    /** Goes on after a fault, if there is anything after it.
+     * @param {Cursor} cursor @param {Fault} fault */
+    skip(cursor, fault) {
+        if (Reading.isOfFields(fault)) {
+            cursor.set(fault.page + 1, 0);
+            return true;
+        }
+        const form = Reading.isOfRows(fault) ? this.library.form(fault.page) : null;
+        if (!form) {
+            return false;
+        }
+        const after = this.afterLost(form, fault);
+        this.send({
+            event: "lost", page: fault.page, from: fault.row, to: after - 1, fault, name: this.nameOf(fault),
+        });
+        cursor.set(after < form.rows ? fault.page : fault.page + 1, after < form.rows ? after : 0);
+        return true;
+    }
+
+    /** The row after those that a fault takes away.
+     * @param {Form} form @param {Fault} fault */
+    afterLost(form, fault) {
+        this.faults = this.faultsOfPage === fault.page ? this.faults + 1 : 1;
+        this.faultsOfPage = fault.page;
+        return this.faults < Reading.MOST_FAULTS ? form.stripAfter(fault.row) : form.rows;
+    }
+
+    /** Tells how far it is, ten times a second at most.
+     * @param {number} page @param {boolean} isEnd @param {number} status */
+    tell(page, isEnd, status) {
+        const now = performance.now();
+        if (isEnd || now - this.told > 100) {
+            this.told = now;
+            this.send({ event: isEnd ? "walked" : "walking", page, rows: this.rows, status });
+        }
+    }
+}

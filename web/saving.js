@@ -1,0 +1,211 @@
+"use strict";
+
+/**
+ * Makes files of pages that can be read wholly. What was made is read again by the library, or unpacked, and compared
+ * with the rows of the fax before it is handed out.
+ *
+ * @typedef {{ at: number, length: number, page: number }} Piece
+ */
+class Saving {
+    /** A raster of a page has this many bytes at most. */
+    static MOST_RASTER = Library.MOST_BYTES;
+
+    /**
+     * @param {Library} library of the fax
+     * @param {WebAssembly.Module} module
+     * @param {() => Promise<void>} pause
+     * @param {(done: number, all: number) => void} tell
+     */
+    constructor(library, module, pause, tell) {
+        this.library = library;
+        this.made = new Library(module);
+        this.cursor = library.cursor(0, 0);
+        this.pause = pause;
+        this.tell = tell;
+    }
+
+    /** @param {number} page */
+    formOf(page) {
+        const form = this.library.form(page);
+        if (!form || form.stride * form.rows > Saving.MOST_RASTER) {
+            throw new Error(`page ${page} is too large to be saved`);
+        }
+        return form;
+    }
+
+    /** Reads a page into a raster of the other library.
+     * @param {number} page @param {Form} form */
+    async rasterOf(page, form) {
+        const at = this.made.room("raster", form.stride * form.rows);
+        this.cursor.set(page, 0);
+        for (let due = 0; due < form.rows; await this.pause()) {
+            const told = this.library.readRows(this.cursor, form.rows - due);
+            for (let index = 0; index < told.count; index++, due++) {
+                this.made.bytes(at + due * form.stride, form.stride).set(this.library.row(index).bytes);
+            }
+            if (told.count === 0 || told.status === Library.FAULT) {
+                throw new Error(`page ${page} cannot be read wholly`);
+            }
+        }
+        return at;
+    }
+
+    /** The pages as TIFF-F in a coding.
+     * @param {number[]} pages @param {number} coding */
+    async tiff(pages, coding) {
+        const written = this.made.room("written", 16);
+        this.made.numbers(written, 4).set([0, 0, pages.length, 0]);
+        let file = { at: this.made.take(1 << 20), size: 1 << 20 };
+        for (const [done, page] of pages.entries()) {
+            const form = this.formOf(page);
+            const raster = await this.rasterOf(page, form);
+            const numbers = Saving.written(form, coding);
+            for (;;) {
+                const status = this.made.addPage(numbers, raster, form.stride, file, written);
+                if (status === Library.DONE) {
+                    break;
+                }
+                file = this.moreRoom(status, file, this.made.numbers(written, 1)[0], form);
+            }
+            this.tell(done + 1, 2 * pages.length);
+        }
+        const length = this.made.numbers(written, 1)[0];
+        this.made.file = file.at;
+        this.made.length = length;
+        await this.compareFile(pages);
+        return new Blob([this.made.bytes(file.at, length)], { type: "image/tiff" });
+    }
+
+    /** The form of a page that is written: in one strip, the highest bit first, black as black.
+     * @param {Form} form @param {number} coding */
+    static written(form, coding) {
+        const numbers = form.numbers.slice();
+        numbers.set([coding, 1, 0, 0, form.rows, 1], 2);
+        return numbers;
+    }
+
+    /** A larger room for the file, with what it has.
+     * @param {number} status @param {{ at: number, size: number }} file @param {number} length @param {Form} form */
+    moreRoom(status, file, length, form) {
+        if (status !== Library.NO_ROOM || file.size >= Library.MOST_BYTES) {
+            throw new Error(status === Library.MEMORY ? "memory was refused" : "the file would be too large");
+        }
+        const size = Math.min(Library.MOST_BYTES, 2 * file.size + form.stride * form.rows);
+        const at = this.made.take(size);
+        this.made.bytes(at, length).set(this.made.bytes(file.at, length));
+        return { at, size };
+    }
+
+    /** Compares the file that was made with the pages that it was made of, row by row.
+     * @param {number[]} pages */
+    async compareFile(pages) {
+        const made = this.made.cursor(0, 0);
+        for (const [number, page] of pages.entries()) {
+            const form = this.formOf(page);
+            this.cursor.set(page, 0);
+            for (let due = 0; due < form.rows; await this.pause()) {
+                const told = this.library.readRows(this.cursor, form.rows - due);
+                const again = this.made.readRows(made, told.count);
+                if (told.count === 0 || again.count !== told.count || !this.isSame(told.count, number, due)) {
+                    throw new Error(`page ${page} was not written as it is`);
+                }
+                due += told.count;
+            }
+            this.tell(pages.length + number + 1, 2 * pages.length);
+        }
+        if (this.made.readRows(made, 1).status !== Library.END) {
+            throw new Error("more was written than there is");
+        }
+    }
+
+    /** Whether rows that were read last by both libraries are the same, and as many of a page from a row on.
+     * @param {number} count @param {number} page @param {number} from */
+    isSame(count, page, from) {
+        for (let index = 0; index < count; index++) {
+            const made = this.made.row(index);
+            const isThere = made.page === page && made.row === from + index;
+            if (!isThere || !Saving.isEqual(made.bytes, this.library.row(index).bytes)) {
+                return false;
+            }
+        }
+        return true;
+    }
+
+    /** @param {Uint8Array} one @param {Uint8Array} other */
+    static isEqual(one, other) {
+        return one.length === other.length && one.every((byte, at) => byte === other[at]);
+    }
+
+    /** The pages as raw PBM, an image after another.
+     * @param {number[]} pages */
+    async pbm(pages) {
+        /** @type {BlobPart[]} */
+        const parts = [];
+        for (const [done, page] of pages.entries()) {
+            const form = this.formOf(page);
+            const raster = await this.rasterOf(page, form);
+            const head = new TextEncoder().encode(`P4\n${form.width} ${form.rows}\n`);
+            const image = new Blob([head, this.made.bytes(raster, form.stride * form.rows)]);
+            await this.comparePbm(image, page, form);
+            parts.push(image);
+            this.tell(done + 1, pages.length);
+        }
+        return new Blob(parts, { type: "image/x-portable-bitmap" });
+    }
+
+    /** Reads an image again, as a fax of one page, and compares its rows.
+     * @param {Blob} image @param {number} page @param {Form} form */
+    async comparePbm(image, page, form) {
+        this.made.bytes(this.made.takeFile(image.size), image.size).set(new Uint8Array(await image.arrayBuffer()));
+        const converted = this.made.convert(Library.MMR);
+        if (converted.status !== Library.DONE) {
+            throw new Error(`page ${page} was not written as it is`);
+        }
+        const { file, length } = this.made;
+        [this.made.file, this.made.length] = [converted.at, converted.length];
+        const made = this.made.cursorNamed("again");
+        this.cursor.set(page, 0);
+        for (let due = 0; due < form.rows; await this.pause()) {
+            const told = this.library.readRows(this.cursor, form.rows - due);
+            if (this.made.readRows(made, told.count).count !== told.count || !this.isSame(told.count, 0, due)) {
+                throw new Error(`page ${page} was not written as it is`);
+            }
+            due += told.count;
+        }
+        [this.made.file, this.made.length] = [file, length];
+    }
+
+    /** The pages as a PDF: each is one image of MMR data.
+     * @param {number[]} pages */
+    async pdf(pages) {
+        const pdf = new Pdf();
+        for (const [done, page] of pages.entries()) {
+            const form = this.formOf(page);
+            const raster = await this.rasterOf(page, form);
+            const strip = this.made.codeStrip(form, raster);
+            if (strip.status !== Library.DONE) {
+                throw new Error(`page ${page} is not coded`);
+            }
+            const data = new Blob([this.made.bytes(strip.at, strip.length)]);
+            await this.compareStrip(data, page, form, raster);
+            pdf.addPage(form, data);
+            this.tell(done + 1, pages.length);
+        }
+        return pdf.blob();
+    }
+
+    /** Reads the data of an image again, and compares its rows with those of the page.
+     * @param {Blob} data @param {number} page @param {Form} form @param {number} raster */
+    async compareStrip(data, page, form, raster) {
+        const size = form.stride * form.rows;
+        const strip = this.made.takeFile(data.size);
+        const again = this.made.room("again", size);
+        const cursor = this.made.cursorNamed("strip");
+        this.made.bytes(strip, data.size).set(new Uint8Array(await data.arrayBuffer()));
+        const numbers = [form.width, form.rows, Library.MMR, 1, 0];
+        const told = this.made.readStrip(strip, data.size, numbers, cursor, again, size, form.stride);
+        if (told.count !== form.rows || !Saving.isEqual(this.made.bytes(raster, size), this.made.bytes(again, size))) {
+            throw new Error(`page ${page} was not written as it is`);
+        }
+    }
+}

@@ -1,0 +1,147 @@
+"use strict";
+
+/** What the page says, all of it. */
+const TEXTS = {
+    title: "Fax pages",
+    /** What a fault means, in the words of docs/TROUBLESHOOTING.md, and what to do about it. */
+    faults: {
+        ShortHeader: ["The file has fewer than eight bytes.", "It was cut, or is empty. Ask for it again."],
+        ByteOrder: ["It begins with neither II nor MM: not a TIFF file.",
+            "If it is bare fax data (T.4 or T.6), say below how it is coded. Otherwise it is no fax: open it with " +
+            "the program that it was made for."],
+        Magic: ["The number after the byte order is not 42: not a TIFF file, or BigTIFF.",
+            "Ask for the fax as a TIFF file."],
+        NoDirectory: ["The header names no page.",
+            "The program that wrote it was stopped, or has a fault. Ask for it again."],
+        MissingField: ["The field with this tag is missing.",
+            "Ask for the file again, or mend the program that wrote it."],
+        MissingField273: ["A page of tiles.", "It is no fax page: ask for it in strips."],
+        Unsupported: ["A field with a value that no fax page has.", "Ask for it as a black-and-white fax."],
+        Unsupported259: ["Another compression than MH, MR or MMR.", "Ask for it as a fax in MH, MR or MMR."],
+        BadField: ["The field with this tag has another type than TIFF gives it, no value, or values outside the file.",
+            "Ask for the file again, or mend the program that wrote it."],
+        OutOfLimits: ["The page is empty, wider than 65,535 pels or longer than 1,000,000 rows.",
+            "It is not a fax page."],
+        DirectoryOutside: ["A page's directory lies outside the file: usually the end of the file is missing.",
+            "Fetch the file again, and compare its length. What is there can be saved."],
+        StripOutside: ["A strip lies outside the file: usually the end of the file is missing.",
+            "Fetch the file again, and compare its length. What is there can be saved."],
+        DirectoryLoop: ["A directory is followed by an earlier one. All pages come before the fault.",
+            "The pages are good. The program that wrote the file has a fault."],
+        DataEnds: ["A strip ends within a row: the sender was cut off, or the page has fewer rows than it says.",
+            "Ask the sender again, or save what is there."],
+        EndMarker: ["The end of the page stands where a row is due: the page has fewer rows than it says.",
+            "Ask the sender again, or save what is there."],
+        BadCode: ["No code begins with the bits that are due.",
+            "One such fault in a fax from a telephone line is noise on the line: ask for the page again."],
+        RunTooLong: ["A run passes the width of the page.",
+            "One such fault in a fax from a telephone line is noise on the line: ask for the page again."],
+        OutOfRow: ["A vertical mode leads out of the row, or back.",
+            "One such fault in a fax from a telephone line is noise on the line: ask for the page again."],
+        MissingEol: ["No EOL stands before the row, in MH or MR.",
+            "One such fault in a fax from a telephone line is noise on the line: ask for the page again."],
+        Extension: ["An extension of T.4 or T.6, such as uncompressed mode, which is not read.",
+            "Ask for the page without it."],
+        BadHeader: ["The image does not begin as raw PBM does (P4, width, height).",
+            "The program that wrote it has a fault, or something else follows the last image."],
+        ShortRaster: ["Its rows are not all there.", "It was cut. Ask for it again."],
+        UnknownInput: ["The input is neither raw PBM nor TIFF.", "It is no fax."],
+        OutputTooLarge: ["What convert would write has more than 268,435,456 bytes.", "Save fewer pages at once."],
+        Memory: ["Memory was refused.", "Close other files, or other pages of the browser, and open it again."],
+        TooManyRows: ["More follows 1,000,000 rows.", "It is not a fax page, or it is coded in another way."],
+    },
+    /** The same of notes. */
+    notes: {
+        NoEndOfBlock: ["A strip of MMR has no mark at its end.", "If a reader waits for it: save the fax as TIFF."],
+        ReturnToControl: ["A strip of MH or MR ends with six EOLs.",
+            "If a gateway adds an empty row: save the fax as TIFF."],
+        DataAfterEnd: ["More than zeros follow the last row.",
+            "The page may have more rows than it says: ask the sender."],
+        NotT4Choice: ["A row is coded in other codes than T.4 chooses.",
+            "If a receiver refuses it: save the fax as TIFF."],
+        EntriesOutOfOrder: ["A directory's tags do not ascend.", "If a reader misses fields: save the fax as TIFF."],
+    },
+    codings: ["", "MH", "MR", "MMR"],
+    units: ["", "", "inch", "cm"],
+    files: {
+        tooLarge: "The file has more than 268,435,456 bytes, which is the most that is read.",
+        unreadable: "This file cannot be read as a fax.",
+        failed: "The browser could not read this file: {0}",
+        waits: "Waits for other files.",
+        opens: "Is being opened.",
+    },
+    verdicts: {
+        lists: "Looking for pages: {0} so far.",
+        reads: "Reading page {0} of {1}: {2} rows so far.",
+        left: "You stopped the reading. Of {1} pages, those before page {0} were read.",
+        whole: "This fax is whole: {0}, {1}.",
+        noted: "All rows can be read: {0}, {1}. Some readers may have trouble with it.",
+        damaged: "This fax is damaged: {0} of {1} can be read wholly.",
+        chain: "The fax is damaged after page {0}: whatever followed is not found.",
+        nothing: "This file cannot be read as a fax.",
+        bareWhole: "The data were read to their end: {0} rows.",
+        bareMissing: "{0} rows were read, and {1} are missing.",
+        bareDamaged: "{0} rows were read. Row {0} cannot be read: {1}.",
+        bareEnds: "it ends at once",
+        bareNothing: "No row can be read as you said it is coded: {0}. Try another coding, width or bit order.",
+        image: "Image {0} of the PBM file is refused.",
+    },
+    findings: {
+        rows: "Page {0}, rows {1} to {2} cannot be read",
+        row: "Page {0}, row {1} cannot be read",
+        page: "Page {0} cannot be read",
+        chain: "Pages from {0} on are not found",
+        file: "The file cannot be read",
+        strip: "Page {0}, strip {1}",
+        directory: "Page {0}",
+        image: "Image {0}",
+        more: "{0} more are not shown.",
+        reportGoesOn: "The report goes on: save it as text.",
+        unchecked: "Notes were not looked for, since this file takes long.",
+        lookFor: "Look for notes",
+    },
+    pages: {
+        label: "Page {0} of {1}",
+        form: "{0} by {1} pels, {2}, {3}",
+        resolution: "{0} by {1} to the {2}",
+        noResolution: "no resolution",
+        whole: "whole",
+        damaged: "damaged",
+        refused: "cannot be read",
+        picture: "Picture of page {0}: {1}",
+    },
+    saving: {
+        works: "Making {0}: {1} percent.",
+        ready: "{0} was made, read again and compared: it is right.",
+        report: "{0} was made.",
+        less: "{0} was made of {1} of {2}, read again and compared. The other pages are damaged, and left out.",
+        failed: "{0} was not made: {1}.",
+        nothing: "No page can be read wholly, so there is nothing to save in this way.",
+        link: "Save {0}",
+    },
+    bare: {
+        refused: "Say a width from 1 to 65,535 and a number of rows up to 1,000,000.",
+    },
+    announce: { page: "Page {0}, {1}.", closed: "Closed {0}.", opened: "Opened {0}." },
+};
+
+/** Puts values into a text: {0} is the first.
+ * @param {string} text @param {...(string | number)} values */
+function say(text, ...values) {
+    return text.replace(/\{(\d)\}/g, (_, at) => {
+        const value = values[Number(at)];
+        return typeof value === "number" ? value.toLocaleString("en-US") : value;
+    });
+}
+
+/** What is said of a fault: what it means, and what to do.
+ * @param {string} name @param {number} [tag] @returns {string[]} */
+function sayOfFault(name, tag) {
+    const faults = /** @type {Record<string, string[]>} */ (TEXTS.faults);
+    return faults[`${name}${tag}`] ?? faults[name] ?? [name, ""];
+}
+
+/** @param {number} count @param {string} one @param {string} many */
+function sayCount(count, one, many) {
+    return `${count.toLocaleString("en-US")} ${count === 1 ? one : many}`;
+}
