@@ -1,6 +1,7 @@
-//! Makes a picture of each page of a fax, as raw PBM: pictures FILE FOLDER writes FOLDER/page-0.pbm, page-1.pbm ..
+//! Makes a picture of each page of a fax, as raw PBM: pictures FILE FOLDER writes FOLDER/page-0.pbm, page-1.pbm ..,
+//! and stops at one that is there.
 use std::error::Error;
-use std::fs::File;
+use std::fs::OpenOptions;
 use std::io::{BufWriter, Write};
 use std::path::Path;
 use std::{env, fs};
@@ -16,7 +17,7 @@ fn main() -> Result<(), Box<dyn Error>> {
     for form in fax.forms() {
         let form = form?;
         let name = Path::new(&folder).join(format!("page-{}.pbm", form.page));
-        let mut picture = BufWriter::new(File::create(name)?);
+        let mut picture = BufWriter::new(OpenOptions::new().write(true).create_new(true).open(name)?);
         write!(picture, "P4\n{} {}\n", form.width, form.rows)?;
         for row in rows.by_ref().take(form.rows as usize) {
             picture.write_all(&row?.packed)?;

@@ -2,11 +2,12 @@
 //!
 //! The data is MR (T.4, two-dimensional), the lowest bit of a byte first, of rows of WIDTH pels, up to its return to
 //! control or to where it ends. Rows are read as they come. What was received before a fault is written too, and the
-//! status is then 1.
+//! status is then 1. A file that is there is left.
 use faxpages::{Coding, FillOrder, Form, StripForm, StripReader, Writer};
 use std::error::Error;
-use std::io::Read;
-use std::{env, fs, io, process};
+use std::fs::OpenOptions;
+use std::io::{Read, Write};
+use std::{env, io, process};
 
 /// Reads rows from a line, up to its end or its fault: their packed bytes, and the fault.
 fn receive(line: &mut impl Read, width: u32) -> io::Result<(Vec<u8>, Option<faxpages::Error>)> {
@@ -17,14 +18,11 @@ fn receive(line: &mut impl Read, width: u32) -> io::Result<(Vec<u8>, Option<faxp
             0 => reader.close(),
             count => reader.feed(&piece[..count]),
         }
-        while let Some(row) = reader.next_row() {
-            match row {
-                Ok(row) => raster.extend(row.packed),
-                Err(fault) => return Ok((raster, Some(fault))),
-            }
+        while let Some(Ok(row)) = reader.next_row() {
+            raster.extend(row.packed);
         }
     }
-    Ok((raster, None))
+    Ok((raster, reader.error().cloned()))
 }
 
 fn main() -> Result<(), Box<dyn Error>> {
@@ -38,7 +36,7 @@ fn main() -> Result<(), Box<dyn Error>> {
     if form.rows > 0 {
         let mut writer = Writer::new(1)?;
         writer.add(&form, 1, &raster, form.stride())?;
-        fs::write(file, writer.finish()?)?;
+        OpenOptions::new().write(true).create_new(true).open(file)?.write_all(&writer.finish()?)?;
     }
     if let Some(fault) = fault {
         eprintln!("{} rows, then {fault}", form.rows);

@@ -1,6 +1,7 @@
 //! Where to go on.
 
-use crate::calls::{self, Place, RUNS};
+use crate::calls::{self, FaxPlace, RUNS};
+use crate::error::refused;
 use crate::Error;
 use std::fmt;
 use std::str::FromStr;
@@ -11,8 +12,10 @@ use std::str::FromStr;
 /// [`FromStr`] reads it. The default is the beginning of a file.
 ///
 /// ```
-/// # use faxpages::{Cursor, Error, Fax};
-/// # let file = std::fs::read("../samples/three-mmr-rows.tif").unwrap();
+/// # use faxpages::{Coding, Cursor, Error, Fax, Form, Writer};
+/// # let mut writer = Writer::new(1)?;
+/// # writer.add(&Form::new(8, 3, Coding::Mr), 1, &[0x18, 0xFC, 0x00], 1)?;
+/// # let file = writer.finish()?;
 /// let fax = Fax::new(&file);
 /// let (rows, after) = fax.read_rows(&Cursor::default(), 2)?;
 /// let text = after.to_string();
@@ -27,7 +30,7 @@ pub struct Cursor {
     row: u32,
     /// How many bits of the strip are before it; 0 where it is a page and a row alone.
     bits: u32,
-    /// The runs of the row before it, at most so many as a row may have; none where it is a page and a row alone.
+    /// The runs of the row before it, no more than a row may have; none where it is a page and a row alone.
     runs: Vec<u32>,
 }
 
@@ -37,8 +40,8 @@ impl Cursor {
         Cursor { page, row, bits: 0, runs: Vec::new() }
     }
 
-    /// A place inside a strip by its numbers: after so many bits of it, and after a row of these runs; without runs, a
-    /// row of a page. Numbers that come from no cursor for the same file may be outside, or give other rows or a fault.
+    /// A place inside a strip by its numbers: after `bits` bits of it, and after a row of these runs; without runs, a
+    /// row of a page. Numbers that no cursor of the same file had may be outside it, or give other rows or a fault.
     ///
     /// # Errors
     ///
@@ -75,22 +78,22 @@ impl Cursor {
         !self.runs.is_empty()
     }
 
-    /// The cursor of a place, whose runs a buffer begins with.
-    pub(crate) fn of(place: &Place, runs: &[u32]) -> Self {
+    /// The cursor of a place, whose runs stand first in a buffer.
+    pub(crate) fn of(place: &FaxPlace, runs: &[u32]) -> Self {
         let runs = runs.get(..place.runs as usize).unwrap_or(&[]).to_vec();
         Cursor { page: place.page, row: place.row, bits: if runs.is_empty() { 0 } else { place.bits }, runs }
     }
 
     /// Its place, and its runs in a buffer with room for those of any row.
-    pub(crate) fn place(&self) -> (Place, Vec<u32>) {
+    pub(crate) fn place(&self) -> (FaxPlace, Vec<u32>) {
         let mut runs = vec![0; RUNS];
         runs[..self.runs.len()].copy_from_slice(&self.runs);
         (self.own_place(), runs)
     }
 
-    fn own_place(&self) -> Place {
+    fn own_place(&self) -> FaxPlace {
         // There are at most 65,536 runs.
-        Place { page: self.page, row: self.row, bits: self.bits, runs: self.runs.len() as u32 }
+        FaxPlace { page: self.page, row: self.row, bits: self.bits, runs: self.runs.len() as u32 }
     }
 }
 
@@ -98,17 +101,7 @@ impl fmt::Display for Cursor {
     fn fmt(&self, f: &mut fmt::Formatter<'_>) -> fmt::Result {
         let mut text = vec![0; 64 + 11 * self.runs.len()];
         let mut len = 0;
-        // SAFETY: each pointer is to as many items as the length beside it says, of its own vector.
-        let status = unsafe {
-            calls::faxpages_place_text(
-                &self.own_place(),
-                self.runs.as_ptr(),
-                self.runs.len(),
-                text.as_mut_ptr(),
-                text.len(),
-                &mut len,
-            )
-        };
+        let status = calls::faxpages_place_text(&self.own_place(), &self.runs, &mut text, &mut len);
         match (status, text.get(..len).map(std::str::from_utf8)) {
             (calls::DONE, Some(Ok(text))) => f.write_str(text),
             _ => Err(fmt::Error),
@@ -120,17 +113,14 @@ impl FromStr for Cursor {
     type Err = Error;
 
     fn from_str(text: &str) -> Result<Self, Error> {
-        let (mut place, mut runs) = (Place::default(), vec![0; RUNS]);
-        // SAFETY: each pointer is to as many items as the length beside it says, of its own slice.
-        let status = unsafe {
-            calls::faxpages_place_parse(text.as_ptr(), text.len(), &mut place, runs.as_mut_ptr(), runs.len())
-        };
+        let (mut place, mut runs) = (calls::PLACE, vec![0; RUNS]);
+        let status = calls::faxpages_place_parse(text.as_bytes(), &mut place, &mut runs);
         match status {
             calls::DONE => Ok(Cursor::of(&place, &runs)),
             calls::MEMORY => Err(Error::Memory),
             // No row has more runs than have room.
             calls::NO_PLACE | calls::NO_ROOM => Err(Error::NotACursor),
-            status => Err(Error::Status(status)),
+            status => Err(refused(status, &calls::NO_FAULT)),
         }
     }
 }

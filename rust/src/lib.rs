@@ -1,119 +1,74 @@
-//! Fax pages in TIFF-F files: read, checked, converted and written, through libfaxpages.
+//! Fax pages in TIFF-F files: read, checked, converted and written.
 //!
 //! ```
-//! let file = std::fs::read("../samples/three-pages.tif").unwrap();
-//! let fax = faxpages::Fax::new(&file);
-//! for form in fax.forms() {
-//!     let form = form.unwrap();
-//!     println!("{} by {}", form.width, form.rows);
+//! use faxpages::{Coding, Fax, Form, Writer};
+//!
+//! // Or the bytes of a file: std::fs::read("fax.tif")
+//! let mut writer = Writer::new(1)?;
+//! writer.add(&Form::new(8, 2, Coding::Mmr), 1, &[0b0001_1000, 0b1111_1100], 1)?;
+//! let file = writer.finish()?;
+//!
+//! let fax = Fax::new(&file);
+//! for page in fax.pages() {
+//!     let page = page?;
+//!     assert_eq!((page.form.width, page.form.rows, page.packed), (8, 2, vec![0b0001_1000, 0b1111_1100]));
 //! }
-//! let rows = fax.rows().take_while(Result::is_ok).count();
-//! assert_eq!(rows, 5);
+//! for row in fax.rows() {
+//!     println!("{:?}", row?.runs()); // [3, 2, 3] and [0, 6, 2]
+//! }
+//! # Ok::<(), faxpages::Error>(())
 //! ```
 //!
-//! A fax is a slice of the bytes of a file, which nothing is copied of. Pages and rows are numbered from 0. What comes
-//! before an error is right; the error is the last item. Rows come as packed bytes ([`Fax::rows`]), as runs
-//! ([`Fax::runs`]) or as changing elements ([`Fax::changes`]), from the beginning or from a [`Cursor`] on; or a
+//! A fax is a slice of the bytes of a file; nothing of it is copied. Pages and rows are numbered from 0. What comes
+//! before an error is right; the error is the last item of an iterator. Rows come as packed bytes ([`Fax::rows`]), as
+//! runs ([`Fax::runs`]) or as changing elements ([`Fax::changes`]), from the beginning or from a [`Cursor`] on; or a
 //! page at a time ([`Fax::pages`], [`Fax::page`], [`Fax::page_into`]). A [`Writer`] writes a file page by page. A
 //! [`Strip`] is rows with no file around them, as on a line or in a PDF: a [`StripReader`] reads it as it comes, and
 //! [`code_strip`] and [`code_strip_runs`] code it.
 //!
-//! Of a file that nobody vouches for: a page takes memory for the rows that were read, whatever its form says, so bound
-//! the rows and the width of its [`Form`] before. [`Fax::check`] and [`Fax::convert`] read all rows of all pages.
+//! With files from strangers: a page takes memory for the rows that were read, whatever its form says, so check the
+//! rows and the width of its [`Form`] before. [`Fax::check`] and [`Fax::convert`] read all rows of all pages.
 //!
-//! All types are `Send` and `Sync`, so threads may share a fax, each with iterators of its own. Bytes of a stranger
-//! cause no panic.
+//! All types are `Send` and `Sync`, so threads may share a fax, each with iterators of its own. No file of a
+//! stranger causes a panic.
+//!
+//! # What is proved
+//!
+//! The text of the functions that read, check and write faxes is proved; this crate around them is tested. By default
+//! they are built as plain Rust, by a rustc that is not proved, and what comes out is tested against the proved
+//! library. With the feature `proved`, on x86-64 Linux, the library that was proved and built is linked in their place:
+//! `libfaxpages.a`, which `./install` and the package `libfaxpages-dev` put where it is found.
+#![forbid(unsafe_code)]
 #![deny(missing_docs)]
 
 mod calls;
 mod cursor;
+mod error;
 mod page;
 mod rows;
 mod strip;
 mod writer;
 
 pub use cursor::Cursor;
+pub use error::{Error, Fault, Invalid, PbmFault};
 pub use page::{Filled, Page, Pages};
 pub use rows::{Row, RowChanges, RowFormat, RowRuns, Rows};
 pub use strip::{code_strip, code_strip_runs, Strip, StripForm, StripReader, StripReport, StripRows};
 pub use writer::Writer;
 
+use error::{refused, stopped};
 use std::collections::VecDeque;
-use std::error;
 use std::fmt;
 use std::iter::FusedIterator;
 
 /// How many forms are read at a time, at first and at most.
 const FORMS: usize = 64;
 const MOST_FORMS: usize = 65_536;
-/// So many bytes the output of a conversion has at most.
+/// The most bytes of the output of a conversion.
 const MOST_OUTPUT: usize = 1 << 28;
 
-/// Why nothing more is handed out.
-#[derive(Clone, Debug, PartialEq, Eq)]
-#[non_exhaustive]
-pub enum Error {
-    /// The first fault of the file, where this row of a page was due.
-    Fault {
-        /// The page that was due.
-        page: u32,
-        /// The row that was due; 0 for a fault of the header, of a directory or of a field.
-        row: u32,
-        /// Its number, which never changes, as in `faxpages.h`.
-        number: u32,
-        /// Its name, as `DataEnds`.
-        name: String,
-        /// The tag of the field at fault, where it has one.
-        tag: Option<u32>,
-    },
-    /// The file has no such page, row or place.
-    Outside,
-    /// An image of a raw PBM is refused.
-    Pbm {
-        /// The image, from 0.
-        image: u64,
-        /// The fault's name.
-        name: String,
-    },
-    /// The bytes are neither raw PBM nor TIFF.
-    UnknownInput,
-    /// The output would have more than 268,435,456 bytes, or more than 65,535 pages.
-    OutputTooLarge,
-    /// K is 0, a strip has no row, EOLs are to be aligned in a coding that has none, numbers are no form, or a raster
-    /// is too short.
-    BadOptions,
-    /// A buffer has no room for the next row.
-    NoRoom,
-    /// A text or numbers are no cursor's.
-    NotACursor,
-    /// Memory was refused.
-    Memory,
-    /// The library answered with a status that this crate does not know.
-    Status(u32),
-}
-
-impl fmt::Display for Error {
-    fn fmt(&self, f: &mut fmt::Formatter<'_>) -> fmt::Result {
-        match self {
-            Error::Fault { page, row, name, tag: None, .. } => write!(f, "page {page} row {row}: {name}"),
-            Error::Fault { page, row, name, tag: Some(tag), .. } => write!(f, "page {page} row {row}: {name} {tag}"),
-            Error::Outside => write!(f, "the place is outside the file"),
-            Error::Pbm { image, name } => write!(f, "image {image}: {name}"),
-            Error::UnknownInput => write!(f, "the input is neither raw PBM nor TIFF"),
-            Error::OutputTooLarge => write!(f, "the output is too large"),
-            Error::BadOptions => write!(f, "there are no such options"),
-            Error::NoRoom => write!(f, "the buffer is too small"),
-            Error::NotACursor => write!(f, "this is no cursor"),
-            Error::Memory => write!(f, "out of memory"),
-            Error::Status(status) => write!(f, "the library answered with status {status}"),
-        }
-    }
-}
-
-impl error::Error for Error {}
-
 /// How rows are coded.
-#[derive(Clone, Copy, Debug, PartialEq, Eq)]
+#[derive(Clone, Copy, Debug, PartialEq, Eq, Hash)]
 pub enum Coding {
     /// T.4, one-dimensional.
     Mh,
@@ -124,12 +79,24 @@ pub enum Coding {
 }
 
 /// Which bit of a byte is first.
-#[derive(Clone, Copy, Debug, PartialEq, Eq)]
+#[derive(Clone, Copy, Debug, PartialEq, Eq, Hash)]
 pub enum FillOrder {
     /// The highest, as TIFF's fill order 1.
     MsbFirst,
     /// The lowest, as TIFF's fill order 2.
     LsbFirst,
+}
+
+/// The unit of a resolution.
+#[derive(Clone, Copy, Debug, PartialEq, Eq, Hash)]
+#[non_exhaustive]
+pub enum Unit {
+    /// None: the resolution only tells how wide a pel is beside its height.
+    None,
+    /// An inch.
+    Inch,
+    /// A centimetre.
+    Centimetre,
 }
 
 /// The form of a page.
@@ -157,8 +124,8 @@ pub struct Form {
     pub x: (u32, u32),
     /// Rows in a unit, as a fraction.
     pub y: (u32, u32),
-    /// 1 none, 2 inch, 3 centimetre.
-    pub unit: u32,
+    /// The unit of both.
+    pub unit: Unit,
 }
 
 impl Form {
@@ -181,7 +148,7 @@ impl Form {
             strips: 1,
             x: (204, 1),
             y: (196, 1),
-            unit: 2,
+            unit: Unit::Inch,
         }
     }
 
@@ -192,18 +159,81 @@ impl Form {
 }
 
 /// What may trouble other readers of a page, or of a strip of it.
-#[derive(Clone, Copy, Debug, PartialEq, Eq)]
+#[derive(Clone, Copy, Debug, PartialEq, Eq, Hash)]
+#[non_exhaustive]
 pub struct Note {
     /// The page's number.
     pub page: u32,
     /// The strip, or none where the note is on the page's directory.
     pub strip: Option<u32>,
-    /// 1 to 5, as N1 to N5.
-    pub number: u32,
+    /// What may trouble them.
+    pub kind: NoteKind,
+}
+
+/// What may trouble other readers. The text is that of the program faxpages, as `N2 ReturnToControl`.
+#[derive(Clone, Copy, Debug, PartialEq, Eq, Hash)]
+#[non_exhaustive]
+pub enum NoteKind {
+    /// N1: a strip of MMR without the end of its block.
+    NoEndOfBlock,
+    /// N2: a strip of MH or MR with a return to control.
+    ReturnToControl,
+    /// N3: a strip with a 1 after its last row and end mark.
+    DataAfterEnd,
+    /// N4: a strip with a row in other codes than T.4's choice.
+    NotT4Choice,
+    /// N5: a directory whose entries do not ascend.
+    EntriesOutOfOrder,
+    /// A kind that this crate does not know, of a later library: its number.
+    Unknown(u32),
+}
+
+impl NoteKind {
+    const fn of(number: u32) -> Self {
+        match number {
+            1 => NoteKind::NoEndOfBlock,
+            2 => NoteKind::ReturnToControl,
+            3 => NoteKind::DataAfterEnd,
+            4 => NoteKind::NotT4Choice,
+            5 => NoteKind::EntriesOutOfOrder,
+            number => NoteKind::Unknown(number),
+        }
+    }
+
+    /// Its number, as 2 for N2.
+    pub const fn number(self) -> u32 {
+        match self {
+            NoteKind::NoEndOfBlock => 1,
+            NoteKind::ReturnToControl => 2,
+            NoteKind::DataAfterEnd => 3,
+            NoteKind::NotT4Choice => 4,
+            NoteKind::EntriesOutOfOrder => 5,
+            NoteKind::Unknown(number) => number,
+        }
+    }
+
+    /// Its name, as `ReturnToControl`.
+    pub const fn name(self) -> &'static str {
+        match self {
+            NoteKind::NoEndOfBlock => "NoEndOfBlock",
+            NoteKind::ReturnToControl => "ReturnToControl",
+            NoteKind::DataAfterEnd => "DataAfterEnd",
+            NoteKind::NotT4Choice => "NotT4Choice",
+            NoteKind::EntriesOutOfOrder => "EntriesOutOfOrder",
+            NoteKind::Unknown(_) => "Unknown",
+        }
+    }
+}
+
+impl fmt::Display for NoteKind {
+    fn fmt(&self, f: &mut fmt::Formatter<'_>) -> fmt::Result {
+        write!(f, "N{} {}", self.number(), self.name())
+    }
 }
 
 /// What a check found up to the first fault.
 #[derive(Clone, Debug, PartialEq, Eq)]
+#[non_exhaustive]
 pub struct Report {
     /// How many pages were read wholly.
     pub pages: u64,
@@ -216,7 +246,7 @@ pub struct Report {
 }
 
 /// What a file is turned into.
-#[derive(Clone, Copy, Debug, PartialEq, Eq)]
+#[derive(Clone, Copy, Debug, PartialEq, Eq, Hash)]
 pub enum Target {
     /// Raw PBM, an image a page.
     Pbm,
@@ -233,7 +263,7 @@ pub enum Target {
 pub struct Options {
     /// What the file is turned into.
     pub target: Target,
-    /// Which bit of a byte is to be first.
+    /// Which bit of a byte is written first.
     pub order: FillOrder,
     /// In MR, a row in this many is coded by itself; at least 1.
     pub k: u32,
@@ -250,42 +280,11 @@ impl Options {
     }
 }
 
-fn name_of(number: u32) -> String {
-    let mut name = [0; 16];
-    // SAFETY: the pointer is to as many bytes as the length says.
-    let len = unsafe { calls::faxpages_fault_name(number, name.as_mut_ptr(), name.len()) };
-    String::from_utf8_lossy(&name[..len.min(name.len())]).into_owned()
-}
-
-fn fault_of(fault: &calls::Fault) -> Error {
-    Error::Fault {
-        page: fault.page,
-        row: fault.row,
-        number: fault.number,
-        name: name_of(fault.number),
-        tag: (fault.tag != 0).then_some(fault.tag),
-    }
-}
-
-/// Why a call wrote no more, by its status; none at the end of the file.
-fn stopped(status: u32, fault: &calls::Fault) -> Option<Error> {
-    match status {
-        calls::END => None,
-        calls::FAULT => Some(fault_of(fault)),
-        calls::OUTSIDE => Some(Error::Outside),
-        calls::MEMORY => Some(Error::Memory),
-        calls::NO_ROOM => Some(Error::NoRoom),
-        calls::NO_OPTIONS => Some(Error::BadOptions),
-        calls::TOO_LARGE => Some(Error::OutputTooLarge),
-        status => Some(Error::Status(status)),
-    }
-}
-
-/// Memory that the length of a file decides on: it is refused, where there is not so much.
-fn zeros<T: Clone + Default>(len: usize) -> Result<Vec<T>, Error> {
+/// Memory whose size the file decides: if there is not enough, it is refused.
+fn filled<T: Clone>(item: T, len: usize) -> Result<Vec<T>, Error> {
     let mut made = Vec::new();
     made.try_reserve_exact(len).map_err(|_| Error::Memory)?;
-    made.resize(len, T::default());
+    made.resize(len, item);
     Ok(made)
 }
 
@@ -327,9 +326,10 @@ impl<'a> Fax<'a> {
     /// Its fault, or that of the file up to there; [`Error::Outside`] where there is no such page.
     ///
     /// ```
-    /// # let file = std::fs::read("../samples/three-pages.tif").unwrap();
-    /// let fax = faxpages::Fax::new(&file);
-    /// let page = fax.page(1)?;
+    /// # let mut writer = faxpages::Writer::new(1)?;
+    /// # writer.add(&faxpages::Form::new(8, 3, faxpages::Coding::Mmr), 1, &[0x18, 0xFC, 0x00], 1)?;
+    /// # let file = writer.finish()?;
+    /// let page = faxpages::Fax::new(&file).page(0)?;
     /// assert_eq!((page.form.width, page.rows().count()), (8, 3));
     /// assert_eq!(page.row(1), Some(&[0b1111_1100][..]));
     /// # Ok::<(), faxpages::Error>(())
@@ -349,20 +349,25 @@ impl<'a> Fax<'a> {
     /// As [`Fax::form`].
     ///
     /// ```
-    /// # let file = std::fs::read("../samples/three-pages.tif").unwrap();
-    /// let page = faxpages::Fax::new(&file).partial_page(2)?;
-    /// assert_eq!((page.rows().count(), page.lost()), (1, 1));
-    /// assert_eq!(page.fault.unwrap().to_string(), "page 2 row 1: DataEnds");
+    /// # let mut writer = faxpages::Writer::new(1)?;
+    /// # writer.add(&faxpages::Form::new(8, 20, faxpages::Coding::Mmr), 1, &[0; 20], 1)?;
+    /// # let mut file = writer.finish()?;
+    /// file[9..14].fill(0); // after the bits of eight white rows
+    /// let page = faxpages::Fax::new(&file).partial_page(0)?;
+    /// assert_eq!((page.rows().count(), page.lost()), (8, 12));
+    /// assert_eq!(page.fault.unwrap().to_string(), "page 0 row 8: EndMarker");
     /// # Ok::<(), faxpages::Error>(())
     /// ```
     pub fn partial_page(&self, page: u32) -> Result<Page, Error> {
         page::read(self.file, self.form(page)?)
     }
 
-    /// All pages, each whole. The error of the first that is not ends them.
+    /// All pages, each whole. They end at the first that is not, with its error.
     ///
     /// ```
-    /// # let file = std::fs::read("../samples/three-mmr-rows.tif").unwrap();
+    /// # let mut writer = faxpages::Writer::new(1)?;
+    /// # writer.add(&faxpages::Form::new(8, 3, faxpages::Coding::Mmr), 1, &[0x18, 0xFC, 0x00], 1)?;
+    /// # let file = writer.finish()?;
     /// for page in faxpages::Fax::new(&file).pages() {
     ///     let page = page?;
     ///     assert_eq!(page.packed.len(), page.form.rows as usize * page.form.stride());
@@ -378,15 +383,17 @@ impl<'a> Fax<'a> {
     ///
     /// # Errors
     ///
-    /// As [`Fax::form`], or [`Error::Memory`]. A fault of its rows, or want of room, is told beside how many were
-    /// written.
+    /// As [`Fax::form`], or [`Error::Memory`]. A fault of its rows, or a lack of room, is told with the number of rows
+    /// that were written.
     ///
     /// ```
-    /// # let file = std::fs::read("../samples/three-pages.tif").unwrap();
+    /// # let mut writer = faxpages::Writer::new(1)?;
+    /// # writer.add(&faxpages::Form::new(8, 3, faxpages::Coding::Mmr), 1, &[0x18, 0xFC, 0x00], 1)?;
+    /// # let file = writer.finish()?;
     /// let fax = faxpages::Fax::new(&file);
-    /// let form = fax.form(1)?;
+    /// let form = fax.form(0)?;
     /// let mut out = vec![0; form.rows as usize * 4];
-    /// let filled = fax.page_into(1, &mut out, 4)?;
+    /// let filled = fax.page_into(0, &mut out, 4)?;
     /// assert_eq!((filled.rows, filled.stopped), (3, None));
     /// assert_eq!(out[4..8], [0b1111_1100, 0, 0, 0]);
     /// # Ok::<(), faxpages::Error>(())
@@ -430,7 +437,7 @@ impl<'a> Fax<'a> {
         Rows::new(self.file, cursor)
     }
 
-    /// At most so many rows from a cursor on, and the cursor after them, from which no row is read again. There are
+    /// At most `most` rows from a cursor on, and the cursor after them, from which no row is read again. There are
     /// fewer before a fault, and none at the end of the file.
     ///
     /// # Errors
@@ -459,22 +466,17 @@ impl<'a> Fax<'a> {
     }
 
     /// Reads all rows up to the first fault, and reports on the file.
+    ///
+    /// # Errors
+    ///
+    /// [`Error::Memory`]. A fault is told in the report.
     pub fn check(&self) -> Result<Report, Error> {
-        let mut report = calls::Report::default();
-        let mut notes = vec![calls::Note::default(); 64];
+        let mut report = calls::REPORT;
+        let mut notes = vec![calls::NOTE; 64];
         loop {
-            // SAFETY: each pointer is to as many items as the length beside it says, of its own slice.
-            let status = unsafe {
-                calls::faxpages_check(
-                    self.file.as_ptr(),
-                    self.file.len(),
-                    notes.as_mut_ptr(),
-                    notes.len(),
-                    &mut report,
-                )
-            };
+            let status = calls::faxpages_check(self.file, &mut notes, &mut report);
             if status != calls::END && status != calls::FAULT {
-                return Err(stopped(status, &report.fault).unwrap_or(Error::Memory));
+                return Err(refused(status, &report.fault));
             }
             if report.notes <= notes.len() {
                 notes.truncate(report.notes);
@@ -485,71 +487,71 @@ impl<'a> Fax<'a> {
                     fault: stopped(status, &report.fault),
                 });
             }
-            notes = zeros(report.notes)?;
+            notes = filled(calls::NOTE, report.notes)?;
         }
     }
 
     /// The file turned into what the options say.
+    ///
+    /// # Errors
+    ///
+    /// As [`convert`].
     pub fn convert(&self, options: &Options) -> Result<Vec<u8>, Error> {
         convert(self.file, options)
     }
 }
 
-fn note_of(note: &calls::Note) -> Note {
-    Note { page: note.page, strip: (note.strip != u32::MAX).then_some(note.strip), number: note.kind }
+fn note_of(note: &calls::FaxNote) -> Note {
+    let strip = (note.strip != u32::MAX).then_some(note.strip);
+    Note { page: note.page, strip, kind: NoteKind::of(note.kind) }
 }
 
 /// Turns bytes, TIFF-F or raw PBM, into what the options say.
+///
+/// # Errors
+///
+/// The first fault of a file, [`Error::Pbm`], [`Error::UnknownInput`], [`Error::OutputTooLarge`], [`Error::Memory`], or
+/// [`Error::Invalid`], which tells what of the options is out of range.
 pub fn convert(file: &[u8], options: &Options) -> Result<Vec<u8>, Error> {
     if options.strip == Some(0) {
-        return Err(Error::BadOptions);
+        return Err(Invalid::StripRows.into());
     }
-    let given = calls::Options {
-        target: options.target as u32,
-        order: options.order as u32 + 1,
+    let given = calls::FaxOptions {
+        target: options.target.number(),
+        order: options.order.number(),
         k: options.k,
         strip: options.strip.unwrap_or(0),
         aligned: options.aligned.into(),
     };
-    let mut converted = calls::Converted::default();
-    let mut out = zeros(file.len().saturating_mul(2).saturating_add(4096).min(MOST_OUTPUT))?;
+    let mut converted = calls::CONVERTED;
+    let mut out = filled(0, file.len().saturating_mul(2).saturating_add(4096).min(MOST_OUTPUT))?;
     loop {
-        // SAFETY: each pointer is to as many items as the length beside it says, of its own slice.
-        let status = unsafe {
-            calls::faxpages_convert(
-                file.as_ptr(),
-                file.len(),
-                &given,
-                out.as_mut_ptr(),
-                out.len(),
-                &mut converted,
-            )
-        };
+        let status = calls::faxpages_convert(file, &given, &mut out, &mut converted);
         match (status, converted.fault.number) {
             (calls::DONE, _) => {
                 out.truncate(converted.len);
                 return Ok(out);
             }
-            (calls::NO_ROOM, _) => out = zeros(converted.len)?,
-            (calls::NO_OPTIONS, _) => return Err(Error::BadOptions),
+            (calls::NO_ROOM, _) => out = filled(0, converted.len)?,
+            (calls::NO_OPTIONS, _) if options.k == 0 => return Err(Invalid::K.into()),
+            (calls::NO_OPTIONS, _) if options.aligned => return Err(Invalid::Aligned.into()),
             (calls::FAULT, 301) => return Err(Error::UnknownInput),
             (calls::FAULT, 302) => return Err(Error::OutputTooLarge),
             (calls::FAULT, number @ 201..) => {
-                return Err(Error::Pbm { image: converted.image, name: name_of(number) })
+                return Err(Error::Pbm { image: converted.image, fault: PbmFault::of(number) })
             }
-            (status, _) => return Err(stopped(status, &converted.fault).unwrap_or(Error::Status(status))),
+            (status, _) => return Err(refused(status, &converted.fault)),
         }
     }
 }
 
-/// The version of libfaxpages, as 10402 for 1.4.2.
+/// The version of the calls, as 10500 for 1.5.0: of the plain sources, or of the archive that is linked.
 pub fn version() -> u32 {
-    // SAFETY: it takes nothing.
-    unsafe { calls::faxpages_version() }
+    calls::faxpages_version()
 }
 
 impl Forms<'_> {
-    /// The same, so many read at first.
+    /// The same, with this many read at first.
     fn limited(mut self, most: usize) -> Self {
         self.most = most;
         self
@@ -569,22 +571,18 @@ pub struct Forms<'a> {
 impl Forms<'_> {
     /// Reads twice as many as the time before, so that all take a time in proportion to their number.
     fn read(&mut self) {
-        let mut forms = vec![calls::Form::default(); self.most];
+        let mut forms = vec![calls::FORM; self.most];
         self.most = MOST_FORMS.min(2 * self.most);
-        let mut told = calls::Told::default();
-        // SAFETY: each pointer is to as many items as the length beside it says, of its own slice.
-        let status = unsafe {
-            calls::faxpages_forms(
-                self.file.as_ptr(),
-                self.file.len(),
-                self.page,
-                forms.as_mut_ptr(),
-                forms.len(),
-                &mut told,
-            )
-        };
+        let mut told = calls::TOLD;
+        let status = calls::faxpages_forms(self.file, self.page, &mut forms, &mut told);
         for form in &forms[..told.count] {
-            self.ready.push_back(form_of(self.page, form));
+            match form_of(self.page, form) {
+                Ok(form) => self.ready.push_back(form),
+                Err(error) => {
+                    self.ended = Some(Some(error));
+                    return;
+                }
+            }
             self.page += 1;
         }
         if status != calls::DONE {
@@ -593,24 +591,90 @@ impl Forms<'_> {
     }
 }
 
-fn form_of(page: u32, form: &calls::Form) -> Form {
-    Form {
+fn form_of(page: u32, form: &calls::FaxForm) -> Result<Form, Error> {
+    Ok(Form {
         page,
         width: form.width,
         rows: form.rows,
-        coding: match form.coding {
-            1 => Coding::Mh,
-            2 => Coding::Mr,
-            _ => Coding::Mmr,
-        },
-        order: if form.order == 2 { FillOrder::LsbFirst } else { FillOrder::MsbFirst },
+        coding: Coding::of(form.coding)?,
+        order: FillOrder::of(form.order)?,
         aligned: form.aligned == 1,
         exchanged: form.exchanged == 1,
         rows_per_strip: form.rows_per_strip,
         strips: form.strips,
-        x: (form.x[0], form.x[1]),
-        y: (form.y[0], form.y[1]),
-        unit: form.unit,
+        x: (form.x_numerator, form.x_denominator),
+        y: (form.y_numerator, form.y_denominator),
+        unit: Unit::of(form.unit)?,
+    })
+}
+
+impl Coding {
+    /// Its number in a call.
+    const fn number(self) -> u32 {
+        match self {
+            Coding::Mh => 1,
+            Coding::Mr => 2,
+            Coding::Mmr => 3,
+        }
+    }
+
+    fn of(number: u32) -> Result<Self, Error> {
+        match number {
+            1 => Ok(Coding::Mh),
+            2 => Ok(Coding::Mr),
+            3 => Ok(Coding::Mmr),
+            number => Err(Error::Unknown { what: "coding", number }),
+        }
+    }
+}
+
+impl FillOrder {
+    /// Its number in a call.
+    const fn number(self) -> u32 {
+        match self {
+            FillOrder::MsbFirst => 1,
+            FillOrder::LsbFirst => 2,
+        }
+    }
+
+    fn of(number: u32) -> Result<Self, Error> {
+        match number {
+            1 => Ok(FillOrder::MsbFirst),
+            2 => Ok(FillOrder::LsbFirst),
+            number => Err(Error::Unknown { what: "fill order", number }),
+        }
+    }
+}
+
+impl Unit {
+    /// Its number in a call, as in TIFF's ResolutionUnit.
+    const fn number(self) -> u32 {
+        match self {
+            Unit::None => 1,
+            Unit::Inch => 2,
+            Unit::Centimetre => 3,
+        }
+    }
+
+    fn of(number: u32) -> Result<Self, Error> {
+        match number {
+            1 => Ok(Unit::None),
+            2 => Ok(Unit::Inch),
+            3 => Ok(Unit::Centimetre),
+            number => Err(Error::Unknown { what: "unit", number }),
+        }
+    }
+}
+
+impl Target {
+    /// Its number in a call.
+    const fn number(self) -> u32 {
+        match self {
+            Target::Pbm => 0,
+            Target::Mh => 1,
+            Target::Mr => 2,
+            Target::Mmr => 3,
+        }
     }
 }
 
@@ -629,3 +693,36 @@ impl Iterator for Forms<'_> {
 }
 
 impl FusedIterator for Forms<'_> {}
+
+#[cfg(test)]
+mod tests {
+    use super::*;
+
+    #[test]
+    fn what_is_unknown_is_an_error() {
+        let good = calls::FaxForm { width: 8, rows: 1, coding: 3, order: 1, unit: 2, ..calls::FORM };
+        assert!(form_of(0, &good).is_ok());
+        for (form, what) in [
+            (calls::FaxForm { coding: 4, ..good }, "coding"),
+            (calls::FaxForm { order: 4, ..good }, "fill order"),
+            (calls::FaxForm { unit: 4, ..good }, "unit"),
+        ] {
+            assert_eq!(form_of(0, &form), Err(Error::Unknown { what, number: 4 }));
+        }
+        assert_eq!((NoteKind::of(6), NoteKind::of(6).to_string()), (NoteKind::Unknown(6), "N6 Unknown".to_string()));
+        assert!((1..=6).all(|number| NoteKind::of(number).number() == number));
+    }
+
+    #[test]
+    fn numbers_go_there_and_back() {
+        for coding in [Coding::Mh, Coding::Mr, Coding::Mmr] {
+            assert_eq!(Coding::of(coding.number()), Ok(coding));
+        }
+        for order in [FillOrder::MsbFirst, FillOrder::LsbFirst] {
+            assert_eq!(FillOrder::of(order.number()), Ok(order));
+        }
+        for unit in [Unit::None, Unit::Inch, Unit::Centimetre] {
+            assert_eq!(Unit::of(unit.number()), Ok(unit));
+        }
+    }
+}

@@ -1,19 +1,21 @@
 //! Whole pages.
 
-use crate::calls::{self, Told};
+use crate::calls;
+use crate::error::{fault_of, refused, Error};
 use crate::rows::{Reader, Row, ROWS};
-use crate::{fault_of, form_of, stopped, Cursor, Error, Fax, Form, Forms};
+use crate::{form_of, Cursor, Fax, Form, Forms};
 use std::iter::FusedIterator;
 use std::ops::Range;
 
 /// A page: its form, and its rows one after another in one block of bytes.
 #[derive(Clone, Debug, PartialEq, Eq)]
+#[non_exhaustive]
 pub struct Page {
     /// Its form.
     pub form: Form,
     /// The bytes of its rows, [`Form::stride`] each, the highest bit first, 1 for black, with zeros after the last pel.
     pub packed: Vec<u8>,
-    /// Why rows are missing, if they are.
+    /// Why rows are missing, if some are.
     pub fault: Option<Error>,
 }
 
@@ -36,6 +38,7 @@ impl Page {
 
 /// What was written of a page into a buffer.
 #[derive(Clone, Debug, PartialEq, Eq)]
+#[non_exhaustive]
 pub struct Filled {
     /// The form of the page.
     pub form: Form,
@@ -46,18 +49,16 @@ pub struct Filled {
 }
 
 pub(crate) fn read_into(file: &[u8], page: u32, out: &mut [u8], stride: usize) -> Result<Filled, Error> {
-    let (mut form, mut told) = (calls::Form::default(), Told::default());
-    // SAFETY: each pointer is to as many items as the length beside it says, of its own slice.
-    let status = unsafe {
-        calls::faxpages_page(file.as_ptr(), file.len(), page, &mut form, out.as_mut_ptr(), out.len(), stride, &mut told)
-    };
-    let filled = |stopped| Ok(Filled { form: form_of(page, &form), rows: told.count, stopped });
+    let (mut form, mut told) = (calls::FORM, calls::TOLD);
+    let status = calls::faxpages_page(file, page, &mut form, out, stride, &mut told);
+    let filled = |stopped| Ok(Filled { form: form_of(page, &form)?, rows: told.count, stopped });
     match status {
         calls::DONE => filled(None),
         calls::NO_ROOM => filled(Some(Error::NoRoom)),
         // No form is told where the fault stands before the page's rows.
         calls::FAULT if form.width != 0 => filled(Some(fault_of(&told.fault))),
-        status => Err(stopped(status, &told.fault).unwrap_or(Error::Outside)),
+        calls::END => Err(Error::Outside),
+        status => Err(refused(status, &told.fault)),
     }
 }
 

@@ -1,7 +1,8 @@
 //! Rows from cursors on: their bytes, their runs or their changing elements.
 
-use crate::calls::{self, Place, Told};
-use crate::{stopped, Cursor, Error};
+use crate::calls::{self, FaxPlace, FaxRow};
+use crate::error::{stopped, Error};
+use crate::Cursor;
 use std::fmt;
 use std::iter::FusedIterator;
 use std::mem::size_of;
@@ -10,8 +11,8 @@ use std::ops::Range;
 /// How many rows are read at a time, and how many bytes of them.
 pub(crate) const ROWS: usize = 8192;
 const BYTES: usize = 1 << 20;
-/// In a file of very many pages more bytes are read at a time, so many for each page before them: each call follows the
-/// directories up to its page.
+/// In a file of very many pages more bytes are read at a time, this many for each page before them: each call follows
+/// the directories up to its page.
 const BYTES_A_PAGE: usize = 256;
 const MOST_BYTES: usize = 1 << 24;
 
@@ -104,11 +105,11 @@ mod format {
         type Number: Copy + Default + fmt::Debug;
         /// The call.
         const CALL: calls::RowsFrom<Self::Number>;
-        /// So many numbers hold any row.
+        /// The most numbers of a row.
         const MOST: usize;
 
         /// The row of these numbers.
-        fn of(row: &calls::Row, numbers: &[Self::Number]) -> Self;
+        fn of(row: &calls::FaxRow, numbers: &[Self::Number]) -> Self;
     }
 
     impl Format for Row {
@@ -116,7 +117,7 @@ mod format {
         const CALL: calls::RowsFrom<u8> = calls::faxpages_rows_from;
         const MOST: usize = calls::ROW_BYTES;
 
-        fn of(row: &calls::Row, packed: &[u8]) -> Self {
+        fn of(row: &calls::FaxRow, packed: &[u8]) -> Self {
             Row { page: row.page, number: row.row, width: row.width, packed: packed.to_vec() }
         }
     }
@@ -126,7 +127,7 @@ mod format {
         const CALL: calls::RowsFrom<u32> = calls::faxpages_runs_from;
         const MOST: usize = calls::RUNS;
 
-        fn of(row: &calls::Row, runs: &[u32]) -> Self {
+        fn of(row: &calls::FaxRow, runs: &[u32]) -> Self {
             RowRuns { page: row.page, number: row.row, width: row.width, runs: runs.to_vec() }
         }
     }
@@ -136,7 +137,7 @@ mod format {
         const CALL: calls::RowsFrom<u32> = calls::faxpages_changes_from;
         const MOST: usize = calls::RUNS;
 
-        fn of(row: &calls::Row, changes: &[u32]) -> Self {
+        fn of(row: &calls::FaxRow, changes: &[u32]) -> Self {
             RowChanges { page: row.page, number: row.row, width: row.width, changes: changes.to_vec() }
         }
     }
@@ -145,43 +146,31 @@ mod format {
 /// A file, the place to go on at, and the rows before it that were read last.
 pub(crate) struct Reader<'a, T: RowFormat> {
     file: &'a [u8],
-    place: Place,
+    place: FaxPlace,
     runs: Vec<u32>,
-    table: Vec<calls::Row>,
+    table: Vec<FaxRow>,
     out: Vec<T::Number>,
 }
 
 impl<'a, T: RowFormat> Reader<'a, T> {
-    /// A reader of so many rows at a time.
+    /// A reader of this many rows at a time.
     pub(crate) fn new(file: &'a [u8], cursor: &Cursor, most: usize) -> Self {
         let (place, runs) = cursor.place();
         let most = most.min(ROWS);
         let room = most.saturating_mul(T::MOST).min(BYTES / size_of::<T::Number>());
-        Reader { file, place, runs, table: vec![calls::Row::default(); most], out: vec![T::Number::default(); room] }
+        Reader { file, place, runs, table: vec![calls::ROW; most], out: vec![T::Number::default(); room] }
     }
 
-    /// Reads the next rows, at most so many. Answers how many there are, and where they ended, the error.
+    /// Reads the next rows, at most this many. Returns how many there are, and if they ended, the error.
     pub(crate) fn read(&mut self, most: usize) -> (usize, Option<Option<Error>>) {
-        let mut told = Told::default();
-        let room = MOST_BYTES.min(BYTES_A_PAGE * self.place.page as usize) / size_of::<T::Number>();
+        let mut told = calls::TOLD;
+        let room = MOST_BYTES.min(BYTES_A_PAGE.saturating_mul(self.place.page as usize)) / size_of::<T::Number>();
         if self.table.len() == ROWS && room > self.out.len() {
             self.out.resize(room, T::Number::default());
         }
-        // SAFETY: each pointer is to as many items as the length beside it says, of its own vector.
-        let status = unsafe {
-            (T::CALL)(
-                self.file.as_ptr(),
-                self.file.len(),
-                &mut self.place,
-                self.runs.as_mut_ptr(),
-                self.runs.len(),
-                self.table.as_mut_ptr(),
-                self.table.len().min(most),
-                self.out.as_mut_ptr(),
-                self.out.len(),
-                &mut told,
-            )
-        };
+        let most = self.table.len().min(most);
+        let (table, out) = (&mut self.table[..most], &mut self.out);
+        let status = (T::CALL)(self.file, &mut self.place, &mut self.runs, table, out, &mut told);
         let goes_on = status == calls::DONE || status == calls::NO_ROOM;
         (told.count, (!goes_on).then(|| stopped(status, &told.fault)))
     }
@@ -208,7 +197,7 @@ impl<'a, T: RowFormat> Reader<'a, T> {
 
 impl<T: RowFormat> fmt::Debug for Reader<'_, T> {
     fn fmt(&self, f: &mut fmt::Formatter<'_>) -> fmt::Result {
-        f.debug_struct("Reader").field("place", &self.place).finish_non_exhaustive()
+        f.debug_struct("Reader").field("cursor", &self.cursor()).finish_non_exhaustive()
     }
 }
 
@@ -235,13 +224,16 @@ impl<'a, T: RowFormat> Rows<'a, T> {
     /// once more, some thousands at most.
     ///
     /// ```
-    /// # let file = std::fs::read("../samples/three-mmr-rows.tif").unwrap();
+    /// # let mut writer = faxpages::Writer::new(1)?;
+    /// # writer.add(&faxpages::Form::new(8, 3, faxpages::Coding::Mr), 1, &[0x18, 0xFC, 0x00], 1)?;
+    /// # let file = writer.finish()?;
     /// let fax = faxpages::Fax::new(&file);
     /// let mut rows = fax.runs();
     /// let first = rows.next();
     /// let rest: Vec<_> = fax.runs_at(&rows.cursor()).collect();
     /// assert_eq!(rest, rows.collect::<Vec<_>>());
     /// # assert!(first.is_some() && rest.len() == 2);
+    /// # Ok::<(), faxpages::Error>(())
     /// ```
     pub fn cursor(&self) -> Cursor {
         if self.ready.is_empty() {
@@ -260,7 +252,7 @@ impl<'a, T: RowFormat> Rows<'a, T> {
 }
 
 impl<T: RowFormat> Reader<'_, T> {
-    /// Reads just so many rows, and drops them.
+    /// Reads exactly this many rows, and drops them.
     fn read_all(&mut self, mut due: usize) -> Result<(), ()> {
         while due > 0 {
             let (count, _) = self.read(due);
@@ -291,7 +283,7 @@ impl<T: RowFormat> Iterator for Rows<'_, T> {
 
 impl<T: RowFormat> FusedIterator for Rows<'_, T> {}
 
-/// At most so many rows from a cursor on, and the cursor after them; an error where no row was read before it.
+/// At most this many rows from a cursor on, and the cursor after them; an error if no row was read before it.
 pub(crate) fn read<T: RowFormat>(file: &[u8], cursor: &Cursor, most: usize) -> Result<(Vec<T>, Cursor), Error> {
     let mut reader = Reader::<T>::new(file, cursor, most);
     let mut found = Vec::new();

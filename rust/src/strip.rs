@@ -1,28 +1,32 @@
 //! Strips: rows of T.4 or T.6 data with no file around them.
 
-use crate::calls::{self, Fault, Place, Told, RUNS};
-use crate::{fault_of, stopped, zeros, Coding, Error, FillOrder, Note, Row};
+use crate::calls::{self, FaxFault, FaxPlace, RUNS};
+use crate::error::{fault_of, refused, Error, Invalid};
+use crate::writer::{invalid_raster, invalid_rows};
+use crate::{filled, Coding, FillOrder, Note, NoteKind, Row};
 use std::collections::VecDeque;
 use std::fmt;
 use std::iter::FusedIterator;
 
-/// The rows that a strip is read with where their number is not known.
+/// The most rows of a strip.
 const MOST_ROWS: u32 = 1_000_000;
 /// How many bytes of rows are read at a time.
 const BYTES: usize = 1 << 20;
-/// Where a row is not whole in so many bytes, it is tried again when a quarter more is there, so that bytes that come
+/// If a row is not whole in this many bytes, it is tried again when a quarter more is there, so that bytes that come
 /// one by one are read in a time in proportion to their number.
 const TRIED: usize = 4096;
-const DATA_ENDS: u32 = 101;
-const END_MARKER: u32 = 107;
+/// The most bytes of a strip.
+const MOST_BYTES: usize = 536_870_911;
+/// How many bytes of zeros before an EOL are kept: it has eleven zeros, and any more are fill.
+const FILL: usize = 2;
 
 /// The form of a strip.
 #[derive(Clone, Copy, Debug, PartialEq, Eq)]
 pub struct StripForm {
     /// The pels of a row, 1 to 65,535.
     pub width: u32,
-    /// The rows, 1 to 1,000,000. Where it is none, at least one is read, up to the end mark (EOFB, RTC), or to where no
-    /// 1 is left.
+    /// The number of rows, 1 to 1,000,000. If it is none, there are up to 1,000,000, which end at the end mark (EOFB,
+    /// RTC), or with the data, if nothing but zeros is left after a whole row: [`Strip::check`] tells which it is.
     pub rows: Option<u32>,
     /// How its rows are coded.
     pub coding: Coding,
@@ -33,7 +37,7 @@ pub struct StripForm {
 }
 
 impl StripForm {
-    /// A strip of an unknown number of rows, the highest bit first.
+    /// A strip whose rows nobody counted, the highest bit first.
     ///
     /// ```
     /// use faxpages::{Coding, StripForm};
@@ -43,14 +47,31 @@ impl StripForm {
         StripForm { width, rows: None, coding, order: FillOrder::MsbFirst, aligned: false }
     }
 
-    fn given(&self, rows: u32) -> calls::Strip {
-        calls::Strip {
+    fn given(&self, rows: u32) -> calls::FaxStrip {
+        calls::FaxStrip {
             width: self.width,
             rows,
-            coding: self.coding as u32 + 1,
-            order: self.order as u32 + 1,
+            coding: self.coding.number(),
+            order: self.order.number(),
             aligned: self.aligned.into(),
         }
+    }
+
+    /// The same with its number of rows, 0 if nobody counted them: a form that says 0 is none.
+    fn counted(&self) -> calls::FaxStrip {
+        self.given(self.rows.map_or(0, |rows| if rows == 0 { u32::MAX } else { rows }))
+    }
+
+    /// What of a strip of so many bytes is out of range.
+    fn invalid(&self, bytes: usize) -> Invalid {
+        let too_long = (bytes > MOST_BYTES).then_some(Invalid::StripBytes(bytes));
+        let rows = self.rows.unwrap_or(MOST_ROWS);
+        invalid_rows(self.width, rows, self.coding, self.aligned).or(too_long).unwrap_or(Invalid::Unknown)
+    }
+
+    /// How many rows are lacking after so many; none where the form says no number.
+    fn lost(&self, rows: u32) -> Option<u32> {
+        self.rows.map(|wanted| wanted.saturating_sub(rows))
     }
 
     fn stride(&self) -> usize {
@@ -58,10 +79,10 @@ impl StripForm {
     }
 }
 
-/// A place in a strip, and the rows before it that were read last and are not handed out.
-struct Walk {
+/// A strip that is read from a place on, and the rows before that which were read last and are not handed out.
+struct Reading {
     form: StripForm,
-    place: Place,
+    place: FaxPlace,
     runs: Vec<u32>,
     /// The rows of the last call.
     out: Vec<u8>,
@@ -72,75 +93,66 @@ struct Walk {
 enum Ended {
     /// There may be more rows.
     GoesOn,
+    /// More bytes have to come before the next row.
+    Awaits,
     /// All rows were read.
     Rows,
     /// A fault, at the row that is due.
-    Fault(Fault),
+    Fault(FaxFault),
 }
 
-impl Walk {
+impl Reading {
     fn new(form: StripForm) -> Self {
-        Walk { form, place: Place::default(), runs: vec![0; RUNS], out: Vec::new(), ready: VecDeque::new() }
+        Reading { form, place: calls::PLACE, runs: vec![0; RUNS], out: Vec::new(), ready: VecDeque::new() }
     }
 
-    /// Reads the next rows of the strip, some thousands at most.
-    fn read(&mut self, strip: &[u8]) -> Result<Ended, Error> {
-        let (stride, rows, first) = (self.form.stride().max(1), self.form.rows.unwrap_or(MOST_ROWS), self.place.row);
+    /// Reads the next rows of the strip, some thousands at most; where more bytes may follow, those that are the same
+    /// whatever they are.
+    fn read(&mut self, strip: &[u8], more: bool) -> Result<Ended, Error> {
+        let (stride, rows, first) = (self.form.stride().max(1), self.form.rows.unwrap_or(u32::MAX), self.place.row);
         // A row has at least one bit.
         let bits = strip.len().saturating_mul(8).saturating_sub(self.place.bits as usize) + 1;
         let most = bits.min(rows.saturating_sub(first) as usize).max(1);
         let room = (BYTES / stride).clamp(1, most) * stride;
         if self.out.len() < room {
-            self.out = zeros(room)?;
+            self.out = filled(0, room)?;
         }
-        let (given, mut told) = (self.form.given(rows), Told::default());
-        // SAFETY: each pointer is to as many items as the length beside it says, of its own slice; of `out` to more.
-        let status = unsafe {
-            calls::faxpages_strip_rows(
-                strip.as_ptr(),
-                strip.len(),
-                &given,
-                &mut self.place,
-                self.runs.as_mut_ptr(),
-                self.runs.len(),
-                self.out.as_mut_ptr(),
-                room,
-                stride,
-                &mut told,
-            )
+        let (given, mut told) = (self.form.counted(), calls::TOLD);
+        let (place, runs, out) = (&mut self.place, &mut self.runs, &mut self.out[..room]);
+        let status = if more {
+            calls::faxpages_strip_part(strip, &given, place, runs, out, stride, &mut told)
+        } else {
+            calls::faxpages_strip_rows(strip, &given, place, runs, out, stride, &mut told)
         };
         let width = self.form.width;
         let read = self.out.chunks_exact(stride).take(told.count).zip(first..);
         self.ready.extend(read.map(|(packed, number)| Row { page: 0, number, width, packed: packed.to_vec() }));
         match status {
             calls::DONE if self.place.row < rows => Ok(Ended::GoesOn),
-            calls::DONE | calls::END => Ok(Ended::Rows),
+            calls::DONE | calls::END | calls::DATA_END => Ok(Ended::Rows),
+            calls::MORE => Ok(Ended::Awaits),
             calls::FAULT => Ok(Ended::Fault(told.fault)),
-            status => Err(stopped(status, &told.fault).unwrap_or(Error::Status(status))),
+            calls::NO_OPTIONS => Err(self.form.invalid(strip.len()).into()),
+            status => Err(refused(status, &told.fault)),
         }
     }
 
-    /// Whether a fault at the place is the end of a strip whose rows are not known.
-    fn is_end(&self, strip: &[u8], fault: &Fault) -> bool {
-        let is_blank = || fault.number == DATA_ENDS && self.is_blank_after(strip);
-        self.form.rows.is_none() && self.place.row > 0 && (fault.number == END_MARKER || is_blank())
-    }
-
-    /// Whether no 1 stands after the place.
-    fn is_blank_after(&self, strip: &[u8]) -> bool {
-        let (at, bits) = (self.place.bits as usize / 8, self.place.bits % 8);
+    /// How many whole bytes of zeros stand after the byte of the place, if nothing but zeros stands in the rest of that.
+    fn fill_after(&self, strip: &[u8]) -> usize {
         let mask = match self.form.order {
-            FillOrder::MsbFirst => 0xFF >> bits,
-            FillOrder::LsbFirst => 0xFF << bits,
+            FillOrder::MsbFirst => 0xFF >> self.place.bits,
+            FillOrder::LsbFirst => 0xFF << self.place.bits,
         };
-        let is_1_left = strip.get(at).is_some_and(|first| first & mask != 0);
-        !is_1_left && strip.iter().skip(at + 1).all(|byte| *byte == 0)
+        match strip.split_first() {
+            Some((first, rest)) if first & mask == 0 => rest.iter().take_while(|byte| **byte == 0).count(),
+            _ => 0,
+        }
     }
 }
 
-impl fmt::Debug for Walk {
+impl fmt::Debug for Reading {
     fn fmt(&self, f: &mut fmt::Formatter<'_>) -> fmt::Result {
-        f.debug_struct("Walk").field("form", &self.form).field("place", &self.place).finish_non_exhaustive()
+        f.debug_struct("Reading").field("form", &self.form).field("row", &self.place.row).finish_non_exhaustive()
     }
 }
 
@@ -165,16 +177,16 @@ impl<'a> Strip<'a> {
         Strip { bytes, form }
     }
 
-    /// Its rows, whose page is 0, and the error that ends them. [`Error::BadOptions`] where the form is none.
+    /// Its rows, whose page is 0, and the error that ends them. [`Error::Invalid`] where the form is none.
     pub fn rows(&self) -> StripRows<'a> {
-        StripRows { strip: self.bytes, walk: Walk::new(self.form), ended: None }
+        StripRows { strip: self.bytes, reading: Reading::new(self.form), rows: 0, ended: None }
     }
 
     /// Reads all rows, and reports what stands after them.
     ///
     /// # Errors
     ///
-    /// [`Error::BadOptions`] where the form is none or the strip too long, or [`Error::Memory`]. A fault is told in the
+    /// [`Error::Invalid`] where the form is none or the strip too long, or [`Error::Memory`]. A fault is told in the
     /// report.
     ///
     /// ```
@@ -184,40 +196,32 @@ impl<'a> Strip<'a> {
     /// # Ok::<(), faxpages::Error>(())
     /// ```
     pub fn check(&self) -> Result<StripReport, Error> {
-        let (first, fault) = self.check_rows(self.form.rows.unwrap_or(MOST_ROWS))?;
-        let Some(fault) = fault else {
-            return Ok(self.report(&first, None));
-        };
-        let may_end = matches!(fault.number, DATA_ENDS | END_MARKER) && self.form.rows.is_none() && first.rows > 0;
-        if !may_end {
-            return Ok(self.report(&first, Some(fault)));
-        }
-        let (counted, _) = self.check_rows(first.rows)?;
-        let is_cut = fault.number == DATA_ENDS && counted.notes[2] == 1;
-        Ok(if is_cut { self.report(&first, Some(fault)) } else { self.report(&counted, None) })
-    }
-
-    fn check_rows(&self, rows: u32) -> Result<(calls::StripReport, Option<Fault>), Error> {
-        let (given, mut report) = (self.form.given(rows), calls::StripReport::default());
-        // SAFETY: the pointer to the strip is to as many bytes as the length beside it says.
-        let status = unsafe { calls::faxpages_strip_check(self.bytes.as_ptr(), self.bytes.len(), &given, &mut report) };
-        match status {
-            calls::END => Ok((report, None)),
-            calls::FAULT => Ok((report, Some(report.fault))),
-            status => Err(stopped(status, &report.fault).unwrap_or(Error::Status(status))),
+        let (given, mut report) = (self.form.counted(), calls::STRIP_REPORT);
+        match calls::faxpages_strip_check(self.bytes, &given, &mut report) {
+            calls::END | calls::DATA_END => Ok(self.report(&report, None)),
+            calls::FAULT => Ok(self.report(&report, Some(report.fault))),
+            calls::NO_OPTIONS => Err(self.form.invalid(self.bytes.len()).into()),
+            status => Err(refused(status, &report.fault)),
         }
     }
 
-    fn report(&self, told: &calls::StripReport, fault: Option<Fault>) -> StripReport {
+    fn report(&self, told: &calls::FaxStripReport, fault: Option<FaxFault>) -> StripReport {
         let end_mark = match self.form.coding {
-            Coding::Mmr => told.notes[0] == 0,
-            Coding::Mh | Coding::Mr => told.notes[1] == 1,
+            Coding::Mmr => told.no_end_of_block == 0,
+            Coding::Mh | Coding::Mr => told.return_to_control == 1,
         };
-        let noted = (1..).zip(told.notes).filter(|(_, noted)| *noted == 1);
+        let notes = [
+            (NoteKind::NoEndOfBlock, told.no_end_of_block),
+            (NoteKind::ReturnToControl, told.return_to_control),
+            (NoteKind::DataAfterEnd, told.data_after_end),
+            (NoteKind::NotT4Choice, told.not_t4_choice),
+        ];
+        let noted = notes.into_iter().filter(|(_, noted)| *noted == 1);
         StripReport {
             rows: told.rows,
+            lost: self.form.lost(told.rows),
             end_mark: end_mark && fault.is_none(),
-            notes: noted.map(|(number, _)| Note { page: 0, strip: Some(0), number }).collect(),
+            notes: noted.map(|(kind, _)| Note { page: 0, strip: Some(0), kind }).collect(),
             fault: fault.as_ref().map(fault_of),
         }
     }
@@ -225,9 +229,12 @@ impl<'a> Strip<'a> {
 
 /// What a check found in a strip.
 #[derive(Clone, Debug, PartialEq, Eq)]
+#[non_exhaustive]
 pub struct StripReport {
     /// How many rows were read.
     pub rows: u32,
+    /// How many rows are lacking after these; none where the form says no number.
+    pub lost: Option<u32>,
     /// Whether the end mark stands after the last row: EOFB in MMR, RTC in MH and MR.
     pub end_mark: bool,
     /// What may trouble other readers; none where there is a fault.
@@ -240,25 +247,44 @@ pub struct StripReport {
 #[derive(Debug)]
 pub struct StripRows<'a> {
     strip: &'a [u8],
-    walk: Walk,
+    reading: Reading,
+    /// How many were handed out.
+    rows: u32,
     ended: Option<Option<Error>>,
+}
+
+impl StripRows<'_> {
+    /// How many rows are lacking after those that were handed out; none where the form says no number.
+    ///
+    /// ```
+    /// use faxpages::{Coding, Strip, StripForm};
+    /// let form = StripForm { rows: Some(100), ..StripForm::new(8, Coding::Mmr) };
+    /// let mut rows = Strip::new(&[0xC0], form).rows();
+    /// assert_eq!(rows.by_ref().filter_map(Result::ok).count(), 2);
+    /// assert_eq!(rows.lost(), Some(98));
+    /// ```
+    pub fn lost(&self) -> Option<u32> {
+        self.reading.form.lost(self.rows)
+    }
 }
 
 impl Iterator for StripRows<'_> {
     type Item = Result<Row, Error>;
 
     fn next(&mut self) -> Option<Self::Item> {
-        if self.walk.ready.is_empty() && self.ended.is_none() {
-            self.ended = match self.walk.read(self.strip) {
-                Ok(Ended::GoesOn) => None,
+        if self.reading.ready.is_empty() && self.ended.is_none() {
+            self.ended = match self.reading.read(self.strip, false) {
+                Ok(Ended::GoesOn | Ended::Awaits) => None,
                 Ok(Ended::Rows) => Some(None),
-                Ok(Ended::Fault(fault)) if self.walk.is_end(self.strip, &fault) => Some(None),
                 Ok(Ended::Fault(fault)) => Some(Some(fault_of(&fault))),
                 Err(error) => Some(Some(error)),
             };
         }
-        match self.walk.ready.pop_front() {
-            Some(row) => Some(Ok(row)),
+        match self.reading.ready.pop_front() {
+            Some(row) => {
+                self.rows += 1;
+                Some(Ok(row))
+            }
             None => self.ended.as_mut()?.take().map(Err),
         }
     }
@@ -280,15 +306,16 @@ impl FusedIterator for StripRows<'_> {}
 /// ```
 #[derive(Debug)]
 pub struct StripReader {
-    walk: Walk,
+    reading: Reading,
     /// What was fed and is not read yet, of which so many bytes are being read, and how many have to be there before
     /// more is read.
     fed: Vec<u8>,
     seen: Option<usize>,
     wanted: usize,
     is_closed: bool,
-    is_ended: bool,
-    error: Option<Error>,
+    /// Whether the strip has ended, or why it did; and whether that was answered.
+    ended: Option<Option<Error>>,
+    is_told: bool,
     /// The bytes that were read and dropped are not counted in the place; its rows are.
     rows: u32,
 }
@@ -297,20 +324,21 @@ impl StripReader {
     /// A reader of a strip of this form, before its first byte.
     pub fn new(form: StripForm) -> Self {
         StripReader {
-            walk: Walk::new(form),
+            reading: Reading::new(form),
             fed: Vec::new(),
             seen: None,
             wanted: 1,
             is_closed: false,
-            is_ended: false,
-            error: None,
+            ended: None,
+            is_told: false,
             rows: 0,
         }
     }
 
-    /// Takes more bytes. Those after the end of the strip are left out, and those after [`StripReader::close`] too.
+    /// Takes more bytes. Those after the end of the strip, or after its error, are left out, and those after
+    /// [`StripReader::close`] too.
     pub fn feed(&mut self, bytes: &[u8]) {
-        if !self.is_ended && !self.is_closed {
+        if self.ended.is_none() && !self.is_closed {
             self.fed.extend_from_slice(bytes);
         }
     }
@@ -320,10 +348,19 @@ impl StripReader {
         self.is_closed = true;
     }
 
-    /// Whether the strip has ended, at its end mark, at the last of its rows or after [`StripReader::close`], and all
-    /// its rows were handed out.
+    /// Whether nothing more comes: the strip has ended, at its end mark, at the last of its rows or after
+    /// [`StripReader::close`], and all its rows were handed out, or its error was.
     pub fn is_ended(&self) -> bool {
-        self.is_ended && self.walk.ready.is_empty()
+        match self.ended {
+            None => false,
+            Some(None) => self.reading.ready.is_empty(),
+            Some(Some(_)) => self.is_told,
+        }
+    }
+
+    /// The error that ended the strip, once it was handed out.
+    pub fn error(&self) -> Option<&Error> {
+        self.ended.as_ref()?.as_ref().filter(|_| self.is_told)
     }
 
     /// How many rows were handed out.
@@ -331,58 +368,60 @@ impl StripReader {
         self.rows
     }
 
-    /// The next row; none where more bytes have to come before, or the strip has ended. An error stays.
+    /// How many rows are lacking after those that were handed out; none where the form says no number.
+    pub fn lost(&self) -> Option<u32> {
+        self.reading.form.lost(self.rows)
+    }
+
+    /// The next row; none if more bytes must come first, or if the strip has ended. An error ends it too, and is handed
+    /// out once.
     pub fn next_row(&mut self) -> Option<Result<Row, Error>> {
-        while self.walk.ready.is_empty() && !self.is_ended && self.error.is_none() {
+        while self.reading.ready.is_empty() && self.ended.is_none() {
             if !self.read_more() {
                 break;
             }
         }
-        match self.walk.ready.pop_front() {
-            Some(row) => {
-                self.rows += 1;
-                Some(Ok(row))
-            }
-            None => self.error.clone().map(Err),
+        if let Some(row) = self.reading.ready.pop_front() {
+            self.rows += 1;
+            return Some(Ok(row));
         }
+        let error = self.ended.as_ref()?.clone().filter(|_| !self.is_told)?;
+        self.is_told = true;
+        Some(Err(error))
     }
 
-    /// Reads rows of what was fed. Answers whether there was enough to be read.
+    /// Reads rows of what was fed. Returns whether there was enough to read.
     fn read_more(&mut self) -> bool {
         if self.seen.is_none() && self.fed.len() < self.wanted && !self.is_closed {
             return false;
         }
         let seen = self.seen.unwrap_or(self.fed.len());
-        let strip = &self.fed[..seen];
-        match self.walk.read(strip) {
+        match self.reading.read(&self.fed[..seen], !self.is_closed || seen < self.fed.len()) {
             Ok(Ended::GoesOn) => self.seen = Some(seen),
-            Ok(Ended::Rows) => self.end(),
-            Ok(Ended::Fault(fault)) => {
-                let may_grow = fault.number == DATA_ENDS && (!self.is_closed || seen < self.fed.len());
-                if may_grow {
-                    self.drop_read(seen);
-                } else if self.walk.is_end(strip, &fault) {
-                    self.end();
-                } else {
-                    self.error = Some(fault_of(&fault));
-                }
-            }
-            Err(error) => self.error = Some(error),
+            Ok(Ended::Awaits) => self.drop_read(seen),
+            Ok(Ended::Rows) => self.end(None),
+            Ok(Ended::Fault(fault)) => self.end(Some(fault_of(&fault))),
+            Err(error) => self.end(Some(error)),
         }
         true
     }
 
-    fn end(&mut self) {
-        self.is_ended = true;
+    fn end(&mut self, error: Option<Error>) {
+        self.ended = Some(error);
         self.fed = Vec::new();
     }
 
-    /// Drops the bytes that were read wholly.
+    /// Drops the bytes that were read wholly, and zeros before an EOL that are more than it has.
     fn drop_read(&mut self, seen: usize) {
-        let used = self.walk.place.bits / 8;
+        let used = self.reading.place.bits / 8;
         self.fed.drain(..used as usize);
-        self.walk.place.bits -= 8 * used;
-        let left = seen - used as usize;
+        self.reading.place.bits -= 8 * used;
+        let has_eols = self.reading.form.coding != Coding::Mmr;
+        let fill = if has_eols { self.reading.fill_after(&self.fed).saturating_sub(FILL) } else { 0 };
+        if fill > 0 {
+            self.fed.drain(1..1 + fill);
+        }
+        let left = (seen - used as usize).saturating_sub(fill);
         self.wanted = left + if left > TRIED { left / 4 } else { 1 };
         self.seen = None;
     }
@@ -390,12 +429,12 @@ impl StripReader {
 
 /// Codes the rows of a raster as a strip, in the codes that T.4 and T.6 choose: row i stands in the (width + 7) / 8
 /// bytes from `raster[i * stride]` on, the highest bit first, 1 for black, whatever stands after its pels. Where the
-/// form says no number of rows, they are as many as the raster has. In MR a row in every k is coded by itself; k is at
+/// form says no number of rows, all that the raster has are coded. In MR one row in every k is coded by itself; k is at
 /// least 1. After the last row stands the end of the block (EOFB) in MMR, and nothing in MH and MR.
 ///
 /// # Errors
 ///
-/// [`Error::BadOptions`] where the form is none, k is 0, or the raster is too short; or [`Error::Memory`].
+/// [`Error::Invalid`] if the form is invalid, k is 0, or the raster is too short; or [`Error::Memory`].
 ///
 /// ```
 /// use faxpages::{code_strip, Coding, StripForm};
@@ -404,32 +443,26 @@ impl StripReader {
 /// # Ok::<(), faxpages::Error>(())
 /// ```
 pub fn code_strip(form: &StripForm, k: u32, raster: &[u8], stride: usize) -> Result<Vec<u8>, Error> {
-    let counted = raster.len().checked_sub(form.stride()).ok_or(Error::BadOptions)?.checked_div(stride);
+    let row = form.stride();
+    let too_short = || invalid_raster(k, raster.len(), stride, row, form.rows.unwrap_or(1)).unwrap_or(Invalid::Unknown);
+    let counted = raster.len().checked_sub(row).ok_or_else(too_short)?.checked_div(stride);
     let rows = form.rows.map_or(counted.map_or(0, |before| before + 1), |rows| rows as usize);
-    let given = form.given(u32::try_from(rows).map_err(|_| Error::BadOptions)?);
-    coded(raster.len() / 4, |out, len| {
-        // SAFETY: each pointer is to as many items as the length beside it says, of its own slice.
-        unsafe {
-            calls::faxpages_strip_code(
-                &given,
-                k,
-                raster.as_ptr(),
-                raster.len(),
-                stride,
-                out.as_mut_ptr(),
-                out.len(),
-                len,
-            )
-        }
-    })
+    let rows = u32::try_from(rows).map_err(|_| Invalid::Rows(rows))?;
+    let given = form.given(rows);
+    let invalid = || {
+        let of_raster = || invalid_raster(k, raster.len(), stride, row, rows).unwrap_or(Invalid::Unknown);
+        invalid_rows(form.width, rows, form.coding, form.aligned).unwrap_or_else(of_raster)
+    };
+    let code = |out: &mut [u8], len: &mut usize| calls::faxpages_strip_code(&given, k, raster, stride, out, len);
+    coded(raster.len() / 4, code, invalid)
 }
 
-/// The same of rows as runs, as [`RowRuns`](crate::RowRuns) has them: their lengths in pels, white first. Where the
+/// The same with rows as runs, as [`RowRuns`](crate::RowRuns) has them: their lengths in pels, white first. Where the
 /// form says a number of rows, the first of these are coded.
 ///
 /// # Errors
 ///
-/// As [`code_strip`]; [`Error::BadOptions`] too where there are fewer rows, or none, or the runs of one are not the
+/// As [`code_strip`]; [`Error::Invalid`] too where there are fewer rows, or none, or the runs of one are not the
 /// longest of a row of the width.
 ///
 /// ```
@@ -440,33 +473,36 @@ pub fn code_strip(form: &StripForm, k: u32, raster: &[u8], stride: usize) -> Res
 /// ```
 pub fn code_strip_runs<R: AsRef<[u32]>>(form: &StripForm, k: u32, rows: &[R]) -> Result<Vec<u8>, Error> {
     let (mut table, mut runs) = (Vec::new(), Vec::new());
-    for row in rows {
-        let len = u32::try_from(row.as_ref().len()).map_err(|_| Error::BadOptions)?;
-        table.push(calls::Row { at: runs.len(), len, ..calls::Row::default() });
+    for (row, number) in rows.iter().zip(0..) {
+        let len = u32::try_from(row.as_ref().len()).map_err(|_| Invalid::Runs(number))?;
+        table.push(calls::FaxRow { at: runs.len(), len, ..calls::ROW });
         runs.extend_from_slice(row.as_ref());
     }
-    let given = form.given(form.rows.map_or(u32::try_from(rows.len()), Ok).map_err(|_| Error::BadOptions)?);
-    coded(runs.len(), |out, len| {
-        // SAFETY: each pointer is to as many items as the length beside it says, of its own slice.
-        unsafe {
-            calls::faxpages_strip_code_runs(
-                &given,
-                k,
-                table.as_ptr(),
-                table.len(),
-                runs.as_ptr(),
-                runs.len(),
-                out.as_mut_ptr(),
-                out.len(),
-                len,
-            )
-        }
-    })
+    let wanted = form.rows.map_or(u32::try_from(rows.len()), Ok).map_err(|_| Invalid::Rows(rows.len()))?;
+    let given = form.given(wanted);
+    let invalid = || {
+        let few = (rows.len() < wanted as usize).then_some(Invalid::FewRows { given: rows.len(), wanted });
+        let wrong = || rows.iter().position(|row| !are_longest(row.as_ref(), form.width)).map(Invalid::Runs);
+        let of_rows = invalid_rows(form.width, wanted, form.coding, form.aligned);
+        of_rows.or((k == 0).then_some(Invalid::K)).or(few).or_else(wrong).unwrap_or(Invalid::Unknown)
+    };
+    let code = |out: &mut [u8], len: &mut usize| calls::faxpages_strip_code_runs(&given, k, &table, &runs, out, len);
+    coded(runs.len(), code, invalid)
 }
 
-/// What a call writes, which tells its length where it has no room.
-fn coded(room: usize, code: impl Fn(&mut [u8], &mut usize) -> u32) -> Result<Vec<u8>, Error> {
-    let mut out = zeros(room + 64)?;
+/// Whether runs are the longest ones of a row of a width: only the first may be 0.
+fn are_longest(runs: &[u32], width: u32) -> bool {
+    let sum: u64 = runs.iter().map(|run| u64::from(*run)).sum();
+    sum == u64::from(width) && !runs.iter().skip(1).any(|run| *run == 0)
+}
+
+/// What a call writes, which tells its length where it has no room, or what is out of range.
+fn coded(
+    room: usize,
+    code: impl Fn(&mut [u8], &mut usize) -> u32,
+    invalid: impl Fn() -> Invalid,
+) -> Result<Vec<u8>, Error> {
+    let mut out = filled(0, room + 64)?;
     loop {
         let mut len = 0;
         match code(&mut out, &mut len) {
@@ -474,8 +510,9 @@ fn coded(room: usize, code: impl Fn(&mut [u8], &mut usize) -> u32) -> Result<Vec
                 out.truncate(len);
                 return Ok(out);
             }
-            calls::NO_ROOM => out = zeros(len)?,
-            status => return Err(stopped(status, &Fault::default()).unwrap_or(Error::Status(status))),
+            calls::NO_ROOM => out = filled(0, len)?,
+            calls::NO_OPTIONS => return Err(invalid().into()),
+            status => return Err(refused(status, &calls::NO_FAULT)),
         }
     }
 }
