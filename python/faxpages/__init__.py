@@ -9,10 +9,10 @@
             for row in page:
                 print(row.number, row.runs())
 
-A file is read whole when it is opened: by its path, its bytes or whatever lends them, or a file object. Pages and rows
-are numbered from 0, and a Fax is a sequence of its pages. What is handed out before a fault is right; the fault itself
-is raised where what comes next is asked for, each kind as an exception of its own, with the page, the row, its name and
-the tag of the field at fault:
+A file is read whole when it is opened, by its path, by its bytes or whatever lends them, or by a file object. Pages and
+rows are numbered from 0, and a Fax is a sequence of its pages. What is handed out before a fault is right; the fault
+itself is raised where what comes next is asked for, each kind as an exception of its own, with the page, the row, its
+name and the tag of the field at fault:
 
     try:
         rows = sum(1 for row in fax.rows())
@@ -21,8 +21,8 @@ the tag of the field at fault:
     except faxpages.Fault as fault:
         print(fault.name)
 
-A page in one piece is bytes, a Raster that lends them, an array of numpy without a copy, or an image of Pillow; neither
-of these two is needed for the rest. A damaged page is its fault, or with partial=True what stands before it:
+A page in one piece is bytes, a Raster that lends them, an array of numpy without a copy, or an image of Pillow; all
+else works without numpy and Pillow. A damaged page raises its fault, or with partial=True is what stands before it:
 
     page.packed(); page.raster(); page.array(); page.image()
     part = page.raster(partial=True)
@@ -35,14 +35,14 @@ once or as it comes, coded and checked:
     data = faxpages.encode([image, array], dpi=(204, 98))
     image = faxpages.strip(data_of_a_pdf, width=1728, rows=2292).image()
 
-After faxpages.register() Pillow's Image.open reads faxes through this module, and a damaged fax is an error.
+After faxpages.register() Pillow works as before, but a damaged fax in a TIFF file is an error.
 
-A number that is out of range is a ValueError, and what is no number, or no text, where one is wanted is a TypeError. A
-number is whatever can be an index of a list, so True is 1.
+A number that is out of range is a ValueError, and anything but a number, or a text, where one is needed is a TypeError.
+A number is whatever can be an index of a list, so True is 1.
 
-Threads may share a Fax, its pages, and all else that is handed out but iterators and a StripReader, and read at the
-same time: the library runs without Python's lock. An iterator is for one thread: one that is shared may raise a
-ValueError, as Python's do, and never harms memory. So let each thread go over pages, or rows, by an iterator of its
+Threads may share a Fax, its pages, and all else that is handed out except iterators and a StripReader, and read at the
+same time: the library does not hold Python's lock. An iterator is for one thread: one that is shared may raise a
+ValueError, as Python's own do, and never harms memory. So let each thread go over pages, or rows, by an iterator of its
 own, or hand pages to threads:
 
     with concurrent.futures.ThreadPoolExecutor() as pool:
@@ -53,8 +53,8 @@ back is equal to what was sent. A Fax is pickled with all bytes of its file, whe
 bytes, and a Page with its Fax: where these are many, send a path and the number of a page. In place of an iterator,
 send a Cursor. A process that has threads should start others by spawn or forkserver, not by fork.
 
-Of a file that nobody vouches for: a page takes memory for the rows that were read, whatever its form says, so bound
-page.rows and page.width before it is asked for whole. check and convert read all rows of all pages.
+With files from strangers: a page takes memory for the rows that were read, whatever its form says, so check page.rows
+and page.width before you ask for it whole. check and convert read all rows of all pages.
 """
 
 from __future__ import annotations
@@ -76,9 +76,10 @@ from ._writing import encode, encode_strip, write
 from .faults import (
     BadCode, BadField, ByteOrder, ConversionError, DataEnds, DirectoryLoop, DirectoryOutside, EndMarker, Extension,
     Fault, FaxError, FileFault, Magic, MissingEol, MissingField, NoDirectory, NotACursorError, OutOfLimits, OutOfRow,
-    OutputTooLarge, OutsideError, PbmFault, RunTooLong, ShortHeader, StripFault, StripOutside, UnknownInput,
-    Unsupported)
+    OutputTooLarge, OutsideError, PbmFault, RunTooLong, ShortHeader, StripFault, StripOutside, TooManyRows,
+    UnknownInput, Unsupported)
 
+__version__ = "1.5.0"
 __all__ = [
     "open", "check", "convert", "write", "encode", "strip", "check_strip", "encode_strip", "register", "version",
     "Source", "Writable", "Fax", "Page", "Row", "Raster", "Cursor", "Note", "Report", "StripReader", "StripReport",
@@ -86,11 +87,11 @@ __all__ = [
     "UnknownInput", "OutputTooLarge",
     "BadCode", "BadField", "ByteOrder", "DataEnds", "DirectoryLoop", "DirectoryOutside", "EndMarker", "Extension",
     "Magic", "MissingEol", "MissingField", "NoDirectory", "OutOfLimits", "OutOfRow", "RunTooLong", "ShortHeader",
-    "StripOutside", "Unsupported"]
+    "StripOutside", "TooManyRows", "Unsupported"]
 
 
 def version() -> str:
-    """The version of libfaxpages, as "1.4.2".
+    """The version of libfaxpages, as "1.5.0". That of this module is faxpages.__version__.
 
     >>> faxpages.version().count(".")
     2

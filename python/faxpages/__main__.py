@@ -1,4 +1,5 @@
-"""Says which version of faxpages is here: python3 -m faxpages --version."""
+"""Prints which version of faxpages is installed: python3 -I -m faxpages --version. Without -I Python looks for modules
+in the current folder first."""
 
 import sys
 
@@ -6,11 +7,11 @@ from . import version
 
 
 def main() -> int:
-    """Prints the version, or what else there is."""
+    """Prints the version, or which other commands there are."""
     if sys.argv[1:] == ["--version"]:
         print(f"faxpages {version()}")
         return 0
-    print("usage: python3 -m faxpages --version\nThe commands for archives: python3 -m faxpages.archive --help",
+    print("usage: python3 -I -m faxpages --version\nThe commands for archives: python3 -I -m faxpages.archive --help",
           file=sys.stderr)
     return 2
 

@@ -4,7 +4,7 @@
 
 from __future__ import annotations
 
-from typing import TYPE_CHECKING
+from typing import TYPE_CHECKING, Any
 
 if TYPE_CHECKING:
     import numpy
@@ -13,6 +13,8 @@ if TYPE_CHECKING:
     from ._raster import Raster
 
     Array = NDArray[numpy.uint8]
+else:
+    Array = Any
 
 
 def array_of(raster: Raster) -> Array:

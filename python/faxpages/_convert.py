@@ -7,7 +7,7 @@ from typing import Optional, SupportsIndex
 
 from . import _library as _c
 from ._source import Source, bytes_of
-from ._told import name_of, number_of, stopped
+from ._told import choice_of, name_of, number_of, stopped
 from .faults import FaxError, OutputTooLarge, PbmFault, UnknownInput
 
 # The greatest output of a conversion.
@@ -19,18 +19,17 @@ def convert(source: Source, target: str, order: SupportsIndex = 1, k: SupportsIn
             strip: Optional[SupportsIndex] = None, align: bool = False) -> bytes:
     """Turns a file of pages, TIFF-F or raw PBM, into another: target is "pbm", "mh", "mr" or "mmr".
 
-    order is 1 where the highest bit of a byte is to be first, else 2; in "mr" a row in k is coded by itself; a strip
-    has so many rows, or a page is one strip; align ends each EOL of "mh" and "mr" on a byte boundary.
+    order is 1 to write the highest bit of a byte first, and 2 to write the lowest first; in "mr" one row in every k is
+    coded by itself; strip is the number of rows in a strip, and with None a page is one strip; align ends each EOL of
+    "mh" and "mr" on a byte boundary.
 
     >>> faxpages.convert("samples/one-mh-page.tif", "pbm")
     b'P4\\n8 1\\n\\x18'
     >>> faxpages.open(faxpages.convert(b"P4 8 2\\n8\\xff", "mmr", strip=1)).page(0).strips
     2
     """
-    if target not in _TARGETS:
-        raise ValueError(f"no target: {target!r}")
     options = _c.Options(
-        _TARGETS[target], number_of("order", order, 1, 2), number_of("k", k, 1),
+        choice_of("target", target, _TARGETS), number_of("order", order, 1, 2), number_of("k", k, 1),
         0 if strip is None else number_of("strip", strip, 1), bool(align))
     data, converted = bytes_of(source), _c.Converted()
     room = min(2 * len(data) + 4096, _OUTPUT)

@@ -10,6 +10,13 @@ from ._told import number_of
 from .faults import NotACursorError
 
 
+def a_cursor(given: object) -> "Cursor":
+    """What is handed in as a cursor."""
+    if not isinstance(given, Cursor):
+        raise TypeError(f"a cursor is a Cursor, which Cursor.parse makes of a text, not {type(given).__name__}")
+    return given
+
+
 class Cursor:
     """Where to go on: a page and a row, or a place inside a strip, after which no row is read again.
 
@@ -42,14 +49,14 @@ class Cursor:
 
     @classmethod
     def _of(cls, place: _c.Place, runs: "ctypes.Array[_c.U32]") -> "Cursor":
-        """The cursor of a place, whose runs a buffer of so many as any row may have begins with."""
+        """The cursor of a place, whose runs stand first in a buffer that has room for those of any row."""
         cursor = cls(place.page, place.row)
         if place.runs:
             cursor._bits, cursor._runs = place.bits, ctypes.string_at(runs, place.runs * _c.U32_BYTES)
         return cursor
 
     def _place(self) -> "Tuple[_c.Place, ctypes.Array[_c.U32]]":
-        """Its place and its runs, with room for those of any row, in memory of the caller's own."""
+        """Its place and its runs, with room for those of any row, in new memory that is the caller's own."""
         count = len(self._runs) // _c.U32_BYTES
         runs = (_c.U32 * _c.RUNS)()
         ctypes.memmove(runs, self._runs, len(self._runs))

@@ -8,24 +8,19 @@ import sys
 import threading
 from dataclasses import dataclass, field
 from fractions import Fraction
-from typing import (
-    TYPE_CHECKING, Any, Iterator, List, NamedTuple, Optional, Sequence, SupportsIndex, Tuple, Union, overload)
+from typing import Any, Iterator, List, NamedTuple, Optional, Sequence, SupportsIndex, Tuple, Union, overload
 
 from . import _library as _c
+from ._array import Array
 from ._convert import convert
-from ._cursor import Cursor
+from ._cursor import Cursor, a_cursor
+from ._image import Image
 from ._raster import Raster, dpi_of
 from ._report import Report, check
 from ._rows import ROWS, Ahead, Row, read
-from ._source import Source, bytes_of, own
+from ._source import ReadableBuffer, Source, bytes_of, own
 from ._told import MOST, fraction, number_of, stopped
 from .faults import Fault, OutsideError
-
-if TYPE_CHECKING:
-    from _typeshed import ReadableBuffer
-
-    from ._array import Array
-    from ._image import Image
 
 # How many forms are read at a time, at most.
 _FORMS = 65536
@@ -154,15 +149,19 @@ class Page:
         rows = len(packed) // ((self.width + 7) // 8)
         return Raster(self.width, rows, packed, self.x, self.y, self.unit, self.rows - rows, fault)
 
-    def array(self, partial: bool = False) -> "Array":
-        """The rows as an array of numpy, which has to be installed: see Raster.array.
+    def array(self, partial: bool = False) -> Array:
+        """The rows as an array of numpy, which has to be installed: see Raster.array. numpy.asarray(page) is the same.
 
         >>> faxpages.open("samples/three-pages.tif").page(1).array().shape
         (3, 1)
         """
         return self.raster(partial).array()
 
-    def image(self, partial: bool = False) -> "Image":
+    def __array__(self, dtype: Any = None, copy: Optional[bool] = None) -> Any:
+        found: Any = self.array()
+        return found.astype(dtype or found.dtype, copy=bool(copy))
+
+    def image(self, partial: bool = False) -> Image:
         """The page as an image of Pillow, which has to be installed: see Raster.image. Of a damaged page it has the
         rows before the fault alone, and info["lost"] says how many it lacks.
 
@@ -193,7 +192,7 @@ class Page:
 
 
 class Fax(Sequence[Page]):
-    """A file of fax pages, in memory. Use open.
+    """A file of fax pages, in memory. open makes one.
 
     It is a sequence of its pages: an iteration reads the directories as it goes, and len(), a negative index and a
     slice without an end read them all. A fault is raised after the pages before it; a page that is not there is an
@@ -210,7 +209,7 @@ class Fax(Sequence[Page]):
     faxpages.faults.OutsideError: the file has no page 4
     """
 
-    def __init__(self, data: "ReadableBuffer") -> None:
+    def __init__(self, data: ReadableBuffer) -> None:
         self._data = own(data)
         self._by_number = _ByNumber(self._data)
         self._length: Optional[int] = None
@@ -234,7 +233,7 @@ class Fax(Sequence[Page]):
         return type(self), (self._data,)
 
     def __bool__(self) -> bool:
-        """A fax has a page, or a fault where its first one is due: nothing is read for this."""
+        """Always true: a fax has a page, or a fault where its first page is due. Nothing is read for this."""
         return True
 
     def __len__(self) -> int:
@@ -299,7 +298,9 @@ class Fax(Sequence[Page]):
         number, kept = number_of("number", number), self._by_number
         form, why = kept.forms.at(number)
         if form is None:
-            raise why or OutsideError(f"the file has no page {number}")
+            if why is None or isinstance(why, OutsideError):
+                raise OutsideError(f"the file has no page {number}")
+            raise why
         return self._page(number, form, kept.ahead)
 
     def _page(self, number: int, form: _c.Form, ahead: Ahead) -> Page:
@@ -316,7 +317,10 @@ class Fax(Sequence[Page]):
         Traceback (most recent call last):
         faxpages.faults.DataEnds: page 2 row 1: DataEnds
         """
-        after, ended = cursor or Cursor(), False
+        return self._rows_from(a_cursor(Cursor() if cursor is None else cursor))
+
+    def _rows_from(self, after: Cursor) -> Iterator[Row]:
+        ended = False
         while not ended:
             batch = read(self._data, after, ROWS)
             after, ended = batch.after, batch.ended
@@ -325,8 +329,8 @@ class Fax(Sequence[Page]):
                 raise batch.stopped
 
     def read_rows(self, cursor: Cursor, most: SupportsIndex) -> Tuple[List[Row], Cursor]:
-        """At most so many rows from a cursor on, and the cursor after them, from which no row is read again. A fault
-        is raised where no row was read before it.
+        """At most as many rows as are asked for, from a cursor on, and the cursor after them, from which no row is
+        read again. A fault is raised if no row was read before it.
 
         >>> fax = faxpages.open("samples/three-pages.tif")
         >>> rows, after = fax.read_rows(faxpages.Cursor(1, 2), 10)
@@ -334,6 +338,7 @@ class Fax(Sequence[Page]):
         ([(1, 2), (2, 0)], 2, 1)
         """
         found: List[Row] = []
+        cursor = a_cursor(cursor)
         left, ended = number_of("most", most, most=sys.maxsize), False
         while left and not ended:
             batch = read(self._data, cursor, left)
@@ -363,8 +368,8 @@ class Fax(Sequence[Page]):
 
 
 def open(source: Source) -> Fax:  # pylint: disable=redefined-builtin
-    """Opens a file of fax pages: its path; its bytes, or whatever lends them, as a mmap or an array; or a file object
-    that is open for bytes, which is read from where it stands on. The file is read whole.
+    """Opens a file of fax pages, by its path; by its bytes, or whatever lends them, such as a mmap or an array; or by a
+    file object that is open for bytes, which is read from its current position on. The file is read whole.
 
     >>> with faxpages.open("samples/one-mh-page.tif") as fax:
     ...     len(fax)

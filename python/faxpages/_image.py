@@ -4,12 +4,14 @@
 
 from __future__ import annotations
 
-from typing import TYPE_CHECKING
+from typing import TYPE_CHECKING, Any
 
 if TYPE_CHECKING:
     from PIL.Image import Image as Image
 
     from ._raster import Raster
+else:
+    Image = Any
 
 
 def image_of(raster: Raster) -> Image:

@@ -5,7 +5,7 @@ from __future__ import annotations
 import ctypes
 import os
 
-DONE, END, FAULT, OUTSIDE, MEMORY, NO_ROOM, NOT_A_PLACE, BAD_OPTIONS, TOO_LARGE = range(9)
+DONE, END, FAULT, OUTSIDE, MEMORY, NO_ROOM, NOT_A_PLACE, BAD_OPTIONS, TOO_LARGE, DATA_END, MORE = range(11)
 NO_STRIP = 0xFFFFFFFF
 RUNS = 65536
 
@@ -133,11 +133,14 @@ CALLS = {
     "faxpages_convert": (U32, FILE + [ctypes.POINTER(Options), ctypes.c_void_p, SIZE, ctypes.POINTER(Converted)]),
     "faxpages_strip_rows": (
         U32, FILE + [ctypes.POINTER(Strip), ctypes.POINTER(Place)] + NUMBERS * 2 + [SIZE, ctypes.POINTER(Told)]),
+    "faxpages_strip_part": (
+        U32, FILE + [ctypes.POINTER(Strip), ctypes.POINTER(Place)] + NUMBERS * 2 + [SIZE, ctypes.POINTER(Told)]),
     "faxpages_strip_check": (U32, FILE + [ctypes.POINTER(Strip), ctypes.POINTER(StripReport)]),
     "faxpages_strip_code": (
         U32, [ctypes.POINTER(Strip), U32] + FILE + [SIZE] + NUMBERS + [ctypes.POINTER(SIZE)]),
     "faxpages_add_page": (
         U32, [ctypes.POINTER(Form), U32] + FILE + [SIZE] + NUMBERS + [ctypes.POINTER(Written)]),
+    "faxpages_end_pages": (U32, NUMBERS + [ctypes.POINTER(Written)]),
     "faxpages_place_text": (U32, [ctypes.POINTER(Place)] + NUMBERS * 2 + [ctypes.POINTER(SIZE)]),
     "faxpages_place_parse": (U32, FILE + [ctypes.POINTER(Place)] + NUMBERS),
     "faxpages_fault_name": (SIZE, [U32] + NUMBERS),

@@ -4,27 +4,23 @@ from __future__ import annotations
 
 import sys
 from fractions import Fraction
-from typing import TYPE_CHECKING, Any, Iterable, List, Optional, Sequence, Tuple, Union
+from typing import Any, Iterable, List, Optional, Sequence, Tuple, Union
 
 from ._fax import Page
+from ._image import Image
 from ._raster import Number, Raster, resolution
 from ._rows import Row
-from ._source import ArrayLike
-
-if TYPE_CHECKING:
-    from _typeshed import ReadableBuffer
-
-    from ._image import Image
+from ._source import ArrayLike, ReadableBuffer
 
 # A page to be written: a page of a file, a raster, an image of Pillow in mode 1, an array of two dimensions whose items
 # are bools (rows by pels, True for black), or its rows.
-Writable = Union[Page, Raster, "Image", "ReadableBuffer", ArrayLike, Sequence[Row]]
-# The digits of a row's pels, by its bools.
-_DIGITS = bytes.maketrans(b"\0\1", b"01")
+Writable = Union[Page, Raster, Image, ReadableBuffer, ArrayLike, Sequence[Row]]
+# The digits of a row's pels, by its bools, each of which is a byte: what is not 0 is true.
+_DIGITS = b"0" + 255 * b"1"
 
 
 def raster_of(page: Writable) -> Raster:
-    """The raster of what is to be written as a page. A damaged page is its fault."""
+    """The raster of what is written as a page. A damaged page raises its fault."""
     if isinstance(page, Page):
         return page.raster()
     if isinstance(page, Raster):
@@ -52,7 +48,7 @@ def with_dpi(raster: Raster, dpi: Union[None, Number, Tuple[Number, Number]]) ->
 def _of_rows(rows: List[Row]) -> Raster:
     widths = {row.width for row in rows}
     if len(widths) != 1:
-        raise ValueError("the rows of a page are to have one width" if widths else "a page has at least one row")
+        raise ValueError("the rows of a page must have one width" if widths else "a page has at least one row")
     return Raster(widths.pop(), len(rows), b"".join(row.packed for row in rows))
 
 
@@ -64,7 +60,7 @@ def _is_image(page: object) -> bool:
 
 def _of_image(image: Any) -> Raster:
     if image.mode != "1":
-        raise ValueError(f'an image is to be of mode 1, not {image.mode}: see its method convert("1")')
+        raise ValueError(f'an image must have mode 1, not {image.mode}: see its method convert("1")')
     width, rows = image.size
     return with_dpi(Raster(width, rows, image.tobytes("raw", "1;I")), _dpi_of(image))
 
@@ -91,7 +87,7 @@ def _of_bools(array: Any) -> Raster:
     with memoryview(array) as view:
         if view.format != "?":
             raise TypeError(
-                f"an array is to be of bools, True for black, not of format {view.format!r}; packed bytes are a Raster")
+                f"an array must be of bools, True for black, not of format {view.format!r}; packed bytes are a Raster")
         shape: Any = view.shape
         rows, width = shape
         numpy = sys.modules.get("numpy")
@@ -101,7 +97,7 @@ def _of_bools(array: Any) -> Raster:
 
 
 def _packed(items: bytes, width: int) -> bytes:
-    """Rows of pels, each a byte that is 0 or 1, as packed bytes."""
+    """Rows of pels, each a byte, as packed bytes."""
     stride, packed = (width + 7) // 8, bytearray()
     for at in range(0, len(items), width):
         digits = items[at:at + width].translate(_DIGITS)

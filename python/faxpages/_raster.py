@@ -2,17 +2,16 @@
 
 from __future__ import annotations
 
-from dataclasses import dataclass
+from dataclasses import dataclass, field
 from fractions import Fraction
 from numbers import Rational, Real
-from typing import TYPE_CHECKING, Dict, Optional, Tuple, Union
+from typing import Dict, Optional, Tuple, Union
 
+from ._array import Array, array_of
+from ._image import Image, image_of
+from ._source import own
 from ._told import MOST, number_of
 from .faults import Fault
-
-if TYPE_CHECKING:
-    from ._array import Array
-    from ._image import Image
 
 MOST_WIDTH, MOST_ROWS = 65535, 1000000
 _CENTIMETRES = 2.54
@@ -23,15 +22,15 @@ Number = Union[int, float, Rational]
 def resolution(number: Number) -> Fraction:
     """A fraction of numbers that TIFF has room for."""
     if not isinstance(number, Real):
-        raise TypeError(f"a resolution is to be a number, not {type(number).__name__}")
+        raise TypeError(f"a resolution must be a number, not {type(number).__name__}")
     try:
         found = Fraction(number if isinstance(number, Rational) else float(number))
     except OverflowError:
-        raise ValueError("a resolution is to be above 0, and below 2 ** 32") from None
+        raise ValueError("a resolution must be above 0, and below 2 ** 32") from None
     if found.numerator > MOST or found.denominator > MOST:
         found = found.limit_denominator(1000000)
     if not 0 < found <= MOST or found.numerator > MOST:
-        raise ValueError("a resolution is to be above 0, and below 2 ** 32")
+        raise ValueError("a resolution must be above 0, and below 2 ** 32")
     return found
 
 
@@ -65,7 +64,7 @@ class Raster:
 
     width: int
     rows: int
-    packed: bytes
+    packed: bytes = field(repr=False)
     x: Fraction = Fraction(204)
     y: Fraction = Fraction(196)
     unit: int = 2
@@ -73,15 +72,15 @@ class Raster:
     fault: Optional[Fault] = None
 
     def __post_init__(self) -> None:
-        width = number_of("width", self.width, 1, MOST_WIDTH)
-        rows = number_of("rows", self.rows, 0, MOST_ROWS)
-        number_of("unit", self.unit, 1, 3)
-        object.__setattr__(self, "x", resolution(self.x))
-        object.__setattr__(self, "y", resolution(self.y))
-        packed = self.packed if type(self.packed) is bytes else memoryview(self.packed).tobytes()
-        if len(packed) != rows * self.stride:
-            raise ValueError(f"{rows} rows of {width} pels have {rows * self.stride} bytes, not {len(packed)}")
-        object.__setattr__(self, "packed", packed)
+        kept = {
+            "width": number_of("width", self.width, 1, MOST_WIDTH), "rows": number_of("rows", self.rows, 0, MOST_ROWS),
+            "unit": number_of("unit", self.unit, 1, 3), "x": resolution(self.x), "y": resolution(self.y),
+            "packed": own(self.packed)}
+        for name, value in kept.items():
+            object.__setattr__(self, name, value)
+        wanted, found = self.rows * self.stride, len(self.packed)
+        if found != wanted:
+            raise ValueError(f"{self.rows} rows of {self.width} pels have {wanted} bytes, not {found}")
 
     @property
     def stride(self) -> int:
@@ -109,24 +108,20 @@ class Raster:
         view = memoryview(self.packed)
         return view.cast("B", (self.rows, self.stride)) if self.rows else view
 
-    def array(self) -> "Array":
+    def array(self) -> Array:
         """The packed bytes as an array of numpy, which has to be installed: rows by stride, not to be written, without
         a copy. numpy.unpackbits(array, axis=1, count=width) are the pels, 1 for black.
 
         >>> faxpages.open("samples/three-mmr-rows.tif").page(0).raster().array().tolist()
         [[24], [252], [0]]
         """
-        from ._array import array_of
-
         return array_of(self)
 
-    def image(self) -> "Image":
+    def image(self) -> Image:
         """An image of Pillow, which has to be installed: mode 1, black on white, with its resolution as info["dpi"].
 
         >>> image = faxpages.open("samples/three-mmr-rows.tif").page(0).raster().image()
         >>> image.mode, image.size, image.info["dpi"]
         ('1', (8, 3), (204.0, 196.0))
         """
-        from ._image import image_of
-
         return image_of(self)

@@ -15,7 +15,7 @@ NOTES = {1: "NoEndOfBlock", 2: "ReturnToControl", 3: "DataAfterEnd", 4: "NotT4Ch
 
 @dataclass(frozen=True)
 class Note:
-    """What may trouble other readers of a page, or of a strip of it where strip is not None.
+    """What may trouble other readers of a page, or of one of its strips if strip is not None.
 
     >>> note = faxpages.check("samples/return-to-control.tif").notes[0]
     >>> note

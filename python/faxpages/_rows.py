@@ -14,7 +14,7 @@ from .faults import OutsideError
 
 # How many rows and bytes are read at a time, at most, and the longest row.
 ROWS, _BYTES, _ROW_BYTES = 8192, 1 << 20, 8192
-# Of a file of very many pages more bytes are read at a time, so many for each page before them: each call follows the
+# In a file of very many pages more bytes are read at a time, this many for each page before them: each call follows the
 # directories up to its page.
 _BYTES_A_PAGE, _MOST_BYTES = 256, 1 << 24
 # A row's place in the buffer and on its page, as _c.Row.
@@ -102,7 +102,7 @@ class Batch(NamedTuple):
 
 
 def read(data: bytes, cursor: Cursor, most: int) -> Batch:
-    """Rows from a cursor on, over pages, at most so many."""
+    """Rows from a cursor on, over pages, at most as many as are asked for."""
     most = min(most, ROWS)
     room = min(most * _ROW_BYTES, max(_BYTES, min(_MOST_BYTES, cursor.page * _BYTES_A_PAGE)))
     (place, runs), told = cursor._place(), _c.Told()

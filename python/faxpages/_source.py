@@ -2,12 +2,20 @@
 
 from __future__ import annotations
 
+import collections.abc
 import io
 import os
 from typing import TYPE_CHECKING, Any, Protocol, Union, runtime_checkable
 
+# Names of types are there at run time too, for typing.get_type_hints.
 if TYPE_CHECKING:
-    from _typeshed import ReadableBuffer
+    from _typeshed import ReadableBuffer as ReadableBuffer
+
+    Path = os.PathLike[str]
+else:
+    # Python has a name for it from 3.12 on, and the index from 3.9 on.
+    ReadableBuffer = getattr(collections.abc, "Buffer", Any)
+    Path = os.PathLike
 
 
 @runtime_checkable
@@ -28,12 +36,12 @@ class ArrayLike(Protocol):
 
 # A file: its bytes, or anything that lends bytes, as a mmap or an array; its path; or a file object that is open for
 # bytes, which is read from where it stands to its end.
-Source = Union["ReadableBuffer", ArrayLike, str, "os.PathLike[str]", Readable]
+Source = Union[ReadableBuffer, ArrayLike, str, Path, Readable]
 
 
-def own(data: "ReadableBuffer") -> bytes:
-    """Bytes that nobody changes."""
-    return bytes(data) if isinstance(data, bytes) else memoryview(data).tobytes()
+def own(data: ReadableBuffer) -> bytes:
+    """Bytes that nobody changes, of the type bytes itself: a type that is made of it may lie about its length."""
+    return data if type(data) is bytes else memoryview(data).tobytes()
 
 
 def bytes_of(source: Source) -> bytes:
@@ -45,8 +53,11 @@ def bytes_of(source: Source) -> bytes:
     if isinstance(source, Readable) and not _lends(source):
         data: Any = source.read()
         if not isinstance(data, bytes):
-            raise TypeError("a file object is to be open for bytes, as by mode 'rb'")
-        return bytes(data)
+            raise TypeError("a file object must be open for bytes, as by mode 'rb'")
+        return own(data)
+    if not _lends(source):
+        raise TypeError("a file is its path, its bytes or what lends them, or a file object that is open for bytes, "
+                        f"not {type(source).__name__}")
     lender: Any = source
     return own(lender)
 

@@ -5,35 +5,33 @@ from __future__ import annotations
 import collections
 import ctypes
 from dataclasses import dataclass
-from typing import TYPE_CHECKING, Deque, Iterator, NamedTuple, NoReturn, Optional, SupportsIndex, Tuple
+from typing import Deque, Iterator, List, NamedTuple, NoReturn, Optional, SupportsIndex, Tuple
 
 from . import _library as _c
 from ._raster import MOST_ROWS, MOST_WIDTH, Raster
 from ._report import NOTES, Note
 from ._rows import Row
-from ._source import own
-from ._told import fault_of, number_of, refusal
+from ._source import ReadableBuffer, own
+from ._told import choice_of, fault_of, number_of, refusal
 from ._writing import CODINGS
 from .faults import Fault
 
-if TYPE_CHECKING:
-    from _typeshed import ReadableBuffer
-
 # The most bytes of a strip, and how many bytes of rows are read at a time.
-_MOST, _BYTES = 536870911, 1 << 20
-# So many bytes hold the codes of any row of an ordinary width: where a row is not whole in so many, it is tried again
+MOST_BYTES, _BYTES = 536870911, 1 << 20
+# This many bytes hold the codes of any row of an ordinary width: if a row is not whole in so many, it is tried again
 # when a quarter more is there, so that bytes that come one by one are read in a time in proportion to their number.
 _TRIED = 4096
-# The faults that may be the end of a strip, as of faxpages.h.
-_DATA_ENDS, _END_MARKER = 101, 107
+# How many bytes of zeros before an EOL are kept: it has eleven zeros, and any more are fill.
+_FILL = 2
+# The faults of a row that is cut, and of too many rows, as of faxpages.h.
+_DATA_ENDS, _TOO_MANY_ROWS = 101, 108
 
 
 def _form(width: SupportsIndex, rows: Optional[SupportsIndex], coding: str, order: SupportsIndex) -> _c.Strip:
-    if coding not in CODINGS:
-        raise ValueError(f"no coding: {coding!r}")
+    """The form of a strip, with 0 rows if nobody counted them."""
     return _c.Strip(
-        number_of("width", width, 1, MOST_WIDTH), MOST_ROWS if rows is None else number_of("rows", rows, 1, MOST_ROWS),
-        CODINGS[coding], number_of("order", order, 1, 2), 0)
+        number_of("width", width, 1, MOST_WIDTH), 0 if rows is None else number_of("rows", rows, 1, MOST_ROWS),
+        choice_of("coding", coding, CODINGS), number_of("order", order, 1, 2), 0)
 
 
 class _Read(NamedTuple):
@@ -55,12 +53,12 @@ class _Strip:
         self.due = 0
         self._byte_align, self._eols = byte_align, eols
 
-    def read(self, data: bytes) -> _Read:
-        """The next rows, some thousands at most."""
+    def read(self, data: bytes, more: bool = False) -> _Read:
+        """The next rows, some thousands at most; where more data may follow, those that are the same whatever it is."""
         # A row has at least one bit.
         left = 8 * len(data) - self.place.bits + 1
         most = 1 if self._byte_align or not self._eols else max(1, min(left, _BYTES // self.stride))
-        room = min(most, max(1, self.form.rows - self.due)) * self.stride
+        room = min(most, max(1, (self.form.rows or MOST_ROWS + 1) - self.due)) * self.stride
         if room > len(self._out):
             self._out = ctypes.create_string_buffer(room)
         told = _c.Told()
@@ -68,38 +66,61 @@ class _Strip:
             self.place.bits += -self.place.bits % 8
         if not self._eols:
             self.place.row = 0
-        status = _c.library.faxpages_strip_rows(
-            data, len(data), self.form, self.place, self._runs, _c.RUNS, self._out, room, self.stride, told)
-        if status not in (_c.DONE, _c.END, _c.FAULT):
+        call = _c.library.faxpages_strip_part if more else _c.library.faxpages_strip_rows
+        status = call(data, len(data), self.form, self.place, self._runs, _c.RUNS, self._out, room, self.stride, told)
+        if status not in (_c.DONE, _c.END, _c.FAULT, _c.DATA_END, _c.MORE):
             raise refusal(status)
         self.due += told.count
         told.fault.row = self.due
+        if not self._eols:
+            status = self._end_bare(data, status, told)
         if status == _c.DONE and self.due == self.form.rows:
             status = _c.END
         return _Read(ctypes.string_at(self._out, told.used), status, told.fault)
 
-    def is_blank_after(self, data: bytes) -> bool:
-        """Whether no 1 stands in the data after the place."""
+    def read_all(self, data: bytes) -> Tuple[bytes, _Read]:
+        """All rows, and the last reading, which says why no more follow."""
+        packed: List[bytes] = []
+        while True:
+            read = self.read(data)
+            packed.append(read.packed)
+            if read.status != _c.DONE:
+                return b"".join(packed), read
+
+    def _end_bare(self, data: bytes, status: int, told: _c.Told) -> int:
+        """How a call ends for rows without EOLs, each of which the library takes for a strip's first."""
+        if status == _c.FAULT and told.fault.number == _DATA_ENDS and not self.form.rows and self.due:
+            return _c.DATA_END if self.is_blank(data) else status
+        if self.due > MOST_ROWS:
+            self.due -= 1
+            told.used, told.fault = 0, _c.Fault(_TOO_MANY_ROWS, 0, 0, self.due)
+            return _c.FAULT
+        return status
+
+    def is_blank(self, data: bytes) -> bool:
+        """Whether no 1 stands in the data from the place on."""
         at, bits = divmod(self.place.bits, 8)
-        if at == len(data):
+        if at >= len(data):
             return True
         first = data[at] & (0xFF >> bits if self.form.order == 1 else 0xFF << bits & 0xFF)
         return first == 0 and not data[at + 1:].strip(b"\0")
 
 
-def strip(data: "ReadableBuffer", width: SupportsIndex = 1728, rows: Optional[SupportsIndex] = None,
+def strip(data: ReadableBuffer, width: SupportsIndex = 1728, rows: Optional[SupportsIndex] = None,
           coding: str = "mmr", order: SupportsIndex = 1, byte_align: bool = False, eols: bool = True,
           partial: bool = False) -> Raster:
     """The rows of T.4 or T.6 data that has no file around it, as on a line or in a PDF (CCITTFaxDecode).
 
-    coding is "mh", "mr" or "mmr" (K 0, above 0, below 0 in a PDF); order is 1 where the highest bit of a byte is first,
-    and 2 where the lowest is. Where rows is None they are at least one and at most 1,000,000, and end at the end mark
-    (EOFB, RTC), or where no 1 is left; otherwise there have to be so many. byte_align says that each row begins on a
-    byte boundary (EncodedByteAlign), and eols=False that rows in "mh" have no EOL before them. Then they are read one a
-    call, which takes longer.
+    coding is "mh", "mr" or "mmr" (K 0, above 0, below 0 in a PDF); order is 1 if the highest bit of a byte is first,
+    and 2 if the lowest is. If rows is None, there are up to 1,000,000 of them, which end at the end mark (EOFB, RTC), or
+    with the data, if nothing but zeros is left after a whole row: then check_strip tells which it is. Otherwise there
+    must be as many as it says. eols=False says that rows in "mh" have no EOL before
+    them (EndOfLine false), and byte_align that each row begins on a byte boundary (EncodedByteAlign). If rows have
+    EOLs, byte_align changes nothing: zeros before an EOL are fill, however many, and the row begins right after it.
+    Rows in "mmr" that are aligned, and those without EOLs, are read one a call, which takes longer.
 
-    Of damaged data the fault is raised, its page 0. With partial=True it is told in the raster, whose rows are those
-    before it; lost says how many are missing where rows is known.
+    If the data are damaged the fault is raised, with page 0. With partial=True it is told in the raster, whose rows are
+    those before it; lost says how many are missing if rows is known.
 
     >>> raster = faxpages.strip(b"\\x80\\x08\\x00\\x80", width=8)
     >>> raster.rows, raster.packed
@@ -109,38 +130,30 @@ def strip(data: "ReadableBuffer", width: SupportsIndex = 1728, rows: Optional[Su
     faxpages.faults.EndMarker: page 0 row 1: EndMarker
     """
     if not eols and coding != "mh":
-        raise ValueError("rows without EOLs are in mh alone")
+        raise ValueError("eols=False is for mh alone")
     own_data = own(data)
-    if len(own_data) > _MOST:
-        raise ValueError(f"a strip has at most {_MOST} bytes")
-    reader, packed, fault = _Strip(_form(width, rows, coding, order), byte_align, eols), [], None
-    while True:
-        read = reader.read(own_data)
-        packed.append(read.packed)
-        if read.status != _c.DONE:
-            break
-    if read.status == _c.FAULT and not _is_end(reader, own_data, rows is None, read.fault.number):
+    if len(own_data) > MOST_BYTES:
+        raise ValueError(f"a strip has at most {MOST_BYTES} bytes")
+    has_eols = eols and coding != "mmr"
+    reader = _Strip(_form(width, rows, coding, order), byte_align and not has_eols, eols)
+    packed, read = reader.read_all(own_data)
+    fault = None
+    if read.status == _c.FAULT:
         fault = fault_of(read.fault)
         if not partial:
             raise fault
     return Raster(
-        reader.form.width, reader.due, b"".join(packed), lost=0 if rows is None else reader.form.rows - reader.due,
+        reader.form.width, reader.due, packed, lost=0 if rows is None else reader.form.rows - reader.due,
         fault=fault)
-
-
-def _is_end(reader: _Strip, data: bytes, is_open: bool, number: int) -> bool:
-    """Whether a fault is the end of a strip whose rows are not known."""
-    if not is_open or not reader.due:
-        return False
-    return number == _END_MARKER or number == _DATA_ENDS and reader.is_blank_after(data)
 
 
 class StripReader:
     """Reads T.4 or T.6 data that comes in pieces, as a server receives it. It is for one thread.
 
     feed takes bytes; an iteration gives the rows that are whole by then and were not given before; close says that no
-    more bytes come. After close, or before, an iteration raises the fault of the row that is due, DataEnds where it is
-    cut; before close it waits for more bytes there. width, coding, order and rows are as for strip.
+    more bytes come. An iteration raises the fault of the row that is due. If that row is cut, an iteration before close
+    ends there, since more bytes may come; after close it raises DataEnds. width, coding, order and rows are as for
+    strip.
 
     >>> data = faxpages.encode_strip(faxpages.open("samples/three-mmr-rows.tif")[0], coding="mr", order=2)
     >>> reader, found = faxpages.StripReader(width=8, coding="mr", order=2), []
@@ -154,7 +167,8 @@ class StripReader:
 
     def __init__(self, width: SupportsIndex = 1728, coding: str = "mmr", order: SupportsIndex = 1,
                  rows: Optional[SupportsIndex] = None) -> None:
-        self._strip, self._is_open = _Strip(_form(width, rows, coding, order), False, True), rows is None
+        self._strip = _Strip(_form(width, rows, coding, order), False, True)
+        self._has_eols = coding != "mmr"
         self._ready: Deque[Row] = collections.deque()
         # What was fed and is not read yet; the beginning of it that is being read; and how many bytes have to be there
         # before more is read.
@@ -182,7 +196,7 @@ class StripReader:
         """
         return self._ended and not self._ready
 
-    def feed(self, data: "ReadableBuffer") -> None:
+    def feed(self, data: ReadableBuffer) -> None:
         """Takes more bytes. What comes after the end of the strip is left out.
 
         >>> faxpages.StripReader().feed(b"\\x00")
@@ -214,46 +228,46 @@ class StripReader:
             raise self._fault
 
     def __reduce__(self) -> NoReturn:
-        raise TypeError("a StripReader is not copied, as an iterator is not")
+        raise TypeError("a StripReader cannot be copied, as an iterator cannot")
 
     def _read_more(self) -> bool:
         """Reads rows of what was fed, if there are some."""
         while not self._ready and not self._ended and not self._fault:
-            if not self._seen:
-                if len(self._fed) < self._wanted and not self._closed:
-                    return False
-                self._seen = bytes(self._fed)
-            if not self._read_seen():
-                break
+            if not self._seen and len(self._fed) < self._wanted and not self._closed:
+                return False
+            self._read_fed()
         return bool(self._ready)
 
-    def _read_seen(self) -> bool:
-        """Reads rows of what is being read. Answers whether more can be read by now."""
-        first, read, width = self._strip.due, self._strip.read(self._seen), self._strip.form.width
-        stride = self._strip.stride
+    def _read_fed(self) -> None:
+        """Reads rows of what was fed."""
+        self._seen = self._seen or bytes(self._fed)
+        first, width, stride = self._strip.due, self._strip.form.width, self._strip.stride
+        read = self._strip.read(self._seen, not self._closed or len(self._seen) < len(self._fed))
         for at in range(0, len(read.packed), stride):
             self._ready.append(Row(0, first + at // stride, width, read.packed[at:at + stride]))
-        if read.status == _c.DONE:
-            return True
-        number = read.fault.number if read.status == _c.FAULT else 0
-        if number == _DATA_ENDS and (not self._closed or len(self._seen) < len(self._fed)):
+        if read.status == _c.MORE:
             self._drop_read()
-            return len(self._fed) >= self._wanted
-        if number == 0 or _is_end(self._strip, self._seen, self._is_open, number):
+        elif read.status == _c.FAULT:
+            self._fault = fault_of(read.fault)
+        elif read.status != _c.DONE:
             self._ended = True
             self._fed.clear()
-        else:
-            self._fault = fault_of(read.fault)
-        self._seen = b""
-        return False
 
     def _drop_read(self) -> None:
         """Drops the bytes that were read wholly."""
-        seen, used = len(self._seen), self._strip.place.bits // 8
+        used = self._strip.place.bits // 8
         del self._fed[:used]
         self._strip.place.bits -= 8 * used
-        left = seen - used
+        left = max(0, len(self._seen) - used - self._drop_fill())
         self._seen, self._wanted = b"", left + (left // 4 if left > _TRIED else 1)
+
+    def _drop_fill(self) -> int:
+        """Drops zeros before an EOL that are more than it has. Answers how many bytes they were."""
+        blank = len(self._fed) - 1 - len(self._fed[1:].lstrip(b"\0"))
+        if not self._has_eols or blank <= _FILL or not self._strip.is_blank(bytes(self._fed[:1])):
+            return 0
+        del self._fed[1:1 + blank - _FILL]
+        return blank - _FILL
 
 
 @dataclass(frozen=True)
@@ -280,7 +294,7 @@ class StripReport:
         return self.fault is None
 
 
-def check_strip(data: "ReadableBuffer", width: SupportsIndex = 1728, rows: Optional[SupportsIndex] = None,
+def check_strip(data: ReadableBuffer, width: SupportsIndex = 1728, rows: Optional[SupportsIndex] = None,
                 coding: str = "mmr", order: SupportsIndex = 1) -> StripReport:
     """Reads all rows of T.4 or T.6 data that has no file around it, and reports what stands after them. The words are
     those of strip. Where rows is None they are counted.
@@ -290,25 +304,14 @@ def check_strip(data: "ReadableBuffer", width: SupportsIndex = 1728, rows: Optio
     (['NoEndOfBlock', 'DataAfterEnd'], False)
     """
     own_data, form, report = own(data), _form(width, rows, coding, order), _c.StripReport()
-    if len(own_data) > _MOST:
-        raise ValueError(f"a strip has at most {_MOST} bytes")
-    status, cut = _check(own_data, form, report), None
-    if rows is None and status == _c.FAULT and report.fault.number in (_END_MARKER, _DATA_ENDS) and report.rows:
-        cut = fault_of(report.fault) if report.fault.number == _DATA_ENDS else None
-        form.rows = report.rows
-        status = _check(own_data, form, report)
+    if len(own_data) > MOST_BYTES:
+        raise ValueError(f"a strip has at most {MOST_BYTES} bytes")
+    status = _c.library.faxpages_strip_check(own_data, len(own_data), form, report)
     if status == _c.FAULT:
         return StripReport(report.rows, False, (), fault_of(report.fault))
-    if cut is not None and report.data_after_end:
-        return StripReport(report.rows, False, (), cut)
+    if status not in (_c.END, _c.DATA_END):
+        raise refusal(status)
     kinds = report.no_end_of_block, report.return_to_control, report.data_after_end, report.not_t4_choice
     notes = tuple(Note(0, 0, number, NOTES[number]) for number, noted in enumerate(kinds, 1) if noted)
     end_mark = not report.no_end_of_block if coding == "mmr" else bool(report.return_to_control)
     return StripReport(report.rows, end_mark, notes, None)
-
-
-def _check(data: bytes, form: _c.Strip, report: _c.StripReport) -> int:
-    status = _c.library.faxpages_strip_check(data, len(data), form, report)
-    if status not in (_c.END, _c.FAULT):
-        raise refusal(status)
-    return int(status)

@@ -6,7 +6,7 @@ import ctypes
 import functools
 import operator
 from fractions import Fraction
-from typing import Optional, SupportsIndex
+from typing import Mapping, Optional, SupportsIndex
 
 from . import _library as _c
 from .faults import BY_NUMBER, Fault, FaxError, OutsideError
@@ -19,11 +19,19 @@ fraction = functools.lru_cache(maxsize=64)(Fraction)
 
 
 def number_of(name: str, value: SupportsIndex, least: int = 0, most: int = MOST) -> int:
-    """A number that is handed in, before the library has it, which would take it modulo 2 ** 32."""
-    number = operator.index(value)
+    """A number that is handed in. It is checked before the library has it, which would take it modulo 2 ** 32. It is an
+    int, and not of a type that is made of int."""
+    number = int(operator.index(value))
     if not least <= number <= most:
-        raise ValueError(f"{name} is to be from {least} to {most}")
+        raise ValueError(f"{name} must be from {least} to {most}")
     return number
+
+
+def choice_of(name: str, value: str, choices: Mapping[str, int]) -> int:
+    """The number of a word that is handed in."""
+    if value not in choices:
+        raise ValueError(f"no {name}: {value!r}; there are {', '.join(choices)}")
+    return choices[value]
 
 
 def name_of(number: int) -> str:
@@ -40,7 +48,7 @@ def fault_of(fault: _c.Fault) -> Fault:
 
 
 def stopped(status: int, fault: _c.Fault) -> Optional[Exception]:
-    """What is raised after what a call has written, or None where it is the file's end, or may go on."""
+    """What is raised after what a call has written, or None at the file's end, or if the call may go on."""
     if status in (_c.DONE, _c.END, _c.NO_ROOM):
         return None
     if status == _c.FAULT:

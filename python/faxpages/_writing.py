@@ -3,19 +3,19 @@
 from __future__ import annotations
 
 import ctypes
+import errno
 import io
 import os
-from typing import TYPE_CHECKING, Collection, Iterable, NoReturn, Optional, Protocol, SupportsIndex, Tuple, Union
+from typing import Collection, Iterable, NoReturn, Optional, Protocol, SupportsIndex, Tuple, Union, runtime_checkable
 
 from . import _library as _c
 from ._pages import Writable, raster_of, with_dpi
 from ._raster import Number, Raster
-from ._told import number_of, refusal
+from ._source import Path
+from ._told import choice_of, number_of, refusal
 from .faults import OutputTooLarge
 
-if TYPE_CHECKING:
-    Dpi = Union[None, Number, Tuple[Number, Number]]
-
+Dpi = Union[None, Number, Tuple[Number, Number]]
 CODINGS = {"mh": 1, "mr": 2, "mmr": 3}
 # The most pages of a file, and the most bytes.
 _PAGES, _MOST = 65535, 1 << 28
@@ -23,15 +23,16 @@ _PAGES, _MOST = 65535, 1 << 28
 _DIRECTORY, _ROOM_A_ROW = 1024, 24
 
 
+@runtime_checkable
 class Writer(Protocol):
     """A file that is open for writing bytes."""
 
     def write(self, data: bytes, /) -> object:
-        """Takes all of these bytes."""
+        """Takes bytes, and says how many; or says nothing, and takes them all."""
 
 
 class _File:
-    """A file that is written page by page, in memory."""
+    """A file that is written page by page, in memory: of so many pages, or of 0, where nobody knows how many."""
 
     def __init__(self, pages: int) -> None:
         self._room = 4096
@@ -51,7 +52,7 @@ class _File:
             _refuse(_c.TOO_LARGE if status == _c.NO_ROOM else status)
 
     def _make_room(self, room: int) -> None:
-        """Has room for so many bytes: at least twice as many each time."""
+        """Makes room for so many bytes: at least twice as much each time."""
         if room <= self._room:
             return
         self._room = min(max(room, 2 * self._room), _MOST)
@@ -61,8 +62,15 @@ class _File:
 
     def ends(self) -> bytes:
         """The file, which has all its pages."""
-        if self._written.added != self._written.total:
-            raise ValueError(f"there are {self._written.added} pages, and their length said {self._written.total}")
+        added, total = self._written.added, self._written.total
+        if total == 0:
+            if added == 0:
+                raise ValueError("a file has at least one page")
+            status = _c.library.faxpages_end_pages(self._file, self._room, self._written)
+            if status != _c.DONE:
+                _refuse(status)
+        elif added != total:
+            raise ValueError(f"there are {added} pages, but their length said {total}")
         return ctypes.string_at(self._file, self._written.len)
 
 
@@ -75,8 +83,8 @@ def encode(pages: Iterable[Writable], coding: str = "mmr", order: SupportsIndex 
     dpi is a number, or a pair: pels of a row and rows in an inch. Without it a page keeps its own resolution, and an
     image the one in its info; otherwise it is 204 by 196.
 
-    The pages of a list, or of what else has a length, are taken one by one; those of an iterator are collected before.
-    More than 268,435,456 bytes or 65,535 pages are OutputTooLarge. A page that is damaged raises its fault.
+    Pages are taken one by one, those of an iterator too: how many there are is told to each after the last. More than
+    268,435,456 bytes or 65,535 pages are OutputTooLarge. A page that is damaged raises its fault.
 
     >>> fax = faxpages.open("samples/three-pages.tif")
     >>> data = faxpages.encode([fax[1], fax[2].raster(partial=True), list(fax[0])], coding="mr", dpi=200)
@@ -86,26 +94,26 @@ def encode(pages: Iterable[Writable], coding: str = "mmr", order: SupportsIndex 
     order, k = number_of("order", order, 1, 2), number_of("k", k, 1)
     rows = None if strip is None else number_of("strip", strip, 1)
     number = _number_of_coding(coding, align)
-    known = pages if isinstance(pages, Collection) else list(pages)
-    count = len(known)
+    count = len(pages) if isinstance(pages, Collection) else None
     if count == 0:
         raise ValueError("a file has at least one page")
-    if count > _PAGES:
-        raise OutputTooLarge(f"a file has at most {_PAGES} pages")
-    file = _File(count)
-    for added, page in enumerate(known):
+    _see_few(count or 0)
+    file = _File(count or 0)
+    for added, page in enumerate(pages):
         if added == count:
             raise ValueError(f"there are more pages than the {count} that their length said")
+        _see_few(added + 1)
         raster = with_dpi(raster_of(page), dpi)
         file.add(_form_of(raster, number, order, bool(align), rows), k, raster)
     return file.ends()
 
 
-def write(pages: Iterable[Writable], file: "Union[str, os.PathLike[str], Writer]", coding: str = "mmr",
+def write(pages: Iterable[Writable], file: Union[str, Path, Writer], coding: str = "mmr",
           order: SupportsIndex = 1, k: SupportsIndex = 4, strip: Optional[SupportsIndex] = None, align: bool = False,
           dpi: Dpi = None) -> None:
-    """Writes a TIFF-F file of these pages: see encode. file is a path, or a file object that is open for bytes. Where a
-    page cannot be written, nothing is.
+    """Writes a TIFF-F file of these pages: see encode. file is a path, or a file object that is open for bytes, of
+    which all are written: an unbuffered file that takes none now is a BlockingIOError, which says how many it has
+    taken. Where a page cannot be written, nothing is.
 
     >>> import io
     >>> out = io.BytesIO()
@@ -114,12 +122,29 @@ def write(pages: Iterable[Writable], file: "Union[str, os.PathLike[str], Writer]
     >>> page.coding, page.rows, page.strips
     ('mh', 3, 2)
     """
+    if isinstance(file, io.TextIOBase) or not isinstance(file, (str, os.PathLike, Writer)):
+        raise TypeError(f"a file is a path, or a file object that is open for bytes, not {type(file).__name__}")
     data = encode(pages, coding, order, k, strip, align, dpi)
     if isinstance(file, (str, os.PathLike)):
         with io.open(file, "wb") as out:
             out.write(data)
     else:
-        file.write(data)
+        _write_all(file, data)
+
+
+def _write_all(file: Writer, data: bytes) -> None:
+    """Writes all bytes, of which an unbuffered file may take a part at a time."""
+    view, done = memoryview(data), 0
+    while done < len(data):
+        taken = file.write(view[done:] if done else data)
+        if type(taken) is not int:
+            # A file that says nothing has taken all, but one of Python's own that is unbuffered none.
+            if not isinstance(file, io.RawIOBase):
+                return
+            taken = 0
+        if taken <= 0:
+            raise BlockingIOError(errno.EAGAIN, "the file takes no more bytes now", done)
+        done += taken
 
 
 def encode_strip(page: Writable, coding: str = "mmr", order: SupportsIndex = 1, k: SupportsIndex = 4,
@@ -148,12 +173,17 @@ def encode_strip(page: Writable, coding: str = "mmr", order: SupportsIndex = 1, 
     return ctypes.string_at(out, length.value)
 
 
+def _see_few(pages: int) -> None:
+    """Raises where these are more pages than a file has."""
+    if pages > _PAGES:
+        raise OutputTooLarge(f"a file has at most {_PAGES} pages")
+
+
 def _number_of_coding(coding: str, align: bool) -> int:
-    if coding not in CODINGS:
-        raise ValueError(f"no coding: {coding!r}")
+    number = choice_of("coding", coding, CODINGS)
     if align and coding == "mmr":
         raise ValueError("align is for codings with EOLs: mh and mr")
-    return CODINGS[coding]
+    return number
 
 
 def _rows_of(raster: Raster) -> int:

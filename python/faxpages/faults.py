@@ -6,8 +6,8 @@ from typing import Any, Dict, Optional, Tuple, Type
 
 
 class FaxError(Exception):
-    """What faxpages raises, but for MemoryError, what Python raises of files, and the ValueError or TypeError of a
-    number or a text that is handed in.
+    """What faxpages raises, except for MemoryError, what Python raises when it reads or writes files, and the
+    ValueError or TypeError of what is handed in.
 
     >>> try:
     ...     faxpages.open("samples/three-pages.tif")[2].packed()
@@ -27,7 +27,7 @@ class OutsideError(FaxError, IndexError):
 
 
 class NotACursorError(FaxError, ValueError):
-    """A text is no cursor's.
+    """A text is not that of a cursor.
 
     >>> faxpages.Cursor.parse("1:2")
     Traceback (most recent call last):
@@ -36,7 +36,7 @@ class NotACursorError(FaxError, ValueError):
 
 
 class ConversionError(FaxError):
-    """A file is not converted, for another reason than a fault of its pages.
+    """A file is not converted, but not because its pages have a fault.
 
     >>> issubclass(faxpages.PbmFault, faxpages.ConversionError)
     True
@@ -90,8 +90,8 @@ class PbmFault(ConversionError):
 
 
 class Fault(FaxError):
-    """The first fault of a file, which ends its rows. Each kind has a class of its own. Two of one kind, page, row and
-    tag are equal.
+    """The first fault of a file: no row after it is handed out. Each kind has a class of its own. Two of one kind,
+    page, row and tag are equal.
 
     page and row, both from 0, are those that were due at the fault: row 0 for a fault of the header, of a directory
     or of a field. name is the fault's, and tag that of the field at fault (TIFF 6.0), or None.
@@ -174,7 +174,7 @@ class NoDirectory(FileFault):
 
 
 class DirectoryOutside(FileFault):
-    """A directory does not lie whole in the file.
+    """A directory does not lie wholly inside the file.
 
     >>> faxpages.open(b"II*\\0\\x08\\0\\0\\0").page(0)
     Traceback (most recent call last):
@@ -183,7 +183,7 @@ class DirectoryOutside(FileFault):
 
 
 class DirectoryLoop(FileFault):
-    """The chain of directories turns back.
+    """A directory is followed by an earlier one.
 
     >>> damaged = bytearray(open("samples/one-mh-page.tif", "rb").read())
     >>> damaged[206] = 12
@@ -194,7 +194,7 @@ class DirectoryLoop(FileFault):
 
 
 class MissingField(FileFault):
-    """A field has to be there and is not.
+    """A field that each page must have is missing.
 
     >>> faxpages.open(b"II*\\0\\x08\\0\\0\\0" + bytes(6)).page(0)
     Traceback (most recent call last):
@@ -203,7 +203,7 @@ class MissingField(FileFault):
 
 
 class BadField(FileFault):
-    """A field has a type or a count that is refused, or a value outside the file.
+    """A field has a wrong type or number of values, or a value outside the file; or RowsPerStrip is 0.
 
     >>> damaged = bytearray(open("samples/one-mh-page.tif", "rb").read())
     >>> damaged[136] = 2
@@ -214,7 +214,7 @@ class BadField(FileFault):
 
 
 class Unsupported(FileFault):
-    """A field has a value that is not read.
+    """A field has a value that no fax page has, such as another compression.
 
     >>> damaged = bytearray(open("samples/one-mh-page.tif", "rb").read())
     >>> damaged[70] = 5
@@ -225,7 +225,7 @@ class Unsupported(FileFault):
 
 
 class OutOfLimits(FileFault):
-    """A field passes a limit.
+    """A page is empty, or wider than 65,535 pels or longer than 1,000,000 rows.
 
     >>> damaged = bytearray(open("samples/one-mh-page.tif", "rb").read())
     >>> damaged[34] = 0
@@ -236,7 +236,7 @@ class OutOfLimits(FileFault):
 
 
 class StripOutside(FileFault):
-    """A strip's bytes do not lie in the file.
+    """A strip does not lie wholly inside the file.
 
     >>> damaged = bytearray(open("samples/one-mh-page.tif", "rb").read())
     >>> damaged[107] = 1
@@ -247,7 +247,7 @@ class StripOutside(FileFault):
 
 
 class DataEnds(StripFault):
-    """The data ends where a row or a code is due.
+    """The data end within a row, or where one is due.
 
     >>> faxpages.strip(b"\\x80", width=8, rows=9)
     Traceback (most recent call last):
@@ -256,7 +256,7 @@ class DataEnds(StripFault):
 
 
 class BadCode(StripFault):
-    """No code begins so.
+    """No code begins with the bits that are due.
 
     >>> faxpages.strip(b"\\x01", width=8)
     Traceback (most recent call last):
@@ -265,7 +265,7 @@ class BadCode(StripFault):
 
 
 class Extension(StripFault):
-    """An extension code, which is not read.
+    """An extension of T.4 or T.6, such as uncompressed mode, which is not read.
 
     >>> faxpages.strip(b"\\x03\\x80", width=8)
     Traceback (most recent call last):
@@ -292,7 +292,7 @@ class OutOfRow(StripFault):
 
 
 class MissingEol(StripFault):
-    """A row has no EOL before it.
+    """No EOL stands before the row.
 
     >>> faxpages.strip(b"\\x9a\\x68", width=8, coding="mh", rows=2)
     Traceback (most recent call last):
@@ -301,11 +301,20 @@ class MissingEol(StripFault):
 
 
 class EndMarker(StripFault):
-    """An end mark stands where a row is due.
+    """Eleven zeros, as in an end mark, stand where a row is due.
 
-    >>> faxpages.strip(b"\\0\\x10\\x01", width=8)
+    >>> faxpages.strip(b"\\0\\x10\\x01", width=8, rows=1)
     Traceback (most recent call last):
     faxpages.faults.EndMarker: page 0 row 0: EndMarker
+    """
+
+
+class TooManyRows(StripFault):
+    """A strip whose rows nobody counted has more than 1,000,000 of them.
+
+    >>> faxpages.strip(bytes([255] * 125001), width=8)
+    Traceback (most recent call last):
+    faxpages.faults.TooManyRows: page 0 row 1000000: TooManyRows
     """
 
 
@@ -329,4 +338,5 @@ BY_NUMBER: Dict[int, Type[Fault]] = {
     105: OutOfRow,
     106: MissingEol,
     107: EndMarker,
+    108: TooManyRows,
 }
