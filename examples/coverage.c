@@ -24,11 +24,22 @@ static uint8_t *read_file(const char *name, size_t *len) {
         if (!more) free(bytes);
         bytes = more;
     }
-    if (in) fclose(in);
-    if (in && bytes) return bytes;
+    if (in && bytes && !ferror(in)) {
+        fclose(in);
+        return bytes;
+    }
     perror(name);
+    if (in) fclose(in);
     free(bytes);
     return NULL;
+}
+
+/* Says why the rows end before the last page does. */
+static void say(uint32_t status, const struct faxpages_fault *fault) {
+    uint8_t name[17];
+    int len = (int)(status == FAXPAGES_FAULT ? faxpages_fault_name(fault->number, name, sizeof name)
+                                             : faxpages_status_name(status, name, sizeof name));
+    fprintf(stderr, "page %" PRIu32 " row %" PRIu32 ": %.*s\n", fault->page, fault->row, len, (char *)name);
 }
 
 /* Each second run is black. */
@@ -73,6 +84,7 @@ int main(int count, char **words) {
         }
     } while (status == FAXPAGES_DONE || status == FAXPAGES_NO_ROOM);
     if (status == FAXPAGES_END) print_page(file, len, page, black);
+    else say(status, &told.fault);
     free(file);
     return status != FAXPAGES_END;
 }

@@ -20,9 +20,12 @@ static uint8_t *read_file(const char *name, size_t *len) {
         if (!more) free(bytes);
         bytes = more;
     }
+    if (in && bytes && !ferror(in)) {
+        fclose(in);
+        return bytes;
+    }
+    perror(name);
     if (in) fclose(in);
-    if (!in || !bytes) perror(name);
-    if (in || !bytes) return bytes;
     free(bytes);
     return NULL;
 }

@@ -28,15 +28,15 @@ read_crates() {
         paths+=("crates/$name/"{src,specs,proofs})
     done <"$root/crates.txt"
     case $top in
-    fax_tool) paths+=(share/build-program) ;;
-    fax_c) paths+=(include/faxpages.h share/build-library) ;;
+    fax_tool) paths+=(VERSION share/build-program) ;;
+    fax_c) paths+=(VERSION include/faxpages.h share/build-library) ;;
     esac
 }
 
 # Finds the files at these paths that count, with these last words of find. Tests do not.
 find_sources() {
     (cd -- "$root" && find "${paths[@]}" \( -name tests -o -name tests.rt \) -prune -o -type f \
-        \( -name '*.rt' -o -name '*.antt' -o -name crates.txt -o -name faxpages.h -o -name 'build-*' \) "$@")
+        \( -name '*.rt' -o -name '*.antt' -o -name crates.txt -o -name VERSION -o -name faxpages.h -o -name 'build-*' \) "$@")
 }
 
 digest_of() {

@@ -67,9 +67,9 @@ def mirror(room, commands):
     yield "delete, with a fault", room.bash(commands.rstrip("\n") + " --delete")[0], 1
     yield "delete, with a fault: all stays", room.names("archive"), sorted([*given, "disk"])
     os.remove(room("archive/faulty.tif"))
-    yield "delete", room.bash(commands.rstrip("\n") + " --delete")[0], 0
+    yield "delete", room.bash(commands.rstrip("\n") + " --gone --delete")[0], 0
     left = room.names("archive"), room.names("disk"), room.names("copies")
-    yield "delete: what is left", left, (["disk"], [], wanted)
+    yield "delete: what is left", left, (["disk"], ["e.tif"], wanted)
 
 
 TESTS = {"A table of an archive": (["python3"], table), "A mirror of an archive in MMR": (["python3"], mirror)}

@@ -99,8 +99,9 @@ def unread(room, _):
                 b"",
                 f"faxpages-compare: {name}: {reason}\n",
             )
-        said = f"faxpages-receive: ./{name} stays: {reason}\n"
-        yield f"receive {name}", room.call("faxpages-receive", name, "sorted"), (3, b"", said)
+        fax = UNREADABLE if name == "unread.tif" else name  # a link stays for another reason
+        said = f"faxpages-receive: {fax if fax == UNREADABLE else f'./{fax}'} stays: {reason}\n"
+        yield f"receive {name}", room.call("faxpages-receive", fax, "sorted"), (3, b"", said)
     yield "nothing is left", (room.left(), room.names("sorted/good"), room.names("sorted/faulty")), ([], [], [])
 
 

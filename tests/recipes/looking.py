@@ -10,7 +10,7 @@ import subprocess
 import files
 import pages
 from recipes import SCRIPTS
-from room import HOSTILE, WIDTH
+from room import HOSTILE, WIDTH, is_there
 
 PNG = b"\x89PNG"
 
@@ -45,7 +45,7 @@ def look_in_terminal(room, commands):
     room.fax("fax.tif", "mr", "all")
     status, shown, said = room.bash(commands)
     yield "run", (status, said, len(shown) > 100), (0, "", True)
-    if shutil.which("img2sixel"):
+    if is_there("img2sixel", "a page as sixels"):
         sixels = room.bash(commands.split("chafa")[0] + "img2sixel -w 800")
         yield "sixels", (sixels[0], sixels[1][:2]), (0, b"\x1bP")
 
@@ -209,6 +209,7 @@ def compare(room, commands):
     status, shown, _ = room.bash(commands)
     yield "a page less", (status, shown.splitlines()[0], shown.splitlines()[2]), (1, b"first difference:", b"> end")
     yield "a page less: picture", colours(room.get("difference.png"))[:2], size_of(room, "sent.tif", len(images) - 1)
+    os.remove(room("difference.png"))
     room.sample("damaged-fourth-page.tif", "received.tif")
     shutil.copy(room("received.tif"), room("sent.tif"))
     status, _, said = room.bash(commands)
@@ -229,6 +230,7 @@ def long_rows(room, commands):
     for name, rows in (("sent.tif", [0, stripes, 0]), ("received.tif", [0, changed, 0, stripes])):
         first = pages.image(width, [stripes] * 2)
         room.put(name, pages.converted(room.program, ["-o", "mmr"], first + pages.image(width, rows)))
+    os.remove(room("difference.png"))
     status, shown, said = room.bash(commands)
     lines = shown.decode().splitlines()
     a, b = (room.rows(name)[0].decode().splitlines()[3].split() for name in ("sent.tif", "received.tif"))
@@ -243,12 +245,36 @@ def long_rows(room, commands):
     wanted = [row_of_colours(WIDTH, *rows) for rows in ((0, 0), (stripes, changed), (0, 0), (0, stripes))]
     yield "picture: size", (wide, high), (WIDTH, 4)
     yield "picture: colours", [row == it for row, it in zip(raster, wanted)], [True] * 4
+    yield from pictures_that_are_there(room)
     os.remove(room("difference.png"))
     yield "no picture is asked for", room.call("faxpages-compare", "sent.tif", "received.tif")[:2], (1, shown)
     yield "picture: no folder for it", room.call("faxpages-compare", "sent.tif", "received.tif", "no/difference.png")[
         0
     ], 3
     yield "words", room.call("faxpages-compare", "a", "b", "c", "d")[0], 2
+
+
+def pictures_that_are_there(room):
+    """No picture takes the place of a fax, nor, unless it is asked for, of any file."""
+    words = ["sent.tif", "received.tif"]
+    before, made = room.contents("."), room.get("difference.png")
+    room.fax("third.tif", "mh", "marks")
+    third = room.get("third.tif")
+    for place in ("third.tif", "difference.png"):
+        status, shown, said = room.call("faxpages-compare", *words, place)
+        yield f"it is there: {place}", (status, shown, said), (
+            3, b"", f"faxpages-compare: {place}: it is there already; --replace writes over it\n")  # fmt: skip
+    os.symlink("nowhere", room("link"))
+    yield "it is a link", room.call("faxpages-compare", *words, "link")[:2], (3, b"")
+    os.remove(room("link"))
+    for place in (*words, "./sent.tif", f"{room('')}received.tif"):
+        status, shown, said = room.call("faxpages-compare", "--replace", *words, place)
+        yield f"it is a fax: {place}", (status, shown, "is one of the faxes" in said), (3, b"", True)
+    yield "all is as it was", (room.contents("."), room.get("third.tif")), (before | {"third.tif": third}, third)
+    room.put("difference.png", b"another")
+    yield "it is replaced", room.call("faxpages-compare", "--replace", *words, "difference.png")[0], 1
+    yield "it is replaced: wholly", room.get("difference.png") == made, True
+    os.remove(room("third.tif"))
 
 
 def colours(data):

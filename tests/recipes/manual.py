@@ -61,7 +61,7 @@ def manual(room, _):
         yield f"{name}: usage", room.call(name), (2, b"", usage)
     prepare(room)
     for words, printed in examples(page):
-        ran = room.bash(f"{{ {words}\n}} 2>&1", SENDMAIL=f"{room.path}/bin/sendmail")
+        ran = room.bash(f"{{ {words}\n}} 2>&1", SENDMAIL=f"{room.path}/bin/sendmail", **room.module)
         yield f"example: {words}", ran[1].decode().replace(room(""), "./"), printed
     yield "the examples were found", len(list(examples(page))) >= len(names), True
     linted = room.bash(f"command -v mandoc >/dev/null || exit 0; mandoc -T lint -W warning {MANUAL}")

@@ -10,7 +10,7 @@ import signal
 import time
 
 from recipes import SCRIPTS
-from room import HOSTILE, PATIENCE
+from room import HOSTILE, PATIENCE, is_there
 
 MAILER = """#!/bin/sh
 cat >"$HOME/mailed"
@@ -84,6 +84,10 @@ def sorted_faxes(room, commands):
     room.tool("faxpages", f'#!/bin/sh\nexec {room.program} "$@"\n')
     yield from received_at_once(room)
     yield from received_from_elsewhere(room)
+    yield from received_again(room)
+    yield from received_beside_others(room)
+    yield from received_links(room)
+    yield from received_while_it_changes(room)
     yield "nothing else is in the folders", room.names("faxes"), ["faulty", "good"]
 
 
@@ -108,6 +112,7 @@ def received_from_elsewhere(room):
     """A fax that is on another file system than the folders, where there is one; and no room for it there."""
     other = "/dev/shm"
     if not os.path.isdir(other) or os.stat(other).st_dev == os.stat(room("")).st_dev:
+        print("not run: a fax from another file system: there is none")
         return
     place = f"{other}/faxpages-test-{os.getpid()}.tif"
     room.others("there.tif")
@@ -119,6 +124,95 @@ def received_from_elsewhere(room):
     finally:
         if os.path.exists(place):
             os.remove(place)
+
+
+def received_again(room):
+    """A fax that is where it belongs stays there, by whatever way that folder is reached, and gets its report."""
+    room.others("again.tif")
+    data, report = room.get("again.tif"), room.report("again.tif")
+    yield "again: first", room.call("faxpages-receive", "again.tif", "faxes")[0], 0
+    os.symlink("faxes/good", room("spool"))
+    for fax in ("faxes/good/again.tif", "./faxes/good/again.tif", f"{room('')}faxes/good/again.tif", "spool/again.tif"):
+        yield f"again: {fax}", room.call("faxpages-receive", fax, "faxes"), (0, b"", "")
+        got = [room.get(f"faxes/good/again.tif{end}") for end in ("", ".report")]
+        yield f"again: {fax}: is there", got, [data, report]
+    os.remove(room("faxes/good/again.tif.report"))
+    yield "again: its report", (room.call("faxpages-receive", "faxes/good/again.tif", "faxes")[0],
+                                room.get("faxes/good/again.tif.report")), (0, report)  # fmt: skip
+    os.mkdir(room("sorted"))
+    os.symlink("../incoming", room("sorted/good"))
+    room.others("incoming/again.tif")
+    data = room.get("incoming/again.tif")
+    yield "again: sorted into where it came from", room.call("faxpages-receive", "incoming/again.tif", "sorted")[0], 0
+    yield "again: it is there", room.get("incoming/again.tif"), data
+    room.sample("damaged-fourth-page.tif", "faxes/good/bad.tif")
+    yield "again: sorted wrong", room.call("faxpages-receive", "faxes/good/bad.tif", "faxes")[0], 1
+    yield "again: sorted right", ["bad.tif" in room.names(f"faxes/{it}") for it in ("good", "faulty")], [False, True]
+    for place in ("spool", "sorted/good"):
+        os.remove(room(place))
+
+
+def received_beside_others(room):
+    """A fax and a report never take the place of anything else."""
+    room.others("a.report", 1)
+    room.fax("a", "mh", "marks")
+    named = room.get("a.report")
+    yield "named as a report", room.call("faxpages-receive", "a.report", "faxes")[0], 0
+    status, _, said = room.call("faxpages-receive", "a", "faxes")
+    yield "its report's place is taken", (status, said.endswith("faxes/good/a.report already\n")), (3, True)
+    got = (room.get("faxes/good/a.report"), os.path.exists(room("a")), os.path.exists(room("faxes/good/a")))
+    yield "its report's place is taken: all stays", got, (named, True, False)
+    room.others("z.tif")
+    for name, content in (("z.tif.report", b"somebody else's"), ("z.tif.report", None), ("z.tif", None)):
+        place = room(f"faxes/good/{name}")
+        room.put(place, content) if content else os.symlink("nowhere", place)
+        yield f"{name} is there", room.call("faxpages-receive", "z.tif", "faxes")[0], 3
+        yield f"{name} is there: it stays", (os.readlink(place) if content is None else room.get(place)), (
+            content or "nowhere"
+        )
+        yield f"{name} is there: the fax stays", os.path.exists(room("z.tif")), True
+        os.remove(place)
+    for name in ("a", "z.tif"):
+        os.remove(room(name))
+
+
+def received_links(room):
+    """A symbolic link, which would lead nowhere from its new place, stays."""
+    room.others("spool/linked.tif")
+    os.symlink("spool/linked.tif", room("link.tif"))
+    status, _, said = room.call("faxpages-receive", "link.tif", "faxes")
+    yield "a link", (status, said), (3, "faxpages-receive: ./link.tif stays: it is a symbolic link\n")
+    yield "a link: it stays", (os.readlink(room("link.tif")), "link.tif" in room.names("faxes/good")), (
+        "spool/linked.tif",
+        False,
+    )
+    os.remove(room("link.tif"))
+
+
+# The program, but something writes on into the file meanwhile, or puts another in its place.
+CHANGING = {
+    "written on": """#!/bin/sh
+{program} "$@"; status=$?
+echo more >>changing.tif
+exit $status
+""",
+    "replaced": """#!/bin/sh
+{program} "$@"; status=$?
+cp changing.tif other && mv other changing.tif
+exit $status
+""",
+}
+
+
+def received_while_it_changes(room):
+    for how, text in CHANGING.items():
+        room.tool("faxpages", text.format(program=room.program))
+        room.others("changing.tif")
+        status, _, said = room.call("faxpages-receive", "changing.tif", "faxes")
+        yield f"{how} meanwhile", (status, "it changed" in said, "changing.tif" in room.names("faxes/good")), (
+            3, True, False)  # fmt: skip
+        os.remove(room("changing.tif"))
+    room.tool("faxpages", f'#!/bin/sh\nexec {room.program} "$@"\n')
 
 
 def hylafax(room, commands):
@@ -299,7 +393,7 @@ def sweep(room, commands):
               "faxpages_pages": 5 * len(HOSTILE) + 4}  # fmt: skip
     yield "figures", {name: found.get(name) for name in wanted}, wanted
     yield "figures: when", abs(found["faxpages_sweep_timestamp_seconds"] - time.time()) < PATIENCE, True
-    if shutil.which("promtool"):
+    if is_there("promtool", "the figures by Prometheus"):
         yield "promtool", room.bash("promtool check metrics <faxpages.prom")[0], 0
     yield "nothing is new", room.bash(commands), (0, b"", "")
     yield "nothing is new: figures", figures(room)["faxpages_swept"], 0
@@ -310,6 +404,8 @@ def sweep(room, commands):
     status, shown, _ = room.bash(commands)
     yield "one is new, one is gone", (status, shown.splitlines()[-1].endswith(b"in all: %d" % (good + 1))), (1, True)
     yield from swept_again(room, commands, good)
+    yield from swept_gone(room, commands)
+    yield from swept_others(room, commands)
     yield from swept_links(room, commands)
     yield from swept_forbidden(room, commands)
     yield "nothing is left", (room.left(), room.names(".faxpages-sweep")), ([], ["lock", "seen"])
@@ -347,6 +443,52 @@ def swept_again(room, commands, good):
             1,
             b"new: %d faxes, 0 good, 0 faulty, %d not read; in all: 0" % (good + 2, good + 2),
         )
+
+
+def swept_gone(room, commands):
+    """A tree that is not mounted, and one of which much is gone, change nothing; a fax of the future is looked at."""
+    room.tool("faxpages", f'#!/bin/sh\nexec {room.program} "$@"\n')
+    room.bash(commands)
+    known, told = room.get(".faxpages-sweep/seen"), room.get("faxpages.prom")
+    count = known.count(b"\n")
+    os.rename(room("faxes"), room("unmounted"))
+    os.mkdir(room("faxes"))
+    said = f"faxpages-sweep: {count} of {count} faxes are gone from {room('')}faxes, and stay in"
+    ran = room.bash(commands)
+    yield "all is gone", (ran[:2], ran[2].startswith(said)), ((3, b""), True)
+    yield "all is gone: nothing changes", [room.get(".faxpages-sweep/seen"), room.get("faxpages.prom")], [known, told]
+    os.rmdir(room("faxes"))
+    os.rename(room("unmounted"), room("faxes"))
+    yield "it is mounted again", room.bash(commands), (0, b"", "")
+    for number in range(30):
+        room.sample("one-mh-page.tif", f"faxes/many/{number}.tif")
+    old(room, "faxes/many")
+    yield "many are new", room.bash(commands)[0], 0
+    os.rename(room("faxes/many"), room("many"))
+    known = room.get(".faxpages-sweep/seen")
+    yield "much is gone", (room.bash(commands)[0], room.get(".faxpages-sweep/seen")), (3, known)
+    gone = commands.replace("faxpages-sweep ", "faxpages-sweep --gone ", 1)
+    yield "it is to go", (room.bash(gone), room.get(".faxpages-sweep/seen").count(b"\n")), ((0, b"", ""), count)
+    yield "it is to go: figures", figures(room)['faxpages_faxes{result="good"}'] < count + 1, True
+    room.sample("one-mh-page.tif", "faxes/future.tif")
+    os.utime(room("faxes/future.tif"), (time.time() + 30,) * 2)
+    yield "of the next half minute", room.bash(commands), (0, b"", "")
+    os.utime(room("faxes/future.tif"), (time.time() + 3600,) * 2)
+    yield "of the future", room.bash(commands)[1].startswith(b"new: 1 faxes, 1 good"), True
+    os.remove(room("faxes/future.tif"))
+
+
+def swept_others(room, commands):
+    """What is in the places of the state and of the figures, and is not of a sweep, stays."""
+    for place in ("faxpages.prom", ".faxpages-sweep/seen"):
+        ours = room.get(place)
+        for content in (b"of somebody else\n", b"\n", room.get("faxes/again.tif")):
+            room.put(place, content)
+            status, _, said = room.bash(commands)
+            yield f"{place} of somebody else", (status, said.endswith("is not of a sweep, and stays\n")), (3, True)
+            yield f"{place} of somebody else: it stays", room.get(place), content
+        room.put(place, ours)
+    yield "of sweeps again", room.bash(commands)[0], 0
 
 
 def swept_links(room, commands):

@@ -21,6 +21,14 @@ HOSTILE = [os.fsdecode(name) for name in (
 UNREADABLE = f"/proc/{os.getpid()}/mem"
 
 
+def is_there(name, what):
+    """Whether a program is installed; else what is not tried is said."""
+    if shutil.which(name):
+        return True
+    print(f"not run: {what}: {name} missing")
+    return False
+
+
 class Room:
     def __init__(self, path, program):
         self.path, self.program = path, program
@@ -28,6 +36,9 @@ class Room:
         os.symlink(program, f"{path}/bin/faxpages")
         for name in os.listdir(SCRIPTS):
             os.symlink(f"{SCRIPTS}/{name}", f"{path}/bin/{name}")
+        # Where scripts find the module for Python, and it the library.
+        library = f"{os.path.dirname(os.path.realpath(program))}/libfaxpages.so.1"
+        self.module = {"FAXPAGES_MODULE": f"{ROOT}/python", "FAXPAGES_LIBRARY": library}
         os.mkdir(f"{path}/work")
         os.mkdir(f"{path}/tmp")
 

@@ -1,11 +1,16 @@
 """Recipes that make faxes of other files."""
 
+import itertools
 import os
+import re
 import shutil
 
 import files
 import pages
-from room import HOSTILE, WIDTH
+from room import HOSTILE, WIDTH, is_there
+
+# A module of a stranger, which lies where a script is called and must not run.
+STRANGER = b"open('ran', 'w').close()\nraise SystemExit('a stranger')\n"
 
 
 def pdf_of(room, name, count=2):
@@ -30,34 +35,111 @@ def from_pdf(room, commands):
         yield f"{name}: it is no white page", len(room.rows(name)[0].split()) > 12 * 11 * rows // 2, True
         for hostile in HOSTILE:
             pdf_of(room, f"{hostile}.pdf", 1)
-            yield f"{hostile!r}", room.call("faxpages-from-pdf", *words, f"{hostile}.pdf", hostile), (0, b"", "")
+            status = room.call("faxpages-from-pdf", *words, "--replace", f"{hostile}.pdf", hostile)
+            yield f"{hostile!r}", status, (0, b"", "")
             yield f"{hostile!r}: page", [line[2:] for line in listed(room, hostile)], [form]
     before = room.get("fine.tif")
+    yield from not_written_over(room, "letter.pdf", "fine.tif")
     room.put("letter.pdf", b"no PDF")
-    yield "no PDF", (room.bash(commands)[0], room.get("fine.tif") == before), (1, True)
-    yield "nothing is left", (room.left(), [name for name in room.names() if ".part" in name]), ([], [])
+    status = room.call("faxpages-from-pdf", "--replace", "letter.pdf", "fine.tif")[0]
+    yield "no PDF", (status, room.get("fine.tif") == before), (1, True)
+    yield "nothing is left", (room.left(), temporary(room)), ([], [])
+
+
+def temporary(room):
+    """The files that were to become a fax."""
+    return [name for name in room.names() if re.search(r"\.tif\.\w{6}$", name)]
+
+
+def not_written_over(room, pdf, fax, *how):
+    """A fax that is there stays, but with --replace; and the PDF stays, also by another name of it."""
+    script, before = ["faxpages-from-pdf", *how], (room.get(pdf), room.get(fax))
+    said = f"faxpages-from-pdf: {fax} is there already: --replace writes over it\n"
+    yield "a fax that is there", room.call(*script, pdf, fax, **room.module)[::2], (1, said)
+    os.symlink(pdf, room("link.pdf"))
+    os.link(room(pdf), room("hard.pdf"))
+    os.symlink("nowhere", room("broken.tif"))
+    os.mkdir(room("folder"))
+    for name, *more in (
+        [pdf], [pdf, "--replace"], ["link.pdf"], ["link.pdf", "--replace"], ["hard.pdf", "--replace"], ["folder"],
+        ["folder", "--replace"], ["broken.tif"],
+    ):  # fmt: skip
+        status, _, said = room.call(*script, *more, pdf, name, **room.module)
+        yield f"{name} {more}", (status, said.startswith(f"faxpages-from-pdf: {name} is ")), (1, True)
+    yield "both are as before", (room.get(pdf), room.get(fax)), before
+    room.put(fax, b"something else")
+    yield "--replace", room.call(*script, "--replace", pdf, fax, **room.module), (0, b"", "")
+    yield "it is written over", room.get(fax) == before[1], True
+    room.put("with-modes", b"")
+    yield "its modes", os.stat(room(fax)).st_mode, os.stat(room("with-modes")).st_mode
+    for name in ("link.pdf", "hard.pdf", "broken.tif", "with-modes"):
+        os.remove(room(name))
+    os.rmdir(room("folder"))
+    for wrong in ([], [pdf], ["--replace", pdf], ["--as-is", "--standard", pdf, fax], [pdf, fax, fax]):
+        yield f"words {wrong}", room.call("faxpages-from-pdf", *wrong)[0], 2
 
 
 def out_of_pdf(room, commands):
-    """The PDFs that img2pdf, tiff2pdf and Ghostscript make of a fax, and ones made here with each coding."""
+    """The PDFs that img2pdf, tiff2pdf and Ghostscript make of a fax, and ones made here with each coding; beside
+    modules of a stranger."""
+    for name in ("fractions", "ctypes", "struct", "os", "faxpages", "pikepdf"):
+        room.put(f"{name}.py", STRANGER)
     room.put("source.tif", in_standard_resolution(room))
-    makers = {"img2pdf": "img2pdf --output fax.pdf source.tif", "tiff2pdf": "tiff2pdf -o fax.pdf source.tif"}
-    if shutil.which("gs"):
-        makers["gs"] = ("img2pdf --output other.pdf source.tif && gs -q -dNOPAUSE -dBATCH -sDEVICE=pdfwrite "
-                        "-dMonoImageFilter=/CCITTFaxEncode -o fax.pdf other.pdf")  # fmt: skip
+    once, commands = commands, commands.replace("--as-is", "--as-is --replace")
+    makers = {"img2pdf": "img2pdf --output fax.pdf source.tif", "tiff2pdf": "tiff2pdf -o fax.pdf source.tif",
+              "gs": "img2pdf --output other.pdf source.tif && gs -q -dNOPAUSE -dBATCH -sDEVICE=pdfwrite "
+                    "-dMonoImageFilter=/CCITTFaxEncode -o fax.pdf other.pdf"}  # fmt: skip
     wanted = [[line[3], "mmr", line[8], line[9]] for line in listed(room, "source.tif")]
     for name, words in makers.items():
         yield f"{name}: made", room.bash(words)[0], 0
-        yield f"{name}: run", room.bash(commands), (0, b"", "")
+        yield f"{name}: run", room.bash(commands, **room.module), (0, b"", "")
         yield f"{name}: rows", room.rows("fax.tif"), room.rows("source.tif")
         yield f"{name}: forms", [[line[3], line[4], line[8], line[9]] for line in listed(room, "fax.tif")], wanted
         yield f"{name}: check", room.report("fax.tif"), room.report("source.tif").splitlines(True)[-1]
     yield from out_of_each_coding(room, commands)
+    yield from out_of_twelve_kinds(room)
     yield from not_out_of_pdf(room, commands)
     for name in HOSTILE:
         shutil.copy(room("kept.pdf"), room(f"{name}.pdf"))
-        yield f"{name!r}", room.call("faxpages-from-pdf", "--as-is", f"{name}.pdf", name), (0, b"", "")
-    yield "nothing is left", (room.left(), [name for name in room.names() if ".part" in name]), ([], [])
+        yield f"{name!r}", room.call("faxpages-from-pdf", "--as-is", f"{name}.pdf", name, **room.module), (0, b"", "")
+    shutil.copy(room("kept.pdf"), room("fax.pdf"))
+    os.remove(room("fax.tif"))
+    yield "the recipe", room.bash(once, **room.module), (0, b"", "")
+    yield from not_written_over(room, "fax.pdf", "fax.tif", "--as-is")
+    yield "no module of a stranger ran", "ran" in room.names(), False
+    yield "nothing is left", (room.left(), temporary(room)), ([], [])
+
+
+def out_of_twelve_kinds(room):
+    """The kinds of data that Ghostscript makes, in large images, which are objects of the PDF, and in small ones, which
+    stand in the page's text: the pels are those that pdfimages shows. Four are refused by name, and drawn."""
+    room.fax("large.tif", "mmr", "marks", 100)
+    room.fax("small.tif", "mmr", "marks")
+    for size in ("large", "small"):
+        room.bash(f"img2pdf --pagesize A4 --output {size}.pdf {size}.tif")
+    taken = 0
+    flags = ("true", "false")
+    for k, eols, aligned, size in itertools.product((0, 4, -1), flags, flags, ("large", "small")):
+        kind = f"/K {k} /EndOfLine {eols} /EncodedByteAlign {aligned}"
+        made = room.bash("gs -q -dNOPAUSE -dBATCH -dSAFER -sDEVICE=pdfwrite -dMonoImageFilter=/CCITTFaxEncode "
+                         '-dDownsampleMonoImages=false -o kind.pdf '
+                         '-c "<< /MonoImageDict << $1 >> >> setdistillerparams" -f "$2.pdf"',
+                         kind, size)[0]  # fmt: skip
+        is_inline = b"[inline]" in room.bash("pdfimages -list kind.pdf")[1]
+        yield f"{kind} {size}: made", (made, is_inline), (0, size == "small")
+        room.bash("rm -f kept.tif drawn.tif shown-*")
+        status, _, said = room.call("faxpages-from-pdf", "--as-is", "kind.pdf", "kept.tif", **room.module)
+        if k != 0 and (k < 0) == (eols == "true"):
+            words = "MMR with EOLs" if k < 0 else "MR without EOLs"
+            told = f"page 1 is {words} (" in said and "--as-is" in said
+            yield f"{kind} {size}: refused", (status, told), (1, True)
+            yield f"{kind} {size}: drawn", room.call("faxpages-from-pdf", "kind.pdf", "drawn.tif")[0], 0
+            continue
+        shown = room.bash("pdfimages kind.pdf shown && cat shown-*.pbm")[1]
+        yield f"{kind} {size}: taken", (status, said), (0, "")
+        yield f"{kind} {size}: pels", room.run("convert", "-o", "pbm", name="kept.tif")[1] == shown != b"", True
+        taken += 1
+    yield "kinds that are taken", taken, 16
 
 
 def in_standard_resolution(room):
@@ -104,19 +186,24 @@ def out_of_each_coding(room, commands):
     for coding, parameters in (("mh", b"/K 0 /EndOfLine true"), ("mr", b"/K 4 /EndOfLine true"), ("mmr", b"/K -1")):
         strip, rows = raw(room, coding)
         room.put("fax.pdf", pdf_with(strip, rows, parameters))
-        yield f"{coding}: run", room.bash(commands), (0, b"", "")
+        yield f"{coding}: run", room.bash(commands, **room.module), (0, b"", "")
         yield f"{coding}: rows", room.rows("fax.tif"), room.rows("source.tif")
     shutil.copy(room("fax.pdf"), room("kept.pdf"))
     room.put("fax.pdf", pdf_with(strip, rows, parameters + b" /BlackIs1 true"))
-    yield "black and white are exchanged: run", room.bash(commands), (0, b"", "")
+    yield "black and white are exchanged: run", room.bash(commands, **room.module), (0, b"", "")
     shown = room.bash("pdfimages fax.pdf shown && cat shown-000.pbm")[1]
     yield "black and white are exchanged", room.bash("faxpages convert -o pbm fax.tif")[1] == shown, True
     damaged = bytearray(strip)
     damaged[len(strip) // 2] ^= 0x55
     room.put("fax.pdf", pdf_with(bytes(damaged), rows, parameters))
-    yield "damaged data: no fax with other rows", room.bash(commands)[0] == 0 and room.rows("fax.tif") == room.rows(
-        "source.tif"
-    ), False
+    before = room.get("fax.tif")
+    status, _, said = room.bash(commands, **room.module)
+    yield "damaged data", (status, said.startswith("faxpages-from-pdf: page 1 does not show the rows of its data"),
+                           room.get("fax.tif") == before), (1, True, True)  # fmt: skip
+    room.put("fax.pdf", pdf_with(strip, rows, parameters + b" /EndOfBlock false /Rows %d" % (rows - 1)))
+    status, _, said = room.bash(commands, **room.module)
+    yield "fewer rows than it shows", (status, said, room.get("fax.tif") == before), (
+        1, f"faxpages-from-pdf: page 1 shows {rows} rows, and its data have {rows - 1}\n", True)  # fmt: skip
 
 
 def not_out_of_pdf(room, commands):
@@ -131,7 +218,7 @@ def not_out_of_pdf(room, commands):
             shutil.copy(room(name), room("fax.pdf"))
         else:
             os.remove(room("fax.pdf"))
-        status, _, said = room.bash(commands)
+        status, _, said = room.bash(commands, **room.module)
         yield f"{name}", (status, said != "", room.get("fax.tif") == before), (1, True, True)
 
 
@@ -168,7 +255,7 @@ def ready(room, commands):
     yield "width", room.bash(commands)[0], 1
     room.cut("fax.tif")
     yield "a fault", room.bash(commands)[0], 1
-    if shutil.which("tiffset"):
+    if is_there("tiffset", "a page of 98 and 100 lines to the inch"):
         for lines, wanted in (("98", 0), ("100", 1)):
             room.fax("fax.tif", "mh", "marks")
             room.bash(f"tiffset -s YResolution {lines} fax.tif")
@@ -197,7 +284,7 @@ def others(room, commands):
 TESTS = {
     "Send a PDF": (["pdftoppm", "img2pdf", "tiffset"], from_pdf),
     "A fax out of a PDF": (
-        ["pdfimages", "pdfinfo", "pnminvert", "fax2tiff", "tiffset", "tiffcp", "tiff2pdf", "img2pdf", "pnmtopng"],
+        ["pdfimages", "pdftoppm", "tiffset", "tiffcp", "tiff2pdf", "img2pdf", "pnmtopng", "gs"],
         out_of_pdf,
     ),
     "Raw T.4 and T.6 data": (["fax2tiff", "tiffset"], raw_data),
