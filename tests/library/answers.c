@@ -130,13 +130,89 @@ static int is_no_form(struct faxpages_strip form) {
            out[0] == 7;
 }
 
+typedef uint32_t reads(const uint8_t *, size_t, const struct faxpages_strip *, struct faxpages_place *, uint32_t *,
+                       size_t, uint8_t *, size_t, size_t, struct faxpages_told *);
+
+/* The end that is wanted of rows that nobody counted. */
+struct end {
+    const uint8_t *bytes;
+    size_t len;
+    uint32_t status, rows, fault;
+    const char *claim;
+};
+
+/* Whether the rows of these bytes are read from the beginning, and end so. */
+static int ends_so(reads *read, const struct end *end) {
+    const struct faxpages_strip form = {WIDTH, 0, 3, 1, 0};
+    struct faxpages_place place = at(0, 0, 0);
+    uint32_t status = read(end->bytes, end->len, &form, &place, runs, FAXPAGES_RUNS, out, sizeof out, STRIDE, &told);
+    return status == end->status && tells(end->rows, 3, end->rows, end->fault) && place.page == 3 && place.row == end->rows;
+}
+
+/* Whether a check of these bytes says so, with the end of the block where it is END. */
+static int is_found_so(const struct end *end) {
+    const struct faxpages_strip form = {WIDTH, 0, 3, 1, 0};
+    struct faxpages_strip_report report;
+    return faxpages_strip_check(end->bytes, end->len, &form, &report) == end->status && report.rows == end->rows &&
+           report.no_end_of_block == (end->status == FAXPAGES_DATA_END) && !report.return_to_control &&
+           report.data_after_end == (end->status == FAXPAGES_END && end->rows == 0) &&
+           report.fault.number == end->fault && report.fault.row == (end->fault ? end->rows : 0);
+}
+
+/* An end mark with a 1 after it; two rows and a 1 that is no code. */
+static const uint8_t marked[] = {0x00, 0x10, 0x01, 0x80}, damaged[] = {0x31, 0x78, 0x01};
+
+/* Data whose rows nobody counted. */
+static void uncounted_strips(void) {
+    static const struct end ends[] = {
+        {strip, 5, FAXPAGES_END, 2, 0, "two rows end with an end mark"},
+        {marked, 4, FAXPAGES_END, 0, 0, "an end mark is an end before any row"},
+        {strip, 2, FAXPAGES_DATA_END, 2, 0, "two rows end with the data"},
+        {strip, 3, FAXPAGES_DATA_END, 2, 0, "with eleven zeros too"},
+        {strip, 0, FAXPAGES_FAULT, 0, 101, "no data is a fault"},
+        {strip, 1, FAXPAGES_FAULT, 0, 101, "a cut row is a fault"},
+        {strip, 4, FAXPAGES_FAULT, 2, 107, "a cut end mark is a fault"},
+        {damaged, 3, FAXPAGES_FAULT, 2, 102, "so is a 1 that is no code"},
+    };
+    const struct faxpages_strip form = {WIDTH, 0, 3, 1, 0};
+    struct faxpages_place place = at(1000000, 0, 0);
+    size_t i, len = 9;
+    uint32_t status = faxpages_strip_rows(strip, 5, &form, &place, runs, FAXPAGES_RUNS, out, sizeof out, STRIDE, &told);
+    see(status == FAXPAGES_FAULT && tells(0, 3, 1000000, 108), "a row after 1000000 is a fault");
+    status = faxpages_strip_code(&form, 1, tiff, TIFF, STRIDE, out, sizeof out, &len);
+    see(status == FAXPAGES_NO_OPTIONS && !len, "0 rows are not coded");
+    for (i = 0; i < sizeof ends / sizeof *ends; i++)
+        see(ends_so(faxpages_strip_rows, ends + i) && is_found_so(ends + i), ends[i].claim);
+}
+
+/* The first bytes of such data. */
+static void parts_of_strips(void) {
+    static const struct end ends[] = {
+        {strip, 5, FAXPAGES_END, 2, 0, "an end mark stays an end"},
+        {damaged, 3, FAXPAGES_FAULT, 2, 102, "a fault stays a fault"},
+        {strip, 0, FAXPAGES_MORE, 0, 0, "no data may go on"},
+        {strip, 1, FAXPAGES_MORE, 0, 0, "a cut row may go on"},
+        {strip, 2, FAXPAGES_MORE, 2, 0, "after two rows a third may come"},
+        {strip, 4, FAXPAGES_MORE, 2, 0, "an end mark may come of a cut one"},
+    };
+    struct faxpages_strip form = {WIDTH, ROWS, 3, 1, 0};
+    struct faxpages_place place = at(0, 41, 0);
+    size_t i;
+    for (i = 0; i < sizeof ends / sizeof *ends; i++) see(ends_so(faxpages_strip_part, ends + i), ends[i].claim);
+    see(faxpages_strip_part(strip, 5, &form, &place, runs, FAXPAGES_RUNS, out, STRIDE, STRIDE, &told) == FAXPAGES_MORE &&
+            tells(0, 3, 0, 0) && place.bits == 41, "a place after the first bytes waits for them");
+    place = at(0, 0, 0);
+    see(faxpages_strip_part(strip, 5, &form, &place, runs, FAXPAGES_RUNS, out, 64, STRIDE, &told) == FAXPAGES_FAULT &&
+            tells(2, 3, 2, 107), "an end marker before the last of counted rows stays a fault");
+}
+
 /* Each number out of its range. */
 static void forms_of_strips(void) {
     const struct faxpages_strip good = {WIDTH, ROWS, 3, 1, 0};
     const struct {
         size_t at;
         uint32_t number;
-    } wrong_numbers[] = {{0, 0}, {0, 65536}, {1, 0}, {1, 1000001}, {2, 0}, {2, 4}, {3, 0}, {3, 3}, {4, 1}, {4, 2}};
+    } wrong_numbers[] = {{0, 0}, {0, 65536}, {1, 1000001}, {2, 0}, {2, 4}, {3, 0}, {3, 3}, {4, 1}, {4, 2}};
     size_t i;
     for (i = 0; i < sizeof wrong_numbers / sizeof *wrong_numbers; i++) {
         uint32_t numbers[5];
@@ -217,8 +293,10 @@ static void written_files(void) {
     forged = written;
     forged.link = (uint32_t)written.len - 3;
     see(adds_nothing(page_form, 1, raster_len, TIFF, forged, FAXPAGES_NO_OPTIONS), "a link outside the file is NO_OPTIONS");
-    see(adds_nothing(page_form, 1, raster_len, written.len - 1, written, FAXPAGES_NO_OPTIONS),
-        "a file that is longer than its room is NO_OPTIONS");
+    forged.link = 3;
+    see(adds_nothing(page_form, 1, raster_len, TIFF, forged, FAXPAGES_NO_OPTIONS), "a link over the header is NO_OPTIONS");
+    see(adds_nothing(page_form, 1, raster_len, written.len - 1, written, FAXPAGES_NO_ROOM),
+        "a file that is longer than its room is NO_ROOM");
     see(adds_nothing(page_form, 1, raster_len, written.len, written, FAXPAGES_NO_ROOM), "a page more has no room");
     see(faxpages_add_page(&page_form, 1, out, raster_len, STRIDE, tiff, TIFF, &written) == FAXPAGES_DONE, "it is added");
     see(adds_nothing(page_form, 1, raster_len, TIFF, written, FAXPAGES_NO_OPTIONS), "a page too many is NO_OPTIONS");
@@ -234,6 +312,8 @@ static void largest_files(void) {
     uint8_t *file = calloc(MOST + 1, 1);
     if (!file) exit(3);
     see(faxpages_add_page(&page_form, 1, out, sizeof out, STRIDE, tiff, TIFF, &first) == FAXPAGES_DONE, "a page is written");
+    /* What the last page says, two bytes before its link. */
+    file[2] = 2;
     /* After its header of eight bytes, from an even place on, a page has as many bytes wherever it stands. */
     written.len = MOST - (first.len - 8);
     see(faxpages_add_page(&page_form, 1, out, sizeof out, STRIDE, file, MOST - 1, &written) == FAXPAGES_NO_ROOM,
@@ -255,6 +335,8 @@ int main(void) {
     places_of_strips();
     rows_of_strips();
     forms_of_strips();
+    uncounted_strips();
+    parts_of_strips();
     few_runs();
     ends_of_strips();
     forms_of_pages();

@@ -16,6 +16,7 @@ sys.path[1:1] = [os.path.join(TOP, "tests", "plain"), os.path.join(TOP, "tests",
 import drawing  # noqa: E402
 import notes  # noqa: E402
 import plain  # noqa: E402
+import uncounted  # noqa: E402
 from reading import bits_of, read_lines  # noqa: E402
 from tables import EOL  # noqa: E402
 
@@ -51,19 +52,12 @@ def draw(rng):
 
 
 def by_plain(coding, order, width, rows, data):
-    """The rows by the plain reader, the name of the fault that ends them, or None, and whether a 1 is left after
-    them."""
-    bits = bits_of(data, order)
-    lines, fault = read_lines(coding, 0, rows, "W" * width, bits, 0)
-    after = lines[-1][1] if lines else 0
-    return [row for row, _ in lines], fault and str(fault), "1" in bits[after:]
-
-
-def until_end(found):
-    """The name of the fault of a strip whose rows are not known."""
-    rows, fault, is_left = found
-    is_end = rows and (fault == "EndMarker" or fault == "DataEnds" and not is_left)
-    return None if is_end else fault
+    """The rows by the plain reader, and the name of the fault that ends them, or None."""
+    if rows is None:
+        lines, end = uncounted.read_rows(coding, width, bits_of(data, order))
+        return [row for row, _ in lines], None if end in (uncounted.MARKED, uncounted.DATA_END) else end
+    lines, fault = read_lines(coding, 0, rows, "W" * width, bits_of(data, order), 0)
+    return [row for row, _ in lines], fault and str(fault)
 
 
 def agrees(raster, rows, fault):
@@ -104,12 +98,11 @@ def drawn_strips(claims):
         words = {"width": width, "coding": coding, "order": order}
         found = by_plain(coding, order, width, count, data)
         raster = faxpages.strip(data, rows=count, partial=True, **words)
-        claims.see(f"strip {number}", agrees(raster, *found[:2]) and raster.lost == count - raster.rows)
-        every = by_plain(coding, order, width, MOST_ROWS, data)
-        fault = until_end(every)
+        claims.see(f"strip {number}", agrees(raster, *found) and raster.lost == count - raster.rows)
+        every = by_plain(coding, order, width, None, data)
         raster = faxpages.strip(data, partial=True, **words)
-        claims.see(f"strip {number} up to its end", agrees(raster, every[0], fault) and raster.lost == 0)
-        for rows, wanted in ((count, found[:2]), (None, (every[0], fault))):
+        claims.see(f"strip {number} up to its end", agrees(raster, *every) and raster.lost == 0)
+        for rows, wanted in ((count, found), (None, every)):
             reader = faxpages.StripReader(rows=rows, **words)
             got, counts, why = in_pieces(rng, data, reader)
             claims.see(f"strip {number} in pieces, {rows}",
@@ -120,11 +113,13 @@ def drawn_strips(claims):
                 claims.see(f"strip {number} by {length} bytes", counts[length] == min(
                     len(by_plain(coding, order, width, MOST_ROWS, data[:length])[0]), rows or MOST_ROWS))
         checked(claims, number, words, count, data, found)
+        checked(claims, number, words, None, data, every)
 
 
 def checked(claims, number, words, count, data, found):
     """What a check of a strip reports."""
     report = faxpages.check_strip(data, rows=count, **words)
+    count = len(found[0]) if count is None else count
     if found[1]:
         claims.see(f"report on strip {number}", not report.ok and not report.end_mark and report.notes == ()
                    and (report.rows, report.fault.name, report.fault.row) == (len(found[0]), found[1], len(found[0])))
@@ -174,15 +169,19 @@ def at_bytes(claims):
         width, order = drawing.draw_width(rng), rng.choice([1, 2])
         rows = draw_rows(rng, width)
         aligned, joined, above = "", "", "W" * width
-        in_mmr = ""
+        in_mmr, from_bytes = "", ""
         for row in rows:
             codes = plain.one_dimensional(row)
             joined, aligned = joined + codes, aligned + codes + "0" * (-len(codes) % 8)
+            from_bytes += (EOL + codes).ljust(len(EOL + codes) + -len(EOL + codes) % 8, "0")
             in_mmr += plain.two_dimensional(above, row)
             in_mmr, above = in_mmr + "0" * (-len(in_mmr) % 8), row
         for name, bits, words in (
                 ("mmr", in_mmr, {"byte_align": True}), ("mmr", in_mmr + 2 * EOL, {"byte_align": True}),
-                ("mh", joined, {"eols": False}), ("mh", aligned, {"eols": False, "byte_align": True})):
+                ("mh", joined, {"eols": False}), ("mh", aligned, {"eols": False, "byte_align": True}),
+                ("mh", from_bytes, {"byte_align": True}), ("mh", from_bytes + 6 * EOL, {"byte_align": True}),
+                ("mh", plain.strip_bits("mh", 1, True, rows), {"byte_align": True}),
+                ("mr", plain.strip_bits("mr", 3, True, rows), {"byte_align": True})):
             data = plain.to_bytes(bits, order)
             for count in (len(rows), None):
                 raster = faxpages.strip(data, width, count, name, order, partial=True, **words)
@@ -206,7 +205,7 @@ class Lengths:
             self.total, self.calls = self.total + length, self.calls + 1
             return call(data, length, *words)
 
-        return counting if name == "faxpages_strip_rows" else call
+        return counting if name in ("faxpages_strip_rows", "faxpages_strip_part") else call
 
 
 def many_pieces(claims):
@@ -225,6 +224,12 @@ def many_pieces(claims):
         faxpages._c.library = library
         claims.see(f"{name} byte by byte: {counting.total} bytes are read", rows == (2000 if name == "rows" else 1)
                    and counting.total < most)
+    reader, whole = faxpages.StripReader(16, "mh"), []
+    reader.feed(bytes(100000) + plain.to_bytes(row)[:1])
+    for byte in plain.to_bytes(row * 40)[1:]:
+        reader.feed(bytes([byte]))
+        whole.append(sum(1 for _ in reader))
+    claims.see("rows after much fill, each when it is whole", max(whole) == 1 and sum(whole) == 40)
     reader = faxpages.StripReader(8)
     reader.feed(b"\xff" * 50000)
     claims.see("many rows at once", sum(1 for _ in reader) == 400000 and len(reader._fed) == 0 and not reader.ended)

@@ -5,7 +5,9 @@
 //! cursors that went through their text; `stops`, by iterators that are left inside what they have read ahead;
 //! `places`, the rows and the cursors after them; or `wrong`, where nothing is printed, and what is out of range has to
 //! be refused.
-use faxpages::{convert, Cursor, Error, Fax, Form, Options, Page, Pages, Report, Row, RowChanges, RowRuns, Rows, Target};
+use faxpages::{
+    convert, Cursor, Error, Fax, Form, Invalid, Options, Page, Pages, Report, Row, RowChanges, RowRuns, Rows, Target,
+};
 use std::process::exit;
 
 type Line = Result<(u32, u32, Vec<u32>), Error>;
@@ -209,11 +211,11 @@ fn wrong(fax: Fax<'_>) {
     assert_eq!((row.pel(7), row.pel(8), row.pel(u32::MAX), row.runs()), (Some(false), None, None, vec![0, 4, 69_996]));
     let mut options = Options::new(Target::Mmr);
     options.k = 0;
-    assert_eq!(fax.convert(&options), Err(Error::BadOptions));
+    assert_eq!(fax.convert(&options), Err(Invalid::K.into()));
     (options.k, options.aligned) = (1, true);
-    assert_eq!(fax.convert(&options), Err(Error::BadOptions));
+    assert_eq!(fax.convert(&options), Err(Invalid::Aligned.into()));
     (options.strip, options.aligned) = (Some(0), false);
-    assert_eq!(fax.convert(&options), Err(Error::BadOptions));
+    assert_eq!(fax.convert(&options), Err(Invalid::StripRows.into()));
     assert_eq!(convert(b"GIF", &Options::new(Target::Pbm)), Err(Error::UnknownInput));
     assert_eq!(Fax::new(b"").rows().count() + Fax::new(b"").forms().count() + Fax::new(b"").pages().count(), 3);
     shared::<(Fax<'_>, Page, Pages<'_>, Cursor, Form, Report, Error)>();

@@ -17,15 +17,18 @@ from counted import TOP, Claims, faxpages
 
 # What an example needs, by the ending of its name.
 NEEDS = {".image": "PIL", ".array": "numpy", ".register": "PIL"}
+# Modules that import what need not be installed.
+IMPORTS = {"_tiff": "PIL", "_pdf": "pikepdf", "_cups_pdf": "pikepdf"}
 # Names of types that are written out, and so have no docstring.
 TYPES = {"Source", "Writable"}
 
 
 def modules():
-    """The modules of the package, but for the command for archives."""
+    """The modules of the package, but for the command for archives, and for those that import what is not installed."""
     folder = os.path.join(TOP, "python", "faxpages")
+    left_out = ("_archive", "archive", "__", *(name for name in IMPORTS if not importlib.util.find_spec(IMPORTS[name])))
     for name in sorted(os.listdir(folder)):
-        if name.endswith(".py") and not name.startswith(("_archive", "archive", "__")):
+        if name.endswith(".py") and not name.startswith(left_out):
             yield importlib.import_module(f"faxpages.{name[:-3]}")
     yield faxpages
 

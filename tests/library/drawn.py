@@ -10,41 +10,15 @@ Nothing is written as `-`. The plain readers and coders share no code with the l
 
 from __future__ import annotations
 
-import os
 import random
 import sys
 
-sys.dont_write_bytecode = True
-TESTS = os.path.join(os.path.dirname(os.path.abspath(__file__)), os.pardir)
-sys.path[:0] = [os.path.join(TESTS, "plain"), os.path.join(TESTS, "calls")]
+from lines import CODINGS, digits, draw_rows, draw_width, number_of, packed
 
-import drawing  # noqa: E402
-import notes  # noqa: E402
-import plain  # noqa: E402
-from reading import Fault, bits_of, read_lines, runs_of  # noqa: E402
-
-CODINGS = {"mh": 1, "mr": 2, "mmr": 3}
-FAULTS = ["DataEnds", "BadCode", "Extension", "RunTooLong", "OutOfRow", "MissingEol", "EndMarker"]
-
-
-def number_of(fault: Fault | None) -> int:
-    return 101 + FAULTS.index(str(fault)) if fault else 0
-
-
-def digits(data: bytes) -> str:
-    return data.hex() or "-"
-
-
-def packed(row: str) -> str:
-    return digits(plain.to_bytes(row.replace("W", "0").replace("B", "1")))
-
-
-def draw_rows(rng: random.Random, width: int) -> list[str]:
-    rows, row = [], "W" * width
-    for _ in range(rng.randrange(1, 9)):
-        row = drawing.draw_row(rng, width, row)
-        rows.append(row)
-    return rows
+import drawing
+import notes
+import plain
+from reading import bits_of, read_lines, runs_of
 
 
 def damaged(rng: random.Random, bits: str) -> str:
@@ -102,10 +76,10 @@ def main() -> None:
     rng = random.Random(64)
     for _ in range(int(sys.argv[1])):
         coding, order = rng.choice(list(CODINGS)), rng.choice([1, 2])
-        width = rng.choice([1, 2, 7, 8, 9, 63, 64, 65, rng.randrange(1, 70), rng.randrange(1, 300)])
+        width = draw_width(rng)
         if rng.random() < 0.02:
             width = rng.choice([1728, 2560, 5000])
-        rows = draw_rows(rng, width)
+        rows = draw_rows(rng, width, 1, 9)
         bits = damaged(rng, drawing.code_strip(rng, coding, rows, coding != "mmr" and rng.random() < 0.3))
         asked = len(rows) if rng.random() < 0.6 else rng.choice([max(len(rows) - 1, 1), len(rows) + 1, 1000000])
         read = read_line(rng, coding, order, width, asked, bits)

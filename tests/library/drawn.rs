@@ -32,9 +32,9 @@ fn until_fault(rows: impl Iterator<Item = Result<Row, Error>>) -> (Vec<Vec<u8>>,
                 assert_eq!((row.page, row.number as usize), (0, found.len()));
                 found.push(row.packed);
             }
-            Err(Error::Fault { number, row, .. }) => {
+            Err(Error::Fault { fault, row, .. }) => {
                 assert_eq!(row as usize, found.len());
-                return (found, number);
+                return (found, fault.number());
             }
             Err(error) => panic!("{error}"),
         }
@@ -56,7 +56,9 @@ fn in_pieces(strip: &[u8], form: StripForm, size: usize) -> (Vec<Vec<u8>>, u32) 
             },
         }
     }));
-    assert_eq!((reader.rows() as usize, reader.is_ended()), (found.len(), fault == 0));
+    assert_eq!((reader.rows() as usize, reader.is_ended(), reader.next_row()), (found.len(), true, None));
+    assert_eq!(reader.error().is_none(), fault == 0);
+    assert_eq!(reader.lost(), form.rows.map(|rows| rows - reader.rows()));
     (found, fault)
 }
 
@@ -85,11 +87,11 @@ fn check(words: &mut SplitWhitespace<'_>) {
     let notes: Vec<_> = (1..=4).filter(|_| number(words) == 1).collect();
     let report = Strip::new(&strip, form).check().unwrap();
     let told = report.fault.map(|fault| match fault {
-        Error::Fault { number, .. } => number,
+        Error::Fault { fault, .. } => fault.number(),
         other => panic!("{other}"),
     });
     assert_eq!((report.rows, told.unwrap_or(0)), (rows, fault));
-    assert_eq!(report.notes.iter().map(|note| note.number).collect::<Vec<_>>(), notes);
+    assert_eq!(report.notes.iter().map(|note| note.kind.number()).collect::<Vec<_>>(), notes);
     let (found, number) = in_pieces(&strip, form, 1);
     assert_eq!((found.len() as u32, number), (rows, fault));
 }

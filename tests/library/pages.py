@@ -99,6 +99,8 @@ def written(claims, name, data):
         made = faxpages.encode(fax, coding, order, k, strip, align)
         wanted = said("convert", *words, *(["--align"] if align else []), data=data).stdout
         claims.see(f"{name} by {coding} {order} {k} {strip} {align}", made == wanted != b"")
+        counted_last = faxpages.encode(iter(fax), coding, order, k, strip, align)
+        claims.see(f"{name} by {coding} {order} {k} {strip} {align}, page by page", counted_last == wanted)
         again = faxpages.open(made)
         claims.see(f"{name} written and read", [page.packed() for page in again] == [page.packed() for page in fax])
     claims.see(f"{name} by rows", faxpages.encode([list(page) for page in fax], dpi=(204, 196))
@@ -134,6 +136,7 @@ def refused(claims):
     for wrong in ([], [row, wider], faxpages.Raster(8, 0, b"")):
         claims.raises(f"a page {wrong!r:.20}", ValueError, lambda wrong=wrong: faxpages.encode([wrong]))
     claims.raises("no pages", ValueError, lambda: faxpages.encode([]))
+    claims.raises("no pages that come", ValueError, lambda: faxpages.encode(iter([])))
     claims.raises("no coding", ValueError, lambda: faxpages.encode([page], "pbm"))
     claims.raises("no resolution of a raster", ValueError, lambda: faxpages.Raster(8, 1, b"1", x=0))
     for width, rows, packed in ((0, 0, b""), (65536, 1, bytes(8192)), (8, 2, b"1"), (8, 1, b"12"), (8, -1, b"")):
@@ -149,7 +152,7 @@ def refused(claims):
             faxpages.write(damaged[:3], out, coding="mr")
         made = [faxpages.open(f"{folder}/{name}.tif") for name in ("out", "other", "third")]
         claims.see("paths and file objects", len(set(made)) == 1 and len(made[0]) == 3)
-    claims.raises("a file of another kind", AttributeError, lambda: faxpages.write([page], 1))
+    claims.raises("a file of another kind", TypeError, lambda: faxpages.write([page], 1))
 
 
 class Miscounted(list):
@@ -163,7 +166,9 @@ def limits(claims):
     """Files that are too large, and lengths that are wrong."""
     one = faxpages.Raster(8, 1, b"1")
     claims.see("65,535 pages", len(faxpages.open(faxpages.encode([one] * 65535))) == 65535)
+    claims.see("65,535 pages that come", faxpages.encode(iter([one] * 65535)) == faxpages.encode([one] * 65535))
     claims.raises("65,536 pages", faxpages.OutputTooLarge, lambda: faxpages.encode([one] * 65536))
+    claims.raises("65,536 pages that come", faxpages.OutputTooLarge, lambda: faxpages.encode(iter([one] * 65536)))
     for pages in ([one], [one] * 3):
         claims.raises(f"{len(pages)} pages for 2", ValueError, lambda pages=pages: faxpages.encode(Miscounted(pages)))
     page = faxpages.Raster(65535, 400, bytes([0x55]) * 8192 * 400)

@@ -60,6 +60,20 @@ static size_t read_all(const uint8_t *file, size_t len, long n, uint8_t *to, uin
 /* A call where growth number n is refused: what it answers. */
 #define REFUSING(n, call) (left = (n), result = (call), left = -1, result)
 
+/* A place inside a strip of a page that the file has not: what a call tells where growth number n is refused is what it
+ * tells else, and never MEMORY, after which a caller would call again for ever. */
+static int is_told_without_memory(const uint8_t *file, size_t len, long n) {
+    const struct faxpages_place at = {65535, 1, 0, 1};
+    struct faxpages_place place = at;
+    struct faxpages_told told, wanted;
+    uint32_t result, status;
+    runs[0] = 8;
+    status = faxpages_rows_from(file, len, &place, runs, FAXPAGES_RUNS, rows, 3, out, ROOM, &wanted);
+    place = at;
+    return REFUSING(n, faxpages_rows_from(file, len, &place, runs, FAXPAGES_RUNS, rows, 3, out, ROOM, &told)) == status &&
+           status != FAXPAGES_MEMORY && !memcmp(&told, &wanted, sizeof told);
+}
+
 /* The first page: read, coded, read back, and written into a file. A call that memory is refused writes nothing, and the
  * others what they write else. Answers which one did not, or 0. */
 static int one_page(const uint8_t *file, size_t len, long n) {
@@ -154,5 +168,7 @@ int main(int count, char **words) {
         int wrong = one_page(file, len, n);
         if (wrong) return 10 + wrong;
     }
+    for (n = 0; n < 4; n++)
+        if (!is_told_without_memory(file, len, n)) return 20;
     return held == before ? 0 : 9;
 }

@@ -1,32 +1,10 @@
 /* strips: reads what drawn.py prints, and sees that the calls on strips tell the same: the rows from a place on a few a
  * call, in one call, and as the strip's bytes come in; the notes; and the strip that rows are coded as, packed and as runs.
  * Each buffer ends at a page that nobody may touch. Prints how many strips of each kind were tried. */
-#include "guarded.h"
+#include "words.h"
 #include <faxpages.h>
 
 enum { MOST_ROWS = 16, EXTRA = 3, PAGE_OF_CALLER = 9 };
-
-static char *word(void) {
-    char *found = strtok(NULL, " \n");
-    if (!found) die("a line is too short");
-    return found;
-}
-
-static uint32_t number(void) { return (uint32_t)strtoul(word(), NULL, 10); }
-
-/* The bytes of a word of digits, which may be read and not written. */
-static struct guarded digits(void) {
-    const char *text = word();
-    size_t len = *text == '-' ? 0 : strlen(text) / 2, i;
-    struct guarded made = make(len);
-    for (i = 0; i < len; i++) {
-        unsigned byte;
-        if (sscanf(text + 2 * i, "%2x", &byte) != 1) die("a word has no digits");
-        made.at[i] = (uint8_t)byte;
-    }
-    if (mprotect(made.pages + PAGE, made.room, PROT_READ)) die("no memory");
-    return made;
-}
 
 /* What is wanted of a strip from a place on. */
 struct wanted {

@@ -23,7 +23,7 @@ FAULTS: Dict[str, Type[faxpages.Fault]] = {
     "Magic": faxpages.Magic, "MissingEol": faxpages.MissingEol, "MissingField": faxpages.MissingField,
     "NoDirectory": faxpages.NoDirectory, "OutOfLimits": faxpages.OutOfLimits, "OutOfRow": faxpages.OutOfRow,
     "RunTooLong": faxpages.RunTooLong, "ShortHeader": faxpages.ShortHeader, "StripOutside": faxpages.StripOutside,
-    "Unsupported": faxpages.Unsupported,
+    "TooManyRows": faxpages.TooManyRows, "Unsupported": faxpages.Unsupported,
 }
 
 
@@ -170,7 +170,8 @@ def unused() -> Set[str]:
 def main() -> int:
     """Uses them on two files."""
     fault = of_report(faxpages.check(sys.argv[2]))
-    fine = whole(sys.argv[1]) > 1 and fault is not None and of_fault(fault)[1] > 0 and faxpages.version() > ""
+    fine = whole(sys.argv[1]) > 1 and fault is not None and of_fault(fault)[1] > 0
+    fine = fine and faxpages.version() >= faxpages.__version__ > ""
     fine = fine and not unused() and set(FAULTS) <= set(faxpages.__all__)
     print(*(f"FAILED: {name} is not used" for name in sorted(unused())), sep="\n", end="")
     print(f"typed: {int(fine)} passed, {int(not fine)} failed")

@@ -1,11 +1,11 @@
 //! Writes the pages of files anew by the crate for Rust, codes them as bare strips, and reads these whole and in
-//pieces: ! written FILE..
+//! pieces: written FILE..
 //!
-//! Prints how many strips were tried. A file that is written page by page has to be the one that the crate converts,
-//and ! a strip to have the rows that were coded.
+//! Prints how many strips were tried. A file that is written page by page has to be the one that the crate converts, and
+//! a strip to have the rows that were coded.
 use faxpages::{
-    code_strip, code_strip_runs, Coding, Error, Fax, FillOrder, Form, Options, Page, Row, Strip, StripForm, StripReader,
-    StripReport, StripRows, Target, Writer,
+    code_strip, code_strip_runs, Coding, Error, Fault, Fax, FillOrder, Form, Invalid, Options, Page, Row, Strip, StripForm,
+    StripReader, StripReport, StripRows, Target, Writer,
 };
 
 /// Each way to code a page.
@@ -33,8 +33,7 @@ fn coding(target: Target) -> Coding {
 }
 
 /// The file of pages, written one by one, each from a raster with bytes after its rows.
-fn anew(pages: &[Page], way: &Options) -> Vec<u8> {
-    let mut writer = Writer::new(pages.len() as u32).unwrap();
+fn anew(pages: &[Page], way: &Options, mut writer: Writer) -> Vec<u8> {
     for (page, added) in pages.iter().zip(0..) {
         let mut form = page.form;
         (form.coding, form.order, form.aligned) = (coding(way.target), way.order, way.aligned);
@@ -76,83 +75,46 @@ fn read_back(strip: &[u8], form: StripForm, page: &Page) {
     assert!(matches!(last, Err(Error::Fault { row, .. }) if row == page.form.rows), "{last:?}");
 }
 
-/// What is wrong, or too large.
-fn wrong() {
-    let form = Form::new(8, 2, Coding::Mmr);
-    assert_eq!(Writer::new(0).unwrap_err(), Error::BadOptions);
-    assert_eq!(Writer::new(65_536).unwrap_err(), Error::OutputTooLarge);
-    let mut writer = Writer::new(1).unwrap();
-    for (form, k, len, stride) in [
-        (form, 0, 2, 1),
-        (form, 1, 1, 1),
-        (Form { width: 0, ..form }, 1, 2, 1),
-        (Form { width: 65_536, ..form }, 1, 100_000, 8192),
-        (Form { rows: 0, ..form }, 1, 2, 1),
-        (Form { rows: 1_000_001, ..form }, 1, 2_000_000, 1),
-        (Form { aligned: true, ..form }, 1, 2, 1),
-        (Form { x: (0, 1), ..form }, 1, 2, 1),
-        (Form { y: (1, 0), ..form }, 1, 2, 1),
-        (Form { unit: 4, ..form }, 1, 2, 1),
-        (form, 1, 2, usize::MAX),
-    ] {
-        assert_eq!(writer.add(&form, k, &vec![0; len], stride), Err(Error::BadOptions), "{form:?}");
-    }
-    assert_eq!((writer.bytes(), writer.clone().finish()), (&[][..], Err(Error::BadOptions)));
-    writer.add(&form, 1, &[0], 0).unwrap();
-    assert_eq!(writer.add(&form, 1, &[0], 0), Err(Error::BadOptions));
-    assert_eq!(Fax::new(&writer.finish().unwrap()).page(0).unwrap().packed, [0, 0]);
-    wrong_strips();
-}
-
 /// A page of which few rows stand in the file takes little memory, whatever its form says.
 fn small_room() {
     let mut writer = Writer::new(1).unwrap();
-    writer.add(&Form::new(65_535, 1_000_000, Coding::Mmr), 1, &[0; 8192], 0).unwrap();
+    writer.add(&Form::new(65_535, 50_000, Coding::Mmr), 1, &[0; 8192], 0).unwrap();
     let mut file = writer.finish().unwrap();
     // After eight rows stand zeros.
     file[9..1000].fill(0);
     let page = Fax::new(&file).partial_page(0).unwrap();
-    assert_eq!((page.rows().len(), page.lost()), (8, 999_992));
+    assert_eq!((page.rows().len(), page.lost()), (8, 49_992));
     assert!(page.packed.capacity() < 1 << 20);
     assert_eq!(Fax::new(&file).page(0).err(), page.fault);
     assert_eq!(Fax::new(&file).pages().last().unwrap().err(), page.fault);
 }
 
-fn wrong_strips() {
+/// Strides that are strange, and strips that are cut.
+fn strange() {
+    let mut writer = Writer::new(1).unwrap();
+    let form = Form::new(8, 2, Coding::Mmr);
+    assert!(matches!(writer.add(&form, 1, &[0; 2], usize::MAX), Err(Error::Invalid(Invalid::Raster { len: 2, .. }))));
+    writer.add(&form, 1, &[0], 0).unwrap();
+    assert_eq!(writer.clone().add(&form, 1, &[0], 0), Err(Invalid::AllPages(1).into()));
+    assert_eq!(Fax::new(&writer.finish().unwrap()).page(0).unwrap().packed, [0, 0]);
+    let mut writer = Writer::uncounted().unwrap();
+    assert_eq!(writer.add(&form, 0, &[0], 0), Err(Invalid::K.into()));
+    assert_eq!(writer.finish(), Err(Invalid::NoPage.into()));
     let form = StripForm::new(8, Coding::Mmr);
-    let no_rows = StripForm { rows: Some(0), ..form };
-    for wrong in [StripForm { width: 0, ..form }, StripForm { width: 65_536, ..form }, no_rows] {
-        assert_eq!(Strip::new(b"\xFF", wrong).rows().collect::<Vec<_>>(), [Err(Error::BadOptions)]);
-        assert_eq!(Strip::new(b"\xFF", wrong).check(), Err(Error::BadOptions));
-        assert_eq!(code_strip(&wrong, 1, &[0; 10_000], 9000), Err(Error::BadOptions));
-        let mut reader = StripReader::new(wrong);
-        reader.feed(b"\xFF");
-        for _ in 0..2 {
-            assert_eq!(reader.next_row(), Some(Err(Error::BadOptions)));
-        }
-    }
-    for (k, raster, stride) in [(0, &[0; 4][..], 1), (1, &[], 1)] {
-        assert_eq!(code_strip(&form, k, raster, stride), Err(Error::BadOptions));
-    }
-    assert_eq!(code_strip(&StripForm { rows: Some(5), ..form }, 1, &[0; 4], 1), Err(Error::BadOptions));
-    let no_rows: [&[u32]; 0] = [];
-    assert_eq!(code_strip_runs(&form, 1, &no_rows), Err(Error::BadOptions));
-    for runs in [&[][..], &[7], &[9], &[4, 0, 4], &[0, 0, 8], &[4, 4, 0], &[u32::MAX, 9]] {
-        assert_eq!(code_strip_runs(&form, 1, &[&[8][..], runs]), Err(Error::BadOptions), "{runs:?}");
-    }
-    assert_eq!(code_strip_runs(&StripForm { rows: Some(2), ..form }, 1, &[[8]]), Err(Error::BadOptions));
+    let wide = StripForm { width: 65_536, ..form };
+    assert_eq!(code_strip(&wide, 1, &[0; 10_000], 9000), Err(Invalid::Width(65_536).into()));
     let mut reader = StripReader::new(form);
     reader.feed(b"\xB0");
     assert!(matches!(reader.next_row(), Some(Ok(Row { number: 0, .. }))));
-    assert!(matches!(reader.next_row(), Some(Err(Error::Fault { number: 105, row: 1, .. }))));
-    assert!(!reader.is_ended() && reader.rows() == 1);
+    assert!(matches!(reader.next_row(), Some(Err(Error::Fault { fault: Fault::OutOfRow, row: 1, .. }))));
+    assert!(reader.is_ended() && reader.rows() == 1);
     let mut reader = StripReader::new(form);
     assert_eq!(reader.next_row(), None);
     reader.close();
     reader.feed(b"\xFF");
-    assert!(matches!(reader.next_row(), Some(Err(Error::Fault { number: 101, row: 0, .. }))));
+    assert!(matches!(reader.next_row(), Some(Err(Error::Fault { fault: Fault::DataEnds, row: 0, .. }))));
     let cut = Strip::new(b"\x82", form).check().unwrap();
-    assert!(matches!((cut.rows, cut.fault), (1, Some(Error::Fault { number: 101, row: 1, .. }))));
+    assert!(matches!((cut.rows, cut.fault), (1, Some(Error::Fault { fault: Fault::DataEnds, row: 1, .. }))));
     many_pieces();
 }
 
@@ -176,7 +138,10 @@ fn try_file(file: &[u8]) -> usize {
     let mut tried = 0;
     for way in ways() {
         if !pages.is_empty() && Fax::new(file).check().unwrap().fault.is_none() {
-            assert_eq!(anew(&pages, &way), Fax::new(file).convert(&way).unwrap());
+            let counted = Writer::new(pages.len() as u32).unwrap();
+            for writer in [counted, Writer::uncounted().unwrap()] {
+                assert_eq!(anew(&pages, &way, writer), Fax::new(file).convert(&way).unwrap());
+            }
         }
         for page in &pages {
             let mut form = StripForm::new(page.form.width, coding(way.target));
@@ -194,7 +159,7 @@ fn try_file(file: &[u8]) -> usize {
 fn main() {
     shared::<(Strip<'_>, StripForm, StripReader, StripReport, StripRows<'_>, Writer)>();
     let tried: usize = std::env::args().skip(1).map(|name| try_file(&std::fs::read(name).unwrap())).sum();
-    wrong();
+    strange();
     small_room();
     println!("{tried} strips");
     assert!(tried > 0);

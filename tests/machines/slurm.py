@@ -9,11 +9,16 @@ import signal
 import socket
 import sqlite3
 import subprocess
+import sys
 
 import files
 from archive import COMMAND
 from recipes import ROOT, recipes
 from waiting import PATIENCE, there_in, wait_for
+
+sys.path.append(f"{ROOT}/tests/archive")
+
+from breaking import broken_module  # noqa: E402
 
 TOOLS = ["sbatch", "squeue", "scancel", "sinfo"]
 SERVERS = ["munged", "slurmctld", "slurmd"]
@@ -213,7 +218,7 @@ def ended(cluster, recipe, wanted):
     place, gate = cluster.folder("ended"), f"{cluster.path}/gate"
     files.put(gate, b"")
     broken = {"BROKEN": "stops", "GATE": gate, "AFTER": str(BEGUN),
-              "BROKEN_PATH": f"{ROOT}/tests/archive/broken"}  # fmt: skip
+              "BROKEN_PATH": broken_module(cluster.path)}  # fmt: skip
     given = with_array(recipe, "0-1").replace("--wait", "--parsable").partition("faxpages-archive merge")[0]
     status, job, _ = cluster.give(place, given, **broken)
     yield "Slurm: ended: given", status, 0

@@ -21,15 +21,15 @@ class Streams:
         os.lseek(file, 0, os.SEEK_SET)
 
     def taken(self, number):
-        """The text that was written to a stream, which is empty then."""
+        """The bytes that were written to a stream, which is empty then."""
         file = self.files[number]
         size = os.fstat(file).st_size
         if size == 0:
-            return ""
+            return b""
         content = os.pread(file, size, 0)
         os.ftruncate(file, 0)
         os.lseek(file, 0, os.SEEK_SET)
-        return content.decode()
+        return content
 
 
 class Overtime(Exception):
@@ -58,7 +58,13 @@ STREAMS = []
 
 
 def run(program, words, data):
-    """What the program writes: its output, its error line and its status."""
+    """What the program writes: its output and its error line, as texts, and its status."""
+    output, error, status = run_bytes(program, words, data)
+    return output.decode(), error.decode(), status
+
+
+def run_bytes(program, words, data):
+    """The same as bytes."""
     if not STREAMS:
         STREAMS.append(Streams())
     streams = STREAMS[0]

@@ -85,6 +85,9 @@ int open(const char *path, int flags, ...)
     return (int)syscall(SYS_openat, AT_FDCWD, path, flags, mode);
 }
 
+/* The name of it that Rust's own std calls. */
+int open64(const char *path, int flags, ...) __attribute__((alias("open")));
+
 static ssize_t transfer(const char *of, long call, int stream, long place, size_t size)
 {
     if (strcmp(kind, of) == 0 && size > bytes)

@@ -1,0 +1,44 @@
+"""How rows end that nobody counted, by a plain reading of bits: at an end mark, with the data, or at a fault; and what is
+settled of it while more bits may come."""
+
+from __future__ import annotations
+
+from typing import List, NamedTuple, Optional, Tuple
+
+from notes import after_mark
+from reading import read_lines
+
+MOST_ROWS = 1000000
+MARKED, DATA_END, MORE = "Marked", "DataEnd", "More"
+
+
+class Read(NamedTuple):
+    """The rows of bits, each with the place after it, and how they end: one of the words above, None after all rows that
+    were asked for, or the name of a fault."""
+
+    lines: List[Tuple[str, int]]
+    end: Optional[str]
+
+
+def read_rows(coding: str, width: int, bits: str, number: int = 0, reference: str = "", at: int = 0) -> Read:
+    """The rows from a place on, where no more bits come."""
+    lines, fault = read_lines(coding, number, MOST_ROWS, reference or "W" * width, bits, at)
+    left = bits[lines[-1][1] if lines else at:]
+    if after_mark(coding, left) is not None:
+        return Read(lines, MARKED)
+    if number + len(lines) > 0 and "1" not in left:
+        return Read(lines, DATA_END)
+    return Read(lines, str(fault) if fault else "TooManyRows")
+
+
+def read_part(coding: str, width: int, rows: int, bits: str) -> Read:
+    """The rows from the first on that are the same whatever bits follow, of so many, or of those that nobody counted if
+    rows is 0."""
+    lines, fault = read_lines(coding, 0, rows or MOST_ROWS, "W" * width, bits, 0)
+    left = bits[lines[-1][1] if lines else 0:]
+    if not fault:
+        return Read(lines, None)
+    if not rows and after_mark(coding, left) is not None:
+        return Read(lines, MARKED)
+    is_open = str(fault) == "DataEnds" or not rows and str(fault) == "EndMarker"
+    return Read(lines, MORE if is_open else str(fault))
