@@ -42,6 +42,19 @@ has() {
     return 1
 }
 
+# The first Python that has these modules, the one on the PATH or Debian's, which has what Debian's packages bring:
+# python_with MODULE..
+python_with() {
+    local python
+    for python in python3 /usr/bin/python3; do
+        if "$python" -c "import $(IFS=,; printf '%s' "$*")" 2>/dev/null; then
+            printf '%s\n' "$python"
+            return
+        fi
+    done
+    return 1
+}
+
 # Whether a command that is there runs: rustup's do not where they find no home.
 works() {
     "$@" >/dev/null 2>&1 </dev/null && return

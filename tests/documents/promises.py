@@ -1,0 +1,62 @@
+"""What a version promises to keep, by promised.txt: a line a kind and a name."""
+
+import glob
+import os
+import re
+
+import words
+from contracts import TOP, read
+
+
+def there():
+    """The names that are there now, by kind."""
+    grammar = words.in_grammar()
+    header = read("include", "faxpages.h")
+    module = read("python", "faxpages", "__init__.py")
+    rust = "".join(read(os.path.relpath(name, TOP)) for name in sorted(glob.glob(os.path.join(TOP, "rust/src/*.rs"))))
+    listed = re.search(r"^__all__ = \[(.*?)\]", module, re.M | re.S).group(1)
+    return {
+        "command": set(grammar),
+        "option": {f"{command} {option}" for command, options in grammar.items() for option, _ in options},
+        "call": set(re.findall(r"\b(faxpages_\w+)\(", header)),
+        "number": {f"{name} {number}" for name, number in re.findall(r"\b(FAXPAGES_[A-Z0-9_]+) = (\d+)", header)},
+        "python": set(re.findall(r'"(\w+)"', listed)),
+        "rust": set(re.findall(r"^ *pub (?:const )?(?:fn|struct|enum|type|mod|trait) (\w+)", rust, re.M)),
+        "script": {os.path.basename(name) for name in glob.glob(os.path.join(TOP, "share/recipes/faxpages-*"))},
+    }
+
+
+def promised():
+    """The kinds and names that stay."""
+    for line in read("tests", "documents", "promised.txt").splitlines():
+        if line and not line.startswith("#"):
+            yield tuple(line.split(" ", 1))
+
+
+def rows_of_tests():
+    """The table of tests/README.md: promise, file, text."""
+    for line in read("tests", "README.md").splitlines():
+        row = re.fullmatch(r"\| (.+) \| (tests/\S+) \| (.+) \|", line)
+        if row:
+            yield row.groups()
+
+
+def claims():
+    """Each name that was promised is there, and tests/README.md tells where the promises are tested."""
+    now, rows = there(), list(rows_of_tests())
+    for kind, name in promised():
+        yield f"{kind} {name} is there, as was promised", name in now[kind]
+        if kind in ("command", "option", "script"):
+            word = f"`{name.split(' ')[-1]}`"
+            yield f"tests/README.md has {word}", any(word in promise for promise, _, _ in rows)
+    yield "tests/README.md has a table", len(rows) > 40
+    for promise, file, text in rows:
+        there_is = os.path.isfile(os.path.join(TOP, file))
+        yield f"{promise}: {file} has '{text}'", there_is and text in read(*file.split("/"))
+
+
+def write():
+    """Prints all that is there now, for a version that promises it."""
+    for kind, names in there().items():
+        for name in sorted(names):
+            print(kind, name)
