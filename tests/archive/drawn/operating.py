@@ -580,8 +580,7 @@ class Comparison:
     def _is_sure(self, path: bytes) -> bool:
         """Whether only one outcome is right."""
         maybe = self.model.maybe.setdefault(self.job.table, set()) | self.unsure
-        names = {self.job.copy_of(path), self.job.copy_of(path) + b".fields"} if self.job.to else set()
-        return not (self.trouble.error or self.trouble.largest is not None or names & maybe)
+        return not (self.trouble.error or self.trouble.largest is not None or self._copies(path) & maybe)
 
     def _note_good(self, path: bytes, fax: Fax) -> None:
         if not self.job.to:
@@ -617,10 +616,16 @@ class Comparison:
         self.claim(done is not None, f"no summary: {self.ran.out!r}")
         assert done is not None
         # Where a call was refused a copy may not have been seen, and is looked at again. What another run wrote may
-        # have been seen, or not.
-        more = int(done.group(1)) > len(self.due) and self.trouble.error is not None
-        more = more or (self.beside is not None and bool(self.job.to) and bool(self.beside.job.to))
-        self.claim(more or int(done.group(1)) == len(self.due), f"done {done}, wanted {self.due}")
+        # have been seen, or not; and of what it wrote when both were at work it is not known which table knows it.
+        open_end = int(done.group(1)) > len(self.due) and self.trouble.error is not None
+        open_end = open_end or (self.beside is not None and bool(self.job.to) and bool(self.beside.job.to))
+        unsure = {path for path in self._share() if self.unsure & self._copies(path)}
+        least, most = len(set(self.due) - unsure), len(set(self.due) | unsure)
+        self.claim(open_end or least <= int(done.group(1)) <= most, f"done {done}, wanted {self.due}, perhaps {unsure}")
+
+    def _copies(self, path: bytes) -> Set[bytes]:
+        """The names of what a run writes of a fax."""
+        return {self.job.copy_of(path), self.job.copy_of(path) + b".fields"} if self.job.to else set()
 
 
 def compare_two(comparisons: List[Comparison]) -> None:
