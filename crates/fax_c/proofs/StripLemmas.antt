@@ -1,30 +1,43 @@
 -- The rows of a strip, written one after another.
-use Rattle.std.proofs.Common.{◌≡◌, ℕ, ◌+◌, ◌-◌, ◌*◌, ◌<◌, ◌≤◌, Bool, List, [], ◌∷◌, ◌++◌, length, drop, ap, sym, ◌∙◌, subst}
+use Rattle.std.proofs.Common.{◌≡◌, ℕ, ◌+◌, ◌-◌, ◌*◌, ◌<◌, ◌≤◌, Bool, List, [], ◌∷◌, ◌++◌, length, drop, ap, sym, ◌∙◌, subst, refl, inl, inr}
 use Rattle.std.proofs.Common.{append_assoc, append-nil, arith, length-append}
-use Rattle.std.specs.Prelude.{Some, None, flat_map}
+use Rattle.std.specs.Prelude.{Some, None, Err, flat_map}
 use Rattle.fax_bits.specs.Bits.{bits}
 use Rattle.fax_bits.specs.laws.Codes.{AreBitsByPlace}
 use Rattle.fax_rows.specs.Rows.{Colour, runs_of}
 use Rattle.std.proofs.lemmas.List.{take_at, drop_at}
 use Rattle.fax_rows.specs.Coded.{packed_len}
 use Rattle.fax_page.specs.declared.StripForm.{StripForm}
-use Rattle.fax_page.specs.Lines.{IsLine}
-use Rattle.fax_page.specs.views.Reader.{ReadsRow, StripState}
+use Rattle.fax_page.specs.Lines.{IsLine, white_row}
+use Rattle.fax_page.specs.declared.PlaceFault.TheVariants.{Outside}
+use Rattle.fax_page.specs.declared.RowBefore.{RowBefore}
+use Rattle.fax_page.specs.declared.RowBefore.TheVariants.{Runs, White}
+use Rattle.fax_page.specs.views.Reader.{IsBegunInside, ReadsRow, StripState}
 use Rattle.fax_c.specs.declared.filled.Filled.{Filled}
 use Rattle.fax_c.specs.declared.filled.Stop.{Stop}
 use Rattle.fax_walk.specs.declared.cursor.Cursor.{Cursor}
 use Rattle.fax_c.specs.declared.places.FaxPlace.{FaxPlace}
 use Rattle.fax_c.specs.Raster.{padded_row}
 use Rattle.fax_c.specs.views.Places.{HasRuns, cursor_of}
-use Rattle.fax_c.specs.views.Strips.{AreRead, IsPlace, ReadsNone, ReadsOn, ReadsTo, StopsAt, StripPlace}
+use Rattle.fax_c.specs.views.Strips.{AreStripRows, IsDueAt, IsPlace, ReadsNone, ReadsOn, ReadsTo, StopsAt, StripPlace}
 use Rattle.fax_c.specs.code.Put.{IsPutAt}
-use Rattle.fax_c.specs.code.Strips.{IsReadNext, place_due}
+use Rattle.fax_c.specs.code.Strips.{IsReadNext, IsRowBefore, place_due}
 use Rattle.fax_c.proofs.ListLemmas.{more_put}
 use Rattle.fax_c.proofs.PlaceLemmas.{has_a_run}
 use Rattle.fax_c.proofs.PaddedLemmas.{fills_stride}
 
 abbrev the_cursor : ℕ → ℕ → Cursor
 the_cursor page row = record { page = page; row = row }
+
+-- where no reader begins after the row that a place's runs say, no row is due there
+pub not_begun : (form : StripForm) (strip : List ℕ) (place : FaxPlace) (runs : List ℕ) (before : RowBefore)
+    → IsRowBefore place runs (Some before) → IsBegunInside form strip place.row place.bits before (Err Outside)
+    → (at : StripPlace) → IsDueAt form strip place runs at → ⊥
+not_begun form strip place runs White its none at (is, below, within) = none (omega (arith, is.bits, within)) (white_row form.width) refl
+not_begun form strip place runs (Runs those) (has, same) none at (is, below, within) = elim is.reference [
+  | inl (zero, white) ↦ omega (arith, zero, has.0)
+  | inr (there, runs_are) ↦ none (omega (arith, is.bits, within)) at.reference (is.width_is, runs_are ∙ sym same)
+]
 
 -- one row more is read
 reads_more : (form : StripForm) (all : List Bool) (from : StripPlace) (rows : List (List Colour)) (mid : StripPlace) (n : ℕ) (row : List Colour)
@@ -77,7 +90,7 @@ pub stops_after : (form : StripForm) (bytes : List ℕ) (page stride : ℕ) (fro
     (state next : StripState) (now : List ℕ) (stop : Stop) → AreReadSoFar form bytes stride from old count used state now
     → place_due next ≡ place_due state → row ≡ next.row
     → StopsAt form (bits form.order bytes) (place_due next) page stride (length old - used) stop
-    → AreRead form (bits form.order bytes) page stride from old
+    → AreStripRows form (bits form.order bytes) page stride from old
     (record { cursor = record { page = page; row = row }; count = count; used = used; stop = stop }) (place_due next) now
 stops_after form bytes page stride from old count used row state next now stop so_far same row_is why = grind arith
 

@@ -15,8 +15,7 @@ use crate::strip_form::FaxStrip;
 use crate::told::FaxTold;
 use crate::uncounted::{tell_uncounted, uncounted_form};
 use fax_files::Cause;
-use fax_page::{StripFault, StripForm, StripReader};
-use fax_rows::Row;
+use fax_page::{PlaceFault, RowBefore, StripFault, StripForm, StripReader};
 use fax_walk::{Cursor, End};
 use std::alloc::Global;
 
@@ -37,28 +36,17 @@ pub(crate) fn readable_form(strip: &[u8], given: &FaxStrip) -> Option<StripForm>
     given.form()
 }
 
-/// The row before a place: white where it has no runs. `None` where they are no row's, and `Err`
-/// where memory was refused.
-fn reference_at(
-    alloc: Global,
-    width: u32,
-    place: &FaxPlace,
-    runs: &[u32],
-) -> Result<Option<Row>, Stop>
-    requires some { 0 < width }
-    requires short { width ≤ 65535 }
-    ensures { Code.IsReferenceAt width place.now runs.now result }
+/// The row before a place: white where it has no runs. `None` where they are not in their room.
+fn row_before<'a>(place: &FaxPlace, runs: &'a [u32]) -> Option<RowBefore<'a>>
+    ensures { Code.IsRowBefore place.now runs.now result }
 {
-    let Ok(mut row) = Row::white(alloc, width) else {
-        return Err(Stop::Memory);
-    };
     if place.runs == 0 {
-        return Ok(Some(row));
+        Some(RowBefore::White)
+    } else if place.lacks_runs(runs) {
+        None
+    } else {
+        Some(RowBefore::Runs(&runs[..place.runs as usize]))
     }
-    if place.lacks_runs(runs) || !row.set_runs(&runs[..place.runs as usize]) {
-        return Ok(None);
-    }
-    Ok(Some(row))
 }
 
 /// A reader of a strip before the row that is due at a place, or why there is none.
@@ -74,23 +62,14 @@ fn reader_at<'a>(
     requires due { place.now.row < form.rows }
     ensures { Code.IsReaderAt form strip.now place.now runs.now result }
 {
-    if u64::from(place.bits) > 8 * strip.len() as u64 {
+    let Some(before) = row_before(place, runs) else {
         return Err(Stop::Ended(End::Outside));
+    };
+    match StripReader::inside(alloc, strip, form, place.row, place.bits, before) {
+        Ok(reader) => Ok(reader),
+        Err(PlaceFault::Memory) => Err(Stop::Memory),
+        Err(PlaceFault::Outside) => Err(Stop::Ended(End::Outside)),
     }
-    let Some(reference) = reference_at(alloc, form.width, place, runs)? else {
-        return Err(Stop::Ended(End::Outside));
-    };
-    let Ok(mut reader) = StripReader::new(alloc, strip, form) else {
-        return Err(Stop::Memory);
-    };
-    reader.restart_at(
-        strip,
-        form.rows,
-        place.row,
-        u64::from(place.bits),
-        &reference,
-    );
-    Ok(reader)
 }
 
 /// Why a strip has no row after those that were read.

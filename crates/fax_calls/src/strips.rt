@@ -5,7 +5,8 @@ ghost use Rattle.fax_page.specs.views.Strip.{IsStripForm};
 use crate::table::WrongLine;
 use crate::{text, words};
 use fax_page::{
-    Coding, FillOrder, NotesFault, Row, StripForm, StripReader, StripWriter, strip_notes,
+    Coding, FillOrder, NotesFault, PlaceFault, Row, RowBefore, StripForm, StripReader, StripWriter,
+    strip_notes,
 };
 use std::alloc::Global;
 
@@ -25,6 +26,10 @@ pub fn answer(alloc: Global, words: &[&str]) -> Result<Option<String>, WrongLine
         ["restart_at", coding, rows, bytes, row, place, reference] => {
             let form = form(coding, "msb", rows, "plain")?;
             restarted_at(alloc, form, bytes, row, place, reference)?
+        }
+        ["inside", coding, rows, bytes, row, place, before] => {
+            let form = form(coding, "msb", rows, "plain")?;
+            read_inside(alloc, form, bytes, row, place, before)?
         }
         ["strip_notes", coding, order, size, bytes] => {
             notes(alloc, form(coding, order, size, "plain")?, bytes)?
@@ -157,6 +162,32 @@ fn restarted_at(
     }
     reader.restart_at(&bytes, form.rows, row, place, &reference);
     calls(alloc, &mut reader, (form.rows - row).saturating_add(2))
+}
+
+/// The rows of a strip from a place inside it on, after this row, and two answers more; or that
+/// there is no such place.
+fn read_inside(
+    alloc: Global,
+    form: StripForm,
+    bytes: &str,
+    row: &str,
+    place: &str,
+    before: &str,
+) -> Result<String, WrongLine>
+    requires { IsStripForm form }
+{
+    let row = words::number(row)?;
+    let place = words::number(place)?;
+    let runs = words::row(alloc, before)?.runs(alloc)?;
+    let bytes = words::bytes(alloc, bytes)?;
+    if row >= form.rows {
+        return Err(WrongLine::OutOfLimits);
+    }
+    match StripReader::inside(alloc, &bytes, form, row, place, RowBefore::Runs(&runs)) {
+        Ok(mut reader) => calls(alloc, &mut reader, (form.rows - row).saturating_add(2)),
+        Err(PlaceFault::Memory) => Err(WrongLine::Memory),
+        Err(PlaceFault::Outside) => Ok(String::from_str(alloc, "outside")?),
+    }
 }
 
 /// The notes on a strip, or its fault.

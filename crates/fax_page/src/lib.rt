@@ -84,6 +84,37 @@ pub enum StripFault {
     EndMarker,
 }
 
+/// The row before a place inside a strip.
+#[derive(Clone, Copy)]
+pub enum RowBefore<'a> {
+    /// A white one, as before a strip's first row (T.4, section 4.2.1.1; T.6, section 2.2.1).
+    White,
+    /// The one with these longest runs, white first: 0 where it begins black (T.4, section 4.1.1).
+    Runs(&'a [u32]),
+}
+
+/// Why no reader stands at a place inside a strip.
+#[derive(Clone, Copy, Debug, PartialEq, Eq, Error)]
+pub enum PlaceFault {
+    /// A growth was refused.
+    #[error("out of memory")]
+    Memory,
+    /// The strip has fewer bits, or no row of its width has the runs of the row before.
+    #[error("no such place in the strip")]
+    Outside,
+}
+
+impl From<Memory> for PlaceFault {
+    ghost use Rattle.std.specs.Prelude.{◌≡◌};
+    ghost use Rattle.fax_page.specs.declared.PlaceFault.TheVariants.{Memory as NoMemory};
+
+    ghost from_gives = { λ _ gives. gives ≡ NoMemory };
+
+    fn from(_refused: Memory) -> Self {
+        PlaceFault::Memory
+    }
+}
+
 /// How rows end that nobody counted, as in data with no file around them.
 #[derive(Clone, Copy, Debug, PartialEq, Eq)]
 pub enum RowsEnd {

@@ -5,7 +5,7 @@ ghost use Rattle.std.specs.Borrow.{sem};
 use crate::lines::line_fault;
 use crate::turns::RowsInTurn;
 use crate::uncounted::end_of_rows;
-use crate::{RowsEnd, StripFault, StripForm};
+use crate::{PlaceFault, RowBefore, RowsEnd, StripFault, StripForm};
 use fax_bits::laws::bits_stand_by_place;
 use fax_rows::{BitSource, Memory, Row};
 use std::alloc::Global;
@@ -51,8 +51,10 @@ impl<'a> Model for StripReader<'a> {
 }
 
 impl<'a> StripReader<'a> {
+    ghost use Rattle.fax_page.specs.Strip.{most_rows};
     ghost use Rattle.fax_page.specs.views.Strip.{IsStripForm};
     ghost use Rattle.fax_page.specs.views.Reader.{strip_beginning, restarted, restarted_at};
+    ghost use Rattle.fax_page.specs.views.Reader.{IsBegunInside};
     ghost use Rattle.fax_page.specs.views.Reader.{IsAdvance, bits_left};
     ghost use Rattle.fax_page.specs.Uncounted.{EndsSo};
     ghost use Rattle.fax_page.specs.views.NextRow.{EndsAs, IsDue, IsNextRow};
@@ -82,13 +84,57 @@ impl<'a> StripReader<'a> {
         })
     }
 
+    /// Before row `row` of a strip in at most 4,294,967,295 bytes, after so many of its bits, with
+    /// this row before it. It takes all the memory that the reading of strips of this width needs.
+    ///
+    /// # Errors
+    ///
+    /// `Outside` where the strip has fewer bits, or no row of its width has the runs of the row
+    /// before. `Memory` where a growth was refused.
+    pub fn inside(
+        alloc: Global,
+        bytes: &'a [u8],
+        form: StripForm,
+        row: u32,
+        bits: u32,
+        before: RowBefore,
+    ) -> Result<Self, PlaceFault>
+        requires count { length bytes.now ≤ 4294967295 }
+        requires limits { IsStripForm form }
+        requires due { row < form.rows }
+        ensures { IsBegunInside form bytes.now row bits before.entry result }
+    {
+        bits_stand_by_place();
+        let place = u64::from(bits);
+        if place > 8 * bytes.len() as u64 {
+            return Err(PlaceFault::Outside);
+        }
+        let mut rows = RowsInTurn::new(alloc, form.width)?;
+        if !rows.begin_after(before) {
+            return Err(PlaceFault::Outside);
+        }
+        let mut source = BitSource::new(bytes, form.order);
+        source.skip(place);
+        Ok(StripReader {
+            bytes,
+            source,
+            form,
+            place,
+            row,
+            read_before: 0,
+            begun: row,
+            rows,
+            fault: None,
+        })
+    }
+
     /// Goes before the first row of another strip of the same coding, order and width, with 1 to
     /// 1,000,000 rows in at most 4,294,967,295 bytes. A fault is forgotten, and the first row's
     /// reference is white (T.4, section 4.2.1.1; T.6, section 2.2.1). It takes no memory.
     pub fn restart(&mut self, bytes: &'a [u8], rows: u32)
         requires count { length bytes.now ≤ 4294967295 }
         requires some { 0 < rows }
-        requires few { rows ≤ 1000000 }
+        requires few { rows ≤ most_rows }
         ensures { self.new ≡ restarted self.old bytes.now rows }
     {
         self.read_before = self.rows_read();
@@ -109,7 +155,7 @@ impl<'a> StripReader<'a> {
     pub fn restart_at(&mut self, bytes: &'a [u8], rows: u32, row: u32, bits: u64, reference: &Row)
         requires count { length bytes.now ≤ 4294967295 }
         requires due { row < rows }
-        requires few { rows ≤ 1000000 }
+        requires few { rows ≤ most_rows }
         requires within { bits ≤ 8 * length bytes.now }
         requires width { length reference.now ≡ self.old.form.width }
         ensures { self.new ≡ restarted_at self.old bytes.now rows row bits reference.now }

@@ -1,11 +1,13 @@
 //! The two rows of a strip that is read: a row and the row before it.
-ghost use Rattle.std.specs.Prelude.{◌≡◌, ◌<◌, length, IfOk, IfErr, OnErr, OnOk};
+ghost use Rattle.std.specs.Prelude.{◌≡◌, ◌<◌, false, length, IfOk, IfErr, IsTrue, List, OnErr, OnOk};
+ghost use Rattle.fax_bits.specs.declared.Colour.{Colour};
 ghost use Rattle.fax_bits.specs.views.Source.{KeepsEnd};
 ghost use Rattle.fax_page.specs.Lines.{IsLine, IsRowIn, IsRowFaultIn, white_row};
 ghost use Rattle.fax_page.specs.code.LineStops.{IsLineStop};
+ghost use Rattle.fax_page.specs.views.Reader.{IsBefore};
 
 use crate::lines::{LineStop, read_codes, read_start, take_white};
-use crate::{Dimension, StripForm};
+use crate::{Dimension, RowBefore, StripForm};
 use fax_rows::{BitSource, Memory, Row, RowFault};
 use std::alloc::Global;
 use std::marker::Model;
@@ -75,6 +77,24 @@ impl RowsInTurn {
     {
         self.is_turned = false;
         self.first.set_from(row);
+    }
+
+    /// Goes after this row, which is the reference then, and answers whether there is one. Where
+    /// there is none, nothing is said of the reference.
+    pub fn begin_after(&mut self, before: RowBefore) -> bool
+        ensures begun { IsTrue result → IsBefore (length self.old) before.entry self.new }
+        ensures same_width { length self.new ≡ length self.old }
+        ensures none { result ≡ false → (row : List Colour)
+            → IsBefore (length self.old) before.entry row → ⊥ }
+    {
+        self.is_turned = false;
+        match before {
+            RowBefore::White => {
+                self.first.whiten();
+                true
+            }
+            RowBefore::Runs(runs) => self.first.set_runs(runs),
+        }
     }
 
     /// Reads the codes of a row that is coded so, which is the reference then. Where it cannot be

@@ -6,6 +6,7 @@ ghost use Rattle.fax_walk.specs.code.Opening as Spec;
 use crate::{Cursor, End};
 use fax_bits::Memory;
 use fax_files::{Chain, FileFault, PageForm, Strips, Tiff};
+use fax_page::PlaceFault;
 use std::marker::Model;
 
 /// Why a page could not be opened.
@@ -24,6 +25,19 @@ impl From<Memory> for OpenFault {
 
     fn from(_refused: Memory) -> Self {
         OpenFault::Memory
+    }
+}
+
+impl From<PlaceFault> for OpenFault {
+    ghost use Rattle.fax_walk.specs.code.Opening.{fault_inside};
+
+    ghost from_gives = { λ fault gives. gives ≡ fault_inside fault };
+
+    fn from(fault: PlaceFault) -> Self {
+        match fault {
+            PlaceFault::Memory => OpenFault::Memory,
+            PlaceFault::Outside => OpenFault::Ended(End::Outside),
+        }
     }
 }
 

@@ -24,7 +24,7 @@ use crate::opening::{DuePage, OpenFault};
 use crate::{Cursor, End, LongCursor, PlaceInside};
 use fax_bits::Memory;
 use fax_files::{Cause, Chain, FileFault, PageForm, Strips};
-use fax_page::{StripForm, StripReader};
+use fax_page::{RowBefore, StripForm, StripReader};
 use fax_rows::Row;
 use std::alloc::Global;
 use std::marker::Model;
@@ -168,17 +168,8 @@ fn strip_at<'a>(
     ensures ok { IfOk result (Spec.IsAtPlace form bytes.now row place.now) }
     ensures err { IfErr result (Spec.IsNoPlace form bytes.now place.now) }
 {
-    let outside = OpenFault::Ended(End::Outside);
-    if u64::from(place.bits) > 8 * bytes.len() as u64 {
-        return Err(outside);
-    }
-    let mut reference = Row::white(alloc, form.width)?;
-    if !reference.set_runs(&place.runs) {
-        return Err(outside);
-    }
-    let mut strip = StripReader::new(alloc, bytes, form)?;
-    strip.restart_at(bytes, form.rows, row, u64::from(place.bits), &reference);
-    Ok(strip)
+    let before = RowBefore::Runs(&place.runs);
+    Ok(StripReader::inside(alloc, bytes, form, row, place.bits, before)?)
 }
 
 /// Opens a page that is due at a place inside a strip of it.

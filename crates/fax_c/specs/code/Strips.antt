@@ -1,9 +1,10 @@
 -- One step of a call on a strip.
-use Rattle.std.specs.Prelude.{◌≡◌, ◌≢◌, ℕ, ◌<◌, ◌≤◌, ◌*◌, ◌⊎◌, List, length}
+use Rattle.std.specs.Prelude.{◌≡◌, ◌≢◌, ℕ, ◌<◌, ◌≤◌, ◌*◌, ◌⊎◌, List, length, take}
 use Rattle.std.specs.Prelude.{Option, Some, None, Result, Ok, Err}
 use Rattle.fax_bits.specs.Bits.{bits}
-use Rattle.fax_rows.specs.Rows.{Colour}
 use Rattle.fax_page.specs.declared.Coding.{Coding}
+use Rattle.fax_page.specs.declared.RowBefore.{RowBefore}
+use Rattle.fax_page.specs.declared.RowBefore.TheVariants.{Runs, White}
 use Rattle.fax_page.specs.declared.StripFault.{StripFault}
 use Rattle.fax_page.specs.declared.StripForm.{StripForm}
 use Rattle.fax_page.specs.views.Reader.{IsAtEnd, MeetsFault, ReadsRow, StripState}
@@ -18,9 +19,10 @@ use Rattle.fax_c.specs.Told.{end_fault, end_status, fault_of, status_of}
 use Rattle.fax_page.specs.declared.RowsEnd.{RowsEnd}
 use Rattle.fax_c.specs.declared.told.FaxTold.{FaxTold}
 use Rattle.fax_c.specs.declared.faults.FaxFault.{FaxFault}
+use Rattle.fax_c.specs.views.Places.{HasRuns}
 use Rattle.fax_c.specs.views.Strips.{IsEndTold, IsStopTold}
-use Rattle.fax_c.specs.views.Strips.{AreRead, HasRoom, IsDueAt, IsPlace, IsPlaceAfter, ReadsNone}
-use Rattle.fax_c.specs.views.Strips.{StripPlace}
+use Rattle.fax_c.specs.views.Strips.{AreStripRows, HasRoom, IsDueAt, IsPlaceAfter}
+use Rattle.fax_c.specs.views.Strips.{ReadsNone, StripPlace}
 
 -- the coding with a number, or no coding has it
 abbrev pub IsCodingOf : ℕ → Option Coding → Type 0
@@ -31,13 +33,12 @@ IsCodingOf number (Some coding) = number ≡ coding_number coding
 abbrev pub place_due : StripState → StripPlace
 place_due state = record { row = state.row; bits = state.place; reference = state.reference }
 
--- the row before a place, or there is none, or memory was refused
-abbrev pub IsReferenceAt : ℕ → FaxPlace → List ℕ → Result (Option (List Colour)) Stop → Type 0
-IsReferenceAt width place runs (Ok (Some row)) =
-    IsPlace width place runs (record { row = place.row; bits = place.bits; reference = row })
-IsReferenceAt width place runs (Ok None) =
-    (at : StripPlace) → IsPlace width place runs at → ⊥
-IsReferenceAt width place runs (Err stop) = stop ≡ Memory
+-- the row before a place, or its runs are not in their room
+abbrev pub IsRowBefore : FaxPlace → List ℕ → Option RowBefore → Type 0
+IsRowBefore place runs (Some White) = place.runs ≡ 0
+IsRowBefore place runs (Some (Runs its)) =
+    HasRuns place runs × (its.now ≡ take place.runs runs)
+IsRowBefore place runs None = (0 < place.runs) × (HasRuns place runs → ⊥)
 
 -- a reader that stands at a place of a strip, or it is no place of it, or memory was refused
 abbrev pub IsReaderAt : StripForm → List ℕ → FaxPlace → List ℕ → Result StripState Stop → Type 0
@@ -66,8 +67,8 @@ IsReadNext page old (Some stop) new =
 abbrev pub AreStripRowsFilled : ℕ → ℕ → StripState → List ℕ → Filled → StripState → List ℕ → Type 0
 AreStripRowsFilled page stride old old_out filled new out =
     (new.form ≡ old.form) × (new.bytes ≡ old.bytes)
-    × AreRead old.form (bits old.form.order old.bytes) page stride (place_due old) old_out filled
-    (place_due new) out
+    × AreStripRows old.form (bits old.form.order old.bytes) page stride (place_due old) old_out
+    filled (place_due new) out
 
 -- the place of the row that is due is told, after so many rows
 abbrev pub IsDueTold : StripState → ℕ → FaxPlace → List ℕ → FaxPlace → List ℕ → Type 0

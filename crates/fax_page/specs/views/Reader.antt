@@ -5,6 +5,11 @@ use Rattle.fax_bits.specs.declared.Colour.{Colour}
 use Rattle.fax_bits.specs.Bits.{bits}
 use Rattle.fax_page.specs.declared.StripForm.{StripForm}
 use Rattle.fax_page.specs.declared.StripFault.{StripFault}
+use Rattle.fax_rows.specs.Rows.{runs_of}
+use Rattle.fax_page.specs.declared.PlaceFault.{PlaceFault}
+use Rattle.fax_page.specs.declared.PlaceFault.TheVariants.{Memory, Outside}
+use Rattle.fax_page.specs.declared.RowBefore.{RowBefore}
+use Rattle.fax_page.specs.declared.RowBefore.TheVariants.{Runs, White}
 use Rattle.fax_page.specs.Lines.{IsLine, IsCause, white_row}
 
 -- how far a strip is read: its form and its bytes, the place in bits and the number of the row that
@@ -55,6 +60,22 @@ restarted_at old bytes rows i place reference = record {
   reference = reference;
   fault = None;
 }
+
+-- a row of a width is the one before a place
+abbrev pub IsBefore : ℕ → RowBefore → List Colour → Type 0
+IsBefore width White row = row ≡ white_row width
+IsBefore width (Runs runs) row = (length row ≡ width) × (runs_of row ≡ runs.now)
+
+-- before row i of the bytes, which are a reader's first, after so many bits, with this row before
+-- it; or there is no such place, or memory was refused
+abbrev pub IsBegunInside : StripForm → List ℕ → ℕ → ℕ → RowBefore
+    → Result StripState PlaceFault → Type 0
+IsBegunInside form bytes i place before (Ok state) =
+    (place ≤ 8 * length bytes) × IsBefore form.width before state.reference
+    × (state ≡ restarted_at (strip_beginning form bytes) bytes form.rows i place state.reference)
+IsBegunInside form bytes i place before (Err Outside) =
+    place ≤ 8 * length bytes → (row : List Colour) → IsBefore form.width before row → ⊥
+IsBegunInside form bytes i place before (Err Memory) = place ≤ 8 * length bytes
 
 -- a count of rows and one more, up to the greatest number of 64 bits
 abbrev pub counted : ℕ → ℕ

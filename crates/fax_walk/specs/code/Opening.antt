@@ -1,6 +1,8 @@
 -- Pages as they become due.
 use Rattle.std.specs.Prelude.{◌≡◌, ℕ, ◌+◌, ◌<◌, ◌≤◌, ◌⊎◌, List, length, Option, Some, None, Result}
 use Rattle.std.specs.Prelude.{Ok, Err, ◌==◌, ◌&&◌, if◌then◌else◌, slice_get}
+use Rattle.fax_page.specs.declared.PlaceFault.{PlaceFault}
+use Rattle.fax_page.specs.declared.PlaceFault.TheVariants as InStrip
 use Rattle.fax_files.specs.declared.FileFault.{FileFault}
 use Rattle.fax_files.specs.declared.PageForm.{PageForm}
 use Rattle.fax_files.specs.declared.Endian.{Endian}
@@ -12,7 +14,14 @@ use Rattle.fax_files.specs.views.Tiff.{PageStrips, TiffDirectory, form_of}
 use Rattle.fax_walk.specs.declared.cursor.Cursor.{Cursor}
 use Rattle.fax_walk.specs.declared.end.End.{End}
 use Rattle.fax_walk.specs.declared.end.End.TheVariants.{Proper, Fault, Outside}
+use Rattle.fax_walk.specs.declared.opening.OpenFault.{OpenFault}
+use Rattle.fax_walk.specs.declared.opening.OpenFault.TheVariants.{Ended, Memory}
 use Rattle.fax_walk.specs.Pages.{File, FilePage, IsPageAt}
+
+-- why no page is opened at a place inside a strip, where no reader stands there
+abbrev pub fault_inside : PlaceFault → OpenFault
+fault_inside InStrip.Memory = Memory
+fault_inside InStrip.Outside = Ended Outside
 
 -- how a chain ends for a cursor that names none of its pages
 abbrev pub end_past_chain : ℕ → Option FileFault → Cursor → End
