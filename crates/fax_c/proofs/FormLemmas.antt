@@ -11,18 +11,18 @@ use Rattle.fax_walk.specs.declared.end.End.{End}
 use Rattle.fax_walk.specs.declared.end.End.TheVariants.{Proper, Fault, Outside}
 use Rattle.fax_walk.specs.Pages.{AreFrom, FilePage, FormItem, IsForm, IsFormTail, IsPageAt}
 use Rattle.fax_walk.specs.views.InOrder.{EndsAfter, HasEndedAs, IsNumber}
-use Rattle.fax_walk.specs.views.Pages.{HandsOutPage, IsCursorOf, PagesView}
+use Rattle.fax_walk.specs.views.Pages.{HandsOutPage, IsCursorOfPages, PagesView}
 use Rattle.fax_walk.specs.laws.Tails.{CursorsHaveOneFormTail}
 use Rattle.fax_c.specs.declared.filled.Stop.TheVariants.{Done, Ended}
 use Rattle.fax_c.specs.declared.forms.FaxForm.{FaxForm}
 use Rattle.fax_c.specs.code.Put.{end_at_row}
-use Rattle.fax_c.specs.Forms.{AreFormsFilled, cursor_after_pages, form_of}
+use Rattle.fax_c.specs.Forms.{AreFormsFilled, cursor_after_pages, form_numbers}
 use Rattle.fax_c.proofs.ListLemmas.{one_set, take_at}
 use Rattle.fax_c.proofs.NumberLemmas.{end_is, number_is}
 
 -- the forms as they stand in memory of the caller
 abbrev pub forms_of : List FormItem → List FaxForm
-forms_of = map (λ item. form_of item.form)
+forms_of = map (λ item. form_numbers item.form)
 
 pages-push : (from : Cursor) (items : List FormItem) (item : FormItem)
     → cursor_after_pages from (items ++ item ∷ []) ≡ record { page = item.page + 1; row = 0 }
@@ -68,7 +68,7 @@ module _ (file : List ℕ) (from : Cursor) (pages : PagesView) (count : ℕ) (ol
   item_is : (n : ℕ) (item : FormItem) → IsNumber (IsFormTail pages.file pages.begun) n item → slice_get so_far.items n ≡ Some item
   item_is n item = number_is (IsFormTail pages.file pages.begun) one_here so_far.items so_far.end tail_here n item
 
-  pub cursor_is : (at : Cursor) → IsCursorOf pages at → at ≡ cursor_after_pages from (take count so_far.items)
+  pub cursor_is : (at : Cursor) → IsCursorOfPages pages at → at ≡ cursor_after_pages from (take count so_far.items)
   cursor_is at (inl (none, is)) = grind arith
   cursor_is at (inr (before, item, given, number, is)) =
       let count_is : count ≡ before + 1 = sym so_far.given ∙ given in
@@ -77,16 +77,16 @@ module _ (file : List ℕ) (from : Cursor) (pages : PagesView) (count : ℕ) (ol
       ∙ pages-push from (take before so_far.items) item))
 
   pub one_more : (new : PagesView) (item : FormItem) → count < length old → HandsOutPage pages item new
-      → AreFormsWritten file from new (count + 1) old (set forms count (form_of item.form))
+      → AreFormsWritten file from new (count + 1) old (set forms count (form_numbers item.form))
   one_more new item below hands =
       let there = item_is pages.given item hands.0.number in
       let here : slice_get so_far.items count ≡ Some item = subst (λ n. slice_get so_far.items n ≡ Some item) so_far.given there in
       let inside = slice_get_within so_far.items count item here in
       let front = forms_of (take count so_far.items) in
       let len : length front ≡ count =
-      length-map (take count so_far.items) (λ i. form_of i.form) ∙ length-take-le count so_far.items so_far.few in
-      let all : forms_of (take (count + 1) so_far.items) ≡ front ++ form_of item.form ∷ [] =
-      ap forms_of (take_at so_far.items count item here) ∙ map-append (λ i. form_of i.form) (take count so_far.items) (item ∷ []) in
+      length-map (take count so_far.items) (λ i. form_numbers i.form) ∙ length-take-le count so_far.items so_far.few in
+      let all : forms_of (take (count + 1) so_far.items) ≡ front ++ form_numbers item.form ∷ [] =
+      ap forms_of (take_at so_far.items count item here) ∙ map-append (λ i. form_numbers i.form) (take count so_far.items) (item ∷ []) in
       record {
         items = so_far.items;
         end = so_far.end;
@@ -97,10 +97,10 @@ module _ (file : List ℕ) (from : Cursor) (pages : PagesView) (count : ℕ) (ol
         few = omega (arith, inside);
         asked = omega (arith, below);
         written =
-            one_set front old forms count (form_of item.form) len below so_far.written ∙ ap (λ (l : List FaxForm). l ++ drop (count + 1) old) (sym all);
+            one_set front old forms count (form_numbers item.form) len below so_far.written ∙ ap (λ (l : List FaxForm). l ++ drop (count + 1) old) (sym all);
       }
 
-  pub ended : (end : End) (new : PagesView) (at : Cursor) → count < length old → HasEndedAs IsFormTail pages end new → IsCursorOf pages at
+  pub ended : (end : End) (new : PagesView) (at : Cursor) → count < length old → HasEndedAs IsFormTail pages end new → IsCursorOfPages pages at
       → AreFormsFilled file from old (record { cursor = at; count = count; used = 0; stop = Ended end }) forms
   ended end new at below ends is =
       let are = end_is (IsFormTail pages.file pages.begun) one_here so_far.items so_far.end tail_here pages.given end ends.0 in
@@ -116,7 +116,7 @@ module _ (file : List ℕ) (from : Cursor) (pages : PagesView) (count : ℕ) (ol
         stops = (below, sym so_far.given ∙ are.0, are.1);
       }
 
-  pub all_asked : (at : Cursor) → length old ≤ count → IsCursorOf pages at
+  pub all_asked : (at : Cursor) → length old ≤ count → IsCursorOfPages pages at
       → AreFormsFilled file from old (record { cursor = at; count = count; used = 0; stop = Done }) forms
   all_asked at all is = record {
     items = so_far.items;

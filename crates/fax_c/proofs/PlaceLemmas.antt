@@ -11,7 +11,7 @@ use Rattle.fax_walk.specs.Items.{begun_cursor}
 use Rattle.fax_walk.specs.views.Walk.{HasPage, IsLongOf, WalkView, place_inside}
 use Rattle.fax_c.specs.declared.places.FaxPlace.{FaxPlace}
 use Rattle.fax_c.specs.views.Filled.{TakesRuns}
-use Rattle.fax_c.specs.views.Places.{HasRuns, IsAfterRows, KeepsRuns, begun_of, cursor_of, most_runs, place_at}
+use Rattle.fax_c.specs.views.Places.{HasRuns, IsAfterRows, KeepsRuns, place_begun, cursor_of, most_runs, place_at}
 use Rattle.fax_c.specs.code.Put.{IsInsideTold, IsPutAt}
 
 -- a row has a run
@@ -46,17 +46,17 @@ inside_told walk lent count old old_runs runs long few (count_is, within, runs_a
     )
 
 -- a walk from a place begins at its cursor
-pub begun_cursor-begun_of : (place : FaxPlace) (runs : List ℕ) → cursor_of place ≡ begun_cursor (begun_of place runs)
+pub begun_cursor-begun_of : (place : FaxPlace) (runs : List ℕ) → cursor_of place ≡ begun_cursor (place_begun place runs)
 begun_cursor-begun_of place runs = grind arith
 
 -- a walk from a place inside a strip takes its runs
 pub takes_runs : (file : List ℕ) (place : FaxPlace) (runs : List ℕ) → 0 < place.runs → HasPage file place.page
-    → TakesRuns file (begun_of place runs) 0
+    → TakesRuns file (place_begun place runs) 0
 takes_runs file place runs some page = grind arith
 
 -- where nothing was written, a place inside a strip stays
 pub stays : (file : List ℕ) (place : FaxPlace) (runs : List ℕ) (cursor : Cursor) → HasRuns place runs
-    → IsAfterRows file (begun_of place runs) cursor 0 place runs
+    → IsAfterRows file (place_begun place runs) cursor 0 place runs
 stays file place runs cursor (some, within) = grind arith
 
 -- the place after the rows that a walk has handed out is told

@@ -16,13 +16,13 @@ use Rattle.fax_c.specs.declared.writing.FaxWritten.{FaxWritten}
 use Rattle.fax_c.specs.views.Written.{IsHeld, IsWriting, file_so_far}
 use Rattle.fax_c.specs.code.Writing.{place_of}
 use Rattle.std.proofs.lemmas.Bool.{cases_eq}
-use Rattle.fax_c.specs.Raster.{page_strips, raster_rows}
+use Rattle.fax_c.specs.Raster.{page_strips, rows_of_raster}
 
 -- strip s of a page
 abbrev pub the_strip : PageForm → ℕ → ℕ → List ℕ → ℕ → List ℕ
 the_strip form k stride bytes s =
     coded_strip (strip_form form s) k
-    (raster_rows form.width stride bytes (s * form.rows_per_strip) (strip_form form s).rows)
+    (rows_of_raster form.width stride bytes (s * form.rows_per_strip) (strip_form form s).rows)
 
 contents-push : (strips : List (Vec ℕ Global)) (strip : Vec ℕ Global) → contents (strips ++ strip ∷ []) ≡ contents strips ++ strip.items ∷ []
 contents-push [] strip = refl

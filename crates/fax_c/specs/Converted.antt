@@ -14,7 +14,7 @@ use Rattle.fax_c.specs.Texts.{IsTextPut}
 use Rattle.fax_c.specs.Told.{fault_of_cause, no_fault}
 
 -- these numbers are these options
-pub record AreOptions (given : FaxOptions) (options : Options) : Type 0 where
+pub record AreOptionsGiven (given : FaxOptions) (options : Options) : Type 0 where
   pub target : given.target ≡ target_number options.target
   pub order : given.order ≡ order_number options.order
   pub k : given.k ≡ options.k
@@ -52,9 +52,9 @@ IsOutputTold output old new converted status =
 -- refused; where there is no output, nothing is written
 abbrev pub TellsConversion : List ℕ → FaxOptions → List ℕ → List ℕ → FaxConverted → ℕ → Type 0
 TellsConversion file given old new converted status =
-    ((status ≡ 7) × ((options : Options) → AreOptions given options → ⊥)
+    ((status ≡ 7) × ((options : Options) → AreOptionsGiven given options → ⊥)
     × (converted ≡ no_output) × (new ≡ old))
-    ⊎ ((options : Options) × AreOptions given options
+    ⊎ ((options : Options) × AreOptionsGiven given options
     × (((output : List ℕ) × IsConverted file options output
     × IsOutputTold output old new converted status)
     ⊎ ((status ≡ 2) × ((fault : ConvertFault) × IsNotConverted file options fault

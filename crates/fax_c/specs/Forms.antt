@@ -14,8 +14,8 @@ use Rattle.fax_c.specs.Numbers.{bool_number, coding_number, order_number}
 use Rattle.fax_c.specs.Told.{IsTold}
 
 -- a form as it stands in memory of the caller
-abbrev pub form_of : PageForm → FaxForm
-form_of form = record {
+abbrev pub form_numbers : PageForm → FaxForm
+form_numbers form = record {
   width = form.width;
   rows = form.rows;
   coding = coding_number form.coding;
@@ -53,7 +53,7 @@ pub record AreFormsFilled (file : List ℕ) (from : Cursor) (old : List FaxForm)
   pub tail : IsFormTail file from items end
   pub few : filled.count ≤ length items
   pub asked : filled.count ≤ length old
-  pub written : new ≡ map (λ item. form_of item.form) (take filled.count items)
+  pub written : new ≡ map (λ item. form_numbers item.form) (take filled.count items)
       ++ drop filled.count old
   pub cursor : filled.cursor ≡ cursor_after_pages from (take filled.count items)
   pub none_used : filled.used ≡ 0

@@ -23,8 +23,8 @@ raster_row width stride bytes i =
     unpacked_row width (take (packed_len width) (drop (i * stride) bytes))
 
 -- so many rows of a raster, from one on
-abbrev pub raster_rows : ℕ → ℕ → List ℕ → ℕ → ℕ → List (List Colour)
-raster_rows width stride bytes first count =
+abbrev pub rows_of_raster : ℕ → ℕ → List ℕ → ℕ → ℕ → List (List Colour)
+rows_of_raster width stride bytes first count =
     map (raster_row width stride bytes) (range_with_len first count)
 
 -- the strips of a page, whose rows are those of a raster (TIFF 6.0, RowsPerStrip)
@@ -32,5 +32,5 @@ abbrev pub page_strips : PageForm → ℕ → ℕ → List ℕ → List (List �
 page_strips form k stride bytes =
     let strip : ℕ → List ℕ =
     λ s. coded_strip (strip_form form s) k
-    (raster_rows form.width stride bytes (s * form.rows_per_strip) (strip_form form s).rows) in
+    (rows_of_raster form.width stride bytes (s * form.rows_per_strip) (strip_form form s).rows) in
     map strip (range_with_len 0 form.strips)

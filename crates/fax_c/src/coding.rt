@@ -26,7 +26,7 @@ pub(crate) fn code_strip(
     requires some_k { 0 < k }
     requires raster { Raster.HoldsRaster (length raster.now) form.width (first + form.rows) stride }
     ensures { IfOk result (λ bytes. bytes.items
-        ≡ coded_strip form k (Raster.raster_rows form.width stride raster.now first form.rows)) }
+        ≡ coded_strip form k (Raster.rows_of_raster form.width stride raster.now first form.rows)) }
 {
     fax_page::laws::strips_are_written_row_by_row();
     let len = packed_len(form.width);

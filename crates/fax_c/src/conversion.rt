@@ -74,8 +74,9 @@ fn has_eols(target: Target) -> bool
 
 /// The options that these numbers are, if they are any.
 fn options_of(given: &FaxOptions) -> Option<Options>
-    ensures { MatchOption result ((options : TheOptions) → Spec.AreOptions given.now options → ⊥)
-        (Spec.AreOptions given.now) }
+    ensures { MatchOption result
+        ((options : TheOptions) → Spec.AreOptionsGiven given.now options → ⊥)
+        (Spec.AreOptionsGiven given.now) }
 {
     let target = target_of(given.target)?;
     let order = order_of(given.order)?;

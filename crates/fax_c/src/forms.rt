@@ -61,11 +61,11 @@ fn order_number(order: FillOrder) -> u32
 }
 
 impl FaxForm {
-    ghost use Rattle.fax_c.specs.Forms.{form_of};
+    ghost use Rattle.fax_c.specs.Forms.{form_numbers};
 
     /// A form as it stands in memory of the caller.
     pub(crate) fn of(form: &PageForm) -> Self
-        ensures { result ≡ form_of form.now }
+        ensures { result ≡ form_numbers form.now }
     {
         FaxForm {
             width: form.width,

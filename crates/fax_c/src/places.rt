@@ -62,7 +62,7 @@ impl FaxPlace {
 pub(crate) fn begun_at(alloc: Global, place: &FaxPlace, runs: &[u32]) -> Option<Begun>
     requires { place.now.runs ≤ length runs.now }
     ensures { MatchOption result (0 < place.now.runs)
-        (λ begun. begun ≡ Spec.begun_of place.now runs.now) }
+        (λ begun. begun ≡ Spec.place_begun place.now runs.now) }
 {
     let at = place.cursor();
     if place.runs == 0 {

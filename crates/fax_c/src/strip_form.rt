@@ -49,8 +49,8 @@ pub(crate) fn has_eols(coding: Coding) -> bool
 impl FaxStrip {
     /// The form that these numbers are, if they are one.
     pub(crate) fn form(&self) -> Option<StripForm>
-        ensures { MatchOption result ((form : Form) → Spec.IsForm self.now form → ⊥)
-            (Spec.IsForm self.now) }
+        ensures { MatchOption result ((form : Form) → Spec.IsStripFormGiven self.now form → ⊥)
+            (Spec.IsStripFormGiven self.now) }
     {
         let coding = coding_of(self.coding)?;
         let order = order_of(self.order)?;

@@ -13,16 +13,14 @@ use Rattle.fax_files.specs.Directory.{has_integers, is_inside, needed, number_at
 use Rattle.fax_files.specs.Directory.{values_place, ◌>>=◌}
 use Rattle.fax_files.specs.declared.FileFault.TheVariants.{BadField, Unsupported, OutOfLimits}
 use Rattle.fax_files.specs.declared.tags.TheConstants as Tags
+pub use Rattle.fax_page.specs.Strip.{most_rows}
 pub use Rattle.fax_page.specs.declared.Coding.{Coding}
 pub use Rattle.fax_page.specs.declared.Coding.TheVariants.{Mh, Mr, Mmr}
 pub use Rattle.fax_files.specs.declared.PageForm.{PageForm}
 
--- the most pels of a row, and the most rows of a page
+-- the most pels of a row
 abbrev pub most_pels : ℕ
 most_pels = 65535
-
-abbrev pub most_rows : ℕ
-most_rows = 1000000
 
 -- the number lies between these two
 abbrev pub is_between : ℕ → ℕ → ℕ → Bool

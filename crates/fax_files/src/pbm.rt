@@ -242,7 +242,7 @@ impl<'a> Model for PbmReader<'a> {
 }
 
 impl<'a> PbmReader<'a> {
-    ghost use Rattle.fax_files.specs.views.Pbm.{image_of, IsAtEnd, IsFaultAnswered};
+    ghost use Rattle.fax_files.specs.views.Pbm.{image_of, HasNoImageLeft, IsFaultAnswered};
     ghost use Rattle.fax_files.specs.views.Pbm.{IsImageRead};
 
     /// A reader of the images in these bytes.
@@ -268,7 +268,7 @@ impl<'a> PbmReader<'a> {
         // The raster is that part of the input.
         ensures raster { IfOk result (λ found. IfSome found (λ image. Pbm.IsHead self.old.left
             image.width image.rows (image.raster.now ++ self.new.left))) }
-        ensures end { IfOk result (λ found. IfNone found (IsAtEnd self.old self.new)) }
+        ensures end { IfOk result (λ found. IfNone found (HasNoImageLeft self.old self.new)) }
         ensures fault { IfErr result (IsFaultAnswered self.old self.new) }
     {
         if let Some(fault) = self.fault {

@@ -16,7 +16,7 @@ use Rattle.fax_tool.specs.declared.words.Command.TheVariants.{List as Forms, Row
 use Rattle.fax_tool.specs.declared.words.Part.{Part}
 use Rattle.fax_tool.specs.Run.{Counts, Input, Output, HasWorked, IsRead, IsTextAfterMemory, IsTextOf, IsTextOfFirst, begun_of}
 use Rattle.fax_tool.specs.Streams.{input_after, output_after}
-use Rattle.fax_tool.specs.Text.{Line, Printed, next_line}
+use Rattle.fax_tool.specs.Text.{PrintedLine, Printed, next_line}
 use Rattle.fax_tool.specs.code.Outcome.{HasReadReason, IsDone, IsStopped, StopsAtBeginning, StopsPrinting, StopsWith, error_of, status_of}
 use Rattle.fax_tool.specs.code.Transfers.{IsGivenInPart}
 use Rattle.fax_tool.proofs.LineLemmas.{one_pages, one_rows}
@@ -27,7 +27,7 @@ no_lines : (max : Option ℕ) → IfSome max (λ limit. 0 ≤ limit)
 no_lines max = grind arith
 
 -- the text of no line: where to go on
-of_none : (are : List Line → End → Type 0) (max : Option ℕ) (begun : Begun) → ((lines : List Line) × (end : End) × are lines end)
+of_none : (are : List PrintedLine → End → Type 0) (max : Option ℕ) (begun : Begun) → ((lines : List PrintedLine) × (end : End) × are lines end)
     → (text : List ℕ) → text ≡ next_line (At (begun_cursor begun)) → IsTextOfFirst are max begun text
 of_none are max begun all text is = (all.0, all.1, all.2, 0, omega arith, no_lines max, is ∙ sym (first_text begun 0 all.0 all.1 (omega arith)))
 

@@ -11,7 +11,7 @@ use Rattle.clap.proofs.WalkLemmas.{both}
 use Rattle.fax_tool.specs.Grammar.{Text, Use, text_in}
 use Rattle.fax_tool.specs.Job.{Given}
 use Rattle.fax_tool.specs.code.Scan.{read}
-use Rattle.fax_tool.specs.laws.Examples.{AreNotTaken, AreRead, Gives, GivesNothing, words_of}
+use Rattle.fax_tool.specs.laws.Examples.{AreNotTaken, AreSpellingsRead, Gives, GivesNothing, words_of}
 use Rattle.fax_tool.proofs.ShapeLemmas.{read_is_of_command}
 use Rattle.fax_tool.proofs.SpellLemmas.{unread_is_no_command}
 
@@ -51,7 +51,7 @@ gives {A} line view value ascii is = go (read (words_of line)) refl is
 nothing : (line : List ℕ) → read (words_of line) ≡ None → GivesNothing line
 nothing line is = unread_is_no_command (words_of line) is
 
-pub are_read : AreRead
+pub are_read : AreSpellingsRead
 unfolding chars
 are_read = grind (arith, gives)
 

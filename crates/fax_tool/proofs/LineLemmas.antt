@@ -14,12 +14,12 @@ use Rattle.fax_walk.specs.Pages.{LongPlace, IsFormTail}
 use Rattle.fax_walk.specs.views.InOrder.{HandsOut, HasEndedAs, IsAfterLast, IsNumber, Reading}
 use Rattle.fax_bits.specs.laws.Codes.{IsOne}
 use Rattle.fax_walk.specs.views.Walk.{WalkView, IsNext, IsCursorOf, IsLongOf, begun_place}
-use Rattle.fax_walk.specs.views.Pages.{PagesView, IsCursorOf as IsPageCursor, IsNextPage}
+use Rattle.fax_walk.specs.views.Pages.{PagesView, IsCursorOfPages as IsPageCursor, IsNextPage}
 use Rattle.fax_walk.specs.laws.Tails.{BeginningsHaveOneTail, CursorsHaveOneFormTail}
 use Rattle.fax_walk.specs.Items.{RowItem as Item, IsTailFrom, begun_cursor, cursor_after, Inner, long_after, long_at, place_after}
 use Rattle.fax_tool.specs.Run.{AreLinesOf, AreRowLines, ArePageLines}
 use Rattle.fax_tool.proofs.BeginLemmas.{begun_at, inside_of}
-use Rattle.fax_tool.specs.Text.{Line, line_of_page, line_of_row, next_after}
+use Rattle.fax_tool.specs.Text.{PrintedLine, line_of_page, line_of_row, next_after}
 use Rattle.fax_tool.specs.code.Printing.{IsLinePut, IsNextAfter, end_of}
 
 -- the first elements of a list, with one more
@@ -28,12 +28,12 @@ take_at [] n x e = absurd cc
 take_at (y ∷ xs) zero x e = let same : y ≡ x = cc in ap (λ i. i ∷ []) same
 take_at (y ∷ xs) (suc n) x e = let m : suc n + 1 ≡ suc (n + 1) = omega arith in rw m (ap (λ l. y ∷ l) (take_at xs n x e))
 
-pub next_after-append : (begun : Begun) (xs ys : List Line) → next_after begun (xs ++ ys) ≡ next_after (next_after begun xs) ys
+pub next_after-append : (begun : Begun) (xs ys : List PrintedLine) → next_after begun (xs ++ ys) ≡ next_after (next_after begun xs) ys
 next_after-append begun [] ys = refl
 next_after-append begun (x ∷ xs) ys = next_after-append x.next xs ys
 
 -- what goes on after a line of some
-pub next_at : (begun : Begun) (lines : List Line) (n : ℕ) (line : Line) → slice_get lines n ≡ Some line
+pub next_at : (begun : Begun) (lines : List PrintedLine) (n : ℕ) (line : PrintedLine) → slice_get lines n ≡ Some line
     → next_after begun (take (n + 1) lines) ≡ line.next
 next_at begun lines n line there = ap (next_after begun) (take_at lines n line there) ∙ next_after-append begun (take n lines) (line ∷ [])
 
@@ -44,9 +44,9 @@ begins_at at inner = grind arith
 pub begins_after : (item : Item) → begun_cursor (begun_at (long_after item) (cursor_after item)) ≡ cursor_after item
 begins_after item = begins_at (cursor_after item) (place_after item).inner
 
-module _ {A B : Type 0} (line_of : A → Line) (tail : List ℕ → B → List A → End → Type 0) where
+module _ {A B : Type 0} (line_of : A → PrintedLine) (tail : List ℕ → B → List A → End → Type 0) where
   -- the lines of what is read in order
-  abbrev pub LinesOf : Reading B → List Line → End → Type 0
+  abbrev pub LinesOf : Reading B → List PrintedLine → End → Type 0
   LinesOf read = AreLinesOf line_of (tail read.file read.begun)
 
   pub one_lines : (file : List ℕ) (begun : B) → IsOne (tail file begun) → IsOne (AreLinesOf line_of (tail file begun))

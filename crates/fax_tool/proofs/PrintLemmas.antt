@@ -16,7 +16,7 @@ use Rattle.fax_walk.specs.Items.{begun_cursor}
 use Rattle.fax_tool.specs.declared.refusal.Refusal.{Refusal}
 use Rattle.fax_tool.specs.Run.{Counts, IsTextOfFirst}
 use Rattle.fax_tool.specs.Streams.{output_after}
-use Rattle.fax_tool.specs.Text.{Line, named, next_after, next_line, texts_of}
+use Rattle.fax_tool.specs.Text.{PrintedLine, named, next_after, next_line, texts_of}
 use Rattle.fax_tool.specs.code.Outcome.{StopsPrinting, StopsWith}
 use Rattle.fax_tool.specs.code.Printing.{IsLastLine, IsNextAfter, IsNextLine}
 use Rattle.fax_tool.specs.code.Transfers.{IsGivenInPart, SendsPart}
@@ -29,19 +29,19 @@ abbrev pub IsLeftOf : Option ℕ → Option ℕ → ℕ → Type 0
 IsLeftOf max left count = max ≡ option_map (λ n. n + count) left
 
 -- so many of the lines are printed, the last part of their text is collected only, and so much of the limit is left
-pub record PrintsSome (tail now : List Line → End → Type 0) (given : ℕ) (max left : Option ℕ) (output written : Option (List ℕ))
+pub record PrintsSome (tail now : List PrintedLine → End → Type 0) (given : ℕ) (max left : Option ℕ) (output written : Option (List ℕ))
     (text : List ℕ) : Type 0 where
-  pub lines : List Line
+  pub lines : List PrintedLine
   pub end : End
   pub is : tail lines end
-  pub same : (all : List Line) (end : End) → tail all end ↔ now all end
+  pub same : (all : List PrintedLine) (end : End) → tail all end ↔ now all end
   pub within : given ≤ length lines
   pub limit : IsLeftOf max left given
   pub sent : List ℕ
   pub printed : Appends output written sent
   pub collected : texts_of (take given lines) ≡ sent ++ text
 
-texts_of-push : (lines : List Line) (line : Line) → texts_of (lines ++ line ∷ []) ≡ texts_of lines ++ line.text
+texts_of-push : (lines : List PrintedLine) (line : PrintedLine) → texts_of (lines ++ line ∷ []) ≡ texts_of lines ++ line.text
 texts_of-push lines line =
     flat_map-append (λ line. line.text) lines (line ∷ []) ∙ ap (λ text. texts_of lines ++ text) (append-nil line.text)
 
@@ -52,10 +52,10 @@ one_less_left max left count is some = grind arith
 within_limit : (max left : Option ℕ) (count : ℕ) → IsLeftOf max left count → IfSome max (λ limit. count ≤ limit)
 within_limit max left count is = grind arith
 
-module _ {tail now : List Line → End → Type 0} (one : IsOne tail) {given : ℕ} {max left : Option ℕ}
+module _ {tail now : List PrintedLine → End → Type 0} (one : IsOne tail) {given : ℕ} {max left : Option ℕ}
     {output written : Option (List ℕ)} {text : List ℕ} (some : PrintsSome tail now given max left output written text) where
   -- these are the lines
-  lines_are : (all : List Line) (end : End) → now all end → (all ≡ some.lines) × (end ≡ some.end)
+  lines_are : (all : List PrintedLine) (end : End) → now all end → (all ≡ some.lines) × (end ≡ some.end)
   lines_are all end is = grind arith
 
   pub part_sent : (new_written : Option (List ℕ)) (new_text : List ℕ) → SendsPart written new_written text new_text
@@ -72,13 +72,13 @@ module _ {tail now : List Line → End → Type 0} (one : IsOne tail) {given : �
     collected = some.collected ∙ ap (λ xs. some.sent ++ xs) sends.parts ∙ sym (append_assoc some.sent sends.part new_text);
   }
 
-  pub one_more : (new : List Line → End → Type 0) (new_given : ℕ) (new_left : Option ℕ) (line : Line) (new_text : List ℕ)
-      → ((all : List Line) (end : End) → now all end ↔ new all end) → IsNumber now given line → new_given ≡ given + 1
+  pub one_more : (new : List PrintedLine → End → Type 0) (new_given : ℕ) (new_left : Option ℕ) (line : PrintedLine) (new_text : List ℕ)
+      → ((all : List PrintedLine) (end : End) → now all end ↔ new all end) → IsNumber now given line → new_given ≡ given + 1
       → IfSome left (λ n. 0 < n) → new_left ≡ option_map (λ n. n - 1) left → new_text ≡ text ++ line.text
       → PrintsSome tail new new_given max new_left output written new_text
   one_more new new_given new_left line new_text same (all, end, is, there) more above less grown =
       let here : slice_get some.lines given ≡ Some line =
-      subst (λ (l : List Line). slice_get l given ≡ Some line) (lines_are all end is).0 there in
+      subst (λ (l : List PrintedLine). slice_get l given ≡ Some line) (lines_are all end is).0 there in
       let within = slice_get_within some.lines given line here in
       rw (more, less) (record {
         lines = some.lines;
@@ -134,7 +134,7 @@ module _ {tail now : List Line → End → Type 0} (one : IsOne tail) {given : �
         let are = lines_are after.lines after.end after.is in
         let from_is : from ≡ next_after begun (take given some.lines) =
         after.next_is ∙ ap (λ (b : Begun). next_after b (take given after.lines)) same_begun
-        ∙ ap (λ (l : List Line). next_after begun (take given l)) are.0 in
+        ∙ ap (λ (l : List PrintedLine). next_after begun (take given l)) are.0 in
         let next_is : line ≡ next = line_is ∙ ap (λ (c : Cursor). next_line (At c)) at ∙ ap (λ (b : Begun). next_line
         (named false b)) from_is in
         stops_after NoText NoText (λ (t : List ℕ). t ≡ shown ++ line)
@@ -143,12 +143,12 @@ module _ {tail now : List Line → End → Type 0} (one : IsOne tail) {given : �
         (λ t is. rw (is, same, next_is) first_lines) stops
 
 -- where to go on at the cursor after so many lines
-pub next_of_cursor : (tail : List Line → End → Type 0) (begun : Begun) (given : ℕ) (cursor : Cursor) (line : List ℕ)
+pub next_of_cursor : (tail : List PrintedLine → End → Type 0) (begun : Begun) (given : ℕ) (cursor : Cursor) (line : List ℕ)
     → ((next : Begun) × IsNextAfter tail begun given next × (cursor ≡ begun_cursor next)) → line ≡ next_line (At cursor)
     → IsNextLine tail begun given false line
 next_of_cursor tail begun given cursor line (next, after, at) line_is = (next, after, line_is ∙ ap (λ (c : Cursor). next_line (At c)) at)
 
-module _ (tail : List Line → End → Type 0) (begun : Begun) (given : ℕ) (long : Bool) (old new : Option (List ℕ)) (counts : Counts) where
+module _ (tail : List PrintedLine → End → Type 0) (begun : Begun) (given : ℕ) (long : Bool) (old new : Option (List ℕ)) (counts : Counts) where
   abbrev StopsNext : Refusal → Type 0
   StopsNext refusal =
       StopsPrinting (λ printed. IsNextLine tail begun given long printed.output) (IsNextLine tail begun given false) refusal

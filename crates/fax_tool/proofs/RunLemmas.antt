@@ -15,21 +15,21 @@ use Rattle.fax_walk.specs.laws.Tails.{BeginningsHaveOneTail, IsReached, LongTail
 use Rattle.fax_walk.specs.Items.{RowItem as Item, IsTailFrom, begun_text, cursor_after, long_after}
 use Rattle.fax_tool.specs.Run.{AreRowLines}
 use Rattle.fax_tool.proofs.BeginLemmas.{begun_at, one_begun}
-use Rattle.fax_tool.specs.Text.{Line, Printed, named, next_after, next_line, text_of, end_text, is_cut, line_of_row, texts_of, up_to}
+use Rattle.fax_tool.specs.Text.{PrintedLine, Printed, named, next_after, next_line, text_of, end_text, is_cut, line_of_row, texts_of, up_to}
 use Rattle.fax_tool.specs.laws.Runs.{AreAsOneRun, AreRunsOfRows, CutRunsAreReadOn, IsBegun, IsReadAfter, IsRunOfRows, MayBegin, RunsGoOn}
 use Rattle.fax_tool.proofs.LineLemmas.{begins_after, next_after-append, one_rows}
 use Rattle.fax_tool.proofs.TextLemmas.{all_taken}
 
 -- what is written of these lines and their end, or of lines and where to go on
-abbrev ended_text : Bool → Begun → List Line → Option End → Printed
+abbrev ended_text : Bool → Begun → List PrintedLine → Option End → Printed
 ended_text long begun lines end =
     let last = end_text end (named long (next_after begun lines)) in record last { output = texts_of lines ++ last.output }
 
 -- all lines and their end; the first ones, and where to go on; the last line of an end
-abbrev whole_text : Bool → Begun → List Line → End → Printed
+abbrev whole_text : Bool → Begun → List PrintedLine → End → Printed
 whole_text long begun lines end = ended_text long begun lines (Some end)
 
-abbrev first_text : Bool → Begun → List Line → Printed
+abbrev first_text : Bool → Begun → List PrintedLine → Printed
 first_text long begun lines = ended_text long begun lines None
 
 abbrev last_line : End → Begun → List ℕ
@@ -39,25 +39,25 @@ last_line end next = (end_text (Some end) next).output
 named_again : (long : Bool) (begun : Begun) → named long (named long begun) ≡ named long begun
 named_again long begun = grind arith
 
-named_after : (long : Bool) (begun : Begun) (lines : List Line) → named long (next_after (named long begun) lines)
+named_after : (long : Bool) (begun : Begun) (lines : List PrintedLine) → named long (next_after (named long begun) lines)
     ≡ named long (next_after begun lines)
 named_after long begun [] = named_again long begun
 named_after long begun (line ∷ lines) = refl
 
 -- the lines that a limit leaves for a later run
-abbrev lines_left : Option ℕ → List Line → List Line
+abbrev lines_left : Option ℕ → List PrintedLine → List PrintedLine
 lines_left None lines = []
 lines_left (Some limit) lines = drop limit lines
 
-parts : (max : Option ℕ) (lines : List Line) → up_to max lines ++ lines_left max lines ≡ lines
+parts : (max : Option ℕ) (lines : List PrintedLine) → up_to max lines ++ lines_left max lines ≡ lines
 parts max lines = grind (arith, append-nil, take-append-drop)
 
-not_cut : (long : Bool) (max : Option ℕ) (begun : Begun) (lines : List Line) (end : End) → is_cut max lines ≡ false
+not_cut : (long : Bool) (max : Option ℕ) (begun : Begun) (lines : List PrintedLine) (end : End) → is_cut max lines ≡ false
     → text_of long max begun lines end ≡ whole_text long begun lines end
 not_cut long max begun lines end whole = grind (arith, all_taken)
 
 -- one run is a beginning of a run without a limit
-alone : (lines : List Line) (max : Option ℕ) (rows : List ℕ) (last whole : Printed) (cut : Bool)
+alone : (lines : List PrintedLine) (max : Option ℕ) (rows : List ℕ) (last whole : Printed) (cut : Bool)
     → rows ≡ texts_of (up_to max lines) → (cut ≡ false → last ≡ whole) → AreAsOneRun [] rows last cut (texts_of lines) whole
 alone lines max rows last whole cut rows_are all = record {
   more = texts_of (lines_left max lines);
@@ -69,7 +69,7 @@ alone lines max rows last whole cut rows_are all = record {
 }
 
 -- runs after these lines are with them as one run
-as_one_after : (long : Bool) (begun : Begun) (xs ys : List Line) (end : End) (first others rows : List ℕ) (last : Printed) (cut : Bool)
+as_one_after : (long : Bool) (begun : Begun) (xs ys : List PrintedLine) (end : End) (first others rows : List ℕ) (last : Printed) (cut : Bool)
     → first ≡ texts_of xs
     → AreAsOneRun others rows last cut (texts_of ys) (whole_text long (named long (next_after begun xs)) ys end)
     → AreAsOneRun (first ++ others) rows last cut (texts_of (xs ++ ys)) (whole_text long begun (xs ++ ys) end)
@@ -101,7 +101,7 @@ same_last : (rows : List ℕ) (end : End) (begun next : Begun) → rows ++ last_
 same_last rows end begun next e = grind (arith, append_cancel_left, same_text)
 
 -- what stands after `next` after these lines is the text of what goes on after them
-next_told : (long : Bool) (max : Option ℕ) (begun : Begun) (lines : List Line) (end : End) (next : Begun)
+next_told : (long : Bool) (max : Option ℕ) (begun : Begun) (lines : List PrintedLine) (end : End) (next : Begun)
     → (text_of long max begun lines end).output ≡ texts_of (up_to max lines) ++ next_line next
     → begun_text (named long (next_after begun (up_to max lines))) ≡ begun_text next
 next_told long max begun lines end next e = grind (arith, same_last, same_text)
@@ -151,11 +151,11 @@ module _ (tails : BeginningsHaveOneTail) (go_on : TailsGoOn) (long_go_on : LongT
       }
 
   -- the lines after some of a run's lines
-  record LinesGoOn (long : Bool) (next : Begun) (lines : List Line) (end : End) : Type 0 where
+  record LinesGoOn (long : Bool) (next : Begun) (lines : List PrintedLine) (end : End) : Type 0 where
     are : AreRowLines file next lines end
     may : MayBegin file long next
 
-  after_line : (long : Bool) (begun : Begun) (line : Line) (lines : List Line) (end : End) → MayBegin file long begun
+  after_line : (long : Bool) (begun : Begun) (line : PrintedLine) (lines : List PrintedLine) (end : End) → MayBegin file long begun
       → AreRowLines file begun (line ∷ lines) end → LinesGoOn long (named long line.next) lines end
   after_line long begun line lines end may are = by_items are.items are.lines_are are.tail
     where
@@ -166,12 +166,12 @@ module _ (tails : BeginningsHaveOneTail) (go_on : TailsGoOn) (long_go_on : LongT
           let is : line ≡ line_of_row item = cc in
           let rest : lines ≡ map line_of_row items = cc in
           let goes = after_item long begun item items end may tail in
-          subst (λ (l : Line). LinesGoOn long (named long l.next) lines end) (sym is) (record {
+          subst (λ (l : PrintedLine). LinesGoOn long (named long l.next) lines end) (sym is) (record {
             are = record { items = items; tail = goes.tail; lines_are = rest };
             may = goes.may;
           })
 
-  after_lines : (long : Bool) (begun : Begun) (n : ℕ) (lines : List Line) (end : End) → MayBegin file long begun
+  after_lines : (long : Bool) (begun : Begun) (n : ℕ) (lines : List PrintedLine) (end : End) → MayBegin file long begun
       → AreRowLines file begun lines end → LinesGoOn long (named long (next_after begun (take n lines))) (drop n lines) end
   after_lines long begun zero lines end may are = rw (named_begun long begun may) (record { are = are; may = may })
   after_lines long begun (suc n) [] end may are = rw (named_begun long begun may) (record { are = are; may = may })
@@ -180,15 +180,15 @@ module _ (tails : BeginningsHaveOneTail) (go_on : TailsGoOn) (long_go_on : LongT
       subst (λ (b : Begun). LinesGoOn long b (drop n lines) end) (named_after long line.next (take n lines))
       (after_lines long (named long line.next) n lines end next.may next.are)
 
-  after_limit : (long : Bool) (begun : Begun) (max : Option ℕ) (lines : List Line) (end : End) → MayBegin file long begun
+  after_limit : (long : Bool) (begun : Begun) (max : Option ℕ) (lines : List PrintedLine) (end : End) → MayBegin file long begun
       → AreRowLines file begun lines end → LinesGoOn long (named long (next_after begun (up_to max lines))) (lines_left max lines) end
   after_limit long begun (Some limit) lines end may are = after_lines long begun limit lines end may are
   after_limit long begun None lines end may are =
-      subst (λ (l : List Line). LinesGoOn long (named long (next_after begun lines)) l end) (drop_all (length lines) lines (omega arith))
-      (subst (λ (l : List Line). LinesGoOn long (named long (next_after begun l)) (drop (length lines) lines) end) (take-length lines)
+      subst (λ (l : List PrintedLine). LinesGoOn long (named long (next_after begun lines)) l end) (drop_all (length lines) lines (omega arith))
+      (subst (λ (l : List PrintedLine). LinesGoOn long (named long (next_after begun l)) (drop (length lines) lines) end) (take-length lines)
       (after_lines long begun (length lines) lines end may are))
 
-  same_lines : (begun : Begun) (lines others : List Line) (end other : End) → AreRowLines file begun lines end
+  same_lines : (begun : Begun) (lines others : List PrintedLine) (end other : End) → AreRowLines file begun lines end
       → AreRowLines file begun others other → (others ≡ lines) × (other ≡ end)
   same_lines begun lines others end other are again =
       let one = one_rows file tails begun in
@@ -196,7 +196,7 @@ module _ (tails : BeginningsHaveOneTail) (go_on : TailsGoOn) (long_go_on : LongT
       let second = one.one others other again in (second.0 ∙ sym first.0, second.1 ∙ sym first.1)
 
   all_runs : (limits : List (Option ℕ)) (long : Bool) (begun : Begun) (max : Option ℕ) (before rows : List ℕ) (last : Printed) (cut : Bool)
-      (lines : List Line) (end : End) → MayBegin file long begun → AreRowLines file begun lines end
+      (lines : List PrintedLine) (end : End) → MayBegin file long begun → AreRowLines file begun lines end
       → AreRunsOfRows file long begun limits max before rows last cut
       → AreAsOneRun before rows last cut (texts_of lines) (whole_text long begun lines end)
   all_runs [] long begun max before rows last cut lines end may are (run, before_is) =
@@ -221,7 +221,7 @@ module _ (tails : BeginningsHaveOneTail) (go_on : TailsGoOn) (long_go_on : LongT
       let later = all_runs limits long (named long (next_after begun (up_to limit lines))) max others rows last cut (lines_left limit lines)
       end goes.may goes.are (subst (λ (b : Begun). AreRunsOfRows file long b limits max others rows last cut) next_is runs) in
       rw before_is
-      (subst (λ (l : List Line). AreAsOneRun (first ++ others) rows last cut (texts_of l) (whole_text long begun l end)) (parts limit lines)
+      (subst (λ (l : List PrintedLine). AreAsOneRun (first ++ others) rows last cut (texts_of l) (whole_text long begun l end)) (parts limit lines)
       (as_one_after long begun (up_to limit lines) (lines_left limit lines) end first others rows last cut first_is later))
 
   cut_next : (long : Bool) (begun : Begun) (max : Option ℕ) (text : Printed) (rows : List ℕ) → MayBegin file long begun

@@ -11,13 +11,13 @@ use Rattle.fax_walk.specs.laws.Answers.{BytesAreConvertedInOneWay, FilesHaveOneR
 use Rattle.fax_walk.specs.laws.Tails.{BeginningsHaveOneTail, CursorsHaveOneFormTail}
 use Rattle.fax_tool.specs.ReportText.{IsCheckText, IsConversionText, convert_fault_line, note_line}
 use Rattle.fax_tool.specs.Run.{ArePageLines, AreRowLines, IsTextOfLines, begun_of}
-use Rattle.fax_tool.specs.Text.{Begun, At, End, Line, Printed, and_number, fault_line}
+use Rattle.fax_tool.specs.Text.{Begun, At, End, PrintedLine, Printed, and_number, fault_line}
 use Rattle.fax_tool.specs.declared.words.Command.TheVariants.{Check, Convert, List as Forms, Rows}
 use Rattle.fax_tool.specs.laws.Texts.{TextsAreOne}
 use Rattle.fax_tool.proofs.LineLemmas.{one_pages, one_rows}
 
 -- of one list of lines and one end there is one text
-one_of_lines : (are : List Line → End → Type 0) → IsOne are → (long : Bool) (max : Option ℕ) (begun : Begun) (printed other : Printed)
+one_of_lines : (are : List PrintedLine → End → Type 0) → IsOne are → (long : Bool) (max : Option ℕ) (begun : Begun) (printed other : Printed)
     → IsTextOfLines are long max begun printed → IsTextOfLines are long max begun other → printed ≡ other
 one_of_lines are one long max begun printed other (lines, end, first, is) (lines', end', second, is') = grind arith
 

@@ -13,7 +13,7 @@ use Rattle.fax_bits.specs.laws.Codes.{IsOne}
 use Rattle.fax_tool.specs.declared.refusal.Refusal.{Refusal}
 use Rattle.fax_tool.specs.Run.{Counts, IsTextOfFirst, IsTextOfLines}
 use Rattle.fax_tool.specs.Streams.{output_after}
-use Rattle.fax_tool.specs.Text.{Line, end_text, named, next_after, next_line, text_of, texts_of}
+use Rattle.fax_tool.specs.Text.{PrintedLine, end_text, named, next_after, next_line, text_of, texts_of}
 use Rattle.fax_tool.specs.code.Outcome.{StopsPrinting, WritesOutput, end_line, error_of, status_of}
 use Rattle.fax_tool.specs.code.Printing.{EndsWith, IsLastLine, IsNextAfter, IsNextLine, PrintsLines}
 use Rattle.fax_tool.proofs.StopLemmas.{NoText, stops_after}
@@ -29,7 +29,7 @@ end_is (Fault page row cause) next = (refl, refl)
 end_is Outside next = (refl, refl)
 
 -- the text up to a limit that cuts the lines
-pub first_text : (begun : Begun) (count : ℕ) (lines : List Line) (end : End) → count ≤ length lines
+pub first_text : (begun : Begun) (count : ℕ) (lines : List PrintedLine) (end : End) → count ≤ length lines
     → (text_of false (Some count) begun lines end).output
     ≡ texts_of (take count lines) ++ next_line (named false (next_after begun (take count lines)))
 first_text begun count lines end some = grind arith
@@ -39,7 +39,7 @@ abbrev ending_text : Option End → Begun → List ℕ
 ending_text ending next = (end_text ending next).output
 
 -- the text of the lines, with its output, and the error line and status of its end
-record IsEndedText (lines : List Line) (end : End) (count : ℕ) (long : Bool) (max : Option ℕ) (begun : Begun) (ending : Option End) : Type 0
+record IsEndedText (lines : List PrintedLine) (end : End) (count : ℕ) (long : Bool) (max : Option ℕ) (begun : Begun) (ending : Option End) : Type 0
   where
     output : (text_of long max begun lines end).output
         ≡ texts_of (take count lines) ++ ending_text ending (named long (next_after begun (take count lines)))
@@ -48,7 +48,7 @@ record IsEndedText (lines : List Line) (end : End) (count : ℕ) (long : Bool) (
     within : IfSome max (λ limit. count ≤ limit)
     some : count ≤ length lines
 
-whole_ended : (lines : List Line) (end : End) (long : Bool) (max : Option ℕ) (begun : Begun) → IfSome max (λ limit. length lines < limit)
+whole_ended : (lines : List PrintedLine) (end : End) (long : Bool) (max : Option ℕ) (begun : Begun) → IfSome max (λ limit. length lines < limit)
     → IsEndedText lines end (length lines) long max begun (Some end)
 whole_ended lines end long None begun few = record {
   output = rw take-length refl;
@@ -68,11 +68,11 @@ whole_ended lines end long (Some limit) begun few =
       some = omega arith;
     }
 
-by_ending : (lines : List Line) (end : End) (count : ℕ) (long : Bool) (max : Option ℕ) (begun : Begun) (ending : Option End)
+by_ending : (lines : List PrintedLine) (end : End) (count : ℕ) (long : Bool) (max : Option ℕ) (begun : Begun) (ending : Option End)
     → EndsWith lines end count max ending → IsEndedText lines end count long max begun ending
 by_ending lines end count long max begun ending h = grind (arith, whole_ended)
 
-module _ {tail now : List Line → End → Type 0} (one : IsOne tail) (same : (all : List Line) (end : End) → tail all end ↔ now all end)
+module _ {tail now : List PrintedLine → End → Type 0} (one : IsOne tail) (same : (all : List PrintedLine) (end : End) → tail all end ↔ now all end)
     {begun now_begun : Begun} (same_begun : now_begun ≡ begun) (long : Bool) {max : Option ℕ} {ending : Option End} {count : ℕ}
     {output written : Option (List ℕ)} (prints : PrintsLines tail max ending count output written) where
   ended : IsEndedText prints.lines prints.end count long max begun ending
@@ -121,7 +121,7 @@ module _ {tail now : List Line → End → Type 0} (one : IsOne tail) (same : (a
       first stops
 
 -- the lines were refused
-pub stopped_at_lines : (tail : List Line → End → Type 0) (begun : Begun) (long : Bool) (max : Option ℕ) (output new_output : Option
+pub stopped_at_lines : (tail : List PrintedLine → End → Type 0) (begun : Begun) (long : Bool) (max : Option ℕ) (output new_output : Option
     (List ℕ))
     (counts : Counts) (refusal : Refusal)
     → StopsPrinting NoText (IsTextOfFirst tail max begun) refusal (output_after output new_output counts)

@@ -5,7 +5,7 @@ use Rattle.std.specs.Prelude.{Option, Some, IfSome, codes, ⊤}
 use Rattle.std.specs.Option.{option_map_or}
 use Rattle.std.specs.Io.KnownBytes.{Appends}
 use Rattle.fax_files.specs.Directory.{max_file}
-use Rattle.fax_tool.specs.Text.{Begun, At, Inside, Cursor, End, Line, Printed}
+use Rattle.fax_tool.specs.Text.{Begun, At, Inside, Cursor, End, PrintedLine, Printed}
 use Rattle.fax_tool.specs.Text.{line_of_page, line_of_row, text_of}
 use Rattle.fax_walk.specs.Pages.{IsFormTail}
 use Rattle.fax_walk.specs.Items.{IsTailFrom}
@@ -64,29 +64,30 @@ HasReason Read input output =
 HasReason Write input output = IsRead input × HasFailed output.counts
 
 -- these lines and this end are those of what is handed out so: the lines of its items
-pub record AreLinesOf {A : Type 0} (line_of : A → Line) (are : List A → End → Type 0)
-    (lines : List Line) (end : End) : Type 0 where
+pub record AreLinesOf {A : Type 0} (line_of : A → PrintedLine) (are : List A → End → Type 0)
+    (lines : List PrintedLine) (end : End) : Type 0 where
   pub items : List A
   pub tail : are items end
   pub lines_are : lines ≡ map line_of items
 
 -- the lines of a file's pages from a cursor on, and those of its rows from any beginning on
-abbrev pub ArePageLines : List ℕ → Cursor → List Line → End → Type 0
+abbrev pub ArePageLines : List ℕ → Cursor → List PrintedLine → End → Type 0
 ArePageLines file at = AreLinesOf line_of_page (IsFormTail file at)
 
-abbrev pub AreRowLines : List ℕ → Begun → List Line → End → Type 0
+abbrev pub AreRowLines : List ℕ → Begun → List PrintedLine → End → Type 0
 AreRowLines file begun = AreLinesOf line_of_row (IsTailFrom file begun)
 
 -- the text of such lines and of their end, which began so, up to a limit, with long cursors or not
-abbrev pub IsTextOfLines : (List Line → End → Type 0) → Bool → Option ℕ → Begun → Printed → Type 0
+abbrev pub IsTextOfLines : (List PrintedLine → End → Type 0) → Bool → Option ℕ → Begun → Printed
+    → Type 0
 IsTextOfLines are long max begun printed =
-    (lines : List Line) × (end : End) × are lines end
+    (lines : List PrintedLine) × (end : End) × are lines end
     × (printed ≡ text_of long max begun lines end)
 
 -- what is written of such lines where memory is refused: the first of them, up to its own limit
-abbrev pub IsTextOfFirst : (List Line → End → Type 0) → Option ℕ → Begun → List ℕ → Type 0
+abbrev pub IsTextOfFirst : (List PrintedLine → End → Type 0) → Option ℕ → Begun → List ℕ → Type 0
 IsTextOfFirst are max begun output =
-    (lines : List Line) × (end : End) × are lines end × (count : ℕ) × (count ≤ length lines)
+    (lines : List PrintedLine) × (end : End) × are lines end × (count : ℕ) × (count ≤ length lines)
     × IfSome max (λ limit. count ≤ limit)
     × (output ≡ (text_of false (Some count) begun lines end).output)
 

@@ -43,29 +43,29 @@ page_line_of page form =
     ++ and_fraction form.x ++ and_fraction form.y ++ and_number form.unit ++ codes "\n"
 
 -- a line of the output, and what the next call of the program begins with to go on after it
-pub record Line : Type 0 where
+pub record PrintedLine : Type 0 where
   pub text : List ℕ
   pub next : Begun
 
 -- the line of a row, after which a call begins inside a strip where it can, else with the cursor
-abbrev pub line_of_row : RowItem → Line
+abbrev pub line_of_row : RowItem → PrintedLine
 line_of_row item = record {
   text = row_line_of item.page item.row (runs_of item.pels);
   next = option_map_or Inside (long_after item) (At (cursor_after item));
 }
 
 -- the line of a page
-abbrev pub line_of_page : FormItem → Line
+abbrev pub line_of_page : FormItem → PrintedLine
 line_of_page item =
     let next : Cursor = record { page = item.page + 1; row = 0 } in
     record { text = page_line_of item.page item.form; next = At next }
 
 -- the texts of these lines
-abbrev pub texts_of : List Line → List ℕ
+abbrev pub texts_of : List PrintedLine → List ℕ
 texts_of = flat_map (λ line. line.text)
 
 -- what the next call begins with to go on after these lines, which began so
-abbrev pub next_after : Begun → List Line → Begun
+abbrev pub next_after : Begun → List PrintedLine → Begun
 next_after begun [] = begun
 next_after begun (line ∷ lines) = next_after line.next lines
 
@@ -102,15 +102,15 @@ end_text (Some Outside) next =
 
 -- the lines up to a limit, if there is one; and whether the limit cuts them, which it does too where
 -- these are just as many
-abbrev pub up_to : Option ℕ → List Line → List Line
+abbrev pub up_to : Option ℕ → List PrintedLine → List PrintedLine
 up_to max lines = option_map_or (λ limit. take limit lines) max lines
 
-abbrev pub is_cut : Option ℕ → List Line → Bool
+abbrev pub is_cut : Option ℕ → List PrintedLine → Bool
 is_cut max lines = option_map_or (λ limit. nat_le limit (length lines)) max false
 
 -- what is written of lines, which began so, and their end, up to a limit, if there is one, with
 -- long cursors or without
-abbrev pub text_of : Bool → Option ℕ → Begun → List Line → End → Printed
+abbrev pub text_of : Bool → Option ℕ → Begun → List PrintedLine → End → Printed
 text_of long max begun lines end =
     let next = named long (next_after begun (up_to max lines)) in
     let last = end_text (if is_cut max lines then None else Some end) next in

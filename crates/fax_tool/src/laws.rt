@@ -2,7 +2,7 @@
 ghost use Rattle.fax_tool.specs.laws.Words.{WordsHaveOneAnswer};
 ghost use Rattle.fax_tool.specs.laws.Runs as Laws;
 ghost use Rattle.fax_tool.specs.laws.Texts.{TextsAreOne};
-ghost use Rattle.fax_tool.specs.laws.Examples.{AreNotTaken, AreRead};
+ghost use Rattle.fax_tool.specs.laws.Examples.{AreNotTaken, AreSpellingsRead};
 
 /// Runs of `rows`, all with `--long` or all without, the first from any cursor, with `--long` also
 /// from a long cursor to which its strip's rows lead, and each later one from what is read of the
@@ -39,6 +39,6 @@ pub fn words_have_one_answer()
 
 /// What some words give, each option in each spelling, and some words that are not taken.
 pub fn examples_of_words()
-    ensures read { AreRead }
+    ensures read { AreSpellingsRead }
     ensures not_taken { AreNotTaken }
 {}

@@ -5,7 +5,7 @@ use Rattle.std.proofs.Common.{subst, arith, append_assoc}
 use Rattle.std.proofs.lemmas.List.{drop_at, take-append-drop}
 use Rattle.std.specs.Prelude.{slice_get}
 use Rattle.fax_walk.specs.declared.end.End.{End}
-use Rattle.fax_walk.specs.Pages.{AreFrom, Step, goes_on, ends_as}
+use Rattle.fax_walk.specs.Pages.{AreFrom, NextItem, goes_on, ends_as}
 use Rattle.fax_walk.specs.laws.InOrder.{LeadTo}
 use Rattle.fax_bits.specs.laws.Codes.{IsOne}
 
@@ -23,10 +23,10 @@ pub same_answer : {A : Type 0} {holds : A → Type 0} → IsOneAnswer holds → 
 same_answer only x y is is_too = only.one x is ∙ sym (only.one y is_too)
 
 -- steps that are the same have the same item and lead to the same place
-pub step_parts : {S A : Type 0} (x y : A) (to place : S) → ◌≡◌ {A = Step A S} (goes_on x to) (goes_on y place) → (x ≡ y) × (to ≡ place)
+pub step_parts : {S A : Type 0} (x y : A) (to place : S) → ◌≡◌ {A = NextItem A S} (goes_on x to) (goes_on y place) → (x ≡ y) × (to ≡ place)
 step_parts x y to place same = (cc same, cc same)
 
-pub same_step : {S A : Type 0} {next : Step A S → Type 0} → IsOneAnswer next → (x y : A) (to place : S)
+pub same_step : {S A : Type 0} {next : NextItem A S → Type 0} → IsOneAnswer next → (x y : A) (to place : S)
     → next (goes_on x to) → next (goes_on y place) → (x ≡ y) × (to ≡ place)
 same_step only x y to place is is_too = step_parts x y to place (same_answer only (goes_on x to) (goes_on y place) is is_too)
 
@@ -36,13 +36,13 @@ pub two_of : {A E : Type 0} {holds : List A → E → Type 0} → IsOne holds �
 two_of one items others end other is is_too = grind arith
 
 -- what is handed out from a place on, if something is
-pub record IsListed {S A : Type 0} (next : S → Step A S → Type 0) (at : S) : Type 0 where
+pub record IsListed {S A : Type 0} (next : S → NextItem A S → Type 0) (at : S) : Type 0 where
   pub items : List A
   pub end : End
   pub is : AreFrom next at items end
 
 -- where each place has at most one answer, two lists from a place on are one
-pub single_from : {S A : Type 0} (next : S → Step A S → Type 0) → ((at : S) → IsSingle (next at)) → (at : S) (items others : List A)
+pub single_from : {S A : Type 0} (next : S → NextItem A S → Type 0) → ((at : S) → IsSingle (next at)) → (at : S) (items others : List A)
     (end other : End) → AreFrom next at items end → AreFrom next at others other → (items ≡ others) × (end ≡ other)
 single_from next single at [] [] end other first second = grind arith
 single_from next single at [] (y ∷ others) end other first (to, second, rest) = grind arith
@@ -52,12 +52,12 @@ single_from {S} {A} next single at (x ∷ items) (y ∷ others) end other (to, f
     let later = single_from next single to' items others end other (subst (λ (p : S). AreFrom next p items end) same.1 rest) rest' in
     (ap (λ (i : A). i ∷ items) same.0 ∙ ap (λ (l : List A). y ∷ l) later.0, later.1)
 
-module _ {S A : Type 0} (next : S → Step A S → Type 0) (answers : (at : S) → IsOneAnswer (next at)) where
+module _ {S A : Type 0} (next : S → NextItem A S → Type 0) (answers : (at : S) → IsOneAnswer (next at)) where
   pub one_from : (at : S) (items others : List A) (end other : End) → AreFrom next at items end → AreFrom next at others other
       → (items ≡ others) × (end ≡ other)
   one_from = single_from next (λ at. same_answer (answers at))
 
-  listed_step : (at : S) (answer : Step A S) → next at answer → ((item : A) (to : S) → next at (goes_on item to) → IsListed next to)
+  listed_step : (at : S) (answer : NextItem A S) → next at answer → ((item : A) (to : S) → next at (goes_on item to) → IsListed next to)
       → IsListed next at
   listed_step at (ends_as end) is on = record { items = []; end = end; is = is }
   listed_step at (goes_on item to) is on =
@@ -88,7 +88,7 @@ module _ {S A : Type 0} (next : S → Step A S → Type 0) (answers : (at : S) �
   pub one_list : (at : S) → IsListed next at → IsOne (AreFrom next at)
   one_list at listed = grind (arith, common_steps, one_from)
 
-module _ {S A : Type 0} (next : S → Step A S → Type 0) where
+module _ {S A : Type 0} (next : S → NextItem A S → Type 0) where
   -- the first items of what is handed out lead to a place, and the others are handed out from there
   pub split_at : (at : S) (before after : List A) (end : End) → AreFrom next at (before ++ after) end
       → (to : S) × LeadTo next at before to × AreFrom next to after end
@@ -153,7 +153,7 @@ divided_at {A} (y ∷ xs) (suc n) x e =
 pub first_left : {A : Type 0} (all : List A) (n : ℕ) (item : A) → slice_get all n ≡ Some item → drop n all ≡ item ∷ drop (n + 1) all
 first_left all n item there = grind (arith, divided_at, drop_at)
 
-module _ {S A : Type 0} (next : S → Step A S → Type 0) where
+module _ {S A : Type 0} (next : S → NextItem A S → Type 0) where
   -- an item, the place where it was read, and what is handed out after it
   pub record IsSplit (from : S) (item : A) (after : List A) (end : End) : Type 0 where
     pub front : List A

@@ -17,7 +17,7 @@ use Rattle.fax_files.specs.laws.Files.{FilesHaveOneChain}
 use Rattle.fax_walk.specs.declared.cursor.Cursor.{Cursor}
 use Rattle.fax_walk.specs.declared.end.End.{End}
 use Rattle.fax_walk.specs.declared.end.End.TheVariants.{Fault, Outside, Proper}
-use Rattle.fax_walk.specs.Pages.{AreFrom, FormItem, FilePage, IsPageAt, IsOnPage, IsForm, IsFormTail, Step, goes_on, ends_as}
+use Rattle.fax_walk.specs.Pages.{AreFrom, FormItem, FilePage, IsPageAt, IsOnPage, IsForm, IsFormTail, NextItem, goes_on, ends_as}
 use Rattle.fax_walk.specs.code.Opening.{page_over, IsPageUnder, end_past_chain, page_or_end}
 use Rattle.fax_walk.specs.laws.Tails.{FilesHaveOneForms, CursorsHaveOneFormTail, FormTailOfPage, FormTailOfStart, FormsStandByNumber}
 use Rattle.fax_walk.specs.laws.Tails.{FormTailsGoOn}
@@ -161,7 +161,7 @@ module _ (chains : FilesHaveOneChain) (file : List ℕ) where
 
   pub one_form : (p : ℕ) → IsOneAnswer (IsForm file p)
   one_form p =
-      let form_of : FilePage → Step FormItem ℕ = λ here. goes_on (record { page = p; form = here.form }) (p + 1) in
+      let form_of : FilePage → NextItem FormItem ℕ = λ here. goes_on (record { page = p; form = here.form }) (p + 1) in
       let only = one_on_page (record { page = p; row = 0 }) (λ here step. step ≡ form_of here) ends_as (λ here. only_it (form_of here)) in
       record { it = only.it; is = only.is; one = only.one }
 

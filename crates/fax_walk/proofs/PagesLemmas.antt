@@ -15,7 +15,7 @@ use Rattle.fax_walk.specs.views.InOrder.{EndsAfter, HasEndedAs}
 use Rattle.fax_walk.specs.declared.end.End.TheVariants.{Proper}
 use Rattle.fax_walk.specs.declared.end.WalkFault.{WalkFault}
 use Rattle.fax_walk.specs.code.Walk.{answer_of}
-use Rattle.fax_walk.specs.views.Pages.{IsCursorOf, PagesView, HandsOutPage, IsNextPage}
+use Rattle.fax_walk.specs.views.Pages.{IsCursorOfPages, PagesView, HandsOutPage, IsNextPage}
 use Rattle.fax_walk.specs.laws.Forms.{AreFormsLeft}
 use Rattle.fax_walk.specs.laws.Tails.{CursorsHaveOneFormTail, FormTailOfPage}
 use Rattle.fax_files.specs.views.Page.{IsPageForm}
@@ -124,7 +124,7 @@ module _ (tails : CursorsHaveOneFormTail) (of_page : FormTailOfPage) where
 
 -- what is left of a reader of pages
 untold : (file : List ℕ) (begun : Cursor) (given : ℕ) (cursor : Cursor) → CursorsHaveOneFormTail
-    → IsCursorOf (record { file = file; begun = begun; given = given; told = None }) cursor
+    → IsCursorOfPages (record { file = file; begun = begun; given = given; told = None }) cursor
     → (forms : List FormItem) × (end : End)
     × AreFormsLeft (record { file = file; begun = begun; given = given; told = None }) forms end
 untold file begun given cursor tails is =

@@ -23,7 +23,7 @@ use Rattle.fax_walk.specs.declared.begun.Begun.{Begun}
 use Rattle.fax_walk.specs.declared.begun.Begun.TheVariants.{At, Inside}
 use Rattle.fax_walk.specs.declared.end.End.{End}
 use Rattle.fax_walk.specs.declared.end.End.TheVariants.{Fault, Outside}
-use Rattle.fax_walk.specs.Pages.{LongPlace, Cursor, FilePage, IsPageAt, Step, goes_on, ends_as}
+use Rattle.fax_walk.specs.Pages.{LongPlace, Cursor, FilePage, IsPageAt, NextItem, goes_on, ends_as}
 use Rattle.fax_walk.specs.Items.{RowItem, RowPlace, first_at, exchanged, before, IsInStrip, IsRow, place_after, IsBegunOn, IsInnerOn}
 use Rattle.fax_walk.specs.Items.{IsTailFrom, inner_at, begun_cursor}
 use Rattle.fax_walk.specs.code.Places.{strip_at, row_in_strip, FitsStrip, cursor_at}
@@ -96,7 +96,7 @@ module _ (by_place : AreBitsByPlace) (lines_read : LinesAreRead) where
         (refl, refl, omega (arith, from.1, by_place.count form.order bytes), rw (from.2, exchanged_twice form row) line, refl, refl) in
         record { it = goes_on item (place_after item); is = is; one = only_item item is }
       where
-        only_item : (item : RowItem) → IsItem item (place_after item) → (other : Step RowItem RowPlace)
+        only_item : (item : RowItem) → IsItem item (place_after item) → (other : NextItem RowItem RowPlace)
             → IsInStrip form at (Some bytes) other
             → other ≡ goes_on item (place_after item)
         only_item item is (ends_as end) (fault, stop, end_is) =
@@ -106,7 +106,7 @@ module _ (by_place : AreBitsByPlace) (lines_read : LinesAreRead) where
     by_line (inr (fault, stop)) =
         record { it = ends_as (Fault at.page at.row (Strip fault)); is = (fault, stop, refl); one = only_stop }
       where
-        only_stop : (other : Step RowItem RowPlace) → IsInStrip form at (Some bytes) other
+        only_stop : (other : NextItem RowItem RowPlace) → IsInStrip form at (Some bytes) other
             → other ≡ ends_as (Fault at.page at.row (Strip fault))
         only_stop (ends_as end) (another, stop_too, end_is) =
             let same = (lines_read strip i reference).line.one_fault b another fault stop_too stop in

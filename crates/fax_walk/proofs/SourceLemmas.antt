@@ -16,7 +16,7 @@ use Rattle.fax_files.specs.laws.Files.{FilesHaveOneChain, FormsAreWhole}
 use Rattle.fax_walk.specs.declared.cursor.Cursor.{Cursor}
 use Rattle.fax_walk.specs.declared.end.End.{End}
 use Rattle.fax_walk.specs.declared.end.End.TheVariants.{Fault}
-use Rattle.fax_walk.specs.Pages.{AreFrom, FilePage, FormItem, IsForm, IsPageAt, Step, goes_on, ends_as}
+use Rattle.fax_walk.specs.Pages.{AreFrom, FilePage, FormItem, IsForm, IsPageAt, NextItem, goes_on, ends_as}
 use Rattle.fax_walk.specs.Items.{RowItem, Inner, RowPlace, first_at, exchanged, before, IsInStrip, IsRow, place_after}
 use Rattle.fax_walk.specs.Converted.{pages_of}
 use Rattle.fax_walk.specs.code.Output.{form_sheet, page_of}
@@ -64,7 +64,7 @@ module _ (by_place : AreBitsByPlace) (lines_read : LinesAreRead) (file : List �
     after item same_page same_row same_form wide = grind (arith, common_steps)
 
     -- by what the file has of the strip
-    by_found : (inner : Option Inner) → IsWide inner → (found : Option (List ℕ)) → (answer : Step RowItem RowPlace)
+    by_found : (inner : Option Inner) → IsWide inner → (found : Option (List ℕ)) → (answer : NextItem RowItem RowPlace)
         → IsInStrip form (place_at r inner) found answer → IsRow file (place_at r inner) answer → Rows r (place_at r inner)
     by_found inner wide None (goes_on item to) is row = absurd cc
     by_found inner wide None (ends_as end) is row =
@@ -111,7 +111,7 @@ found_page file p one next (Ok here, page, e) =
     (here, page, ap (λ (i : FormItem). i.form) item, to)
 
 -- what is handed out after items that lead to a place
-after_led : {S A : Type 0} (next : S → Step A S → Type 0) → ((at : S) → IsOneAnswer (next at)) → (at to : S)
+after_led : {S A : Type 0} (next : S → NextItem A S → Type 0) → ((at : S) → IsOneAnswer (next at)) → (at to : S)
     (own items : List A) (end : End) → LeadTo next at own to → AreFrom next at items end
     → (others : List A) × (items ≡ own ++ others) × AreFrom next to others end
 after_led {S} {A} next answers at to [] items end to_is are = (items, refl, subst (λ (s : S). AreFrom next s items end) (sym to_is) are)

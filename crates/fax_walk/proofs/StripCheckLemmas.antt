@@ -24,7 +24,7 @@ use Rattle.fax_walk.specs.declared.checking.PageRead.{PageRead}
 use Rattle.fax_walk.specs.declared.end.End.{End}
 use Rattle.fax_walk.specs.declared.end.End.TheVariants.{Fault}
 use Rattle.fax_walk.specs.laws.InOrder.{LeadTo}
-use Rattle.fax_walk.specs.Pages.{IsPageAt, Step, ends_as}
+use Rattle.fax_walk.specs.Pages.{IsPageAt, NextItem, ends_as}
 use Rattle.fax_walk.specs.Items.{RowItem, RowPlace, first_at, IsRow}
 use Rattle.fax_walk.specs.Report.{notes_on_strip, IsStripNoted, IsNoted}
 use Rattle.fax_walk.specs.code.Check.{before_strip, CheckPlace, HasChecked, IsDirectoryOfPage}
@@ -71,7 +71,7 @@ module _ (directory : TiffDirectory) (form : PageForm) (p : ℕ) (on : IsPageToC
   at_strip s due = grind (arith, whole)
 
   -- what is found on a strip
-  noted_on : (s : ℕ) (answer : Step (List Note) (ℕ × Option ℕ))
+  noted_on : (s : ℕ) (answer : NextItem (List Note) (ℕ × Option ℕ))
       → IsStripNoted form p s (bytes_of directory s) answer → IsNoted file ((p, Some s)) answer
   noted_on s answer is = (Ok _, page 0, is)
 

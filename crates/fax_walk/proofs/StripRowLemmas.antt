@@ -19,7 +19,7 @@ use Rattle.fax_files.specs.Page.{strip_form, strip_bytes}
 use Rattle.fax_files.specs.laws.Files.{shown, IsWholeForm}
 use Rattle.fax_walk.specs.declared.end.End.TheVariants.{Fault}
 use Rattle.fax_walk.specs.laws.InOrder.{LeadTo}
-use Rattle.fax_walk.specs.Pages.{IsPageAt, Step, goes_on, ends_as}
+use Rattle.fax_walk.specs.Pages.{IsPageAt, NextItem, goes_on, ends_as}
 use Rattle.fax_walk.specs.Items.{RowItem, Inner, RowPlace, first_at, exchanged, before, IsInStrip, IsRow, place_after}
 use Rattle.fax_walk.specs.code.Places.{first_on, place_on, strip_at}
 use Rattle.fax_walk.specs.laws.Written.{WalkedRow, walked, numbered}
@@ -58,7 +58,7 @@ module _ (by_place : AreBitsByPlace) (lines_read : LinesAreRead) (file : List �
   place_at r inner = record { page = p; row = r; inner = inner }
 
   -- what is at a place, by what the file has of its strip
-  pub row_at : (r : ℕ) (inner : Option Inner) (found : Option (List ℕ)) (answer : Step RowItem RowPlace)
+  pub row_at : (r : ℕ) (inner : Option Inner) (found : Option (List ℕ)) (answer : NextItem RowItem RowPlace)
       → strip_bytes endian file q (strip_at form r) ≡ found → IsInStrip form (place_at r inner) found answer
       → IsRow file (place_at r inner) answer
   row_at r inner found answer e is = (Ok _, page r, subst (λ (o : Option (List ℕ)). IsInStrip form (place_at r inner) o answer) (sym e) is)

@@ -82,7 +82,8 @@ fn first_page<'a>(file: &'a [u8], cursor: Cursor) -> Result<DuePage<'a>, End>
 
 impl<'a> Pages<'a> {
     ghost use Rattle.fax_walk.specs.laws.Forms.{AreFormsLeft};
-    ghost use Rattle.fax_walk.specs.views.Pages.{IsCursorOf, IsNextPage, pages_from, pages_start};
+    ghost use Rattle.fax_walk.specs.views.Pages.{IsCursorOfPages, IsNextPage};
+    ghost use Rattle.fax_walk.specs.views.Pages.{pages_from, pages_start};
 
     /// A reader of all pages of a file, from any bytes. Nothing is read yet.
     pub fn start(file: &'a [u8]) -> Self
@@ -107,7 +108,7 @@ impl<'a> Pages<'a> {
 
     /// The cursor after the last page that was handed out, or the one that the reader began with.
     pub fn cursor(&self) -> Cursor
-        ensures { IsCursorOf self.now result }
+        ensures { IsCursorOfPages self.now result }
     {
         self.cursor
     }

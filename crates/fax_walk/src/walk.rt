@@ -155,7 +155,7 @@ fn go_on<'a>(
 }
 
 impl<'a> Walk<'a> {
-    ghost use Rattle.fax_walk.specs.views.Lent.{EndsAs};
+    ghost use Rattle.fax_walk.specs.views.Lent.{WalkEndsAs};
     ghost use Rattle.fax_walk.specs.views.Walk.{IsNext, IsCursorOf, IsLongOf, AreRead, walk_start};
     ghost use Rattle.fax_walk.specs.views.Walk.{place_inside};
 
@@ -311,7 +311,7 @@ impl<'a> Walk<'a> {
     /// the rows, `CursorOutside` where the walk began at no place of the file, from then on.
     #[inline(always)]
     pub fn next_row(&mut self) -> Result<Option<(Place, &Row)>, WalkFault>
-        ensures* next { sem 𝓛 (EndsAs self.entry (IsNext self.old result)) }
+        ensures* next { sem 𝓛 (WalkEndsAs self.entry (IsNext self.old result)) }
     {
         if !self.advance()? {
             return Ok(None);

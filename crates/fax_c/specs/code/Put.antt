@@ -21,7 +21,7 @@ use Rattle.fax_c.specs.declared.filled.Stop.TheVariants.{Done, Ended, Memory, No
 use Rattle.fax_c.specs.declared.places.FaxPlace.{FaxPlace}
 use Rattle.fax_c.specs.declared.rows.FaxRow.{FaxRow}
 use Rattle.fax_c.specs.views.Filled.{row_at}
-use Rattle.fax_c.specs.views.Places.{HasRuns, KeepsRuns, begun_of, long_place_of, most_runs}
+use Rattle.fax_c.specs.views.Places.{HasRuns, KeepsRuns, place_begun, long_place_of, most_runs}
 
 -- why a reader hands out nothing more
 abbrev pub stop_of : WalkFault → Stop
@@ -74,7 +74,7 @@ pub record IsWalkAfter (old : WalkView) (filled : Filled) (new : WalkView) : Typ
 
 -- a walk begins at a place, which lacks no runs
 abbrev pub IsBegunAt : Begun → FaxPlace → List ℕ → Type 0
-IsBegunAt begun place runs = (begun ≡ begun_of place runs) × (place.runs ≤ length runs)
+IsBegunAt begun place runs = (begun ≡ place_begun place runs) × (place.runs ≤ length runs)
 
 -- the place inside a strip after the rows that a walk has handed out is told, or there is none, or
 -- its runs have no room; no run is changed that the place of no row would take

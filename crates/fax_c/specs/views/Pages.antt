@@ -13,7 +13,7 @@ use Rattle.fax_c.specs.declared.filled.Stop.TheVariants.{Ended, NoRoom}
 use Rattle.fax_c.specs.declared.forms.FaxForm.{FaxForm}
 use Rattle.fax_c.specs.declared.rows.FaxRow.{FaxRow}
 use Rattle.fax_c.specs.declared.told.FaxTold.{FaxTold}
-use Rattle.fax_c.specs.Forms.{form_of}
+use Rattle.fax_c.specs.Forms.{form_numbers}
 use Rattle.fax_c.specs.Raster.{padded_row}
 use Rattle.fax_c.specs.Told.{IsTold}
 use Rattle.fax_c.specs.views.Filled.{AreRowsFilled}
@@ -36,7 +36,7 @@ abbrev pub TellsPage : List ℕ → ℕ → ℕ → FaxForm → FaxForm → List
 TellsPage file page stride old_form form old new told status =
     (filled : Filled) × IsTold filled told status
     × (((item : FormItem) × IsNumber (IsFormTail file (record { page = page; row = 0 })) 0 item
-    × (form ≡ form_of item.form)
+    × (form ≡ form_numbers item.form)
     × (((packed_len item.form.width ≤ stride)
     × IsRasterFilled file (At (record { page = page; row = 0 })) item.form.rows stride old filled new)
     ⊎ ((stride < packed_len item.form.width) × (filled ≡ none_filled page NoRoom) × (new ≡ old))))

@@ -40,8 +40,8 @@ LacksRuns place runs = length runs < place.runs
 
 -- what a walk begins with that goes on at a place: inside a strip where it has runs, else at the
 -- cursor
-abbrev pub begun_of : FaxPlace → List ℕ → Begun
-begun_of place runs =
+abbrev pub place_begun : FaxPlace → List ℕ → Begun
+place_begun place runs =
     if nat_lt 0 place.runs then Inside (long_place_of place runs) else At (cursor_of place)
 
 -- a walk that began so, after so many rows
@@ -88,8 +88,8 @@ abbrev pub GoesOn : {N : Type 0} → (List Colour → List N) → List ℕ → F
     → List FaxRow → List N → FaxPlace → List ℕ → List FaxRow → List N → FaxTold → ℕ → Type 0
 GoesOn numbers file old_place old_runs old_rows old_out place runs rows out told status =
     ((old_place.runs ≤ length old_runs) × (filled : Filled)
-    × AreRowsFilled numbers file (begun_of old_place old_runs) old_rows old_out filled rows out
-    × IsAfter file (begun_of old_place old_runs) filled old_runs place runs
+    × AreRowsFilled numbers file (place_begun old_place old_runs) old_rows old_out filled rows out
+    × IsAfter file (place_begun old_place old_runs) filled old_runs place runs
     × IsTold filled told status)
     ⊎ (LacksRuns old_place old_runs × (place ≡ old_place) × (runs ≡ old_runs)
     × (rows ≡ old_rows) × (out ≡ old_out)

@@ -8,7 +8,7 @@ use Rattle.fax_page.specs.Strip.{coded_strip}
 use Rattle.fax_c.specs.declared.rows.FaxRow.{FaxRow}
 use Rattle.fax_c.specs.declared.strip_form.FaxStrip.{FaxStrip}
 use Rattle.fax_c.specs.views.PlaceTexts.{IsTextTold}
-use Rattle.fax_c.specs.views.Strips.{IsForm}
+use Rattle.fax_c.specs.views.Strips.{IsStripFormGiven}
 
 -- row i of a table has these pels, so many of them: its runs lie where the table says
 abbrev pub IsRowAt : ℕ → List FaxRow → List ℕ → ℕ → List Colour → Type 0
@@ -29,7 +29,7 @@ AreRowsOf form table runs rows =
 
 -- these numbers are a form and a k
 abbrev pub IsFormWith : FaxStrip → ℕ → StripForm → Type 0
-IsFormWith given k form = IsForm given form × (0 < k)
+IsFormWith given k form = IsStripFormGiven given form × (0 < k)
 
 -- the rows of a table are coded as a strip, which is written where it has room, and its length told;
 -- or memory was refused; or the numbers are no form, or there are no such rows; then nothing is

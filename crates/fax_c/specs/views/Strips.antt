@@ -22,13 +22,13 @@ use Rattle.fax_c.specs.declared.places.FaxPlace.{FaxPlace}
 use Rattle.fax_c.specs.declared.strip_form.FaxStrip.{FaxStrip}
 use Rattle.fax_c.specs.declared.told.FaxTold.{FaxTold}
 use Rattle.fax_c.specs.Numbers.{bool_number, coding_number, order_number}
-use Rattle.fax_c.specs.Raster.{HoldsRaster, padded_row, raster_rows}
+use Rattle.fax_c.specs.Raster.{HoldsRaster, padded_row, rows_of_raster}
 use Rattle.fax_c.specs.Told.{IsTold, end_fault, end_status, fault_of, status_of}
 use Rattle.fax_c.specs.views.Places.{HasRuns, cursor_of, most_runs}
 use Rattle.fax_c.specs.views.PlaceTexts.{IsTextTold}
 
 -- these numbers are this form, which is within the limits
-pub record IsForm (given : FaxStrip) (form : StripForm) : Type 0 where
+pub record IsStripFormGiven (given : FaxStrip) (form : StripForm) : Type 0 where
   pub width : given.width ≡ form.width
   pub rows : given.rows ≡ form.rows
   pub coding : given.coding ≡ coding_number form.coding
@@ -38,7 +38,7 @@ pub record IsForm (given : FaxStrip) (form : StripForm) : Type 0 where
 
 -- a strip can be read in this form: each place of a bit in it has 32 bits
 abbrev pub IsReadable : List ℕ → FaxStrip → StripForm → Type 0
-IsReadable strip given form = IsForm given form × (length strip ≤ 536870911)
+IsReadable strip given form = IsStripFormGiven given form × (length strip ≤ 536870911)
 
 -- a strip can be read in this form whose rows nobody counted, which are 0 by the numbers: it may have
 -- as many as a strip has at most
@@ -88,7 +88,7 @@ StopsAt form all to page stride left stop = ⊥
 
 -- the rows from one place of a strip to another are written, each in so many bytes, and nothing
 -- else is changed
-pub record AreRead (form : StripForm) (all : List Bool) (page stride : ℕ) (from : StripPlace)
+pub record AreStripRows (form : StripForm) (all : List Bool) (page stride : ℕ) (from : StripPlace)
     (old : List ℕ) (filled : Filled) (to : StripPlace) (new : List ℕ) : Type 0 where
   pub rows : List (List Colour)
   pub read : ReadsTo form all from rows to
@@ -130,7 +130,7 @@ abbrev pub ReadsOn : StripForm → List ℕ → ℕ → FaxPlace → List ℕ �
 ReadsOn form strip stride old_place old_runs old filled place runs new =
     (HasRoom form stride (length old) × (from : StripPlace) × (to : StripPlace)
     × IsDueAt form strip old_place old_runs from
-    × AreRead form (bits form.order strip) old_place.page stride from old filled to new
+    × AreStripRows form (bits form.order strip) old_place.page stride from old filled to new
     × IsPlaceAfter form.width filled.count old_place old_runs place runs to)
     ⊎ (ReadsNone form strip stride old_place old_runs (length old) filled.stop
     × (filled.count ≡ 0) × (filled.used ≡ 0) × (filled.cursor ≡ cursor_of old_place)
@@ -182,7 +182,7 @@ TellsStripRows strip given stride old_place old_runs old place runs new old_told
 -- these numbers are a form, and the bytes hold its raster
 abbrev pub IsCodable : FaxStrip → ℕ → List ℕ → ℕ → StripForm → Type 0
 IsCodable given k raster stride form =
-    IsForm given form × (0 < k) × HoldsRaster (length raster) form.width form.rows stride
+    IsStripFormGiven given form × (0 < k) × HoldsRaster (length raster) form.width form.rows stride
 
 -- the rows of a raster are coded as a strip, which is written where it has room, and its length
 -- told; or memory was refused; or the numbers are no form or the raster is too short; then nothing
@@ -190,8 +190,8 @@ IsCodable given k raster stride form =
 abbrev pub TellsStrip : FaxStrip → ℕ → List ℕ → ℕ → List ℕ → List ℕ → ℕ → ℕ → Type 0
 TellsStrip given k raster stride old new len status =
     ((form : StripForm) × IsCodable given k raster stride form
-    × (IsTextTold (coded_strip form k (raster_rows form.width stride raster 0 form.rows)) old new len
-    status
+    × (IsTextTold (coded_strip form k (rows_of_raster form.width stride raster 0 form.rows)) old new
+    len status
     ⊎ ((status ≡ 4) × (len ≡ 0) × (new ≡ old))))
     ⊎ ((status ≡ 7) × ((form : StripForm) → IsCodable given k raster stride form → ⊥)
     × (len ≡ 0) × (new ≡ old))

@@ -10,12 +10,12 @@ use Rattle.fax_files.specs.views.Page.{IsPageForm}
 use Rattle.fax_files.specs.views.Writing.{empty_file}
 use Rattle.fax_c.specs.declared.forms.FaxForm.{FaxForm}
 use Rattle.fax_c.specs.declared.writing.FaxWritten.{FaxWritten}
-use Rattle.fax_c.specs.Forms.{form_of}
+use Rattle.fax_c.specs.Forms.{form_numbers}
 use Rattle.fax_c.specs.Raster.{HoldsRaster, page_strips}
 
 -- these numbers are this form, in which a page can be written
 pub record IsFormGiven (given : FaxForm) (form : PageForm) : Type 0 where
-  pub given_is : given ≡ form_of form
+  pub given_is : given ≡ form_numbers form
   pub limits : IsPageForm form
   pub exchanged : form.exchanged ≡ false
 

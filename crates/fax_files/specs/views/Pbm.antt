@@ -21,7 +21,7 @@ pub record IsImageRead (old : PbmState) (image : Image) (new : PbmState) : Type 
   pub good : new.fault ≡ None
 
 -- no bytes are left
-pub record IsAtEnd (old new : PbmState) : Type 0 where
+pub record HasNoImageLeft (old new : PbmState) : Type 0 where
   pub before : old.fault ≡ None
   pub empty : old.left ≡ []
   pub same : new ≡ old

@@ -10,7 +10,7 @@ use Rattle.fax_walk.specs.declared.end.WalkFault.{WalkFault}
 use Rattle.fax_walk.specs.declared.end.WalkFault.TheVariants.{AtRow, CursorOutside}
 use Rattle.fax_walk.specs.declared.end.WalkFault.TheVariants.{Memory as NoRoom}
 use Rattle.fax_walk.specs.views.InOrder.{IsNumber, EndsAfter}
-use Rattle.fax_tool.specs.Text.{Line, named, next_after, next_line, texts_of}
+use Rattle.fax_tool.specs.Text.{PrintedLine, named, next_after, next_line, texts_of}
 
 -- how lines end where a walk or a reader of pages answers so; want of memory is no end
 abbrev pub end_of : WalkFault → Option End
@@ -19,9 +19,9 @@ end_of CursorOutside = Some Outside
 end_of NoRoom = None
 
 -- a run begins with this that goes on after so many of such lines, which began so
-pub record IsNextAfter (tail : List Line → End → Type 0) (begun : Begun) (given : ℕ)
+pub record IsNextAfter (tail : List PrintedLine → End → Type 0) (begun : Begun) (given : ℕ)
     (next : Begun) : Type 0 where
-  pub lines : List Line
+  pub lines : List PrintedLine
   pub end : End
   pub is : tail lines end
   pub within : given ≤ length lines
@@ -29,37 +29,38 @@ pub record IsNextAfter (tail : List Line → End → Type 0) (begun : Begun) (gi
 
 -- line number `given` is collected, or the lines have ended after so many; where memory was refused
 -- the text is as it was
-abbrev pub IsLinePut : (List Line → End → Type 0) → ℕ → List ℕ → Result (Option End) NoMemory → ℕ
-    → List ℕ → Type 0
+abbrev pub IsLinePut : (List PrintedLine → End → Type 0) → ℕ → List ℕ → Result (Option End) NoMemory
+    → ℕ → List ℕ → Type 0
 IsLinePut tail given text (Ok None) new_given new_text =
-    (line : Line) × IsNumber tail given line × (new_given ≡ given + 1)
+    (line : PrintedLine) × IsNumber tail given line × (new_given ≡ given + 1)
     × (new_text ≡ text ++ line.text)
 IsLinePut tail given text (Ok (Some end)) new_given new_text =
     EndsAfter tail given end × (new_given ≡ given) × (new_text ≡ text)
 IsLinePut tail given text (Err memory) new_given new_text = new_text ≡ text
 
 -- printing ended so after so many lines: with their end, and fewer than the limit, or at the limit
-abbrev pub EndsWith : List Line → End → ℕ → Option ℕ → Option End → Type 0
+abbrev pub EndsWith : List PrintedLine → End → ℕ → Option ℕ → Option End → Type 0
 EndsWith lines end count max (Some met) =
     (end ≡ met) × (count ≡ length lines) × IfSome max (λ limit. count < limit)
 EndsWith lines end count max None = (max ≡ Some count) × (count ≤ length lines)
 
 -- so many of such lines were printed, and printing ended so
-pub record PrintsLines (tail : List Line → End → Type 0) (max : Option ℕ) (ending : Option End)
-    (count : ℕ) (output new_output : Option (List ℕ)) : Type 0 where
-  pub lines : List Line
+pub record PrintsLines (tail : List PrintedLine → End → Type 0) (max : Option ℕ)
+    (ending : Option End) (count : ℕ) (output new_output : Option (List ℕ)) : Type 0 where
+  pub lines : List PrintedLine
   pub end : End
   pub is : tail lines end
   pub ends : EndsWith lines end count max ending
   pub printed : Appends output new_output (texts_of (take count lines))
 
 -- where to go on after so many of such lines, with long cursors or without
-abbrev pub IsNextLine : (List Line → End → Type 0) → Begun → ℕ → Bool → List ℕ → Type 0
+abbrev pub IsNextLine : (List PrintedLine → End → Type 0) → Begun → ℕ → Bool → List ℕ → Type 0
 IsNextLine tail begun given long line =
     (next : Begun) × IsNextAfter tail begun given next × (line ≡ next_line (named long next))
 
 -- what is printed after so many of such lines where printing ended so
-abbrev pub IsLastLine : (List Line → End → Type 0) → Begun → ℕ → Bool → Option End → List ℕ → Type 0
+abbrev pub IsLastLine : (List PrintedLine → End → Type 0) → Begun → ℕ → Bool → Option End → List ℕ
+    → Type 0
 IsLastLine tail begun given long None line = IsNextLine tail begun given long line
 IsLastLine tail begun given long (Some Proper) line = line ≡ codes "end\n"
 IsLastLine tail begun given long (Some (Fault page row cause)) line =

@@ -26,7 +26,7 @@ abbrev pub text : Text → Given → Option Text
 text name given = given name
 
 -- each option in each spelling
-pub record AreRead : Type 0 where
+pub record AreSpellingsRead : Type 0 where
   pub cursor : Gives (codes "list --cursor 1:2:3") (text (codes "cursor")) (Some (codes "1:2:3"))
   pub cursor_joined : Gives (codes "rows --cursor=1:2:3") (text (codes "cursor"))
       (Some (codes "1:2:3"))

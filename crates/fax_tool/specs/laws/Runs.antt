@@ -7,7 +7,7 @@ use Rattle.fax_walk.specs.declared.begun.Begun.TheVariants.{At, Inside}
 use Rattle.fax_walk.specs.declared.end.End.{End}
 use Rattle.fax_walk.specs.Pages.{IsCursor, IsLongCursor}
 use Rattle.fax_walk.specs.laws.Tails.{IsReachedPlace}
-use Rattle.fax_tool.specs.Text.{Line, Printed, is_cut, next_line, texts_of, text_of, up_to}
+use Rattle.fax_tool.specs.Text.{PrintedLine, Printed, is_cut, next_line, texts_of, text_of, up_to}
 use Rattle.fax_tool.specs.Run.{AreRowLines}
 use Rattle.fax_files.specs.Directory.{max_file}
 
@@ -16,7 +16,7 @@ use Rattle.fax_files.specs.Directory.{max_file}
 -- limit cut it
 pub record IsRunOfRows (file : List ℕ) (long : Bool) (begun : Begun) (max : Option ℕ)
     (text : Printed) (rows : List ℕ) (cut : Bool) : Type 0 where
-  pub lines : List Line
+  pub lines : List PrintedLine
   pub end : End
   pub are : AreRowLines file begun lines end
   pub text_is : text ≡ text_of long max begun lines end

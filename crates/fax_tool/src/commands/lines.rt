@@ -5,7 +5,7 @@ ghost use Rattle.fax_walk.specs.views.Walk.{begun_place};
 ghost use Rattle.fax_walk.specs.Items.{begun_cursor};
 ghost use Rattle.fax_walk.specs.declared.begun.Begun.{Begun};
 ghost use Rattle.fax_walk.specs.declared.end.End.{End as TheEnd};
-ghost use Rattle.fax_tool.specs.Text.{Line};
+ghost use Rattle.fax_tool.specs.Text.{PrintedLine};
 ghost use Rattle.fax_tool.specs.code.Printing as Spec;
 ghost use Rattle.fax_tool.specs.code.Printing.{IsLinePut, IsNextAfter};
 
@@ -20,7 +20,7 @@ use std::alloc::Global;
 /// which no call changes, what they began with, how many were collected, and a number that each
 /// line makes less.
 pub trait Lines {
-    ghost tail: { Self → List Line → TheEnd → Type 0 };
+    ghost tail: { Self → List PrintedLine → TheEnd → Type 0 };
 
     ghost begun: { Self → Begun };
 
@@ -44,7 +44,7 @@ pub trait Lines {
     /// Collects the next line after the text, or answers how the lines ended. Where memory is
     /// refused the text is as it was.
     fn put_next(&mut self, text: &mut Collected) -> Result<Option<End>, Memory>
-        ensures tail { (lines : List Line) (end : TheEnd) → tail self.old lines end
+        ensures tail { (lines : List PrintedLine) (end : TheEnd) → tail self.old lines end
             ↔ tail self.new lines end }
         ensures begun { begun self.new ≡ begun self.old }
         ensures fewer { IfOk result (λ end. end ≡ None → left self.new < left self.old) }

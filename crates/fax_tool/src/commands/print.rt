@@ -8,7 +8,7 @@ ghost use Rattle.fax_tool.specs.code.Outcome.{StopsWith, WritesOutput};
 ghost use Rattle.fax_tool.specs.code.Printing.{IsLastLine, IsNextLine, PrintsLines};
 ghost use Rattle.fax_tool.specs.code.Transfers.{IsGivenInPart, SendsPart, counted};
 ghost use Rattle.fax_tool.specs.Streams.{input_after, no_faults, output_after};
-ghost use Rattle.fax_tool.specs.Text.{Line, next_line};
+ghost use Rattle.fax_tool.specs.Text.{PrintedLine, next_line};
 ghost use Rattle.fax_tool.specs.Run.{HasWorked, IsRead, IsTextOfFirst, IsTextOfLines, begun_of};
 ghost use Rattle.fax_files.specs.Directory.{max_file};
 ghost use Rattle.fax_walk.specs.Items.{begun_cursor};
@@ -140,7 +140,7 @@ fn print_lines<L: Lines, W: Sink>(
     requires fresh { L.given lines.old ≡ 0 }
     ensures ok { IfOk result (λ ending. PrintsLines (L.tail lines.old) max ending
         (L.given lines.new) (W.written out.old) (W.written out.new)) }
-    ensures tail { OnOk result ((all : List Line) (end : TheEnd) → L.tail lines.old all end
+    ensures tail { OnOk result ((all : List PrintedLine) (end : TheEnd) → L.tail lines.old all end
         ↔ L.tail lines.new all end) }
     ensures begun { OnOk result (L.begun lines.new ≡ L.begun lines.old) }
     ensures counts { OnOk result (W.counts out.new ≡ counted interruptions.new) }

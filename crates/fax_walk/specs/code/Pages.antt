@@ -7,7 +7,7 @@ use Rattle.fax_walk.specs.declared.pages.PagesStage.{PagesStage}
 use Rattle.fax_walk.specs.declared.pages.PagesStage.TheVariants.{Before, After, Ended}
 use Rattle.fax_walk.specs.views.InOrder.{EndsAfter, HasToldNoOther}
 use Rattle.fax_walk.specs.Pages.{AreFrom, FormItem, IsForm, IsFormTail}
-use Rattle.fax_walk.specs.views.Pages.{PagesView, IsCursorOf}
+use Rattle.fax_walk.specs.views.Pages.{PagesView, IsCursorOfPages}
 use Rattle.fax_walk.specs.code.Opening.{PageDue, IsChainBefore}
 
 -- how the pages ended, once that was told
@@ -40,8 +40,8 @@ HasCome file begun given (Ended end) = EndsAfter (IsFormTail file begun) given e
 pub record IsSoundReader (file : List ℕ) (begun : Cursor) (given : ℕ) (cursor : Cursor)
     (stage : PagesStage) : Type 0 where
   pub come : HasCome file begun given stage
-  pub cursor_is : IsCursorOf (record { file = file; begun = begun; given = given; told = None })
-      cursor
+  pub cursor_is : IsCursorOfPages
+      (record { file = file; begun = begun; given = given; told = None }) cursor
 
 -- a page is the one after the directories that a chain has handed out
 abbrev pub IsPageAfter : ChainState → PageDue → Type 0

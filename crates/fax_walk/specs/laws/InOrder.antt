@@ -2,10 +2,10 @@
 -- A definition without a citation is this project's profile.
 use Rattle.std.specs.Prelude.{◌≡◌, ℕ, ◌≤◌, List, [], ◌∷◌, length, drop, Option, Some, None}
 use Rattle.fax_walk.specs.declared.end.End.{End}
-use Rattle.fax_walk.specs.Pages.{Step, goes_on}
+use Rattle.fax_walk.specs.Pages.{NextItem, goes_on}
 
 -- these items are read from a place on, and the last of them leads to this place
-abbrev pub LeadTo : {S A : Type 0} → (S → Step A S → Type 0) → S → List A → S → Type 0
+abbrev pub LeadTo : {S A : Type 0} → (S → NextItem A S → Type 0) → S → List A → S → Type 0
 LeadTo next at [] to = to ≡ at
 LeadTo {S} next at (item ∷ items) to =
     (place : S) × next at (goes_on item place) × LeadTo next place items to

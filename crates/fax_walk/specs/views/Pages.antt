@@ -42,6 +42,6 @@ IsNextPage old (Err CursorOutside) new = HasEndedAs IsFormTail old Outside new
 IsNextPage old (Err Memory) new = ⊥
 
 -- the cursor after the page that was handed out last, or the one that the reader began with
-abbrev pub IsCursorOf : PagesView → Cursor → Type 0
-IsCursorOf pages =
+abbrev pub IsCursorOfPages : PagesView → Cursor → Type 0
+IsCursorOfPages pages =
     IsAfterLast IsFormTail pages (λ at. at) (λ item. record { page = item.page + 1; row = 0 })

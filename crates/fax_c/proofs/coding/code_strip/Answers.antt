@@ -6,7 +6,7 @@ use Rattle.fax_rows.specs.Coded.{packed_len, unpacked_row}
 use Rattle.fax_page.specs.declared.StripForm.{StripForm}
 use Rattle.fax_page.specs.laws.Writer.{HasPut}
 use Rattle.fax_page.specs.views.Writer.{WriterState}
-use Rattle.fax_c.specs.Raster.{raster_row, raster_rows}
+use Rattle.fax_c.specs.Raster.{raster_row, rows_of_raster}
 use Rattle.fax_c.proofs.coding.code_strip.Goals as goal
 
 if_ok-weaker : {T E : Type 0} {P Q : T → Type 0} (r : Result T E) → ((v : T) → P v → Q v) → IfOk r P → IfOk r Q
@@ -19,7 +19,7 @@ cut xs at len n same =
     ap (λ k. take k (drop at xs)) count
 
 row_due : (form : StripForm) (k stride first i : ℕ) (raster : List ℕ) (writer : WriterState)
-    → HasPut form k (raster_rows form.width stride raster first i) writer → writer.row ≡ i
+    → HasPut form k (rows_of_raster form.width stride raster first i) writer → writer.row ≡ i
 row_due form k stride first i raster writer put =
     ap (λ (w : WriterState). w.row) put ∙ length-map-range_with_len (raster_row form.width stride raster) first i
 
@@ -36,12 +36,12 @@ loop-i-preserved c =
     let raster = c.args.raster.now in
     let i = c.loop-i.i in
     let row = c.set_packed.new.self in
-    let all = raster_rows form.width c.args.stride raster c.args.first i in
+    let all = rows_of_raster form.width c.args.stride raster c.args.first i in
     let row_is : row ≡ raster_row form.width c.args.stride raster (c.args.first + i) =
     c.set_packed.ensures.pels
     ∙ ap (λ n. unpacked_row n (between ((c.args.first + i) * c.args.stride) ((c.args.first + i) * c.args.stride + c.packed_len-len.result) raster)) c.loop-i.invariant.width
     ∙ ap (unpacked_row form.width) (cut raster ((c.args.first + i) * c.args.stride) c.packed_len-len.result (packed_len form.width) c.packed_len-len.ensures) in
-    let more : raster_rows form.width c.args.stride raster c.args.first (i + 1) ≡ all ++ row ∷ [] =
+    let more : rows_of_raster form.width c.args.stride raster c.args.first (i + 1) ≡ all ++ row ∷ [] =
     map-range_with_len_more (raster_row form.width c.args.stride raster) c.args.first i (c.args.first + i) refl
     ∙ ap (λ r. all ++ r ∷ []) (sym row_is) in
     record {
@@ -62,8 +62,8 @@ pub returns : goal.returns
 returns c =
     let put = c.loop-i.invariant.put in
     let i_is : c.loop-i.i ≡ c.args.form.rows = omega (arith, c.loop-i-test.false, c.loop-i.auto.i-end) in
-    let all = raster_rows c.args.form.width c.args.stride c.args.raster.now c.args.first c.args.form.rows in
-    let whole = subst (λ n. HasPut c.args.form c.args.k (raster_rows c.args.form.width c.args.stride c.args.raster.now c.args.first n) c.loop-i.writer) i_is put in
+    let all = rows_of_raster c.args.form.width c.args.stride c.args.raster.now c.args.first c.args.form.rows in
+    let whole = subst (λ n. HasPut c.args.form c.args.k (rows_of_raster c.args.form.width c.args.stride c.args.raster.now c.args.first n) c.loop-i.writer) i_is put in
     if_ok-weaker c.finish.result
     (λ bytes ends. c.strips_are_written_row_by_row.ensures.finishes c.args.form c.args.k all c.loop-i.writer bytes.items whole ends)
     c.finish.ensures

@@ -1,6 +1,6 @@
 use Rattle.std.proofs.Common.{List, ◌+◌, ◌∙◌, ap, arith, set, subst, sym}
 use Rattle.fax_c.specs.declared.forms.FaxForm.{FaxForm}
-use Rattle.fax_c.specs.Forms.{form_of}
+use Rattle.fax_c.specs.Forms.{form_numbers}
 use Rattle.fax_c.proofs.FormLemmas.{AreFormsWritten, all_asked, ended, none_written, one_more}
 use Rattle.fax_c.proofs.forms.fill_forms.Goals as goal
 
@@ -13,7 +13,7 @@ loop-count-init c = record {
 pub loop-count-preserved : goal.loop-count-preserved
 loop-count-preserved c =
     let item = c.in-Ok.ensures.0 in
-    let set_is = ap (λ (form : FaxForm). set c.loop-count.forms c.loop-count.count form) (c.of.ensures ∙ ap form_of c.in-Ok.ensures.2) in
+    let set_is = ap (λ (form : FaxForm). set c.loop-count.forms c.loop-count.count form) (c.of.ensures ∙ ap form_numbers c.in-Ok.ensures.2) in
     record {
       law = c.loop-count.invariant.law;
       so_far = subst
