@@ -1,5 +1,5 @@
 """Calls programs and measures them, for bench/run and bench/library: instructions and mispredicted branches by
-valgrind's cachegrind, seconds of the processor by the system."""
+valgrind's cachegrind, seconds of the processor and memory by the system."""
 
 from __future__ import annotations
 
@@ -62,6 +62,14 @@ def least(commands: Sequence[Sequence[str]], times: int) -> List[float]:
     """The least seconds of each command, of so many runs in turn."""
     seen = [[seconds(words) for words in commands] for _ in range(times)]
     return [min(turn[place] for turn in seen) for place in range(len(commands))]
+
+
+def peak(launcher: str, words: Sequence[str]) -> float:
+    """The most memory that is resident in a run, in MB, by peak.c as it was built; the run's output goes nowhere."""
+    said = subprocess.run([launcher, *words], stdout=subprocess.PIPE, check=True).stdout.split()
+    if said[0] != b"0":
+        sys.exit(f"bench: status {said[0].decode()} of {' '.join(words)}")
+    return int(said[1]) * 1024 / 1e6
 
 
 def build(room: str, name: str, *libraries: str) -> str:
