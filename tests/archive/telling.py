@@ -18,7 +18,7 @@ import time
 import made
 from checking import OTHER_USER, add, few, runs_as
 from keeping import convert, drawn, put
-from room import MODULE, count, wait_for
+from room import CONNECT, MODULE, count, wait_for
 
 
 def change(room, table, *statements):
@@ -252,7 +252,7 @@ def one_line(room, *_):
         print("SKIPPED: Dask (python3-distributed) is not installed, so: no scheduler that is dead is tried")
         return
     status, _, error = room.run("check", "line", "--table", "dead.sqlite",
-                                "--scheduler", "tcp://127.0.0.1:1", python=room.dask)
+                                "--scheduler", "tcp://127.0.0.1:1", python=room.dask, **{CONNECT: "3s"})
     room.claim("a dead scheduler", (status, error.count("\n")), (3, 1))
 
 
