@@ -26,3 +26,15 @@ def there_in(folder):
             if f"{os.readlink(f'/proc/{process}/cwd')}/".startswith(f"{folder}/"):
                 found.append(int(process))
     return found
+
+
+def left_of(leader):
+    """The processes of a session that have not ended."""
+    found = []
+    for process in filter(str.isdecimal, os.listdir("/proc")):
+        with contextlib.suppress(OSError):
+            with open(f"/proc/{process}/stat", "rb") as file:
+                state, _, _, session = file.read().rpartition(b") ")[2].split()[:4]
+            if int(session) == leader and state not in (b"Z", b"X"):
+                found.append(int(process))
+    return found

@@ -275,11 +275,17 @@ def put(place: Place, copy: Copy, is_right: Optional[Callable[[bytes], bool]]) -
     # One name for each copy, so that a run that was killed leaves nothing that the next does not take away. What is
     # left may be the copy under a second name, so it goes before the copy is looked at.
     part = Place(place.folder, b".faxpages-%s.part" % hashlib.sha256(place.name).hexdigest()[:32].encode())
-    _remove_left(part)
-    there, replaced = stands(place, copy)
-    if there is not None:
-        return _renewed(place, copy, there)
-    file = _begun(part)
+    until = time.monotonic() + _WAIT
+    while True:
+        _remove_left(part)
+        there, replaced = stands(place, copy)
+        if there is not None:
+            return _renewed(place, copy, there)
+        file = _begun(part)
+        if file is not None:
+            break
+        if time.monotonic() > until:
+            raise NotOurs(_AT_WORK)
     try:
         _fill(file, copy)
         if is_right is not None and not is_right(os.pread(file, len(copy.data) + 1, 0)):
@@ -340,16 +346,21 @@ def _renewed(place: Place, copy: Copy, there: Stood) -> Stood:
         return there._replace(mtime=os.fstat(file).st_mtime_ns)
 
 
-def _begun(part: Place) -> int:
-    """A part that is begun, and held for as long as it is open. NotOurs: another run has begun it."""
+def _begun(part: Place) -> Optional[int]:
+    """A part that is begun, and held for as long as it is open. None: another run has begun it, or has taken this one
+    away before it was held, as one that was left."""
     try:
         file = os.open(part.name, os.O_RDWR | os.O_CREAT | os.O_EXCL | os.O_NOFOLLOW | os.O_CLOEXEC, 0o600,
                        dir_fd=part.folder)
     except FileExistsError:
-        raise NotOurs(_AT_WORK) from None
-    with contextlib.suppress(OSError):  # where the file system has no locks, only its number tells whose it is
-        fcntl.flock(file, fcntl.LOCK_EX | fcntl.LOCK_NB)
-    return file
+        return None
+    held = False
+    try:
+        held = _is_free(file) and _is_of(part, file)
+        return file if held else None
+    finally:
+        if not held:
+            os.close(file)
 
 
 def _is_of(part: Place, file: int) -> bool:

@@ -18,8 +18,9 @@ from typing import Any, List, Optional, Tuple
 
 from ._archive_fax import Done, Found, Job, Waiting, not_read
 
-# The seconds in which a worker has to start, and in which one that is killed has to end.
-_START, _END = 120.0, 2.0
+# The seconds in which a worker has to start, also on a machine that has much else to do, since one that fails ends at
+# once; and in which one that is killed has to end.
+_START, _END = 900.0, 2.0
 # How long a worker is waited for at a time, where a fax may not take longer than so much.
 _SLICE = 0.1
 # After so many seconds a batch is handed back with what is done of it.

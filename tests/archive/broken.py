@@ -1,8 +1,10 @@
 """Has the workers of an archive break: each fax whose last bytes ask for it, by what BROKEN says. For tests
 alone, which add it to a copy of the module (Room.broken)."""
 
+import contextlib
 import os
 import signal
+import sqlite3
 import time
 
 import faxpages
@@ -23,12 +25,22 @@ def wait_at_gate():
         pass
 
 
+def note_nap():
+    """Notes in the file NAPS which process begins to sleep, and how many rows the table TABLE has by then."""
+    with contextlib.closing(sqlite3.connect(f"file:{os.environ['TABLE']}?mode=ro", uri=True)) as base:
+        rows = base.execute("SELECT count(*) FROM faxes").fetchone()[0]
+    with open(os.environ["NAPS"], "a", encoding="ascii") as file:
+        file.write(f"{os.getpid()} {rows}\n")
+
+
 def broken_check(data):
     if "slow" in WAYS:
         time.sleep(0.004)
     if "stops" in WAYS:
         wait_at_gate()
     if "naps" in WAYS and data.endswith(b"naps"):
+        if "NAPS" in os.environ:
+            note_nap()
         time.sleep(3)
     if "dies" in WAYS and data.endswith(b"dies"):
         os.kill(os.getpid(), signal.SIGSEGV)

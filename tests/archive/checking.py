@@ -1,13 +1,11 @@
 """Resumed runs, names of any bytes, faxes that break a worker, and words."""
 
 import contextlib
-import fcntl
 import json
 import os
 import pty
 import re
 import shutil
-import signal
 import sqlite3
 import subprocess
 import sys
@@ -222,24 +220,16 @@ def wrong(room, *_):
                   ["table", "text.sqlite", "--json"], ["merge", "new.sqlite", "text.sqlite"]):
         status, out, error = room.run(*words)
         room.claim(f"cannot be: {words}", (status, out, error.count("\n"), "Traceback" in error), (3, b"", 1, False))
-    running = room.start("check", "tree", "--table", "locked.sqlite", broken="slow")
-    wait_for(lambda: is_locked(room("locked.sqlite-lock")))
-    running.send_signal(signal.SIGSTOP)
+    gate = room("gate")
+    with open(gate, "wb"):
+        pass
+    running = room.start("check", "tree", "--table", "locked.sqlite", broken="stops", GATE=gate, AFTER="0")
+    wait_for(lambda: os.path.getsize(gate) or running.poll() is not None)
     status, _, error = room.run("check", "tree", "--table", "locked.sqlite")
     running.kill()
     running.communicate()
+    os.unlink(gate)
     room.claim("one run at a time", (status, "another run" in error), (3, True))
-
-
-def is_locked(name):
-    """Whether a process holds the lock of a file."""
-    with contextlib.suppress(FileNotFoundError):
-        with open(name, "rb") as file:
-            try:
-                fcntl.flock(file, fcntl.LOCK_EX | fcntl.LOCK_NB)
-            except BlockingIOError:
-                return True
-    return False
 
 
 def documented(room, *_):

@@ -14,7 +14,7 @@ import sys
 
 import made
 from converting import files_below
-from room import MODULE
+from room import CONNECT, MODULE
 
 sys.path.insert(0, os.path.join(made.HERE, "drawn"))
 
@@ -165,7 +165,33 @@ def two_writers(room, *_):
                (3, "Exists", "another run writes it", [b"begun"]))
     room.claim("once that run is ended it is made", (convert(room, "writers")[0], list(files_below(copies))),
                (0, [b"a.tif"]))
+    taken_away(room, fax, os.path.basename(part))
     others_come(room, fax, part)
+
+
+def taken_away(room, fax, part):
+    """Another run takes what is begun for something that a run has left, before the run that begins it holds it."""
+    import faxpages
+    from faxpages import _archive_fax
+
+    put(room("taken/tree/a.tif"), fax)
+    os.mkdir(room("taken/copies"))
+    flock, taken = fcntl.flock, []
+
+    def late(file, way):
+        if not taken:
+            taken.append(os.unlink(room(f"taken/copies/{part}")))
+        return flock(file, way)
+
+    job = _archive_fax.Job(os.fsencode(room("taken/tree")), os.fsencode(room("taken/copies")))
+    fcntl.flock = late
+    try:
+        done = job.do(_archive_fax.Waiting(b"a.tif", len(fax), os.stat(room("taken/tree/a.tif")).st_mtime))
+    finally:
+        fcntl.flock = flock
+    room.claim("a copy that is taken away before it is held is begun again",
+               (len(taken), done.found.status, files_below(room("taken/copies"))),
+               (1, 0, {b"a.tif": faxpages.convert(fax, "mmr")}))
 
 
 def others_come(room, fax, part):
@@ -310,7 +336,7 @@ if __name__ == "__main__":
     sys.exit(main())
 """.encode(), 0o755)
     told = {"PLANTED": room("planted/ran"), "FAXPAGES_LIBRARY": room.library, "PATH": os.environ["PATH"],
-            "HOME": room.folder, "TMPDIR": room.folder, "PYTHONDONTWRITEBYTECODE": "1"}
+            "HOME": room.folder, "TMPDIR": room.folder, "PYTHONDONTWRITEBYTECODE": "1", CONNECT: os.environ[CONNECT]}
     array = {f"SLURM_ARRAY_TASK_{name}": value for name, value in (
         ("ID", "0"), ("COUNT", "1"), ("MIN", "0"), ("STEP", "1"))}
     calls = [("the command and its workers", [script], [], {}), ("a task of an array", [script], [], array)]

@@ -16,6 +16,10 @@ sys.path.insert(0, os.path.join(TOP, "tests"))
 from breaking import MODULE, broken_module  # noqa: E402
 from waiting import PATIENCE, wait_for  # noqa: E402
 
+# How long Dask tries to reach its own processes, which a loaded machine starts slowly.
+CONNECT = "DASK_DISTRIBUTED__COMM__TIMEOUTS__CONNECT"
+os.environ[CONNECT] = f"{PATIENCE}s"
+
 
 class Room:
     """A folder, the library and the program that are tried, and what was counted."""

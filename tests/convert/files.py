@@ -13,7 +13,7 @@ FORMS = {"plain": (1, []), "mh": (3, [(292, 4, 0)]), "mr": (3, [(292, 4, 1)]), "
 def tool(words, output=None):
     """What a tool has to say; its output goes into a file where one is named."""
     with open(output, "wb") if output else open(os.devnull, "wb") as out:
-        ran = subprocess.run(words, stdout=out, stderr=subprocess.PIPE, timeout=60)
+        ran = subprocess.run(words, stdout=out, stderr=subprocess.PIPE, timeout=900)
     return (ran.returncode, ran.stderr.decode()) if ran.returncode or ran.stderr else None
 
 

@@ -26,7 +26,7 @@ def missing(_):
 def needed(coding, width, file):
     """What a file needs; a message that follows is left out."""
     words = [TIFFCHECK, CODINGS[coding], "-w", str(width), "-r", "196", file]
-    ran = subprocess.run(words, capture_output=True, text=True, timeout=60)
+    ran = subprocess.run(words, capture_output=True, text=True, timeout=900)
     return ran.returncode, ran.stdout.partition("\n")[0], ran.stderr
 
 

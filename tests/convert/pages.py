@@ -60,13 +60,13 @@ def image(width, rows, spare=0):
 
 def converted(program, words, data):
     """What `convert` writes with these words; a fault is told in its place."""
-    ran = subprocess.run([program, "convert", *words], input=data, capture_output=True, timeout=60)
+    ran = subprocess.run([program, "convert", *words], input=data, capture_output=True, timeout=900)
     return ran.stdout if (ran.returncode, ran.stderr) == (0, b"") else (ran.returncode, ran.stderr)
 
 
 def told(program, command, data):
     """What `check`, `list` or `rows` prints; a fault is told in its place."""
-    ran = subprocess.run([program, command], input=data, capture_output=True, timeout=60)
+    ran = subprocess.run([program, command], input=data, capture_output=True, timeout=900)
     return ran.stdout.decode() if (ran.returncode, ran.stderr) == (0, b"") else (ran.returncode, ran.stderr)
 
 

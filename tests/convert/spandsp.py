@@ -39,7 +39,7 @@ def missing(room):
 
 def spandsp(*words):
     """What the program prints; what it has to say otherwise stands in its place."""
-    ran = subprocess.run([BUILT, *words], capture_output=True, timeout=60)
+    ran = subprocess.run([BUILT, *words], capture_output=True, timeout=900)
     return ran.stdout if (ran.returncode, ran.stderr) == (0, b"") else (ran.returncode, ran.stderr)
 
 

@@ -16,7 +16,7 @@ import sys
 from counted import SMALL, Claims, faxpages
 
 # So many seconds a pool may take: one that hangs is ended.
-SECONDS = 60
+SECONDS = 900
 FAULTS = [getattr(faxpages, name) for name in faxpages.__all__
           if isinstance(getattr(faxpages, name), type) and issubclass(getattr(faxpages, name), faxpages.Fault)]
 

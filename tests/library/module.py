@@ -26,7 +26,7 @@ TARGETS = [("pbm", []), ("mh", ["--order", "2"]), ("mr", ["--k", "2", "--strip",
 
 def said(*words, data):
     """What the program says: its output, its error stream, its status."""
-    ran = subprocess.run([PROGRAM, *words], input=data, capture_output=True, check=False, timeout=60)
+    ran = subprocess.run([PROGRAM, *words], input=data, capture_output=True, check=False, timeout=900)
     return ran.stdout, ran.stderr.decode(), ran.returncode
 
 

@@ -29,7 +29,7 @@ MEMORY = 8 << 20
 
 def said(*words, data):
     """What the program prints."""
-    return subprocess.run([PROGRAM, *words], input=data, capture_output=True, check=False, timeout=600)
+    return subprocess.run([PROGRAM, *words], input=data, capture_output=True, check=False, timeout=900)
 
 
 def packed_by_program(data):
@@ -234,9 +234,9 @@ def small_room(claims):
 def command(claims):
     """The module says its version."""
     words, place = [sys.executable, "-m", "faxpages"], {**os.environ, "PYTHONPATH": f"{TOP}/python"}
-    ran = subprocess.run([*words, "--version"], env=place, capture_output=True, check=False, timeout=600)
+    ran = subprocess.run([*words, "--version"], env=place, capture_output=True, check=False, timeout=900)
     claims.see("the version", (ran.returncode, ran.stdout.decode()) == (0, f"faxpages {faxpages.version()}\n"))
-    ran = subprocess.run(words, env=place, capture_output=True, check=False, timeout=600)
+    ran = subprocess.run(words, env=place, capture_output=True, check=False, timeout=900)
     claims.see("no words", (ran.returncode, ran.stdout) == (2, b"") and ran.stderr.startswith(b"usage: "))
 
 

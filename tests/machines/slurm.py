@@ -23,7 +23,7 @@ from breaking import broken_module  # noqa: E402
 TOOLS = ["sbatch", "squeue", "scancel", "sinfo"]
 SERVERS = ["munged", "slurmctld", "slurmd"]
 # A cluster that is not up after so many seconds is none.
-UP = 120
+UP = 300
 FAXES = 400
 # With how many faxes begun by all tasks they wait, so that they are ended in the middle.
 BEGUN = 300
@@ -54,6 +54,7 @@ JobAcctGatherType=jobacct_gather/none
 AccountingStorageType=accounting_storage/none
 ReturnToService=2
 MessageTimeout=100
+BatchStartTimeout=600
 SlurmdParameters=config_overrides
 NodeName={host} NodeAddr=127.0.0.1 CPUs={processors}
 PartitionName=all Nodes=ALL Default=YES MaxTime=INFINITE State=UP

@@ -3,7 +3,7 @@
 import os
 import signal
 
-LIMIT = 60
+LIMIT = 900
 
 
 class Streams:

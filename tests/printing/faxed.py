@@ -218,7 +218,7 @@ def a_fax_again(room):
     room.claim("a fax is faxed on", good.state, "completed")
     room.claim("with its pages", spooled(room.spool).get("again fax:1", ({},))[0].get("pages"), "4")
     room.claim("a damaged one is not", bad.state in ("processing-stopped", "pending-held"))
-    room.claim("a damaged one: its message", bad.message.startswith(fault))
+    room.claim("a damaged one: its message", room.says(bad, fault))
     room.claim("nothing of it is spooled", "spoiled fax:1" in spooled(room.spool), False)
 
 

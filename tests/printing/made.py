@@ -16,7 +16,7 @@ n page mul %(seed)d mul 9973 mod 12 string cvs show } for
 
 
 def run(folder, *words):
-    subprocess.run(words, cwd=folder, check=True, timeout=300, stdout=subprocess.DEVNULL, stderr=subprocess.DEVNULL)
+    subprocess.run(words, cwd=folder, check=True, timeout=900, stdout=subprocess.DEVNULL, stderr=subprocess.DEVNULL)
 
 
 def sheets(folder, name, pages, seed=7):
@@ -54,7 +54,7 @@ def by_libtiff(folder):
     for words in ("-g3", "-g4"):
         with open(f"{folder}/pnmtotiff{words}.tif", "wb") as file:
             subprocess.run(["pnmtotiff", words, "-xresolution", "204", "-yresolution", "196", "drawn.pbm"], cwd=folder,
-                           check=True, stdout=file, stderr=subprocess.DEVNULL, timeout=60)  # fmt: skip
+                           check=True, stdout=file, stderr=subprocess.DEVNULL, timeout=900)  # fmt: skip
         yield f"pnmtotiff{words}.tif"
 
 
@@ -72,7 +72,7 @@ def damaged(path, program, seed):
     while True:
         at = rng.randrange(8, len(data))
         tried = data[:at] + bytes([data[at] ^ rng.randrange(1, 256)]) + data[at + 1 :]
-        ran = subprocess.run([program, "check"], input=tried, capture_output=True, timeout=60)
+        ran = subprocess.run([program, "check"], input=tried, capture_output=True, timeout=900)
         said = ran.stderr.decode().strip()
         # Where the first page's fields say that it is another picture, it is no fax.
         if ran.returncode == 1 and not said.startswith("fault page 0 row 0: Unsupported"):
@@ -84,7 +84,7 @@ def damaged(path, program, seed):
 
 def pages_of(program, path):
     """The pages of a fax as `convert` writes them: of each its width, and its rows."""
-    ran = subprocess.run([program, "convert", "-o", "pbm", path], capture_output=True, check=True, timeout=300)
+    ran = subprocess.run([program, "convert", "-o", "pbm", path], capture_output=True, check=True, timeout=900)
     return pictures_of(ran.stdout)
 
 

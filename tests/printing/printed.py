@@ -94,7 +94,7 @@ def environment(room):
     """What the filter has in its environment, when it is called by hand."""
     module = f"{room.server.folder}/module"
     return {"PATH": "/usr/bin:/bin", "FAXPAGES_MODULE": module, "FAXPAGES_LIBRARY": f"{module}/libfaxpages.so.1",
-            "CUPS_SERVERBIN": f"{room.server.folder}/bin"}  # fmt: skip
+            "FAXPAGES_SECONDS": str(server.PATIENCE), "CUPS_SERVERBIN": f"{room.server.folder}/bin"}  # fmt: skip
 
 
 def damaged(room, faxes):
@@ -109,7 +109,7 @@ def damaged(room, faxes):
     log = room.server.get("log/error").decode(errors="replace")
     for (title, _, _), (_, fault) in zip(jobs, spoiled):
         room.claim(f"{title}: it stops", told[title].state, "processing-stopped")
-        is_told = told[title].message.startswith(f"{fault}: the fax is damaged")
+        is_told = room.says(told[title], f"{fault}: the fax is damaged")
         room.claim(f"{title}: its message: {told[title].message}", is_told)
         room.claim(f"{title}: its line in the log", f"] {fault}: the fax is damaged" in log)
     room.claim("nothing damaged is printed", set(got) - before, set())
@@ -123,7 +123,8 @@ def salvaged(room, spoiled):
     for number, (title, _, fax) in enumerate(jobs):
         name = f"{title} {os.path.basename(fax)}"
         if title not in got:
-            room.claim(f"{name}: nothing can be read", told[title].message, "no row of the fax can be read")
+            is_told = room.says(told[title], "no row of the fax can be read")
+            room.claim(f"{name}: nothing can be read: {told[title].message}", is_told)
             continue
         room.claim(f"{name}: printed", told[title].state, "completed")
         said = room.run("pdftotext", "-layout", got[title], "-")[1].decode()
@@ -255,15 +256,15 @@ def what_it_is(room):
         ("named", [*named, "-o", "page-ranges=2-3"], room.made("gs-tiffg4-196-3.tif")),
         ("named_spoiled", named, spoiled), ("no_word", ["-o", "faxpages=some"], room.made("fax.txt"))])  # fmt: skip
     room.claim("fax.txt", room.images(got["text"]) == room.pages(room.made("fax.txt")))
-    room.claim("spoiled.jpg", told["spoiled"].message.startswith(fault))
-    room.claim("text.tif", told["other"].message.startswith("fault page 0 row 0: ByteOrder"))
+    room.claim("spoiled.jpg", room.says(told["spoiled"], fault))
+    room.claim("text.tif", room.says(told["other"], "fault page 0 row 0: ByteOrder"))
     for title in ("picture", "named_picture"):
         room.claim(f"{title}: printed", (told[title].state, title in got), ("completed", True))
         image = room.run("pdfimages", "-list", got[title])[1].decode().splitlines()[2].split()
         room.claim(f"{title}: its image", image[3:5], ["60", "40"])
     room.claim("named image/tiff", room.images(got["named"]) == room.pages(room.made("gs-tiffg4-196-3.tif"))[1:])
-    room.claim("named image/tiff, damaged", told["named_spoiled"].message.startswith(fault))
-    room.claim("another word", told["no_word"].message, "faxpages is salvage or whole")
+    room.claim("named image/tiff, damaged", room.says(told["named_spoiled"], fault))
+    room.claim("another word", room.says(told["no_word"], "faxpages is salvage or whole"))
 
 
 def as_raster(room):
@@ -274,7 +275,7 @@ def as_raster(room):
         ("good", [], room.made("gs-tiffg3-98-2.tif")), ("bad", [], spoiled), ("named_bad", named, spoiled))]  # fmt: skip
     good, bad, named_bad = room.server.ended(*jobs)
     room.claim("raster: printed", good.state, "completed")
-    room.claim("raster: damaged", [it.message.startswith(fault) for it in (bad, named_bad)], [True, True])
+    room.claim("raster: damaged", [room.says(it, fault) for it in (bad, named_bad)], [True, True])
     # Four bytes begin PWG raster, and each page has more than 1796.
     sizes = [os.path.getsize(path) for path in room.for_raster.received()]
     room.claim(f"raster: pages {sizes}", (sizes[0] > 10000, [size > 4 for size in sizes[1:]]), (True, [False, False]))

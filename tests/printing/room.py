@@ -58,6 +58,12 @@ class Room:
         if got != wanted:
             print(f"FAILED: {name}: {str(got)[:400]}, wanted {str(wanted)[:400]}".encode(errors="replace").decode())
 
+    def says(self, told, wanted):
+        """Whether a job's message begins so. CUPS keeps the first error alone: where a printer was slow to answer that
+        is its backend's, and then the log has to say so of that job."""
+        return told.message.startswith(wanted) or any(
+            told.message in said and any(line.startswith(wanted) for line in said) for said in self.server.said())
+
     def made(self, name):
         return f"{self.folder}/made/{name}"
 

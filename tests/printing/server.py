@@ -5,6 +5,7 @@ import csv
 import io
 import os
 import pwd
+import re
 import shutil
 import signal
 import socket
@@ -14,7 +15,7 @@ import time
 HERE = os.path.dirname(os.path.abspath(__file__))
 TOP = os.path.dirname(os.path.dirname(HERE))
 # The end of each wait for an event, in seconds: no machine is so loaded.
-PATIENCE = 300
+PATIENCE = 900
 SERVER_BIN = "/usr/lib/cups"
 FILES = """ServerRoot {folder}/etc
 RequestRoot {folder}/jobs
@@ -31,6 +32,7 @@ SystemGroup root
 FileDevice No
 SetEnv FAXPAGES_MODULE {folder}/module
 SetEnv FAXPAGES_LIBRARY {folder}/module/libfaxpages.so.1
+SetEnv FAXPAGES_SECONDS {patience}
 """
 SETTINGS = """LogLevel debug
 MaxLogSize 0
@@ -41,7 +43,7 @@ DefaultAuthType None
 PreserveJobFiles Yes
 MaxJobs 1000
 DirtyCleanInterval 0
-JobKillDelay 3
+JobKillDelay 60
 ErrorPolicy abort-job
 <Location />
 Order allow,deny
@@ -102,7 +104,7 @@ class Server:
         self._link_programs(program, scripts)
         self._copy_module(library)
         group = "lp"
-        self._write("etc/cups-files.conf", FILES.format(folder=folder, user="lp", group=group))
+        self._write("etc/cups-files.conf", FILES.format(folder=folder, user="lp", group=group, patience=PATIENCE))
         self._write("etc/cupsd.conf", SETTINGS.format(port=self.port))
         self._daemon = self._started = None
         self.environment = {**os.environ, "CUPS_SERVER": f"127.0.0.1:{self.port}", "HOME": folder, "LC_ALL": "C.UTF-8"}
@@ -177,6 +179,14 @@ class Server:
         told = self.call("ipptool", "-c", uri or f"ipp://127.0.0.1:{self.port}/", f"{HERE}/jobs.test")[1]
         rows = list(csv.reader(io.StringIO(told)))[1:]
         return {int(number): Told(state, message, uuid.split(":")[-1]) for number, state, message, uuid in rows}
+
+    def said(self):
+        """What each job has said, as the log has it."""
+        found = collections.defaultdict(list)
+        log = self.get("log/error").decode(errors="replace")
+        for job, line in re.findall(r"^[A-Z] \[[^]]*\] \[Job (\d+)\] (.*)$", log, re.MULTILINE):
+            found[job].append(line)
+        return list(found.values())
 
     def ended(self, *numbers):
         """What came of jobs, when all have ended."""

@@ -21,7 +21,7 @@ def by_hand(room, backend, options, path, more=None, title="fax:1"):
         "PATH": f"{room.server.folder}/bin/filter:/usr/bin:/bin", "FAXPAGES_MODULE": module,
         "FAXPAGES_LIBRARY": f"{module}/libfaxpages.so.1", "TMPDIR": f"{room.server.folder}/temporary",
         "CUPS_SERVERBIN": f"{room.server.folder}/bin", "PRINTER": "Fax", "DEVICE_URI": f"faxpages:{room.spool}",
-        **(more or {})}  # fmt: skip
+        "FAXPAGES_SECONDS": str(server.PATIENCE), **(more or {})}  # fmt: skip
     name = "backend/faxpages" if backend else "filter/faxtopdf"
     ran = subprocess.run([f"{room.server.folder}/bin/{name}", "1", "user", title, "1", options, path], env=environment,
                          user=user.pw_uid, group=user.pw_gid, extra_groups=[], umask=0o077, capture_output=True,
@@ -130,15 +130,18 @@ def documents(room):
         "cut short": (pdf_of(3, b"0 0 100 100 re f\n")[:-20], {}, "the PDF is cut short"),
         "many pages": (pdf_of(501, b""), {}, "the PDF has 501 pages, and a fax from 1 to 500"),
         "narrow": (pdf_of(1, b"", (3, 14400)), {}, "faxpages-from-pdf: faxpages-from-pdf: a page is too narrow"),
-        "slow": (pdf_of(40, slow), {"FAXPAGES_SECONDS": "1"}, "faxpages-from-pdf takes longer than 1 seconds"),
-    }
+        # On a slow machine that is so of the first program already.
+        "slow": (pdf_of(40, slow), {"FAXPAGES_SECONDS": "1"}, ("faxpages-from-pdf takes longer than 1 seconds",
+                                                               "pdfinfo takes longer than 1 seconds")),
+    }  # fmt: skip
     for name, (data, more, wanted) in cases.items():
         with open(room.made("hostile.pdf"), "wb") as file:
             file.write(data)
         option, identity = new_identity()
         status, _, said = by_hand(room, True, option, room.made("hostile.pdf"), more)
-        last = said.splitlines()[-1]
-        room.claim(f"{name}: held: {last}", (status, last.startswith(f"ERROR: the fax is held: {wanted}")), (3, True))
+        start, _, why = said.splitlines()[-1].partition(" held: ")
+        is_told = start == "ERROR: the fax is" and why.startswith(wanted)
+        room.claim(f"{name}: held: {why}", (status, is_told), (3, True))
         left = [it for folder in (room.spool, f"{room.spool}/.faxpages") for it in os.listdir(folder) if identity in it]
         room.claim(f"{name}: nothing is left", left, [])
     left = [it for it in os.listdir(f"{room.server.folder}/temporary") if "faxpages" in it]

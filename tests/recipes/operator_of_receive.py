@@ -8,6 +8,7 @@ import subprocess
 import time
 
 from room import HOSTILE
+from waiting import left_of, wait_for
 
 SEED = int(os.environ.get("FAXPAGES_SEED", "20261127"))
 STEPS = int(os.environ.get("FAXPAGES_STEPS", "300"))
@@ -89,6 +90,8 @@ class Operator:
             if leader.poll() is None:
                 os.killpg(leader.pid, signal.SIGKILL)
                 leader.wait()
+                # A call of the system that one of them had begun may go on for a moment.
+                wait_for(lambda: not left_of(leader.pid))
                 return None
         return leader.wait()
 

@@ -13,7 +13,7 @@ import threading
 import time
 
 # Seconds, on a machine that has much else to do.
-MOST = 240
+MOST = 900
 WORDS = [
     "--headless=new", "--remote-debugging-pipe", "--disable-gpu", "--no-first-run", "--disable-dev-shm-usage",
     "--disable-extensions", "--disable-background-networking", "--disable-component-update", "--disable-sync",
@@ -205,7 +205,7 @@ class Browser:
         except (Failed, OSError):
             pass
         try:
-            self._process.wait(20)
+            self._process.wait(60)
         except subprocess.TimeoutExpired:
             os.killpg(self._process.pid, signal.SIGKILL)
             self._process.wait()

@@ -49,7 +49,7 @@ class Cluster:
     def end(self) -> None:
         """Ends it, and waits until none of its workers does a fax any more."""
         self._stack.close()
-        if not wait_for(lambda: not started_for(self._folder), 60):
+        if not wait_for(lambda: not started_for(self._folder)):
             raise RuntimeError(f"workers of Dask are left: {started_for(self._folder)}")
         with contextlib.suppress(FileNotFoundError):
             os.unlink(self("scheduler.json"))

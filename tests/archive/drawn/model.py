@@ -179,6 +179,8 @@ class Model:
         self.ours: Dict[str, Dict[bytes, bytes]] = {}
         self.maybe: Dict[str, Set[bytes]] = {}
         self.stood: Dict[str, Dict[bytes, Stood]] = {}
+        # All that was written into a place, or taken over, by any table.
+        self.written: Dict[bytes, Set[bytes]] = {}
 
     def owned(self, job: Job, name: bytes) -> Optional[bytes]:
         return self.ours.setdefault(job.table, {}).get(name)
@@ -201,6 +203,11 @@ class Model:
         owned = self.owned(job, name)
         return owned is not None and (there.data == owned or (
             len(there.data) < len(wanted) and wanted.startswith(there.data)))
+
+    def was_copy(self, name: bytes, there: Optional[Entry], wanted: bytes) -> bool:
+        """Whether what stands in a place was written there by a table, or is the first bytes of what is wanted."""
+        return there is not None and there.kind == "file" and (
+            there.data in self.written.get(name, ()) or wanted.startswith(there.data))
 
     def stands(self, job: Job, name: bytes, target: Dict[bytes, Entry]) -> bool:
         """Whether a copy has the size and the time that its row knows."""

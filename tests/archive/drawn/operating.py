@@ -7,14 +7,15 @@ import os
 import random
 import re
 import shutil
+import signal
 import time
 import zlib
 from typing import Callable, Dict, List, Optional, Set, Tuple
 
 import cluster
 import playing
-from contents import Content, Teller, digest
-from model import GOOD, Fax, Job, Model, Row, Stood, Words, deleted_in, rows_of, see, where_in
+from contents import Content, Teller, Verdict, digest
+from model import GOOD, NOT_READ, Fax, Job, Model, Row, Stood, Words, deleted_in, rows_of, see, where_in
 from playing import INLINE, Engine, Event, Ran, Started, Trouble
 from waiting import there_in, wait_for
 from world import Entry, World, snapshot
@@ -157,19 +158,20 @@ class Episode:
         self.log.append(f"{' '.join(map(ascii, (*given, *engine.words)))} {trouble}")
         ran = playing.run(given, os.fsdecode(self.world.folder), trouble, engine, self.rng)
         self._say(ran)
-        # What workers have in hand they would do while all is compared.
-        if self.cluster is not None and (trouble.at or trouble.largest is not None):
-            self.cluster.end()
-        elif engine.words and trouble.kill is not None:
-            there = os.fsdecode(self.world.folder)
-            self._see_ended(wait_for(lambda: not there_in(there)))
+        if engine.words:
+            trouble = self._workers_ended(trouble)
         Comparison(self, job, words, trouble, before, ran).all()
 
-    @staticmethod
-    def _see_ended(ended: bool) -> None:
-        """Workers end by themselves."""
-        if not ended:
-            raise Difference("workers of a run that was killed are left")
+    def _workers_ended(self, trouble: Trouble) -> Trouble:
+        """Waits until no worker of the last run is left, since what it has in hand it would do while all is compared.
+        Those of a run that could not write its table end with it, amid whatever they do: for them that is a kill."""
+        if self.cluster is None:
+            there = os.fsdecode(self.world.folder)
+            if not wait_for(lambda: not there_in(there)):
+                raise Difference("workers of a run that has ended are left")
+        elif trouble.at or trouble.largest is not None:
+            self.cluster.end()
+        return trouble if trouble.largest is None else trouble._replace(at=1, kill=signal.SIGKILL)
 
     def _say(self, ran: Ran) -> None:
         self.log.append(f"    {ran.status} {ran.out!r} {ran.error!r}")
@@ -205,7 +207,7 @@ class Episode:
         refused = [ran for ran in rans if ran.status == 3 and "another run writes to" in ran.error]
         others = sorted((ran for ran in rans if ran not in refused), key=done_by, reverse=True)
         comparison.claim(len(refused) < 2, "both runs are refused the table")
-        comparison.ran = others[0]
+        comparison.ran, comparison.twice = others[0], len(others) == 2
         comparison.all()
         if len(others) == 2 and not comparison.words.delete:
             comparison.claim(others[0].status == others[1].status, f"two runs: {[it.status for it in others]}")
@@ -338,6 +340,8 @@ class Comparison:
                 before[name] = there
 
     changed_amid: Optional[bytes] = None
+    # Whether two runs by this table came one after the other.
+    twice = False
 
     def claim(self, holds: bool, what: str) -> None:
         if not holds:
@@ -350,7 +354,10 @@ class Comparison:
 
     def files(self) -> None:
         """Compares what stands in the folders."""
-        self.claim("Traceback" not in self.ran.error and self.ran.status not in (98, 99), "a traceback")
+        self.claim(self.ran.status not in (98, 99), "a traceback")
+        # Dask's own processes say what they like where the run that started them is killed, sooner or later.
+        if self.episode.cluster is None or self.trouble.kill is None:
+            self.claim("Traceback" not in self.ran.error, "a traceback")
         self.claim(self.before.outside == self.after.outside, "something outside changed")
         refused = self._refused()
         if refused is not None and not self.troubled:
@@ -486,13 +493,8 @@ class Comparison:
             owned = self.model.owned(self.job, name) == data or self.words.adopt
             self.claim(owned or maybe, f"another's file is touched: {name!r}")
         else:
-            self.claim(
-                maybe or self.model.may_replace(
-                    self.job,
-                    name,
-                    was,
-                    data),
-                f"another's file is replaced: {name!r}")
+            right = self.model.may_replace(self.job, name, was, data) or maybe and self.model.was_copy(name, was, data)
+            self.claim(right, f"another's file is replaced: {name!r}")
 
     def _ours(self) -> None:
         """What is ours now."""
@@ -502,6 +504,8 @@ class Comparison:
             return
         for name, (path, _, data) in self.wanted.items():
             was, now = self.before.target.get(name), self.after.target.get(name)
+            if now is not None and now.kind == "file" and now.data == data and (was != now or self.words.adopt):
+                model.written.setdefault(name, set()).add(data)
             if self.beside is not None and name in self.beside.wanted and was != now:
                 # Which of two runs wrote it is not known.
                 maybe.add(name)
@@ -511,6 +515,8 @@ class Comparison:
                 maybe.discard(name)
             elif self.words.adopt and was is not None and was.kind == "file" and was.data == data:
                 maybe.add(name)
+            if now is not None and now.kind == "file" and now.data == data and (name in ours or name in maybe):
+                self._mark_may_be_ours(name)
         deleted = {path for path in self.before.seen.faxes if path in self.before.tree and path not in self.after.tree}
         for path in (set(self.before.rows) | deleted) - set(self.after.rows):
             for name in (job.copy_of(path), job.copy_of(path) + b".fields"):
@@ -518,6 +524,12 @@ class Comparison:
                     maybe.add(name)
                 ours.pop(name, None)
                 model.stood.setdefault(job.table, {}).pop(name, None)
+
+    def _mark_may_be_ours(self, name: bytes) -> None:
+        """A copy has the mark of one table: another that wrote it and was killed may have known it by that alone."""
+        for table, theirs in self.model.ours.items():
+            if table != self.job.table and name in theirs:
+                self.model.maybe.setdefault(table, set()).add(name)
 
     def _rows(self) -> None:
         """Each row is as it was, or says what is so; none is lost but those of faxes that are gone."""
@@ -529,6 +541,9 @@ class Comparison:
                 self._forget_amid(path)
                 continue
             self.claim(path in faxes, f"a row of no fax: {path!r}")
+            if self._leads_nowhere_now(path):
+                self.claim(row.verdict == Verdict(NOT_READ, "Open"), f"a link that leads nowhere: {path!r}: {row}")
+                continue
             fax = faxes[path]
             self.claim((row.size, row.mtime) == (fax.size, fax.mtime), f"a row has another size or time: {path!r}")
             if self._is_sure(path):
@@ -538,6 +553,11 @@ class Comparison:
                 self._note_good(path, fax)
         for path in set(self.before.rows) - set(self.after.rows):
             self.claim(path not in faxes or self.words.delete, f"a row is lost: {path!r}")
+
+    def _leads_nowhere_now(self, path: bytes) -> bool:
+        """Whether this is a link to a fax that the first of two runs deleted, so that the second one found it so."""
+        whole = os.path.join(self.world.tree, path)
+        return self.twice and self.words.delete and os.path.islink(whole) and not os.path.exists(whole)
 
     def _about(self, path: bytes) -> str:
         """What is known of the copies of a fax, for whoever looks for the reason of a difference."""
@@ -576,6 +596,7 @@ class Comparison:
                 if now is not None and now.kind == "file" and self.changed_amid == path:
                     self.model.stood.setdefault(self.job.table, {})[name] = Stood(len(now.data), now.mtime, now.data)
                     self.model.ours.setdefault(self.job.table, {})[name] = now.data
+                    self.model.written.setdefault(name, set()).add(now.data)
 
     def _is_sure(self, path: bytes) -> bool:
         """Whether only one outcome is right."""
@@ -615,13 +636,20 @@ class Comparison:
         done = re.search(r"; (\d+) done now, (\d+) before, (\d+) gone;", self.ran.out)
         self.claim(done is not None, f"no summary: {self.ran.out!r}")
         assert done is not None
-        # Where a call was refused a copy may not have been seen, and is looked at again. What another run wrote may
-        # have been seen, or not; and of what it wrote when both were at work it is not known which table knows it.
-        open_end = int(done.group(1)) > len(self.due) and self.trouble.error is not None
-        open_end = open_end or (self.beside is not None and bool(self.job.to) and bool(self.beside.job.to))
-        unsure = {path for path in self._share() if self.unsure & self._copies(path)}
+        # Where a call was refused a copy may not have been seen, and is looked at again.
+        more = int(done.group(1)) > len(self.due) and self.trouble.error is not None
+        unsure = self._perhaps_due()
         least, most = len(set(self.due) - unsure), len(set(self.due) | unsure)
-        self.claim(open_end or least <= int(done.group(1)) <= most, f"done {done}, wanted {self.due}, perhaps {unsure}")
+        self.claim(more or least <= int(done.group(1)) <= most, f"done {done}, wanted {self.due}, perhaps {unsure}")
+
+    def _perhaps_due(self) -> Set[bytes]:
+        """The faxes that may be due or not: those whose copies another run wrote when both were at work, since they may
+        have been seen or not, and it is not known which table knows them; and links that lead nowhere by then."""
+        names = set(self.unsure)
+        if self.beside is not None:
+            before, after = self.before.target, self.after.target
+            names.update(name for name in set(before) | set(after) if before.get(name) != after.get(name))
+        return {path for path in self._share() if names & self._copies(path) or self._leads_nowhere_now(path)}
 
     def _copies(self, path: bytes) -> Set[bytes]:
         """The names of what a run writes of a fax."""

@@ -13,6 +13,11 @@ import time
 import traceback
 from typing import Callable, List, NamedTuple, Optional, Tuple
 
+HERE = os.path.dirname(os.path.abspath(__file__))
+sys.path.insert(0, os.path.join(HERE, "..", ".."))
+
+from waiting import PATIENCE  # noqa: E402
+
 # The calls that change something on the disk: where one is made a run may be killed, or be refused it.
 CALLS = ["open", "mkdir", "link", "replace", "unlink", "fsync", "utime", "fchmod", "setxattr", "removexattr", "write",
          "dup", "stat"]
@@ -177,7 +182,7 @@ def _child(words: List[str], room: str, names: List[str], trouble: Trouble, engi
         sys.stderr = io.TextIOWrapper(io.FileIO(2, "w", closefd=False), "utf-8",
                                       "backslashreplace", write_through=True)
         os.chdir(room)
-        signal.alarm(100)
+        signal.alarm(PATIENCE)
         if trouble.other_user:
             os.setgroups([])
             os.setgid(OTHER)
