@@ -1,0 +1,2 @@
+pub mod CodeGraph
+pub mod RunGraph

@@ -1,0 +1,4 @@
+pub mod Codes
+pub mod Rows
+pub mod Lines
+pub mod Examples

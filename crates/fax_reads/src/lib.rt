@@ -1,0 +1,4 @@
+//! Reading codes, rows and strips by functions of the definitions.
+#![tactic(auto)]
+
+pub fn nothing() {}
