@@ -1,2 +1,3 @@
 pub mod CodeGraph
 pub mod RunGraph
+pub mod StepGraph

@@ -32,8 +32,8 @@ bound R S (Ok x) next is ok err = ok x is
 bound R S (Err fault) next is ok err = err fault is
 
 -- where an answer is known
-pub then : {A B F : Type 0} {r : Result A F} {x : A} {y : Result B F} (next : A → Result B F) → r ≡ Ok x → next x ≡ y → (r >>= next) ≡ y
-then next at is = ap (λ r. r >>= next) at ∙ is
+pub goes : {A B F : Type 0} {r : Result A F} {x : A} {y : Result B F} (next : A → Result B F) → r ≡ Ok x → next x ≡ y → (r >>= next) ≡ y
+goes next at is = ap (λ r. r >>= next) at ∙ is
 
 pub stop : {A B F : Type 0} {r : Result A F} {fault : F} (next : A → Result B F) → r ≡ Err fault → (r >>= next) ≡ Err fault
 stop next at = ap (λ r. r >>= next) at
@@ -170,11 +170,11 @@ module _ (reads : (colour : Colour) → ReadsRunsOneWay colour) where
   spelled_run zero colour width from to b make_up last rest few spelled ends inside = absurd (omega (arith, few))
   spelled_run (suc limit) colour width from to b [] last rest few spelled ends inside =
       let same : from + last ≡ to = omega (arith, ends) in
-      then _ (row_code_of (run_table colour) b (reads colour).codes (Ok (Terminating last, spelled.0)) spelled.1)
-      (then _ (inside_is width (from + last) (omega (arith, same, inside))) (cc (same, spelled.2)))
+      goes _ (row_code_of (run_table colour) b (reads colour).codes (Ok (Terminating last, spelled.0)) spelled.1)
+      (goes _ (inside_is width (from + last) (omega (arith, same, inside))) (cc (same, spelled.2)))
   spelled_run (suc limit) colour width from to b (n ∷ ns) last rest few spelled ends inside =
-      then _ (row_code_of (run_table colour) b (reads colour).codes (Ok (MakeUp n, spelled.0)) spelled.1)
-      (then _ (inside_is width (from + n) (omega (arith, ends, inside, sum-cons n ns)))
+      goes _ (row_code_of (run_table colour) b (reads colour).codes (Ok (MakeUp n, spelled.0)) spelled.1)
+      (goes _ (inside_is width (from + n) (omega (arith, ends, inside, sum-cons n ns)))
       (spelled_run limit colour width (from + n) to spelled.0 ns last rest
       (omega (arith, few, (reads colour).codes.takes_bits b (MakeUp n) spelled.0 spelled.1)) spelled.2
       (omega (arith, ends, sum-cons n ns)) inside))
@@ -184,13 +184,13 @@ module _ (reads : (colour : Colour) → ReadsRunsOneWay colour) where
   fault_at limit colour width from so_far b fault same (inl none) =
       stop _ (row_code_of (run_table colour) b (reads colour).codes (Err fault) none)
   fault_at limit colour width from so_far b fault same (inr (Terminating n, after, taken, at)) =
-      then _ (row_code_of (run_table colour) b (reads colour).codes (Ok (Terminating n, after)) taken)
+      goes _ (row_code_of (run_table colour) b (reads colour).codes (Ok (Terminating n, after)) taken)
       (stop _ (outside_is width (from + n) (omega (arith, same, at.0))) ∙ ap (λ f. Err f) (sym at.1))
   fault_at limit colour width from so_far b fault same (inr (MakeUp n, after, taken, at)) =
-      then _ (row_code_of (run_table colour) b (reads colour).codes (Ok (MakeUp n, after)) taken)
+      goes _ (row_code_of (run_table colour) b (reads colour).codes (Ok (MakeUp n, after)) taken)
       (stop _ (outside_is width (from + n) (omega (arith, same, at.0))) ∙ ap (λ f. Err f) (sym at.1))
   fault_at limit colour width from so_far b fault same (inr (RunExtension, after, taken, at)) =
-      then _ (row_code_of (run_table colour) b (reads colour).codes (Ok (RunExtension, after)) taken) (ap (λ f. Err f) (sym at))
+      goes _ (row_code_of (run_table colour) b (reads colour).codes (Ok (RunExtension, after)) taken) (ap (λ f. Err f) (sym at))
 
   spelled_fault : (limit : ℕ) (colour : Colour) (width from place : ℕ) (b : List Bool) (make_up : List ℕ) (left : List Bool) (fault : RowFault)
       → length b < limit → Spells (run_table colour) b (map MakeUp make_up) left
@@ -201,8 +201,8 @@ module _ (reads : (colour : Colour) → ReadsRunsOneWay colour) where
       fault_at limit colour width from place b fault (omega (arith, placed))
       (subst (λ c. IsAtRunCode colour width place c fault) (sym spelled) at)
   spelled_fault (suc limit) colour width from place b (n ∷ ns) left fault few spelled placed inside at =
-      then _ (row_code_of (run_table colour) b (reads colour).codes (Ok (MakeUp n, spelled.0)) spelled.1)
-      (then _ (inside_is width (from + n) (omega (arith, placed, inside, sum-cons n ns)))
+      goes _ (row_code_of (run_table colour) b (reads colour).codes (Ok (MakeUp n, spelled.0)) spelled.1)
+      (goes _ (inside_is width (from + n) (omega (arith, placed, inside, sum-cons n ns)))
       (spelled_fault limit colour width (from + n) place spelled.0 ns left fault
       (omega (arith, few, (reads colour).codes.takes_bits b (MakeUp n) spelled.0 spelled.1)) spelled.2
       (omega (arith, placed, sum-cons n ns)) inside at))
@@ -261,7 +261,7 @@ module _ (reads : (colour : Colour) → ReadsRunsOneWay colour) where
       runs_by_test limit colour width from b (nat_eq from width) refl inside
       (λ to rest ends shorter. runs_are limit (other colour) width to rest (omega (arith, few, shorter)) ends)
 
-  run_shorter : (colour : Colour) (b : List Bool) (n : ℕ) (rest : List Bool) → IsRun colour b n rest → length rest < length b
+  pub run_shorter : (colour : Colour) (b : List Bool) (n : ℕ) (rest : List Bool) → IsRun colour b n rest → length rest < length b
   run_shorter colour b n rest run =
       (MatchResult-at_ok (λ to. IsRunTo colour n 0 b to.0 to.1) (IsRunFault colour n 0 b) (n, rest)
       (run_of colour n 0 n n b rest (omega arith) (omega arith) run)
@@ -275,8 +275,8 @@ module _ (reads : (colour : Colour) → ReadsRunsOneWay colour) where
   runs_of (suc limit) colour width from b (n ∷ runs) rest few are =
       let long : from + n - from ≡ n = omega arith in
       rw (other_place from width are.0, read_runs)
-      (then _ (run_of colour width from n (from + n) b are.1 refl (runs_within width (other colour) (from + n) are.1 runs rest are.3) are.2)
-      (then _ (runs_of limit (other colour) width (from + n) are.1 runs rest (omega (arith, few, run_shorter colour b n are.1 are.2)) are.3)
+      (goes _ (run_of colour width from n (from + n) b are.1 refl (runs_within width (other colour) (from + n) are.1 runs rest are.3) are.2)
+      (goes _ (runs_of limit (other colour) width (from + n) are.1 runs rest (omega (arith, few, run_shorter colour b n are.1 are.2)) are.3)
       (cc (long))))
 
   stops_of : (limit : ℕ) (colour : Colour) (width from : ℕ) (b : List Bool) (runs : List ℕ) (fault : RowFault) → length b < limit
@@ -287,7 +287,7 @@ module _ (reads : (colour : Colour) → ReadsRunsOneWay colour) where
   stops_of (suc limit) colour width from b (n ∷ runs) fault few stops =
       let inside = stop_within width (other colour) (from + n) stops.1 runs fault stops.3 in
       rw (other_place from width stops.0, read_runs)
-      (then _ (run_of colour width from n (from + n) b stops.1 refl (omega (arith, inside)) stops.2)
+      (goes _ (run_of colour width from n (from + n) b stops.1 refl (omega (arith, inside)) stops.2)
       (stop _ (stops_of limit (other colour) width (from + n) stops.1 runs fault
       (omega (arith, few, run_shorter colour b n stops.1 stops.2)) stops.3)))
 

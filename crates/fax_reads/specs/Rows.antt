@@ -9,6 +9,7 @@ use Rattle.fax_bits.specs.Tables.{run_table, modes}
 use Rattle.fax_bits.specs.declared.Colour.{Colour}
 use Rattle.fax_bits.specs.declared.Colour.TheVariants.{White}
 use Rattle.fax_bits.specs.declared.codes.CodeEntry.{CodeEntry}
+use Rattle.fax_bits.specs.declared.modes.ModeCode.{ModeCode}
 use Rattle.fax_bits.specs.declared.modes.ModeCode.TheVariants as mode
 use Rattle.fax_bits.specs.declared.runs.RunCode.{RunCode}
 use Rattle.fax_bits.specs.declared.runs.RunCode.TheVariants as run
@@ -64,30 +65,40 @@ vertical reference at a1 =
     then Ok (record (coloured_up_to at (nat_abs a1)) { colour = other at.colour })
     else Err OutOfRow
 
+-- the position after a run a0a1 of a0's colour and a run a1a2 of the other
+abbrev pub coloured_twice : Position → ℕ → ℕ → Position
+coloured_twice at a1 a2 = record {
+  a0 = Some a2;
+  colour = at.colour;
+  pels = at.pels ++ replicate (a1 - first_pel at) at.colour ++ replicate (a2 - a1) (other at.colour);
+}
+
 -- horizontal mode: a run a0a1 and a run a1a2
+abbrev pub second_run : List Colour → Position → ℕ × List Bool
+    → Result (Position × List Bool) RowFault
+second_run reference at (a1, b) =
+    read_run (suc (length b)) (other at.colour) (length reference) a1 b
+    >>= λ second. Ok (coloured_twice at a1 second.0, second.1)
+
 abbrev pub horizontal : List Colour → Position → List Bool
     → Result (Position × List Bool) RowFault
 horizontal reference at b =
-    let width = length reference in
-    read_run (suc (length b)) at.colour width (first_pel at) b
-    >>= λ first. read_run (suc (length first.1)) (other at.colour) width first.0 first.1
-    >>= λ second. Ok (record {
-      a0 = Some second.0;
-      colour = at.colour;
-      pels = at.pels ++ replicate (first.0 - first_pel at) at.colour
-          ++ replicate (second.0 - first.0) (other at.colour);
-    }, second.1)
+    read_run (suc (length b)) at.colour (length reference) (first_pel at) b
+    >>= second_run reference at
 
--- a coding step: the position after it, and the rest
+-- what a mode does: the position after it, and the rest
+abbrev pub by_mode : List Colour → Position → ModeCode × List Bool
+    → Result (Position × List Bool) RowFault
+by_mode reference at (mode.Pass, b) =
+    Ok (coloured_up_to at (b2 reference at.a0 at.colour), b)
+by_mode reference at (mode.Vertical d, b) =
+    vertical reference at (pos (b1 reference at.a0 at.colour) +ℤ d) >>= λ new. Ok (new, b)
+by_mode reference at (mode.Horizontal, b) = horizontal reference at b
+by_mode reference at (mode.Extension, b) = Err Extension
+
+-- a coding step
 abbrev pub read_step : List Colour → Position → List Bool → Result (Position × List Bool) RowFault
-read_step reference at b =
-    row_code modes b >>= λ code. elim code.0 [
-      | mode.Pass ↦ Ok (coloured_up_to at (b2 reference at.a0 at.colour), code.1)
-      | mode.Vertical d ↦ vertical reference at (pos (b1 reference at.a0 at.colour) +ℤ d)
-          >>= λ new. Ok (new, code.1)
-      | mode.Horizontal ↦ horizontal reference at code.1
-      | mode.Extension ↦ Err Extension
-    ]
+read_step reference at b = row_code modes b >>= by_mode reference at
 
 -- a0 is at the row's end
 abbrev pub is_ended : List Colour → Option ℕ → Bool
