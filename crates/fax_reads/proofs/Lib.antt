@@ -1,3 +1,4 @@
 pub mod CodeGraph
 pub mod RunGraph
 pub mod StepGraph
+pub mod LineGraph

@@ -26,38 +26,37 @@ after_one [] = None
 after_one (true ∷ b) = Some b
 after_one (false ∷ b) = after_one b
 
--- the row after an EOL in MR, by its tag bit (T.4, section 4.2.2)
-abbrev pub tagged : List Bool → Result (Dimension × List Bool) StripFault
-tagged [] = Err DataEnds
-tagged (true ∷ codes) = Ok (OneDimensional, codes)
-tagged (false ∷ codes) = Ok (TwoDimensional, codes)
+-- what stands before the codes of row i of a strip: how the row is coded, and its codes, by the bits
+-- after the first 1, and by whether fewer than eleven zeros stand before it
+-- (T.4, sections 4.1.2, 4.1.3, 4.2.2 and 4.2.3)
+abbrev pub start_in_mh : ℕ → List Bool → Option (List Bool) → Bool
+    → Result (Dimension × List Bool) StripFault
+start_in_mh i b None few = Err DataEnds
+start_in_mh i b (Some codes) false = Ok (OneDimensional, codes)
+start_in_mh zero b (Some codes) true = Ok (OneDimensional, b)
+start_in_mh (suc i) b (Some codes) true = Err MissingEol
 
--- what stands before the codes of row i of a strip: how the row is coded, and its codes
--- (T.4, sections 4.1.2, 4.1.3, 4.2.2 and 4.2.3; T.6, section 2.2.1)
+abbrev pub start_in_mr : Option (List Bool) → Bool → Result (Dimension × List Bool) StripFault
+start_in_mr None few = Err DataEnds
+start_in_mr (Some codes) true = Err MissingEol
+start_in_mr (Some []) false = Err DataEnds
+start_in_mr (Some (true ∷ codes)) false = Ok (OneDimensional, codes)
+start_in_mr (Some (false ∷ codes)) false = Ok (TwoDimensional, codes)
+
+abbrev pub has_few : List Bool → Bool
+has_few b = nat_lt (zeros b) 11
+
 abbrev pub read_start : Coding → ℕ → List Bool → Result (Dimension × List Bool) StripFault
+read_start Mh i b = start_in_mh i b (after_one b) (has_few b)
+read_start Mr i b = start_in_mr (after_one b) (has_few b)
 read_start Mmr i b = Ok (TwoDimensional, b)
-read_start Mh i b =
-    elim (after_one b) [
-      | None ↦ Err DataEnds
-      | Some codes ↦ elim (nat_lt (zeros b) 11) [
-        | false ↦ Ok (OneDimensional, codes)
-        | true ↦ if nat_eq i 0 then Ok (OneDimensional, b) else Err MissingEol
-      ]
-    ]
-read_start Mr i b =
-    elim (after_one b) [
-      | None ↦ Err DataEnds
-      | Some codes ↦ elim (nat_lt (zeros b) 11) [ false ↦ tagged codes | true ↦ Err MissingEol ]
-    ]
 
 -- eleven zeros where a row's first code is due are an end marker; after fewer, and nothing more, the
 -- data ends
-abbrev pub begun : List Bool → Result (List Bool) StripFault
-begun b =
-    elim (nat_lt (zeros b) 11) [
-      | false ↦ Err EndMarker
-      | true ↦ elim (after_one b) [ None ↦ Err DataEnds | Some after ↦ Ok b ]
-    ]
+abbrev pub first_bits : Option (List Bool) → Bool → Result (Unit {0}) StripFault
+first_bits after false = Err EndMarker
+first_bits None true = Err DataEnds
+first_bits (Some after) true = Ok tt
 
 -- the codes of a row, coded so
 abbrev pub read_row : Dimension → ℕ → List Colour → List Bool
@@ -70,8 +69,8 @@ abbrev pub read_line : StripForm → ℕ → List Colour → List Bool
     → Result (List Colour × List Bool) StripFault
 read_line form i reference b =
     read_start form.coding i b
-    >>= λ start. begun start.1
-    >>= λ codes. named strip_fault (read_row start.0 form.width reference codes)
+    >>= λ start. first_bits (after_one start.1) (has_few start.1)
+    >>= λ _. named strip_fault (read_row start.0 form.width reference start.1)
 
 -- n rows from row i on, each over the row before it: those that are there, the fault in the way of
 -- the next, and the bits that are left
