@@ -1,6 +1,8 @@
-pub mod CodeGraph
-pub mod RunGraph
-pub mod StepGraph
-pub mod LineGraph
-pub mod StripGraph
-pub mod OneWay
+mod CodeGraph
+mod ExampleLemmas
+mod GraphLaws
+mod LineGraph
+mod OneWay
+mod RunGraph
+mod StepGraph
+mod StripGraph

@@ -1,10 +1,8 @@
 -- Rows of a strip that a function reads are those that are defined by relations.
-use Rattle.std.proofs.Common.{arith, ◌≡◌, ◌≢◌, ℕ, zero, suc, ◌+◌, ◌-◌, ◌<◌, ◌≤◌, List, [], ◌∷◌, ◌++◌, length, Bool, true, false, true≢false, append-nil, refl, ap, sym, subst, ◌∙◌}
+use Rattle.std.proofs.Common.{arith, ◌≡◌, ℕ, zero, suc, ◌+◌, ◌-◌, ◌<◌, ◌≤◌, List, [], ◌∷◌, ◌++◌, Bool, true, false, append-nil, refl, ap, sym, ◌∙◌}
 use Rattle.std.proofs.Common.{inl, inr, Option, Some, None, Result, Ok, Err, replicate}
-use Rattle.std.specs.Prelude.{◌⊎◌, MatchOption, MatchResult, nat_eq, nat_lt, if◌then◌else◌}
-use Rattle.std.proofs.lemmas.Result.{MatchResult-at_ok, MatchResult-weaker}
+use Rattle.std.specs.Prelude.{MatchOption, MatchResult}
 use Rattle.std.proofs.lemmas.List.{replicate-append-replicate}
-use Rattle.std.proofs.lemmas.Grind.{common_steps}
 use Rattle.std.proofs.lemmas.Bool.Decides.{nat_tests}
 use Rattle.fax_bits.specs.declared.Colour.{Colour}
 use Rattle.fax_bits.specs.Bits.{IsAllZeros}
@@ -14,9 +12,9 @@ use Rattle.fax_page.specs.declared.Coding.TheVariants.{Mh, Mr, Mmr}
 use Rattle.fax_page.specs.declared.Dimension.{Dimension}
 use Rattle.fax_page.specs.declared.Dimension.TheVariants.{OneDimensional, TwoDimensional}
 use Rattle.fax_page.specs.declared.StripFault.{StripFault}
-use Rattle.fax_page.specs.declared.StripFault.TheVariants.{DataEnds, MissingEol, EndMarker}
+use Rattle.fax_page.specs.declared.StripFault.TheVariants.{DataEnds, EndMarker}
 use Rattle.fax_page.specs.declared.StripForm.{StripForm}
-use Rattle.fax_page.specs.Lines.{BeginsBelowEleven, IsEndOfLine, IsStart, IsRowIn, IsRowFaultIn, IsStopInCodes, strip_fault, tag_bit, IsLine, IsCause}
+use Rattle.fax_page.specs.Lines.{BeginsBelowEleven, IsEndOfLine, IsStart, IsRowIn, IsRowFaultIn, IsStopInCodes, strip_fault, IsLine, IsCause}
 use Rattle.fax_reads.specs.Codes.{◌>>=◌, named}
 use Rattle.fax_reads.specs.Lines.{zeros, after_one, read_start, has_few, start_in_mh, start_in_mr, first_bits, read_row, read_line}
 use Rattle.fax_reads.proofs.RunGraph.{bound, goes, stop, row_is, row_of, row_fault_of}
@@ -43,8 +41,7 @@ zeros_alone (suc n) = grind (arith, zeros_alone n)
 -- eleven zeros, whatever follows them
 eleven_zeros : (n : ℕ) (c : List Bool) → 11 ≤ n → (after : List Bool) × (replicate n false ++ c ≡ replicate 11 false ++ after)
 eleven_zeros n c many =
-    let long : 11 + (n - 11) ≡ n = omega (arith, many) in
-    (
+    let long : 11 + (n - 11) ≡ n = omega (arith, many) in (
       replicate (n - 11) false ++ c,
       ap (λ k. replicate k false ++ c) (sym long) ∙ ap (λ zeros. zeros ++ c) (sym (replicate-append-replicate 11 (n - 11) false)),
     )

@@ -1,16 +1,14 @@
 -- Bits are read in one way, since a function reads them.
-use Rattle.std.proofs.Common.{arith, ◌≡◌, List, Bool, refl, ap, sym, ◌∙◌, inl, inr, Result, Ok, Err}
-use Rattle.std.specs.Prelude.{◌⊎◌, ℕ, MatchResult, Option}
+use Rattle.std.proofs.Common.{arith, ◌≡◌, List, Bool, ap, sym, ◌∙◌, inl, inr, Result, Ok, Err}
+use Rattle.std.specs.Prelude.{◌⊎◌, ℕ, MatchResult}
 use Rattle.fax_bits.specs.declared.Colour.{Colour}
 use Rattle.fax_bits.specs.laws.Codes.{IsReadInOneWay, ReadsOneWay, ReadsRunsOneWay}
 use Rattle.fax_bits.specs.Tables.{modes}
 use Rattle.fax_rows.specs.laws.Rows.{ReadsRowsOneWay, ReadsRowsOverOneWay}
 use Rattle.fax_page.specs.declared.StripForm.{StripForm}
-use Rattle.fax_page.specs.declared.StripFault.{StripFault}
 use Rattle.fax_page.specs.Lines.{IsLine, IsCause, white_row}
-use Rattle.fax_page.specs.Strip.{AreLines}
 use Rattle.fax_page.specs.laws.Strips.{ReadsStripsOneWay}
-use Rattle.fax_reads.specs.Lines.{StripRead, read_lines, read_strip}
+use Rattle.fax_reads.specs.Lines.{read_strip}
 use Rattle.fax_reads.proofs.RunGraph.{row_is, row_of, row_fault_of}
 use Rattle.fax_reads.proofs.StepGraph.{row_over_is, row_over_of, row_over_fault_of}
 use Rattle.fax_reads.proofs.LineGraph.{line_is, line_of, cause_of}

@@ -2,7 +2,7 @@
 -- relations.
 use Rattle.std.proofs.Common.{arith, ◌≡◌, ℕ, zero, suc, ◌+◌, ◌-◌, ◌<◌, ◌≤◌, List, [], ◌∷◌, ◌++◌, length, map, Bool, true, false, refl, ap, sym, subst, ◌∙◌}
 use Rattle.std.proofs.Common.{inl, inr, Result, Ok, Err, replicate}
-use Rattle.std.specs.Prelude.{◌⊎◌, MatchResult, sum, nat_eq}
+use Rattle.std.specs.Prelude.{MatchResult, sum, nat_eq}
 use Rattle.std.proofs.lemmas.Result.{MatchResult-at_ok, MatchResult-weaker}
 use Rattle.std.proofs.lemmas.Grind.{common_steps}
 use Rattle.std.proofs.lemmas.Bool.Decides.{nat_tests}
@@ -18,7 +18,7 @@ use Rattle.fax_bits.specs.laws.Codes.{ReadsOneWay, ReadsRunsOneWay}
 use Rattle.fax_rows.specs.declared.RowFault.{RowFault}
 use Rattle.fax_rows.specs.declared.RowFault.TheVariants.{Extension, RunTooLong}
 use Rattle.fax_rows.specs.Rows.{other, pels_of, AreRuns, IsOneDimensionalRow}
-use Rattle.fax_rows.specs.Faults.{row_fault, IsCodeFault, IsRunCodeFault, IsRunFault, StopsAtRun, IsOneDimensionalFault}
+use Rattle.fax_rows.specs.Faults.{row_fault, IsCodeFault, IsRunFault, StopsAtRun, IsOneDimensionalFault}
 use Rattle.fax_rows.specs.code.RowFaults.{IsAtRunCode}
 use Rattle.fax_reads.specs.Codes.{◌>>=◌, named, read_code}
 use Rattle.fax_reads.specs.Rows.{by_run_code, row_code, within, read_run, read_runs, read_one_dimensional}
@@ -220,10 +220,14 @@ module _ (reads : (colour : Colour) → ReadsRunsOneWay colour) where
       at.within at.at_code
 
   -- runs up to the width, or a run with a fault
+  abbrev AreRunsToEnd : Colour → ℕ → ℕ → List Bool → List Colour × List Bool → Type 0
+  AreRunsToEnd colour width from b row = (runs : List ℕ) × AreRuns width colour from b runs row.1 × (row.0 ≡ pels_of colour runs)
+
+  abbrev AreRunsToFault : Colour → ℕ → ℕ → List Bool → RowFault → Type 0
+  AreRunsToFault colour width from b fault = (runs : List ℕ) × StopsAtRun width colour from b runs fault
+
   abbrev AreRead : Colour → ℕ → ℕ → List Bool → Result (List Colour × List Bool) RowFault → Type 0
-  AreRead colour width from b r =
-      MatchResult r (λ row. (runs : List ℕ) × AreRuns width colour from b runs row.1 × (row.0 ≡ pels_of colour runs))
-      (λ fault. (runs : List ℕ) × StopsAtRun width colour from b runs fault)
+  AreRead colour width from b r = MatchResult r (AreRunsToEnd colour width from b) (AreRunsToFault colour width from b)
 
   run_and_more : (colour : Colour) (width from to : ℕ) (b rest : List Bool) (r : Result (List Colour × List Bool) RowFault)
       → from < width → IsRunTo colour width from b to rest → AreRead (other colour) width to rest r
@@ -245,8 +249,7 @@ module _ (reads : (colour : Colour) → ReadsRunsOneWay colour) where
   runs_by_test limit colour width from b true is inside more = ([], (grind (arith, nat_tests), refl), refl)
   runs_by_test limit colour width from b false is inside more =
       let unfinished : from < width = grind (arith, nat_tests) in
-      bound (λ row. (runs : List ℕ) × AreRuns width colour from b runs row.1 × (row.0 ≡ pels_of colour runs))
-      (λ fault. (runs : List ℕ) × StopsAtRun width colour from b runs fault)
+      bound (AreRunsToEnd colour width from b) (AreRunsToFault colour width from b)
       (read_run (suc (length b)) colour width from b)
       (λ run. read_runs limit (other colour) width run.0 run.1 >>= λ more. Ok (replicate (run.0 - from) colour ++ more.0, more.1))
       (run_is (suc (length b)) colour width from b (omega arith) inside)

@@ -2,33 +2,33 @@
 -- relations.
 use Rattle.std.proofs.Common.{arith, ◌≡◌, ◌≢◌, ℕ, zero, suc, ◌+◌, ◌-◌, ◌<◌, ◌≤◌, List, [], ◌∷◌, ◌++◌, length, Bool, true, false, true≢false, refl, ap, sym, subst, ◌∙◌}
 use Rattle.std.proofs.Common.{inl, inr, Option, Some, None, Result, Ok, Err, replicate}
-use Rattle.std.specs.Prelude.{◌⊎◌, MatchResult, nat_eq, ℤ, pos, negsuc, ◌+ℤ◌, ◌<ℤ◌, ◌≤ℤ◌, nat_abs, int_lt, int_le, ◌&&◌, if◌then◌else◌}
-use Rattle.std.proofs.lemmas.Int.{ints, by_lt_z}
-use Rattle.std.proofs.lemmas.Result.{MatchResult-at_ok, MatchResult-weaker}
+use Rattle.std.specs.Prelude.{MatchResult, ℤ, pos, negsuc, ◌+ℤ◌, ◌<ℤ◌, ◌≤ℤ◌, nat_abs, int_lt, int_le, ◌&&◌, if◌then◌else◌}
+use Rattle.std.proofs.lemmas.Int.{ints}
+use Rattle.std.proofs.lemmas.Result.{MatchResult-weaker}
 use Rattle.std.proofs.lemmas.Bool.{and_parts}
-use Rattle.std.proofs.lemmas.Grind.{common_steps}
 use Rattle.std.proofs.lemmas.Bool.Decides.{nat_tests}
 use Rattle.fax_bits.specs.declared.Colour.{Colour}
 use Rattle.fax_bits.specs.declared.modes.ModeCode.{ModeCode}
 use Rattle.fax_bits.specs.declared.modes.ModeCode.TheVariants.{Pass, Horizontal, Vertical, Extension as ModeExtension}
-use Rattle.fax_bits.specs.Codes.{Takes, IsRun}
 use Rattle.fax_bits.specs.laws.Codes.{ReadsOneWay, ReadsRunsOneWay}
 use Rattle.fax_bits.specs.Tables.{modes}
 use Rattle.fax_rows.specs.declared.RowFault.{RowFault}
-use Rattle.fax_rows.specs.declared.RowFault.TheVariants.{OutOfRow, Extension}
-use Rattle.fax_rows.specs.Rows.{b1, b2, other, Position, beginning, first_pel, a0_number, coloured_up_to, IsInRow, IsHorizontalStep, IsStepBy, IsStep, AreSteps}
+use Rattle.fax_rows.specs.declared.RowFault.TheVariants.{OutOfRow}
+use Rattle.fax_rows.specs.Rows.{b1, other, Position, beginning, first_pel, a0_number, coloured_up_to, IsInRow, IsStepBy, IsStep, AreSteps}
 use Rattle.fax_rows.specs.Rows.{IsTwoDimensionalRow}
 use Rattle.fax_rows.specs.Faults.{IsModeFault, IsStepFault, IsRunFault, IsTwoDimensionalFault}
 use Rattle.fax_rows.proofs.ChangeLemmas.{next_change_is}
 use Rattle.fax_reads.specs.Codes.{◌>>=◌}
-use Rattle.fax_reads.specs.Rows.{row_code, read_run, by_mode, vertical, horizontal, second_run, coloured_twice, read_step, read_steps, read_two_dimensional, is_ended}
-use Rattle.fax_reads.proofs.RunGraph.{IsRunTo, bound, goes, stop, row_code_is, row_code_of, run_is, run_of, run_fault_of, run_shorter}
+use Rattle.fax_reads.specs.Rows.{row_code, read_run, by_mode, vertical, horizontal, is_in_row, second_run, coloured_twice, read_step, read_steps, read_two_dimensional, is_ended}
+use Rattle.fax_reads.proofs.RunGraph.{bound, goes, stop, row_code_is, row_code_of, run_is, run_of, run_fault_of, run_shorter}
 
 -- a step within the row that takes bits, by a mode that was taken; or its fault
+abbrev IsGoodStep : ModeCode → List Colour → Position → List Bool → Position × List Bool → Type 0
+IsGoodStep mode reference old b step =
+    IsStepBy mode reference old b step.0 step.1 × (first_pel step.0 ≤ length reference) × (length step.1 ≤ length b)
+
 abbrev IsModeRead : ModeCode → List Colour → Position → List Bool → Result (Position × List Bool) RowFault → Type 0
-IsModeRead mode reference old b r =
-    MatchResult r (λ step. IsStepBy mode reference old b step.0 step.1 × (first_pel step.0 ≤ length reference) × (length step.1 ≤ length b))
-    (IsModeFault mode reference old b)
+IsModeRead mode reference old b r = MatchResult r (IsGoodStep mode reference old b) (IsModeFault mode reference old b)
 
 abbrev IsStepRead : List Colour → Position → List Bool → Result (Position × List Bool) RowFault → Type 0
 IsStepRead reference old b r =
@@ -70,29 +70,30 @@ twice_is old a1 a2 n m first second =
     let more : a2 - a1 ≡ m = omega (arith, second) in
     cc (end, long, more)
 
--- the test of vertical mode
+-- a1 in vertical mode, and its test
+abbrev a1_at : List Colour → Position → ℤ → ℤ
+a1_at reference old d = pos (b1 reference old.a0 old.colour) +ℤ d
+
 in_row_test : (reference : List Colour) (old : Position) (d : ℤ) → IsInRow reference old d
-    → (int_lt (a0_number old) (pos (b1 reference old.a0 old.colour) +ℤ d) && int_le (pos (b1 reference old.a0 old.colour) +ℤ d) (pos (length reference)))
-    ≡ true
+    → is_in_row reference old (a1_at reference old d) ≡ true
 in_row_test reference old d in_row =
-    let z : ℤ = pos (b1 reference old.a0 old.colour) +ℤ d in
+    let z = a1_at reference old d in
     let right : int_lt (a0_number old) z ≡ true = is_true _ (λ no. omega (arith, ints, in_row.right_of_a0, no)) in
     let within : int_le z (pos (length reference)) ≡ true = is_true _ (λ no. omega (arith, ints, in_row.within, no)) in
     ap (λ t. t && int_le z (pos (length reference))) right ∙ within
 
 test_in_row : (reference : List Colour) (old : Position) (d : ℤ)
-    → (int_lt (a0_number old) (pos (b1 reference old.a0 old.colour) +ℤ d) && int_le (pos (b1 reference old.a0 old.colour) +ℤ d) (pos (length reference)))
-    ≡ true → IsInRow reference old d
+    → is_in_row reference old (a1_at reference old d) ≡ true → IsInRow reference old d
 test_in_row reference old d is =
-    let parts = and_parts (int_lt (a0_number old) (pos (b1 reference old.a0 old.colour) +ℤ d))
-        (int_le (pos (b1 reference old.a0 old.colour) +ℤ d) (pos (length reference))) is in
+    let parts = and_parts (int_lt (a0_number old) (a1_at reference old d))
+    (int_le (a1_at reference old d) (pos (length reference))) is in
     record { right_of_a0 = omega (arith, ints, parts.0); within = omega (arith, ints, parts.1) }
 
-vertical_ok : (reference : List Colour) (old : Position) (z : ℤ) → (int_lt (a0_number old) z && int_le z (pos (length reference))) ≡ true
+vertical_ok : (reference : List Colour) (old : Position) (z : ℤ) → is_in_row reference old z ≡ true
     → vertical reference old z ≡ Ok (record (coloured_up_to old (nat_abs z)) { colour = other old.colour })
 vertical_ok reference old z is = rw (is) refl
 
-vertical_err : (reference : List Colour) (old : Position) (z : ℤ) → (int_lt (a0_number old) z && int_le z (pos (length reference))) ≡ false
+vertical_err : (reference : List Colour) (old : Position) (z : ℤ) → is_in_row reference old z ≡ false
     → vertical reference old z ≡ Err OutOfRow
 vertical_err reference old z is = rw (is) refl
 
@@ -107,16 +108,14 @@ is_ended_of reference (Some a) is = grind (arith, nat_tests)
 
 module _ (runs_read : (colour : Colour) → ReadsRunsOneWay colour) (modes_read : ReadsOneWay modes) where
   vertical_is : (reference : List Colour) (old : Position) (d : ℤ) (b : List Bool) (test : Bool)
-      → (int_lt (a0_number old) (pos (b1 reference old.a0 old.colour) +ℤ d) && int_le (pos (b1 reference old.a0 old.colour) +ℤ d) (pos (length reference)))
-      ≡ test
+      → is_in_row reference old (a1_at reference old d) ≡ test
       → IsModeRead (Vertical d) reference old b
-      ((if test then Ok (record (coloured_up_to old (nat_abs (pos (b1 reference old.a0 old.colour) +ℤ d))) { colour = other old.colour }) else Err OutOfRow)
-      >>= λ new. Ok (new, b))
+      ((if test then Ok (record (coloured_up_to old (nat_abs (a1_at reference old d))) { colour = other old.colour })
+      else Err OutOfRow) >>= λ new. Ok (new, b))
   vertical_is reference old d b true is =
       let in_row = test_in_row reference old d is in
-      let place = abs_is (pos (b1 reference old.a0 old.colour) +ℤ d) (omega (arith, ints, in_row.right_of_a0, below_a0 old)) in
-      (
-        (record { in_row = in_row; a1 = nat_abs (pos (b1 reference old.a0 old.colour) +ℤ d); a1_is = place; new_is = refl }, refl),
+      let place = abs_is (a1_at reference old d) (omega (arith, ints, in_row.right_of_a0, below_a0 old)) in (
+        (record { in_row = in_row; a1 = nat_abs (a1_at reference old d); a1_is = place; new_is = refl }, refl),
         omega (arith, ints, in_row.within, place),
         omega arith,
       )
@@ -125,12 +124,12 @@ module _ (runs_read : (colour : Colour) → ReadsRunsOneWay colour) (modes_read 
   horizontal_is : (reference : List Colour) (old : Position) (b : List Bool) → first_pel old ≤ length reference
       → IsModeRead Horizontal reference old b (horizontal reference old b)
   horizontal_is reference old b inside =
-      bound (λ step. IsHorizontalStep reference old b step.0 step.1 × (first_pel step.0 ≤ length reference) × (length step.1 ≤ length b))
+      bound (IsGoodStep Horizontal reference old b)
       (IsModeFault Horizontal reference old b)
       (read_run (suc (length b)) old.colour (length reference) (first_pel old) b)
       (second_run reference old)
       (run_is runs_read (suc (length b)) old.colour (length reference) (first_pel old) b (omega arith) inside)
-      (λ first run. bound (λ step. IsHorizontalStep reference old b step.0 step.1 × (first_pel step.0 ≤ length reference) × (length step.1 ≤ length b))
+      (λ first run. bound (IsGoodStep Horizontal reference old b)
       (IsModeFault Horizontal reference old b)
       (read_run (suc (length first.1)) (other old.colour) (length reference) first.0 first.1)
       (λ second. Ok (coloured_twice old first.0 second.0, second.1))
@@ -148,8 +147,13 @@ module _ (runs_read : (colour : Colour) → ReadsRunsOneWay colour) (modes_read 
         more.inside,
         omega (arith, run.shorter, more.shorter),
       ))
-      (λ fault at. inr (run.n, first.1, run.run, omega (arith, run.ends, run.inside),
-      subst (λ k. IsRunFault (other old.colour) (length reference) k first.1 fault) run.ends at)))
+      (λ fault at. inr (
+        run.n,
+        first.1,
+        run.run,
+        omega (arith, run.ends, run.inside),
+        subst (λ k. IsRunFault (other old.colour) (length reference) k first.1 fault) run.ends at,
+      )))
       (λ fault at. inl at)
 
   mode_is : (reference : List Colour) (old : Position) (code : ModeCode × List Bool) → first_pel old ≤ length reference
@@ -165,8 +169,11 @@ module _ (runs_read : (colour : Colour) → ReadsRunsOneWay colour) (modes_read 
       bound (λ step. IsStep reference old b step.0 step.1 × (first_pel step.0 ≤ length reference) × (length step.1 < length b))
       (IsStepFault reference old b) (row_code modes b) (by_mode reference old) (row_code_is modes b)
       (λ code taken. MatchResult-weaker (by_mode reference old code) (mode_is reference old code inside)
-      (λ step is. (record { mode = code.0; after = code.1; taken = taken; step = is.0 }, is.1,
-      omega (arith, is.2, modes_read.takes_bits b code.0 code.1 taken)))
+      (λ step is. (
+        record { mode = code.0; after = code.1; taken = taken; step = is.0 },
+        is.1,
+        omega (arith, is.2, modes_read.takes_bits b code.0 code.1 taken),
+      ))
       (λ fault is. inr (code.0, code.1, taken, is)))
       (λ fault none. inl none)
 
@@ -175,7 +182,7 @@ module _ (runs_read : (colour : Colour) → ReadsRunsOneWay colour) (modes_read 
   mode_of reference old Pass b new rest step = cc (step.0, step.1)
   mode_of reference old (Vertical d) b new rest step =
       let in_row = in_row_test reference old d step.0.in_row in
-      let place : nat_abs (pos (b1 reference old.a0 old.colour) +ℤ d) ≡ step.0.a1 = ap nat_abs (sym step.0.a1_is) in
+      let place : nat_abs (a1_at reference old d) ≡ step.0.a1 = ap nat_abs (sym step.0.a1_is) in
       goes _ (vertical_ok reference old _ in_row) (cc (place, step.0.new_is, step.1))
   mode_of reference old Horizontal b new rest step =
       let a1 = first_pel old + step.first in
@@ -212,18 +219,26 @@ module _ (runs_read : (colour : Colour) → ReadsRunsOneWay colour) (modes_read 
   step_shorter reference old Pass b new rest step = omega (arith, ap length step.1)
   step_shorter reference old (Vertical d) b new rest step = omega (arith, ap length step.1)
   step_shorter reference old Horizontal b new rest step =
-      omega (arith, run_shorter runs_read old.colour b step.first step.middle step.first_run,
-      run_shorter runs_read (other old.colour) step.middle step.second rest step.second_run)
+      omega (
+        arith,
+        run_shorter runs_read old.colour b step.first step.middle step.first_run,
+        run_shorter runs_read (other old.colour) step.middle step.second rest step.second_run,
+      )
   step_shorter reference old ModeExtension b new rest step = absurd step
 
   -- steps to the row's end, or a step with a fault
+  abbrev AreStepsToEnd : List Colour → Position → List Bool → List Colour × List Bool → Type 0
+  AreStepsToEnd reference old b row =
+      (positions : List Position) × (last : Position) × AreSteps reference old b positions last row.1
+      × (last.a0 ≡ Some (length reference)) × (row.0 ≡ last.pels)
+
+  abbrev AreStepsToFault : List Colour → Position → List Bool → RowFault → Type 0
+  AreStepsToFault reference old b fault =
+      (positions : List Position) × (last : Position) × (left : List Bool) × AreSteps reference old b positions last left
+      × (last.a0 ≢ Some (length reference)) × IsStepFault reference last left fault
+
   abbrev IsRowRead : List Colour → Position → List Bool → Result (List Colour × List Bool) RowFault → Type 0
-  IsRowRead reference old b r =
-      MatchResult r
-      (λ row. (positions : List Position) × (last : Position) × AreSteps reference old b positions last row.1
-      × (last.a0 ≡ Some (length reference)) × (row.0 ≡ last.pels))
-      (λ fault. (positions : List Position) × (last : Position) × (left : List Bool) × AreSteps reference old b positions last left
-      × (last.a0 ≢ Some (length reference)) × IsStepFault reference last left fault)
+  IsRowRead reference old b r = MatchResult r (AreStepsToEnd reference old b) (AreStepsToFault reference old b)
 
   step_before : (reference : List Colour) (old new : Position) (b rest : List Bool) (r : Result (List Colour × List Bool) RowFault)
       → (old.a0 ≢ Some (length reference)) → IsStep reference old b new rest → IsRowRead reference new rest r → IsRowRead reference old b r
@@ -243,11 +258,7 @@ module _ (runs_read : (colour : Colour) → ReadsRunsOneWay colour) (modes_read 
   steps_by_test limit reference old b true is inside more = ([], old, (refl, refl), ended_is reference old.a0 is, refl)
   steps_by_test limit reference old b false is inside more =
       let unfinished : old.a0 ≢ Some (length reference) = λ ends. true≢false (sym (is_ended_of reference old.a0 ends) ∙ is) in
-      bound
-      (λ row. (positions : List Position) × (last : Position) × AreSteps reference old b positions last row.1
-      × (last.a0 ≡ Some (length reference)) × (row.0 ≡ last.pels))
-      (λ fault. (positions : List Position) × (last : Position) × (left : List Bool) × AreSteps reference old b positions last left
-      × (last.a0 ≢ Some (length reference)) × IsStepFault reference last left fault)
+      bound (AreStepsToEnd reference old b) (AreStepsToFault reference old b)
       (read_step reference old b) (λ step. read_steps limit reference step.0 step.1) (step_is reference old b inside)
       (λ step is. step_before reference old step.0 b step.1 (read_steps limit reference step.0 step.1) unfinished is.0
       (more step.0 step.1 is.1 is.2))
@@ -270,9 +281,12 @@ module _ (runs_read : (colour : Colour) → ReadsRunsOneWay colour) (modes_read 
   steps_of (suc limit) reference old b (next ∷ positions) last rest few steps ends =
       rw (is_false _ (λ is. steps.0 (ended_is reference old.a0 is)), read_steps)
       (goes _ (step_of reference old b next steps.1 steps.2)
-      (steps_of limit reference next steps.1 positions last rest (omega (arith, few,
-      step_shorter reference old steps.2.mode steps.2.after next steps.1 steps.2.step,
-      modes_read.takes_bits b steps.2.mode steps.2.after steps.2.taken)) steps.3 ends))
+      (steps_of limit reference next steps.1 positions last rest (omega (
+        arith,
+        few,
+        step_shorter reference old steps.2.mode steps.2.after next steps.1 steps.2.step,
+        modes_read.takes_bits b steps.2.mode steps.2.after steps.2.taken,
+      )) steps.3 ends))
 
   steps_fault_of : (limit : ℕ) (reference : List Colour) (old : Position) (b : List Bool) (positions : List Position) (last : Position)
       (left : List Bool) (fault : RowFault) → length b < limit → AreSteps reference old b positions last left
@@ -286,9 +300,12 @@ module _ (runs_read : (colour : Colour) → ReadsRunsOneWay colour) (modes_read 
   steps_fault_of (suc limit) reference old b (next ∷ positions) last left fault few steps unfinished at =
       rw (is_false _ (λ is. steps.0 (ended_is reference old.a0 is)), read_steps)
       (goes _ (step_of reference old b next steps.1 steps.2)
-      (steps_fault_of limit reference next steps.1 positions last left fault (omega (arith, few,
-      step_shorter reference old steps.2.mode steps.2.after next steps.1 steps.2.step,
-      modes_read.takes_bits b steps.2.mode steps.2.after steps.2.taken)) steps.3 unfinished at))
+      (steps_fault_of limit reference next steps.1 positions last left fault (omega (
+        arith,
+        few,
+        step_shorter reference old steps.2.mode steps.2.after next steps.1 steps.2.step,
+        modes_read.takes_bits b steps.2.mode steps.2.after steps.2.taken,
+      )) steps.3 unfinished at))
 
   -- a row is read as it is defined
   pub row_over_is : (reference : List Colour) (b : List Bool)

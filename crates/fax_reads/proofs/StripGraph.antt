@@ -1,5 +1,5 @@
 -- The rows of a strip that a function reads are those that are defined by relations.
-use Rattle.std.proofs.Common.{arith, ◌≡◌, ℕ, zero, suc, ◌+◌, ◌<◌, List, [], ◌∷◌, Bool, refl, ap, sym, ◌∙◌, Option, Some, None, Result, Ok, Err}
+use Rattle.std.proofs.Common.{arith, ◌≡◌, ℕ, zero, suc, ◌+◌, ◌<◌, List, [], ◌∷◌, Bool, refl, Option, Some, None, Result, Ok, Err}
 use Rattle.std.specs.Prelude.{MatchResult}
 use Rattle.fax_bits.specs.declared.Colour.{Colour}
 use Rattle.fax_bits.specs.laws.Codes.{ReadsOneWay, ReadsRunsOneWay}

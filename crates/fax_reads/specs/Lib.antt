@@ -1,4 +1,4 @@
 pub mod Codes
 pub mod Rows
 pub mod Lines
-pub mod Examples
+pub mod laws

@@ -1,7 +1,7 @@
 -- The rows of a strip, read by functions (T.4, sections 4.1.1 to 4.1.3, 4.2.1.3.3, 4.2.2 and 4.2.3;
 -- T.6, section 2.2.1; the faults are this project's profile).
-use Rattle.std.specs.Prelude.{ℕ, zero, suc, ◌+◌, ◌-◌, nat_lt, nat_eq, Bool, true, false}
-use Rattle.std.specs.Prelude.{if◌then◌else◌, List, [], ◌∷◌, Option, Some, None, Result, Ok, Err}
+use Rattle.std.specs.Prelude.{ℕ, zero, suc, ◌+◌, nat_lt, Bool, true, false}
+use Rattle.std.specs.Prelude.{List, [], ◌∷◌, Option, Some, None, Result, Ok, Err}
 use Rattle.fax_bits.specs.declared.Colour.{Colour}
 use Rattle.fax_rows.specs.declared.RowFault.{RowFault}
 use Rattle.fax_page.specs.declared.StripFault.TheVariants.{DataEnds, MissingEol, EndMarker}
@@ -26,8 +26,8 @@ after_one [] = None
 after_one (true ∷ b) = Some b
 after_one (false ∷ b) = after_one b
 
--- what stands before the codes of row i of a strip: how the row is coded, and its codes, by the bits
--- after the first 1, and by whether fewer than eleven zeros stand before it
+-- what stands before the codes of row i of a strip: how the row is coded, and its codes, by the
+-- bits after the first 1, and by whether fewer than eleven zeros stand before it
 -- (T.4, sections 4.1.2, 4.1.3, 4.2.2 and 4.2.3)
 abbrev pub start_in_mh : ℕ → List Bool → Option (List Bool) → Bool
     → Result (Dimension × List Bool) StripFault
@@ -51,8 +51,8 @@ read_start Mh i b = start_in_mh i b (after_one b) (has_few b)
 read_start Mr i b = start_in_mr (after_one b) (has_few b)
 read_start Mmr i b = Ok (TwoDimensional, b)
 
--- eleven zeros where a row's first code is due are an end marker; after fewer, and nothing more, the
--- data ends
+-- eleven zeros where a row's first code is due are an end marker; after fewer, and nothing more,
+-- the data ends
 abbrev pub first_bits : Option (List Bool) → Bool → Result (Unit {0}) StripFault
 first_bits after false = Err EndMarker
 first_bits None true = Err DataEnds

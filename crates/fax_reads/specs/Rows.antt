@@ -3,7 +3,7 @@
 -- faults are this project's profile). A number `limit` is above the number of bits that are left:
 -- each code takes one at least.
 use Rattle.std.specs.Prelude.{ℕ, zero, suc, ◌+◌, ◌-◌, nat_lt, nat_eq, ℤ, pos, ◌+ℤ◌, nat_abs, int_lt}
-use Rattle.std.specs.Prelude.{int_le, Bool, true, false, ◌&&◌, if◌then◌else◌, List, [], ◌∷◌, ◌++◌}
+use Rattle.std.specs.Prelude.{int_le, Bool, true, false, ◌&&◌, if◌then◌else◌, List, [], ◌++◌}
 use Rattle.std.specs.Prelude.{length, replicate, Option, Some, None, Result, Ok, Err}
 use Rattle.fax_bits.specs.Tables.{run_table, modes}
 use Rattle.fax_bits.specs.declared.Colour.{Colour}
@@ -29,7 +29,8 @@ row_code table b = named row_fault (read_code table b)
 abbrev pub within : ℕ → ℕ → Result ℕ RowFault
 within width to = if nat_lt width to then Err RunTooLong else Ok to
 
--- what a run code does at a pel, where `more` reads on from a pel: the pel after the run, and the rest
+-- what a run code does at a pel, where `more` reads on from a pel: the pel after the run, and the
+-- rest
 abbrev pub by_run_code : (ℕ → List Bool → Result (ℕ × List Bool) RowFault) → ℕ → ℕ
     → RunCode × List Bool → Result (ℕ × List Bool) RowFault
 by_run_code more width from (run.Terminating n, b) = within width (from + n) >>= λ to. Ok (to, b)
@@ -58,10 +59,15 @@ read_runs (suc limit) colour width from b =
 abbrev pub read_one_dimensional : ℕ → List Bool → Result (List Colour × List Bool) RowFault
 read_one_dimensional width b = read_runs (suc (length b)) White width 0 b
 
+-- a place that is right of a0 and not after the row's end
+abbrev pub is_in_row : List Colour → Position → ℤ → Bool
+is_in_row reference at a1 =
+    int_lt (a0_number at) a1 && int_le a1 (pos (length reference))
+
 -- vertical mode, with a1 at this place
 abbrev pub vertical : List Colour → Position → ℤ → Result Position RowFault
 vertical reference at a1 =
-    if int_lt (a0_number at) a1 && int_le a1 (pos (length reference))
+    if is_in_row reference at a1
     then Ok (record (coloured_up_to at (nat_abs a1)) { colour = other at.colour })
     else Err OutOfRow
 
@@ -70,7 +76,8 @@ abbrev pub coloured_twice : Position → ℕ → ℕ → Position
 coloured_twice at a1 a2 = record {
   a0 = Some a2;
   colour = at.colour;
-  pels = at.pels ++ replicate (a1 - first_pel at) at.colour ++ replicate (a2 - a1) (other at.colour);
+  pels = at.pels ++ replicate (a1 - first_pel at) at.colour
+      ++ replicate (a2 - a1) (other at.colour);
 }
 
 -- horizontal mode: a run a0a1 and a run a1a2

@@ -1,4 +1,5 @@
-//! Reading codes, rows and strips by functions of the definitions.
+//! Rows and strips read by functions: what the definitions of `fax_rows` and `fax_page` say by
+//! relations, computed.
 #![tactic(auto)]
 
-pub fn nothing() {}
+pub mod laws;

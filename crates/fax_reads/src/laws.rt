@@ -1,0 +1,27 @@
+//! Laws of the functions. These here compute nothing: each has a law as its contract.
+ghost use Rattle.fax_reads.specs.laws.Graphs as Law;
+ghost use Rattle.fax_reads.specs.laws.Examples.{AreRead};
+
+/// A row of bits, or its fault, is what a function reads of them, in one-dimensional coding and in
+/// two-dimensional coding over a reference row (T.4, sections 4.1.1 and 4.2.1.3.3; T.6, section
+/// 2.2.4).
+pub fn rows_are_read_by_functions()
+    ensures { Law.RowsAreReadByFunctions }
+{
+    fax_bits::laws::run_codes_are_read_in_one_way();
+    fax_bits::laws::codes_are_read_in_one_way::<fax_bits::Modes>();
+}
+
+/// A row of a strip, or the fault in its way, and the rows of a strip, are what a function reads of
+/// its bits, in any coding.
+pub fn strips_are_read_by_functions()
+    ensures { Law.StripsAreReadByFunctions }
+{
+    fax_bits::laws::run_codes_are_read_in_one_way();
+    fax_bits::laws::codes_are_read_in_one_way::<fax_bits::Modes>();
+}
+
+/// Worked strips are read as they are meant.
+pub fn examples_are_read()
+    ensures { AreRead }
+{}
