@@ -13,7 +13,7 @@ use Rattle.fax_bits.specs.laws.Codes.{ReadsOneWay}
 use Rattle.fax_reads.specs.Codes.{after_front, is_cut, first_code, read_code}
 
 -- what is left after a front, or no front
-front_is : (front b : List Bool) → MatchOption (after_front front b) (BeginsWith b front → ⊥) (λ rest. b ≡ front ++ rest)
+pub front_is : (front b : List Bool) → MatchOption (after_front front b) (BeginsWith b front → ⊥) (λ rest. b ≡ front ++ rest)
 front_is [] b = refl
 front_is (true ∷ front) [] = λ h. let is = h.1 in cc
 front_is (false ∷ front) [] = λ h. let is = h.1 in cc

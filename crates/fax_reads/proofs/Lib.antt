@@ -6,3 +6,4 @@ mod OneWay
 mod RunGraph
 mod StepGraph
 mod StripGraph
+mod EndGraph

@@ -23,7 +23,7 @@ use Rattle.fax_bits.specs.laws.Codes.{ReadsOneWay, ReadsRunsOneWay}
 use Rattle.fax_bits.specs.Tables.{modes}
 
 -- bits are zeros, or zeros, a 1 and the bits after it
-zeros_is : (b : List Bool) → MatchOption (after_one b) (b ≡ replicate (zeros b) false) (λ after. b ≡ replicate (zeros b) false ++ true ∷ after)
+pub zeros_is : (b : List Bool) → MatchOption (after_one b) (b ≡ replicate (zeros b) false) (λ after. b ≡ replicate (zeros b) false ++ true ∷ after)
 zeros_is [] = refl
 zeros_is (true ∷ b) = refl
 zeros_is (false ∷ b) = grind (arith, zeros_is b)
@@ -50,7 +50,7 @@ zeros_after : (n : ℕ) (after : List Bool) → n ≤ zeros (replicate n false +
 zeros_after zero after = omega arith
 zeros_after (suc n) after = omega (arith, zeros_after n after)
 
-all_zeros : (b : List Bool) → IsAllZeros b → after_one b ≡ None
+pub all_zeros : (b : List Bool) → IsAllZeros b → after_one b ≡ None
 all_zeros b all = ap after_one all.1 ∙ (zeros_alone all.0).1
 
 below_eleven : (b : List Bool) → BeginsBelowEleven b → (after : List Bool) × (after_one b ≡ Some after) × (has_few b ≡ true)
@@ -59,19 +59,19 @@ below_eleven b below =
     let few : zeros b ≡ below.0 = ap zeros below.2.1 ∙ one.0 in
     (below.2.0, ap after_one below.2.1 ∙ one.1, grind (arith, nat_tests, below.1, few))
 
-end_of_line : (b rest : List Bool) → IsEndOfLine b rest → (after_one b ≡ Some rest) × (has_few b ≡ false)
+pub end_of_line : (b rest : List Bool) → IsEndOfLine b rest → (after_one b ≡ Some rest) × (has_few b ≡ false)
 end_of_line b rest eol =
     let one = zeros_before_one eol.0 rest in
     let many : zeros b ≡ eol.0 = ap zeros eol.2 ∙ one.0 in
     (ap after_one eol.2 ∙ one.1, grind (arith, nat_tests, eol.1, many))
 
-abbrev IsOne : List Bool → Option (List Bool) → Type 0
+abbrev pub IsOne : List Bool → Option (List Bool) → Type 0
 IsOne b r = MatchOption r (b ≡ replicate (zeros b) false) (λ after. b ≡ replicate (zeros b) false ++ true ∷ after)
 
 few_below : (b after : List Bool) → b ≡ replicate (zeros b) false ++ true ∷ after → has_few b ≡ true → BeginsBelowEleven b
 few_below b after is few = (zeros b, grind (arith, nat_tests, few), (after, is))
 
-many_end : (b after : List Bool) → b ≡ replicate (zeros b) false ++ true ∷ after → has_few b ≡ false → IsEndOfLine b after
+pub many_end : (b after : List Bool) → b ≡ replicate (zeros b) false ++ true ∷ after → has_few b ≡ false → IsEndOfLine b after
 many_end b after is many = (zeros b, grind (arith, nat_tests, many), is)
 
 mh_is : (i : ℕ) (b : List Bool) (r : Option (List Bool)) (few : Bool) → IsOne b r → has_few b ≡ few → IsStart Mh i b (start_in_mh i b r few)

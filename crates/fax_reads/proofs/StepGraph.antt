@@ -52,7 +52,7 @@ is_true : (test : Bool) → (test ≡ false → ⊥) → test ≡ true
 is_true true not = refl
 is_true false not = absurd (not refl)
 
-is_false : (test : Bool) → (test ≡ true → ⊥) → test ≡ false
+pub is_false : (test : Bool) → (test ≡ true → ⊥) → test ≡ false
 is_false false not = refl
 is_false true not = absurd (not refl)
 

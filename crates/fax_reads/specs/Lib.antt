@@ -1,4 +1,5 @@
 pub mod Codes
 pub mod Rows
 pub mod Lines
+pub mod Uncounted
 pub mod laws

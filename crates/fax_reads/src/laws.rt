@@ -21,6 +21,11 @@ pub fn strips_are_read_by_functions()
     fax_bits::laws::codes_are_read_in_one_way::<fax_bits::Modes>();
 }
 
+/// How rows end that nobody counted is what a function says, in any coding.
+pub fn ends_are_told_by_a_function()
+    ensures { Law.EndsAreToldByAFunction }
+{}
+
 /// Worked strips are read as they are meant.
 pub fn examples_are_read()
     ensures { AreRead }

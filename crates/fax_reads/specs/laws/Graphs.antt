@@ -8,6 +8,10 @@ use Rattle.fax_page.specs.declared.StripFault.{StripFault}
 use Rattle.fax_page.specs.declared.StripForm.{StripForm}
 use Rattle.fax_page.specs.Lines.{IsLine, IsCause, white_row}
 use Rattle.fax_page.specs.Strip.{AreLines}
+use Rattle.fax_page.specs.Uncounted.{EndsSo}
+use Rattle.fax_page.specs.declared.Coding.{Coding}
+use Rattle.fax_page.specs.declared.RowsEnd.{RowsEnd}
+use Rattle.fax_reads.specs.Uncounted.{rows_end}
 use Rattle.fax_reads.specs.Rows.{read_one_dimensional, read_two_dimensional}
 use Rattle.fax_reads.specs.Lines.{read_line, read_strip}
 
@@ -36,3 +40,9 @@ pub record StripsAreReadByFunctions : Type 0 where
       (end : Option StripFault) (left : List Bool)
       → AreLines form 0 (white_row form.width) b rows end left
       ↔ (read_strip form b ≡ record { rows = rows; end = end; left = left })
+
+-- how rows end that nobody counted
+abbrev pub EndsAreToldByAFunction : Type 0
+EndsAreToldByAFunction =
+    (coding : Coding) (row : ℕ) (left : List Bool) (stop : Option StripFault) (end : RowsEnd)
+    → EndsSo coding row left stop end ↔ (rows_end coding row left stop ≡ end)
