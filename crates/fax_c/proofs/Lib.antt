@@ -1,3 +1,4 @@
+pub mod OutputLemmas
 pub mod PackedLemmas
 pub mod FormatLemmas
 pub mod ListLemmas

@@ -53,7 +53,7 @@ NamesNote number old len new =
 
 -- the version, and its number
 abbrev pub version : List ℕ
-version = codes "1.5.0"
+version = codes "1.5.1"
 
 abbrev pub version_number : ℕ
-version_number = 10500
+version_number = 10501

@@ -1,5 +1,5 @@
 //! Bytes of a file that is written, and numbers in them, each with its lowest byte first.
-ghost use Rattle.std.specs.Prelude.{◌≡◌, ◌+◌, ◌≤◌, ◌++◌, length, take, drop};
+ghost use Rattle.std.specs.Prelude.{◌≡◌, ◌+◌, ◌≤◌, ◌++◌, length, take, drop, replicate};
 ghost use Rattle.fax_files.specs.declared.Endian.TheVariants.{Little};
 ghost use Rattle.fax_files.specs.Directory.{number_at};
 ghost use Rattle.fax_files.specs.Layout.{four};
@@ -10,6 +10,14 @@ pub(crate) fn put_bytes(file: &mut [u8], at: usize, bytes: &[u8])
     ensures { file.new ≡ take at file.old ++ bytes.now ++ drop (at + length bytes.now) file.old }
 {
     file[at..at + bytes.len()].copy_from_slice(bytes);
+}
+
+/// Writes so many zeros at a place.
+pub(crate) fn put_zeros(file: &mut [u8], at: usize, zeros: usize)
+    requires { at + zeros ≤ length file.old }
+    ensures { file.new ≡ take at file.old ++ replicate zeros 0 ++ drop (at + zeros) file.old }
+{
+    file[at..at + zeros].fill(0);
 }
 
 /// Writes the bytes of a number of four bytes at a place.

@@ -1,14 +1,16 @@
 //! Files turned into others.
-ghost use Rattle.std.specs.Prelude.{◌≡◌, ◌≢◌, MatchOption};
+ghost use Rattle.std.specs.Prelude.{◌≡◌, ◌≢◌, ◌+◌, ◌≤◌, ◌++◌, length, take, drop, MatchOption};
+ghost use Rattle.fax_walk.specs.views.Parts.{part_bytes};
 ghost use Rattle.fax_walk.specs.declared.options.Options.{Options as TheOptions};
 ghost use Rattle.fax_c.specs.Converted as Spec;
+ghost use Rattle.fax_c.specs.Texts.{IsTextPut};
 ghost use Rattle.fax_c.specs.code.Conversion as Code;
 
+use crate::bytes::{put_bytes, put_zeros};
 use crate::faults::{FaxFault, pbm_fault_number};
 use crate::status;
-use crate::text::put_text;
 use fax_files::FillOrder;
-use fax_walk::{ConvertFault, Options, Target, convert};
+use fax_walk::{ConvertFault, Options, Part, Parts, Target, convert_parts};
 use std::alloc::Global;
 
 /// How a file is written.
@@ -146,8 +148,34 @@ impl FaxConverted {
     }
 }
 
+/// Writes a part of an output at a place, and answers where it ends.
+fn put_part(out: &mut [u8], at: usize, part: Part) -> usize
+    requires { at + length (part_bytes part) ≤ length out.old }
+    ensures written { out.new ≡ take at out.old ++ (part_bytes part.entry ++ drop result out.old) }
+    ensures end { result ≡ at + length (part_bytes part.entry) }
+{
+    let zeros = at + part.held.len();
+    put_bytes(out, at, part.held);
+    put_zeros(out, zeros, part.zeros);
+    zeros + part.zeros
+}
+
+/// Writes an output part by part where it has room.
+fn put_parts(output: &Parts, out: &mut [u8])
+    ensures { IsTextPut output.now out.old (length output.now) out.new }
+{
+    if output.len() > out.len() {
+        return;
+    }
+    let mut left = output.parts();
+    let mut at = 0;
+    while let Some(part) = left.next_part() {
+        at = put_part(out, at, part);
+    }
+}
+
 /// Writes the output where it has room, and tells how long it is.
-fn put_output(output: &[u8], out: &mut [u8], converted: &mut FaxConverted) -> u32
+fn put_output(output: &Parts, out: &mut [u8], converted: &mut FaxConverted) -> u32
     ensures { Spec.IsOutputTold output.now out.old out.new converted.new result }
 {
     *converted = FaxConverted {
@@ -155,7 +183,8 @@ fn put_output(output: &[u8], out: &mut [u8], converted: &mut FaxConverted) -> u3
         image: 0,
         fault: FaxFault::none(),
     };
-    if put_text(output, out) <= out.len() {
+    put_parts(output, out);
+    if output.len() <= out.len() {
         status::DONE
     } else {
         status::NO_ROOM
@@ -178,7 +207,7 @@ pub extern "C" fn faxpages_convert(
     let Some(options) = options_of(options) else {
         return status::NO_OPTIONS;
     };
-    match convert(alloc, file, &options) {
+    match convert_parts(alloc, file, &options) {
         Ok(output) => put_output(&output, out, converted),
         Err(fault) => {
             *converted = FaxConverted::refused(fault);

@@ -1,8 +1,7 @@
 -- A source that is converted, and the images of a file, counted.
 use Rattle.std.proofs.Common.{◌≡◌, ℕ, ◌+◌, ◌<◌, inl, inr, List, [], ◌∷◌, ◌++◌, length, Some, None, refl, sym, ap, subst, ◌∙◌, arith}
 use Rattle.std.proofs.Common.{append_assoc, append-nil, ◌≢◌, Result}
-use Rattle.std.specs.Prelude.{IfErr, IfOk, Vec}
-use Rattle.std.specs.declared.alloc.Global.{Global}
+use Rattle.std.specs.Prelude.{IfErr, IfOk}
 use Rattle.std.proofs.lemmas.List.{length-append}
 use Rattle.fax_files.specs.declared.pbm.PbmFault.{PbmFault}
 use Rattle.fax_files.specs.Pbm.{Image, IsImage, IsImageFault, AreImages}
@@ -50,10 +49,10 @@ image_is_long bytes image rest is = grind (arith, length-append)
 -- what the output of all pages of a source is
 module _ (bytes : List ℕ) (at : Progress) (output : Output) (source : IsSource bytes at.pages) (written : IsWrittenTo output at)
     (all : length at.pages ≡ at.total) where
-  pub converted : (result : Result (Vec ℕ Global) ConvertFault) → IfOk result (FinishesAs output)
-      → IfOk result (λ bytes'. IsConverted bytes at.options bytes'.items)
+  pub converted : (result : Result (List ℕ) ConvertFault) → IfOk result (FinishesAs output)
+      → IfOk result (IsConverted bytes at.options)
   converted result finishes = grind arith
 
-  pub refused : (result : Result (Vec ℕ Global) ConvertFault) → IfErr result (IsRefusedAs output)
+  pub refused : (result : Result (List ℕ) ConvertFault) → IfErr result (IsRefusedAs output)
       → IfErr result (λ fault. fault ≢ Memory → IsNotConverted bytes at.options fault)
   refused result large = grind arith

@@ -4,6 +4,7 @@ pub mod Stages
 pub mod Walk
 pub mod LongText
 pub mod Pages
+pub mod Parts
 pub mod Conversion
 pub mod OpenStrips
 pub mod Output

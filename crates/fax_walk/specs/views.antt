@@ -1,4 +1,5 @@
 pub mod InOrder
 pub mod Walk
 pub mod Pages
+pub mod Parts
 pub mod Lent

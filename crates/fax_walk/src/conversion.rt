@@ -11,6 +11,7 @@ ghost use Rattle.fax_walk.specs.code.Sources as Reads;
 
 use crate::options::{ConvertFault, Options};
 use crate::output::Output;
+use crate::parts::Parts;
 use crate::sheet::Sheet;
 use crate::walk::LastRow;
 use crate::{Pages, Walk, WalkFault};
@@ -61,9 +62,9 @@ fn convert_image(
 }
 
 /// Converts images.
-fn convert_images(alloc: Global, bytes: &[u8], options: &Options) -> Result<Vec<u8>, ConvertFault>
+fn convert_images(alloc: Global, bytes: &[u8], options: &Options) -> Result<Parts, ConvertFault>
     requires { BeginsWith bytes.now (codes "P4") }
-    ensures ok { IfOk result (λ output. Spec.IsConverted bytes.now options.now output.items) }
+    ensures ok { IfOk result (λ output. Spec.IsConverted bytes.now options.now output) }
     ensures err { IfErr result (λ fault. fault ≢ ConvertFault.Memory
         → Spec.IsNotConverted bytes.now options.now fault) }
 {
@@ -75,7 +76,7 @@ fn convert_images(alloc: Global, bytes: &[u8], options: &Options) -> Result<Vec<
     loop {
         match reader.next_image() {
             Ok(Some(image)) => convert_image(alloc, &image, options, &mut output)?,
-            Ok(None) => return output.finish(),
+            Ok(None) => return output.finish(alloc),
             // Counting them has met no fault.
             Err(fault) => return Err(ConvertFault::Pbm {
                 image: images,
@@ -173,9 +174,9 @@ fn put_last_row(
 }
 
 /// Converts a TIFF file.
-fn convert_file(alloc: Global, file: &[u8], options: &Options) -> Result<Vec<u8>, ConvertFault>
+fn convert_file(alloc: Global, file: &[u8], options: &Options) -> Result<Parts, ConvertFault>
     requires { Spec.IsTiff file.now }
-    ensures ok { IfOk result (λ output. Spec.IsConverted file.now options.now output.items) }
+    ensures ok { IfOk result (λ output. Spec.IsConverted file.now options.now output) }
     ensures err { IfErr result (λ fault. fault ≢ ConvertFault.Memory
         → Spec.IsNotConverted file.now options.now fault) }
 {
@@ -190,7 +191,7 @@ fn convert_file(alloc: Global, file: &[u8], options: &Options) -> Result<Vec<u8>
     loop {
         match walk.next_row() {
             Ok(Some(_)) => put_last_row(alloc, &walk, options, &mut output)?,
-            Ok(None) => return output.finish(),
+            Ok(None) => return output.finish(alloc),
             Err(fault) => return Err(source_fault(fault)),
         }
     }
@@ -203,8 +204,8 @@ fn convert_file(alloc: Global, file: &[u8], options: &Options) -> Result<Vec<u8>
 ///
 /// `UnknownInput` where it begins with none of them; else the first fault of the source, and then
 /// `OutputTooLarge`. `Memory` where a growth was refused.
-pub fn convert(alloc: Global, bytes: &[u8], options: &Options) -> Result<Vec<u8>, ConvertFault>
-    ensures ok { IfOk result (λ output. Spec.IsConverted bytes.now options.now output.items) }
+pub fn convert_parts(alloc: Global, bytes: &[u8], options: &Options) -> Result<Parts, ConvertFault>
+    ensures ok { IfOk result (λ output. Spec.IsConverted bytes.now options.now output) }
     ensures err { IfErr result (λ fault. fault ≢ ConvertFault.Memory
         → Spec.IsNotConverted bytes.now options.now fault) }
 {
@@ -215,4 +216,18 @@ pub fn convert(alloc: Global, bytes: &[u8], options: &Options) -> Result<Vec<u8>
     } else {
         Err(ConvertFault::UnknownInput)
     }
+}
+
+/// The bytes of what `convert_parts` answers, all of them held.
+///
+/// # Errors
+///
+/// As `convert_parts`.
+pub fn convert(alloc: Global, bytes: &[u8], options: &Options) -> Result<Vec<u8>, ConvertFault>
+    ensures ok { IfOk result (λ output. Spec.IsConverted bytes.now options.now output.items) }
+    ensures err { IfErr result (λ fault. fault ≢ ConvertFault.Memory
+        → Spec.IsNotConverted bytes.now options.now fault) }
+{
+    let parts = convert_parts(alloc, bytes, options)?;
+    Ok(parts.into_bytes(alloc)?)
 }

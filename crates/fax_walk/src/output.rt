@@ -6,9 +6,10 @@ ghost use Rattle.fax_walk.specs.code.Output.{Progress};
 
 use crate::open_strips::OpenStrips;
 use crate::options::{ConvertFault, Options};
+use crate::parts::Parts;
 use crate::sheet::Sheet;
 use fax_bits::Memory;
-use fax_files::{Coding, MAX_FILE, TiffWriter, WriteFault, put_pbm_head, put_pbm_row};
+use fax_files::{Coding, MAX_FILE, TiffWriter, WriteFault};
 use fax_rows::Row;
 use std::alloc::Global;
 
@@ -22,7 +23,7 @@ const MAX_PAGES: u64 = 65_535;
 #[derive(Drop)]
 pub(crate) enum Output {
     /// Images.
-    Images(Vec<u8>),
+    Images(Parts),
     /// A TIFF file, and the page of it that is being written, in this coding.
     File(Coding, TiffWriter, Option<OpenStrips>),
     /// It is too large, and its bytes were given back.
@@ -36,7 +37,7 @@ impl Output {
         ensures { IfOk result (Spec.IsBeginning options.now pages) }
     {
         let Some(coding) = options.target.coding() else {
-            return Ok(Output::Images(Vec::new(alloc)));
+            return Ok(Output::Images(Parts::new(alloc)));
         };
         if pages > MAX_PAGES {
             return Ok(Output::TooLarge);
@@ -58,11 +59,11 @@ impl Output {
     {
         fax_rows::laws::packing_undoes_unpacking();
         match self {
-            Output::Images(bytes) => {
-                put_pbm_head(bytes, sheet.width, sheet.rows)?;
+            Output::Images(parts) => {
+                parts.put_head(sheet.width, sheet.rows)?;
                 let row_len = (sheet.width as usize).div_ceil(8);
                 let raster = (sheet.rows as usize).saturating_mul(row_len);
-                if bytes.len().saturating_add(raster) > MAX_OUTPUT {
+                if parts.len().saturating_add(raster) > MAX_OUTPUT {
                     *self = Output::TooLarge;
                 }
             }
@@ -83,7 +84,7 @@ impl Output {
     {
         fax_rows::laws::packing_undoes_unpacking();
         match self {
-            Output::Images(bytes) => put_pbm_row(bytes, row),
+            Output::Images(parts) => parts.put_row(row),
             Output::File(_, _, Some(page)) => page.put_row(row),
             Output::File(_, _, None) => Ok(()),
             Output::TooLarge => Ok(()),
@@ -112,14 +113,14 @@ impl Output {
     }
 
     /// The bytes of all pages.
-    pub(crate) fn finish(self) -> Result<Vec<u8>, ConvertFault>
+    pub(crate) fn finish(self, alloc: Global) -> Result<Parts, ConvertFault>
         requires { Spec.HasAllPages self }
         ensures ok { IfOk result (Spec.FinishesAs self) }
         ensures err { IfErr result (Spec.IsRefusedAs self) }
     {
         match self {
-            Output::Images(bytes) => Ok(bytes),
-            Output::File(_, writer, _) => Ok(writer.finish()),
+            Output::Images(parts) => Ok(parts),
+            Output::File(_, writer, _) => Ok(Parts::of_bytes(alloc, writer.finish())),
             Output::TooLarge => Err(ConvertFault::OutputTooLarge),
         }
     }

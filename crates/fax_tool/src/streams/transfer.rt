@@ -1,6 +1,6 @@
 //! Whole transfers: a source to its end, and all of some bytes to a sink.
 ghost use Rattle.std.specs.Prelude.{◌≡◌, ◌≤◌, ◌<◌, ◌-◌, length, IfOk, IfErr, IfSome, OnOk, IsTrue};
-ghost use Rattle.std.specs.Prelude.{Err, false, vec_len};
+ghost use Rattle.std.specs.Prelude.{Err, false, replicate, vec_len};
 ghost use Rattle.std.specs.Io.KnownBytes.{Appends};
 ghost use Rattle.fax_tool.specs.declared.refusal.Refusal.TheVariants.{Memory};
 ghost use Rattle.fax_tool.specs.Run.{HasFailed, HasWorked, IsRead, most_interrupted};
@@ -49,7 +49,7 @@ impl Interruptions {
     pub const NONE: Interruptions = Interruptions { count: 0 };
 
     /// They are not too many. It computes nothing.
-    fn are_few(&self)
+    pub(crate) fn are_few(&self)
         ensures { self.now ≤ most_interrupted }
     {
         let _ = &self.count;
@@ -74,9 +74,10 @@ impl Interruptions {
     }
 }
 
-/// So many zero bytes, as room for what is read.
-fn room(alloc: Global, len: usize) -> Result<Vec<u8>, Refusal>
-    ensures len { IfOk result (λ room. vec_len room ≡ len) }
+/// So many zero bytes.
+pub(crate) fn zero_bytes(alloc: Global, len: usize) -> Result<Vec<u8>, Refusal>
+    ensures zeros { IfOk result (λ bytes. bytes.items ≡ replicate (vec_len bytes) 0) }
+    ensures len { IfOk result (λ bytes. vec_len bytes ≡ len) }
     ensures memory { IfErr result (λ refusal. refusal ≡ Memory) }
 {
     vec![in alloc; 0u8; len].map_err(|_| Refusal::Memory)
@@ -101,7 +102,7 @@ pub fn read_whole<R: Source>(alloc: Global, input: &mut R) -> Result<Vec<u8>, Re
     let mut interruptions = Interruptions::NONE;
     let mut file = Vec::new(alloc);
     file.reserve(FIRST_ROOM).map_err(|_| Refusal::Memory)?;
-    let mut chunk = room(alloc, CHUNK)?;
+    let mut chunk = zero_bytes(alloc, CHUNK)?;
     loop {
         interruptions.are_few();
         match input.take(&mut chunk) {

@@ -1,7 +1,6 @@
 -- How far an output is written.
 use Rattle.std.specs.Prelude.{◌≡◌, ℕ, ◌+◌, ◌*◌, ◌<◌, ◌≤◌, min, false, List, [], ◌∷◌, ◌++◌, length}
-use Rattle.std.specs.Prelude.{map, flat_map, Option, Some, None, unwrap_or, Vec}
-use Rattle.std.specs.declared.alloc.Global.{Global}
+use Rattle.std.specs.Prelude.{map, flat_map, Option, Some, None, unwrap_or}
 use Rattle.fax_bits.specs.declared.Colour.{Colour}
 use Rattle.fax_rows.specs.Coded.{packed_len, packed_row}
 use Rattle.fax_page.specs.declared.Coding.{Coding}
@@ -138,7 +137,7 @@ pub record HasPages (coding : Coding) (writer : Writing) (at : Progress) : Type 
 
 -- an output has these pages, and no part of another
 abbrev pub IsWrittenTo : Output → Progress → Type 0
-IsWrittenTo (Images bytes) at = HasImages bytes.items at
+IsWrittenTo (Images bytes) at = HasImages bytes at
 IsWrittenTo (File coding writer None) at = HasPages coding writer at
 IsWrittenTo (File coding writer (Some page)) at = ⊥
 IsWrittenTo TooLarge at = StaysTooLarge at
@@ -174,7 +173,7 @@ BecomesTooLarge part =
     → StaysTooLarge (with_source_page part.at (page_of part.sheet rows))
 
 abbrev pub HasPart : Output → Part → Type 0
-HasPart (Images bytes) part = HasImageRows bytes.items part
+HasPart (Images bytes) part = HasImageRows bytes part
 HasPart (File coding writer page) part = HasRowsOnPage coding writer page part
 HasPart TooLarge part = BecomesTooLarge part
 
@@ -246,9 +245,9 @@ pub record IsWhole (at : Progress) (bytes : List ℕ) : Type 0 where
   pub bytes_are : bytes ≡ target_bytes at.options.target at.options at.pages
   pub fits : IsTooLarge at.options.target at.pages bytes → ⊥
 
-abbrev pub FinishesAs : Output → Vec ℕ Global → Type 0
+abbrev pub FinishesAs : Output → List ℕ → Type 0
 FinishesAs output bytes =
-    (at : Progress) → IsWrittenTo output at → length at.pages ≡ at.total → IsWhole at bytes.items
+    (at : Progress) → IsWrittenTo output at → length at.pages ≡ at.total → IsWhole at bytes
 
 -- all pages are too large
 abbrev pub IsRefusedAs : Output → ConvertFault → Type 0

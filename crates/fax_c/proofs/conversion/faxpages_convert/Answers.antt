@@ -4,8 +4,7 @@ use Rattle.fax_c.proofs.conversion.faxpages_convert.Goals as goal
 
 pub returns-in-Ok : goal.returns-in-Ok
 returns-in-Ok c =
-    let told = rw c.deref.ensures.value at c.put_output.ensures in
-    inr (c.in-Some.options, c.in-Some.ensures, inl (c.in-Ok.output.items, c.in-Ok.ensures.ok, told))
+    inr (c.in-Some.options, c.in-Some.ensures, inl (c.in-Ok.output, c.in-Ok.ensures.ok, c.put_output.ensures))
 
 pub returns-in-Err : goal.returns-in-Err
 returns-in-Err c =

@@ -11,20 +11,19 @@ returns-in_err-file-clause-err g c =
     (whole_unread (Convert c.args.options) (λ file. refl) (g.R.Source.left c.args.input.now) _ _ (g.W.Sink.written c.args.out.now) _
     (rw c.requires.counts (search rules)) _ c.in_err-file.ensures.reason)
 
-pub returns-in_err-give_all-in-Ok-clause-err : goal.returns-in_err-give_all-in-Ok-clause-err
-returns-in_err-give_all-in-Ok-clause-err g c =
+pub returns-in_err-give_parts-in-Ok-clause-err : goal.returns-in_err-give_parts-in-Ok-clause-err
+returns-in_err-give_parts-in-Ok-clause-err g c =
     let is = rw c.deref.ensures.value at c.in-Ok.ensures.ok in
-    let given = rw c.deref-in-Ok.ensures.value at c.in_err-give_all-in-Ok.ensures.err in
-    passed_up c.from_residual-in_err-give_all-in-Ok.result _ _ c.from_residual-in_err-give_all-in-Ok.ensures.1
+    passed_up c.from_residual-in_err-give_parts-in-Ok.result _ _ c.from_residual-in_err-give_parts-in-Ok.ensures.1
     (conversion_stopped (g.R.Source.left c.args.input.now) c.in_ok-file.file.items c.in_ok-file.ensures.whole _ _ c.in_ok-file.ensures.read
-    c.args.options (g.W.Sink.written c.args.out.now) _ _ c.in-Ok.bytes.items _ is given)
+    c.args.options (g.W.Sink.written c.args.out.now) _ _ c.in-Ok.output _ is c.in_err-give_parts-in-Ok.ensures.err)
 
 pub returns-in-Ok-clause-ok : goal.returns-in-Ok-clause-ok
 returns-in-Ok-clause-ok g c =
     let is = rw c.deref.ensures.value at c.in-Ok.ensures.ok in
-    let given = rw c.deref-in-Ok.ensures.value at c.in_ok-give_all-in-Ok.ensures.ok in
     converted (g.R.Source.left c.args.input.now) c.in_ok-file.file.items c.in_ok-file.ensures.whole _ _ c.in_ok-file.ensures.read
-    c.args.options (g.W.Sink.written c.args.out.now) _ _ c.in-Ok.bytes.items is given c.in_ok-give_all-in-Ok.ensures.worked
+    c.args.options (g.W.Sink.written c.args.out.now) _ _ c.in-Ok.output is c.in_ok-give_parts-in-Ok.ensures.ok
+    c.in_ok-give_parts-in-Ok.ensures.worked
 
 pub returns-in_err-conversion_line-in-Err-clause-err : goal.returns-in_err-conversion_line-in-Err-clause-err
 returns-in_err-conversion_line-in-Err-clause-err g c =

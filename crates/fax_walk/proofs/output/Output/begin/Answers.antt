@@ -7,11 +7,11 @@ use Rattle.fax_walk.proofs.output.Output.begin.Goals as goal
 pub returns-then-saturating_add-gt-MAX_OUTPUT : goal.returns-then-saturating_add-gt-MAX_OUTPUT
 returns-then-saturating_add-gt-MAX_OUTPUT c = λ at due.
     let has = rw c.in-Images.is at due.written in
-    let new_is = c.in_ok-put_pbm_head-in-Images.ensures.ok in
+    let new_is = c.in_ok-put_head-in-Images.ensures in
     let packed : c.div_ceil-row_len.result ≡ packed_len c.args.sheet.now.width = omega (arith, c.div_ceil-row_len.ensures) in
     let raster = ap (λ n. c.args.sheet.now.rows * n) packed in
-    let parts = length-append c.in-Images.bytes.items (head_bytes c.args.sheet.now.width c.args.sheet.now.rows) in
-    let len : c.len.result ≡ length c.put_pbm_head.new.out.items = omega (arith, c.len.ensures) in
+    let parts = length-append c.in-Images.parts (head_bytes c.args.sheet.now.width c.args.sheet.now.rows) in
+    let len : c.len.result ≡ length c.put_head.new.self = omega (arith, c.len.ensures) in
     record {
       widths = tt;
       has = image_too_large c.packing_undoes_unpacking.ensures at c.args.sheet.now has.target
@@ -23,10 +23,10 @@ returns-else-saturating_add-gt-MAX_OUTPUT c = λ at due.
     let has = rw c.in-Images.is at due.written in
     let packed : c.div_ceil-row_len.result ≡ packed_len c.args.sheet.now.width = omega (arith, c.div_ceil-row_len.ensures) in
     let raster = ap (λ n. c.args.sheet.now.rows * n) packed in
-    let len : c.len.result ≡ length c.put_pbm_head.new.out.items = omega (arith, c.len.ensures) in
+    let len : c.len.result ≡ length c.put_head.new.self = omega (arith, c.len.ensures) in
     record {
       widths = tt;
       has =
-          image_begun at c.args.sheet.now c.in-Images.bytes.items c.put_pbm_head.new.out.items has c.in_ok-put_pbm_head-in-Images.ensures.ok
+          image_begun at c.args.sheet.now c.in-Images.parts c.put_head.new.self has c.in_ok-put_head-in-Images.ensures
           (omega (arith, c.if-saturating_add-gt-MAX_OUTPUT.false, c.saturating_add.ensures, c.saturating_mul-raster.ensures, len, raster));
     }
