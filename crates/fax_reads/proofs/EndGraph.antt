@@ -1,5 +1,6 @@
 -- How rows end, as a function says it, is how it is defined by relations.
-use Rattle.std.proofs.Common.{arith, ◌≡◌, ℕ, zero, suc, List, ◌∷◌, ◌++◌, Bool, true, false, true≢false, refl, ap, sym, ◌∙◌, subst, Option, Some, None}
+use Rattle.std.proofs.Common.{arith, ◌≡◌, ℕ, zero, suc, List, ◌∷◌, ◌++◌, Bool, true, false, true≢false, refl, ap, sym}
+use Rattle.std.proofs.Common.{◌∙◌, subst, Option, Some, None}
 use Rattle.std.specs.Prelude.{MatchOption, is_some, is_none}
 use Rattle.fax_bits.specs.Bits.{BeginsWith, IsAllZeros}
 use Rattle.fax_page.specs.declared.Coding.{Coding}
@@ -19,23 +20,28 @@ use Rattle.fax_reads.proofs.StepGraph.{is_false}
 use Rattle.fax_reads.proofs.LineGraph.{IsOne, all_zeros, end_of_line as eol_is, many_end, zeros_is}
 
 -- an EOL of a return to control
-return_of : (coding : Coding) (b rest : List Bool) → IsReturnEol coding b rest → after_return coding (after_one b) (has_few b) ≡ Some rest
+return_of : (coding : Coding) (b rest : List Bool) → IsReturnEol coding b rest
+    → after_return coding (after_one b) (has_few b) ≡ Some rest
 return_of Mh b rest eol = let at = eol_is b rest eol in cc (at.0, at.1)
 return_of Mr b rest eol = let at = eol_is b (true ∷ rest) eol in cc (at.0, at.1)
 return_of Mmr b rest eol = absurd eol
 
 is_return : (coding : Coding) (b rest : List Bool) (r : Option (List Bool)) (few : Bool) → IsOne b r → has_few b ≡ few
     → after_return coding r few ≡ Some rest → IsReturnEol coding b rest
-is_return Mh b rest (Some after) false is at found = let same : after ≡ rest = cc (found) in subst (IsEndOfLine b) same (many_end b after is at)
+is_return Mh b rest (Some after) false is at found =
+    let same : after ≡ rest = cc (found) in subst (IsEndOfLine b) same (many_end b after is at)
 is_return Mr b rest (Some (true ∷ after)) false is at found =
     let same : true ∷ after ≡ true ∷ rest = cc (found) in subst (IsEndOfLine b) same (many_end b (true ∷ after) is at)
 is_return coding b rest r few is at found = absurd (cc (found))
 
-returns_of : (coding : Coding) (n : ℕ) (b rest : List Bool) → AreReturnEols coding n b rest → are_returns coding n b ≡ true
+returns_of : (coding : Coding) (n : ℕ) (b rest : List Bool) → AreReturnEols coding n b rest
+    → are_returns coding n b ≡ true
 returns_of coding zero b rest are = refl
-returns_of coding (suc n) b rest are = rw (return_of coding b are.0 are.1, are_returns) (returns_of coding n are.0 rest are.2)
+returns_of coding (suc n) b rest are =
+    rw (return_of coding b are.0 are.1, are_returns) (returns_of coding n are.0 rest are.2)
 
-by_return : (coding : Coding) (n : ℕ) (b : List Bool) (r : Option (List Bool)) → after_return coding (after_one b) (has_few b) ≡ r
+by_return : (coding : Coding) (n : ℕ) (b : List Bool) (r : Option (List Bool))
+    → after_return coding (after_one b) (has_few b) ≡ r
     → elim r [ None ↦ false | Some rest ↦ are_returns coding n rest ] ≡ true
     → ((c : List Bool) → are_returns coding n c ≡ true → (rest : List Bool) × AreReturnEols coding n c rest)
     → (rest : List Bool) × AreReturnEols coding (suc n) b rest
@@ -44,18 +50,22 @@ by_return coding n b (Some middle) at is more =
     let after = more middle is in
     (after.0, (middle, is_return coding b middle (after_one b) (has_few b) (zeros_is b) refl at, after.1))
 
-are_returns_of : (coding : Coding) (n : ℕ) (b : List Bool) → are_returns coding n b ≡ true → (rest : List Bool) × AreReturnEols coding n b rest
+are_returns_of : (coding : Coding) (n : ℕ) (b : List Bool) → are_returns coding n b ≡ true → (rest : List Bool)
+    × AreReturnEols coding n b rest
 are_returns_of coding zero b is = (b, refl)
 are_returns_of coding (suc n) b is =
-    by_return coding n b (after_return coding (after_one b) (has_few b)) refl is (λ c more. are_returns_of coding n c more)
+    by_return coding n b (after_return coding (after_one b) (has_few b)) refl is
+    (λ c more. are_returns_of coding n c more)
 
 -- a front of the bits
-front_of : (front b : List Bool) (r : Option (List Bool)) → MatchOption r (BeginsWith b front → ⊥) (λ rest. b ≡ front ++ rest)
+front_of : (front b : List Bool) (r : Option (List Bool))
+    → MatchOption r (BeginsWith b front → ⊥) (λ rest. b ≡ front ++ rest)
     → BeginsWith b front → is_some r ≡ true
 front_of front b None not begins = absurd (not begins)
 front_of front b (Some rest) is begins = refl
 
-is_front : (front b : List Bool) (r : Option (List Bool)) → MatchOption r (BeginsWith b front → ⊥) (λ rest. b ≡ front ++ rest)
+is_front : (front b : List Bool) (r : Option (List Bool))
+    → MatchOption r (BeginsWith b front → ⊥) (λ rest. b ≡ front ++ rest)
     → is_some r ≡ true → BeginsWith b front
 is_front front b None not some = absurd (true≢false (sym some))
 is_front front b (Some rest) is some = (rest, is)
@@ -86,19 +96,24 @@ is_data_end (suc row) b is = (omega arith, zeros_of b (after_one b) (zeros_is b)
 -- a 1 is in each end mark
 mark_is_not_zeros : (coding : Coding) (b : List Bool) → HasEndMark coding b → IsAllZeros b → ⊥
 mark_is_not_zeros Mh b mark all = let one = all_zeros b all in let at = eol_is b mark.1.0 mark.1.1 in cc (one, at.0)
-mark_is_not_zeros Mr b mark all = let one = all_zeros b all in let at = eol_is b (true ∷ mark.1.0) mark.1.1 in cc (one, at.0)
+mark_is_not_zeros Mr b mark all =
+    let one = all_zeros b all in let at = eol_is b (true ∷ mark.1.0) mark.1.1 in cc (one, at.0)
 mark_is_not_zeros Mmr b mark all =
     let one = all_zeros b all in let at = eol_is b (end_of_line ++ mark.0) (11, omega arith, mark.1) in cc (one, at.0)
 
 -- how rows end is defined so
-by_data : (coding : Coding) (row : ℕ) (left : List Bool) (stop : Option StripFault) (test : Bool) → (HasEndMark coding left → ⊥)
+by_data : (coding : Coding) (row : ℕ) (left : List Bool) (stop : Option StripFault) (test : Bool)
+    → (HasEndMark coding left → ⊥)
     → has_data_end row left ≡ test
     → EndsSo coding row left stop (elim test [ true ↦ DataEnd | false ↦ end_by_stop stop ])
 by_data coding row left stop true unmarked at = is_data_end row left at
-by_data coding row left None false unmarked at = (unmarked, (λ has. true≢false (sym (data_end_of row left has) ∙ at)), refl)
-by_data coding row left (Some fault) false unmarked at = (unmarked, (λ has. true≢false (sym (data_end_of row left has) ∙ at)), refl)
+by_data coding row left None false unmarked at =
+    (unmarked, (λ has. true≢false (sym (data_end_of row left has) ∙ at)), refl)
+by_data coding row left (Some fault) false unmarked at =
+    (unmarked, (λ has. true≢false (sym (data_end_of row left has) ∙ at)), refl)
 
-by_mark : (coding : Coding) (row : ℕ) (left : List Bool) (stop : Option StripFault) (test : Bool) → has_end_mark coding left ≡ test
+by_mark : (coding : Coding) (row : ℕ) (left : List Bool) (stop : Option StripFault) (test : Bool)
+    → has_end_mark coding left ≡ test
     → EndsSo coding row left stop (elim test [
       | true ↦ Marked
       | false ↦ elim (has_data_end row left) [ true ↦ DataEnd | false ↦ end_by_stop stop ]
@@ -107,7 +122,8 @@ by_mark coding row left stop true at = is_mark coding left at
 by_mark coding row left stop false at =
     by_data coding row left stop _ (λ mark. true≢false (sym (mark_of coding left mark) ∙ at)) refl
 
-pub end_is : (coding : Coding) (row : ℕ) (left : List Bool) (stop : Option StripFault) → EndsSo coding row left stop (rows_end coding row left stop)
+pub end_is : (coding : Coding) (row : ℕ) (left : List Bool) (stop : Option StripFault)
+    → EndsSo coding row left stop (rows_end coding row left stop)
 end_is coding row left stop = by_mark coding row left stop (has_end_mark coding left) refl
 
 -- and what is defined is said
@@ -117,13 +133,17 @@ no_mark coding left unmarked = is_false _ (λ is. unmarked (is_mark coding left 
 no_data_end : (row : ℕ) (left : List Bool) → (HasDataEnd row left → ⊥) → has_data_end row left ≡ false
 no_data_end row left more = is_false _ (λ is. more (is_data_end row left is))
 
-pub end_of : (coding : Coding) (row : ℕ) (left : List Bool) (stop : Option StripFault) (end : RowsEnd) → EndsSo coding row left stop end
+pub end_of : (coding : Coding) (row : ℕ) (left : List Bool) (stop : Option StripFault) (end : RowsEnd)
+    → EndsSo coding row left stop end
     → rows_end coding row left stop ≡ end
 end_of coding row left stop Marked ends = rw (mark_of coding left ends, rows_end) refl
 end_of coding row left stop DataEnd ends =
-    rw (no_mark coding left (λ mark. mark_is_not_zeros coding left mark ends.1), data_end_of row left ends, rows_end) refl
-end_of coding row left stop (Fault fault) ends = rw (no_mark coding left ends.0, no_data_end row left ends.1, ends.2, rows_end) refl
-end_of coding row left stop TooMany ends = rw (no_mark coding left ends.0, no_data_end row left ends.1, ends.2, rows_end) refl
+    rw (no_mark coding left (λ mark. mark_is_not_zeros coding left mark ends.1), data_end_of row left ends, rows_end)
+    refl
+end_of coding row left stop (Fault fault) ends =
+    rw (no_mark coding left ends.0, no_data_end row left ends.1, ends.2, rows_end) refl
+end_of coding row left stop TooMany ends =
+    rw (no_mark coding left ends.0, no_data_end row left ends.1, ends.2, rows_end) refl
 
 pub ends_graph : EndsAreToldByAFunction
 ends_graph coding row left stop end =

@@ -1,5 +1,6 @@
 -- Rows of a strip that a function reads are those that are defined by relations.
-use Rattle.std.proofs.Common.{arith, ◌≡◌, ℕ, zero, suc, ◌+◌, ◌-◌, ◌<◌, ◌≤◌, List, [], ◌∷◌, ◌++◌, Bool, true, false, append-nil, refl, ap, sym, ◌∙◌}
+use Rattle.std.proofs.Common.{arith, ◌≡◌, ℕ, zero, suc, ◌+◌, ◌-◌, ◌<◌, ◌≤◌, List, [], ◌∷◌, ◌++◌, Bool, true, false}
+use Rattle.std.proofs.Common.{append-nil, refl, ap, sym, ◌∙◌}
 use Rattle.std.proofs.Common.{inl, inr, Option, Some, None, Result, Ok, Err, replicate}
 use Rattle.std.specs.Prelude.{MatchOption, MatchResult}
 use Rattle.std.proofs.lemmas.List.{replicate-append-replicate}
@@ -14,16 +15,19 @@ use Rattle.fax_page.specs.declared.Dimension.TheVariants.{OneDimensional, TwoDim
 use Rattle.fax_page.specs.declared.StripFault.{StripFault}
 use Rattle.fax_page.specs.declared.StripFault.TheVariants.{DataEnds, EndMarker}
 use Rattle.fax_page.specs.declared.StripForm.{StripForm}
-use Rattle.fax_page.specs.Lines.{BeginsBelowEleven, IsEndOfLine, IsStart, IsRowIn, IsRowFaultIn, IsStopInCodes, strip_fault, IsLine, IsCause}
+use Rattle.fax_page.specs.Lines.{BeginsBelowEleven, IsEndOfLine, IsStart, IsRowIn, IsRowFaultIn, IsStopInCodes}
+use Rattle.fax_page.specs.Lines.{strip_fault, IsLine, IsCause}
 use Rattle.fax_reads.specs.Codes.{◌>>=◌, named}
-use Rattle.fax_reads.specs.Lines.{zeros, after_one, read_start, has_few, start_in_mh, start_in_mr, first_bits, read_row, read_line}
+use Rattle.fax_reads.specs.Lines.{zeros, after_one, read_start, has_few, start_in_mh, start_in_mr, first_bits, read_row}
+use Rattle.fax_reads.specs.Lines.{read_line}
 use Rattle.fax_reads.proofs.RunGraph.{bound, goes, stop, row_is, row_of, row_fault_of}
 use Rattle.fax_reads.proofs.StepGraph.{row_over_is, row_over_of, row_over_fault_of}
 use Rattle.fax_bits.specs.laws.Codes.{ReadsOneWay, ReadsRunsOneWay}
 use Rattle.fax_bits.specs.Tables.{modes}
 
 -- bits are zeros, or zeros, a 1 and the bits after it
-pub zeros_is : (b : List Bool) → MatchOption (after_one b) (b ≡ replicate (zeros b) false) (λ after. b ≡ replicate (zeros b) false ++ true ∷ after)
+pub zeros_is : (b : List Bool) → MatchOption (after_one b) (b ≡ replicate (zeros b) false)
+    (λ after. b ≡ replicate (zeros b) false ++ true ∷ after)
 zeros_is [] = refl
 zeros_is (true ∷ b) = refl
 zeros_is (false ∷ b) = grind (arith, zeros_is b)
@@ -39,11 +43,13 @@ zeros_alone zero = (refl, refl)
 zeros_alone (suc n) = grind (arith, zeros_alone n)
 
 -- eleven zeros, whatever follows them
-eleven_zeros : (n : ℕ) (c : List Bool) → 11 ≤ n → (after : List Bool) × (replicate n false ++ c ≡ replicate 11 false ++ after)
+eleven_zeros : (n : ℕ) (c : List Bool) → 11 ≤ n → (after : List Bool)
+    × (replicate n false ++ c ≡ replicate 11 false ++ after)
 eleven_zeros n c many =
     let long : 11 + (n - 11) ≡ n = omega (arith, many) in (
       replicate (n - 11) false ++ c,
-      ap (λ k. replicate k false ++ c) (sym long) ∙ ap (λ zeros. zeros ++ c) (sym (replicate-append-replicate 11 (n - 11) false)),
+      ap (λ k. replicate k false ++ c) (sym long) ∙ ap (λ zeros. zeros ++ c)
+          (sym (replicate-append-replicate 11 (n - 11) false)),
     )
 
 zeros_after : (n : ℕ) (after : List Bool) → n ≤ zeros (replicate n false ++ after)
@@ -53,7 +59,8 @@ zeros_after (suc n) after = omega (arith, zeros_after n after)
 pub all_zeros : (b : List Bool) → IsAllZeros b → after_one b ≡ None
 all_zeros b all = ap after_one all.1 ∙ (zeros_alone all.0).1
 
-below_eleven : (b : List Bool) → BeginsBelowEleven b → (after : List Bool) × (after_one b ≡ Some after) × (has_few b ≡ true)
+below_eleven : (b : List Bool) → BeginsBelowEleven b → (after : List Bool) × (after_one b ≡ Some after)
+    × (has_few b ≡ true)
 below_eleven b below =
     let one = zeros_before_one below.0 below.2.0 in
     let few : zeros b ≡ below.0 = ap zeros below.2.1 ∙ one.0 in
@@ -68,24 +75,30 @@ end_of_line b rest eol =
 abbrev pub IsOne : List Bool → Option (List Bool) → Type 0
 IsOne b r = MatchOption r (b ≡ replicate (zeros b) false) (λ after. b ≡ replicate (zeros b) false ++ true ∷ after)
 
-few_below : (b after : List Bool) → b ≡ replicate (zeros b) false ++ true ∷ after → has_few b ≡ true → BeginsBelowEleven b
+few_below : (b after : List Bool) → b ≡ replicate (zeros b) false ++ true ∷ after → has_few b ≡ true
+    → BeginsBelowEleven b
 few_below b after is few = (zeros b, grind (arith, nat_tests, few), (after, is))
 
-pub many_end : (b after : List Bool) → b ≡ replicate (zeros b) false ++ true ∷ after → has_few b ≡ false → IsEndOfLine b after
+pub many_end : (b after : List Bool) → b ≡ replicate (zeros b) false ++ true ∷ after → has_few b ≡ false
+    → IsEndOfLine b after
 many_end b after is many = (zeros b, grind (arith, nat_tests, many), is)
 
-mh_is : (i : ℕ) (b : List Bool) (r : Option (List Bool)) (few : Bool) → IsOne b r → has_few b ≡ few → IsStart Mh i b (start_in_mh i b r few)
+mh_is : (i : ℕ) (b : List Bool) (r : Option (List Bool)) (few : Bool) → IsOne b r → has_few b ≡ few
+    → IsStart Mh i b (start_in_mh i b r few)
 mh_is i b None few is at = inl ((zeros b, is), refl)
 mh_is i b (Some codes) false is at = inr (inr (inr (codes, many_end b codes is at, refl)))
 mh_is zero b (Some codes) true is at = inr (inl (few_below b codes is at, refl, refl))
 mh_is (suc i) b (Some codes) true is at = inr (inr (inl (few_below b codes is at, (λ h. omega (arith, h)), refl)))
 
-mr_is : (i : ℕ) (b : List Bool) (r : Option (List Bool)) (few : Bool) → IsOne b r → has_few b ≡ few → IsStart Mr i b (start_in_mr r few)
+mr_is : (i : ℕ) (b : List Bool) (r : Option (List Bool)) (few : Bool) → IsOne b r → has_few b ≡ few
+    → IsStart Mr i b (start_in_mr r few)
 mr_is i b None few is at = inl ((zeros b, is), refl)
 mr_is i b (Some codes) true is at = inr (inl (few_below b codes is at, refl))
 mr_is i b (Some []) false is at = inr (inr (inl (many_end b [] is at, refl)))
-mr_is i b (Some (true ∷ codes)) false is at = inr (inr (inr (OneDimensional, codes, many_end b (true ∷ codes) is at, refl)))
-mr_is i b (Some (false ∷ codes)) false is at = inr (inr (inr (TwoDimensional, codes, many_end b (false ∷ codes) is at, refl)))
+mr_is i b (Some (true ∷ codes)) false is at =
+    inr (inr (inr (OneDimensional, codes, many_end b (true ∷ codes) is at, refl)))
+mr_is i b (Some (false ∷ codes)) false is at =
+    inr (inr (inr (TwoDimensional, codes, many_end b (false ∷ codes) is at, refl)))
 
 start_is : (coding : Coding) (i : ℕ) (b : List Bool) → IsStart coding i b (read_start coding i b)
 start_is Mh i b = mh_is i b (after_one b) (has_few b) (zeros_is b) refl
@@ -95,7 +108,8 @@ start_is Mmr i b = refl
 abbrev Start : Type 0
 Start = Result (Dimension × List Bool) StripFault
 
-start_of : (coding : Coding) (i : ℕ) (b : List Bool) (start : Start) → IsStart coding i b start → read_start coding i b ≡ start
+start_of : (coding : Coding) (i : ℕ) (b : List Bool) (start : Start) → IsStart coding i b start
+    → read_start coding i b ≡ start
 start_of Mh i b start (inl all) = cc (all_zeros b all.0, all.1)
 start_of Mh zero b start (inr (inl first)) = let at = below_eleven b first.0 in cc (at.1, at.2, first.2)
 start_of Mh (suc i) b start (inr (inl first)) = absurd (omega (arith, first.1))
@@ -105,11 +119,14 @@ start_of Mh i b start (inr (inr (inr eol))) = let at = end_of_line b eol.0 eol.1
 start_of Mr i b start (inl all) = cc (all_zeros b all.0, all.1)
 start_of Mr i b start (inr (inl missing)) = let at = below_eleven b missing.0 in cc (at.1, at.2, missing.1)
 start_of Mr i b start (inr (inr (inl cut))) = let at = end_of_line b [] cut.0 in cc (at.0, at.1, cut.1)
-start_of Mr i b start (inr (inr (inr (OneDimensional, codes, eol, is)))) = let at = end_of_line b (true ∷ codes) eol in cc (at.0, at.1, is)
-start_of Mr i b start (inr (inr (inr (TwoDimensional, codes, eol, is)))) = let at = end_of_line b (false ∷ codes) eol in cc (at.0, at.1, is)
+start_of Mr i b start (inr (inr (inr (OneDimensional, codes, eol, is)))) =
+    let at = end_of_line b (true ∷ codes) eol in cc (at.0, at.1, is)
+start_of Mr i b start (inr (inr (inr (TwoDimensional, codes, eol, is)))) =
+    let at = end_of_line b (false ∷ codes) eol in cc (at.0, at.1, is)
 start_of Mmr i b start is = sym is
 
-first_is : (dimension : Dimension) (width : ℕ) (reference : List Colour) (b : List Bool) (r : Option (List Bool)) (few : Bool) → IsOne b r
+first_is : (dimension : Dimension) (width : ℕ) (reference : List Colour) (b : List Bool) (r : Option (List Bool))
+    (few : Bool) → IsOne b r
     → has_few b ≡ few
     → MatchResult (first_bits r few) (λ _. BeginsBelowEleven b) (IsStopInCodes dimension width reference b)
 first_is dimension width reference b None false is at =
@@ -126,13 +143,15 @@ first_is dimension width reference b (Some after) true is at = few_below b after
 begins_of : (b : List Bool) → BeginsBelowEleven b → first_bits (after_one b) (has_few b) ≡ Ok tt
 begins_of b below = let at = below_eleven b below in cc (at.1, at.2)
 
-marker_of : (b after : List Bool) → b ≡ replicate 11 false ++ after → first_bits (after_one b) (has_few b) ≡ Err EndMarker
+marker_of : (b after : List Bool) → b ≡ replicate 11 false ++ after
+    → first_bits (after_one b) (has_few b) ≡ Err EndMarker
 marker_of b after is =
     let many : 11 ≤ zeros b = omega (arith, zeros_after 11 after, ap zeros is) in
     let at : has_few b ≡ false = grind (arith, nat_tests, many) in
     ap (first_bits (after_one b)) at
 
-short_of : (b : List Bool) (n : ℕ) → n < 11 → b ≡ replicate n false → first_bits (after_one b) (has_few b) ≡ Err DataEnds
+short_of : (b : List Bool) (n : ℕ) → n < 11 → b ≡ replicate n false
+    → first_bits (after_one b) (has_few b) ≡ Err DataEnds
 short_of b n short is =
     let none : after_one b ≡ None = ap after_one is ∙ (zeros_alone n).1 in
     let count : zeros b ≡ n = ap zeros is ∙ (zeros_alone n).0 in
@@ -146,7 +165,8 @@ module _ (runs_read : (colour : Colour) → ReadsRunsOneWay colour) (modes_read 
   codes_are OneDimensional width reference b = row_is runs_read width b
   codes_are TwoDimensional width reference b = row_over_is runs_read modes_read reference b
 
-  codes_of : (dimension : Dimension) (width : ℕ) (reference : List Colour) (b : List Bool) (row : List Colour) (rest : List Bool)
+  codes_of : (dimension : Dimension) (width : ℕ) (reference : List Colour) (b : List Bool) (row : List Colour)
+      (rest : List Bool)
       → IsRowIn dimension width reference b row rest → read_row dimension width reference b ≡ Ok (row, rest)
   codes_of OneDimensional width reference b row rest is = row_of runs_read width b row rest is
   codes_of TwoDimensional width reference b row rest is = row_over_of runs_read modes_read reference b row rest is
@@ -164,21 +184,26 @@ module _ (runs_read : (colour : Colour) → ReadsRunsOneWay colour) (modes_read 
   -- the codes of a row after its start
   named_is : (form : StripForm) (i : ℕ) (reference : List Colour) (b : List Bool) (start : Dimension × List Bool)
       (r : Result (List Colour × List Bool) RowFault) → IsStart form.coding i b (Ok start) → BeginsBelowEleven start.1
-      → MatchResult r (λ row. IsRowIn start.0 form.width reference start.1 row.0 row.1) (IsRowFaultIn start.0 form.width reference start.1)
+      → MatchResult r (λ row. IsRowIn start.0 form.width reference start.1 row.0 row.1)
+      (IsRowFaultIn start.0 form.width reference start.1)
       → MatchResult (named strip_fault r) (λ line. IsLine form i reference b line.0 line.1) (IsCause form i reference b)
   named_is form i reference b start (Ok row) begun first is =
       record { dimension = start.0; codes = start.1; start = begun; first_code = first; coded = is }
-  named_is form i reference b start (Err fault) begun first is = inr (start.0, start.1, begun, inr (inr (first, fault, is, refl)))
+  named_is form i reference b start (Err fault) begun first is =
+      inr (start.0, start.1, begun, inr (inr (first, fault, is, refl)))
 
   -- a row of a strip is read as it is defined
   pub line_is : (form : StripForm) (i : ℕ) (reference : List Colour) (b : List Bool)
-      → MatchResult (read_line form i reference b) (λ line. IsLine form i reference b line.0 line.1) (IsCause form i reference b)
+      → MatchResult (read_line form i reference b) (λ line. IsLine form i reference b line.0 line.1)
+      (IsCause form i reference b)
   line_is form i reference b =
       bound (λ line. IsLine form i reference b line.0 line.1) (IsCause form i reference b) (read_start form.coding i b)
-      (λ start. first_bits (after_one start.1) (has_few start.1) >>= λ _. named strip_fault (read_row start.0 form.width reference start.1))
+      (λ start. first_bits (after_one start.1) (has_few start.1) >>= λ _. named strip_fault
+      (read_row start.0 form.width reference start.1))
       (start_read form.coding i b (read_start form.coding i b) (start_is form.coding i b))
       (λ start begun. bound (λ line. IsLine form i reference b line.0 line.1) (IsCause form i reference b)
-      (first_bits (after_one start.1) (has_few start.1)) (λ _. named strip_fault (read_row start.0 form.width reference start.1))
+      (first_bits (after_one start.1) (has_few start.1))
+      (λ _. named strip_fault (read_row start.0 form.width reference start.1))
       (first_is start.0 form.width reference start.1 (after_one start.1) (has_few start.1) (zeros_is start.1) refl)
       (λ _ first. named_is form i reference b start (read_row start.0 form.width reference start.1) begun first
       (codes_are start.0 form.width reference start.1))
@@ -186,7 +211,8 @@ module _ (runs_read : (colour : Colour) → ReadsRunsOneWay colour) (modes_read 
       (λ fault stops. inl stops)
 
   -- and what is defined is read
-  pub line_of : (form : StripForm) (i : ℕ) (reference : List Colour) (b : List Bool) (row : List Colour) (rest : List Bool)
+  pub line_of : (form : StripForm) (i : ℕ) (reference : List Colour) (b : List Bool) (row : List Colour)
+      (rest : List Bool)
       → IsLine form i reference b row rest → read_line form i reference b ≡ Ok (row, rest)
   line_of form i reference b row rest line =
       goes _ (start_of form.coding i b (Ok (line.dimension, line.codes)) line.start)
@@ -195,8 +221,10 @@ module _ (runs_read : (colour : Colour) → ReadsRunsOneWay colour) (modes_read 
 
   stop_of : (dimension : Dimension) (width : ℕ) (reference : List Colour) (b : List Bool) (fault : StripFault)
       → IsStopInCodes dimension width reference b fault
-      → (first_bits (after_one b) (has_few b) >>= λ _. named strip_fault (read_row dimension width reference b)) ≡ Err fault
-  stop_of dimension width reference b fault (inl marker) = stop _ (marker_of b marker.0 marker.1 ∙ ap (λ f. Err f) (sym marker.2))
+      → (first_bits (after_one b) (has_few b) >>= λ _. named strip_fault (read_row dimension width reference b)) ≡ Err
+      fault
+  stop_of dimension width reference b fault (inl marker) =
+      stop _ (marker_of b marker.0 marker.1 ∙ ap (λ f. Err f) (sym marker.2))
   stop_of dimension width reference b fault (inr (inl short)) =
       stop _ (short_of b short.0 short.1 short.2 ∙ ap (λ f. Err f) (sym short.3))
   stop_of dimension width reference b fault (inr (inr (first, cause, at, is))) =
@@ -207,4 +235,5 @@ module _ (runs_read : (colour : Colour) → ReadsRunsOneWay colour) (modes_read 
       → IsCause form i reference b fault → read_line form i reference b ≡ Err fault
   cause_of form i reference b fault (inl start) = stop _ (start_of form.coding i b (Err fault) start)
   cause_of form i reference b fault (inr (dimension, codes, start, stops)) =
-      goes _ (start_of form.coding i b (Ok (dimension, codes)) start) (stop_of dimension form.width reference codes fault stops)
+      goes _ (start_of form.coding i b (Ok (dimension, codes)) start)
+      (stop_of dimension form.width reference codes fault stops)

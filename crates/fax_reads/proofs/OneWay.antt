@@ -16,12 +16,14 @@ use Rattle.fax_reads.proofs.StripGraph.{lines_are, lines_of}
 
 module _ {A F : Type 0} (IsAnswer : List Bool → A → List Bool → Type 0) (IsFault : List Bool → F → Type 0)
     (read : List Bool → Result (A × List Bool) F) where
-  answer_or_fault : (b : List Bool) (r : Result (A × List Bool) F) → MatchResult r (λ answer. IsAnswer b answer.0 answer.1) (IsFault b)
+  answer_or_fault : (b : List Bool) (r : Result (A × List Bool) F)
+      → MatchResult r (λ answer. IsAnswer b answer.0 answer.1) (IsFault b)
       → ((answer : A) × (rest : List Bool) × IsAnswer b answer rest) ⊎ ((fault : F) × IsFault b fault)
   answer_or_fault b (Ok (answer, rest)) is = inl (answer, rest, is)
   answer_or_fault b (Err fault) is = inr (fault, is)
 
-  same_pair : (x y : A × List Bool) → (let ok : A × List Bool → Result (A × List Bool) F = λ z. Ok z in ok x ≡ ok y) → x ≡ y
+  same_pair : (x y : A × List Bool) → (let ok : A × List Bool → Result (A × List Bool) F = λ z. Ok z in ok x ≡ ok y)
+      → x ≡ y
   same_pair x y same = cc
 
   -- what a function reads is read in one way
@@ -35,19 +37,23 @@ module _ {A F : Type 0} (IsAnswer : List Bool → A → List Bool → Type 0) (I
     answer_or_fault = λ b. answer_or_fault b (read b) (is b);
     answer_has_no_fault = λ b answer rest fault first second.
         let same = sym (answer_of b answer rest first) ∙ fault_of b fault second in cc (same);
-    one_fault = λ b fault another first second. let same = sym (fault_of b fault first) ∙ fault_of b another second in cc (same);
+    one_fault = λ b fault another first second.
+        let same = sym (fault_of b fault first) ∙ fault_of b another second in
+        cc (same);
   }
 
 module _ (runs_read : (colour : Colour) → ReadsRunsOneWay colour) (modes_read : ReadsOneWay modes) where
   pub row_reads_one_way : (width : ℕ) → ReadsRowsOneWay width
-  row_reads_one_way width = one_way _ _ _ (row_is runs_read width) (row_of runs_read width) (row_fault_of runs_read width)
+  row_reads_one_way width =
+      one_way _ _ _ (row_is runs_read width) (row_of runs_read width) (row_fault_of runs_read width)
 
   pub row_over_reads_one_way : (reference : List Colour) → ReadsRowsOverOneWay reference
   row_over_reads_one_way reference =
       one_way _ _ _ (row_over_is runs_read modes_read reference) (row_over_of runs_read modes_read reference)
       (row_over_fault_of runs_read modes_read reference)
 
-  pub line_reads_one_way : (form : StripForm) (i : ℕ) (reference : List Colour) → IsReadInOneWay (IsLine form i reference) (IsCause form i reference)
+  pub line_reads_one_way : (form : StripForm) (i : ℕ) (reference : List Colour)
+      → IsReadInOneWay (IsLine form i reference) (IsCause form i reference)
   line_reads_one_way form i reference =
       one_way _ _ _ (line_is runs_read modes_read form i reference) (line_of runs_read modes_read form i reference)
       (cause_of runs_read modes_read form i reference)
@@ -61,6 +67,8 @@ module _ (runs_read : (colour : Colour) → ReadsRunsOneWay colour) (modes_read 
       lines = lines_are runs_read modes_read form.rows form 0 (white_row form.width) b (omega arith);
     };
     one = λ others other strip.
-        let same = lines_of runs_read modes_read form.rows form 0 (white_row form.width) b others other strip.left (omega arith) strip.lines in
+        let same =
+        lines_of runs_read modes_read form.rows form 0 (white_row form.width) b others other strip.left
+        (omega arith) strip.lines in
         (cc (same), cc (same));
   }

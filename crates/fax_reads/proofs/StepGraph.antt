@@ -1,8 +1,10 @@
 -- Steps and rows in two-dimensional coding that a function reads are those that are defined by
 -- relations.
-use Rattle.std.proofs.Common.{arith, ◌≡◌, ◌≢◌, ℕ, zero, suc, ◌+◌, ◌-◌, ◌<◌, ◌≤◌, List, [], ◌∷◌, ◌++◌, length, Bool, true, false, true≢false, refl, ap, sym, subst, ◌∙◌}
+use Rattle.std.proofs.Common.{arith, ◌≡◌, ◌≢◌, ℕ, zero, suc, ◌+◌, ◌-◌, ◌<◌, ◌≤◌, List, [], ◌∷◌, ◌++◌, length, Bool}
+use Rattle.std.proofs.Common.{true, false, true≢false, refl, ap, sym, subst, ◌∙◌}
 use Rattle.std.proofs.Common.{inl, inr, Option, Some, None, Result, Ok, Err, replicate}
-use Rattle.std.specs.Prelude.{MatchResult, ℤ, pos, negsuc, ◌+ℤ◌, ◌<ℤ◌, ◌≤ℤ◌, nat_abs, int_lt, int_le, ◌&&◌, if◌then◌else◌}
+use Rattle.std.specs.Prelude.{MatchResult, ℤ, pos, negsuc, ◌+ℤ◌, ◌<ℤ◌, ◌≤ℤ◌, nat_abs, int_lt, int_le, ◌&&◌}
+use Rattle.std.specs.Prelude.{if◌then◌else◌}
 use Rattle.std.proofs.lemmas.Int.{ints}
 use Rattle.std.proofs.lemmas.Result.{MatchResult-weaker}
 use Rattle.std.proofs.lemmas.Bool.{and_parts}
@@ -14,13 +16,16 @@ use Rattle.fax_bits.specs.laws.Codes.{ReadsOneWay, ReadsRunsOneWay}
 use Rattle.fax_bits.specs.Tables.{modes}
 use Rattle.fax_rows.specs.declared.RowFault.{RowFault}
 use Rattle.fax_rows.specs.declared.RowFault.TheVariants.{OutOfRow}
-use Rattle.fax_rows.specs.Rows.{b1, other, Position, beginning, first_pel, a0_number, coloured_up_to, IsInRow, IsStepBy, IsStep, AreSteps}
+use Rattle.fax_rows.specs.Rows.{b1, other, Position, beginning, first_pel, a0_number, coloured_up_to, IsInRow, IsStepBy}
+use Rattle.fax_rows.specs.Rows.{IsStep, AreSteps}
 use Rattle.fax_rows.specs.Rows.{IsTwoDimensionalRow}
 use Rattle.fax_rows.specs.Faults.{IsModeFault, IsStepFault, IsRunFault, IsTwoDimensionalFault}
 use Rattle.fax_rows.proofs.ChangeLemmas.{next_change_is}
 use Rattle.fax_reads.specs.Codes.{◌>>=◌}
-use Rattle.fax_reads.specs.Rows.{row_code, read_run, by_mode, vertical, horizontal, is_in_row, second_run, coloured_twice, read_step, read_steps, read_two_dimensional, is_ended}
-use Rattle.fax_reads.proofs.RunGraph.{bound, goes, stop, row_code_is, row_code_of, run_is, run_of, run_fault_of, run_shorter}
+use Rattle.fax_reads.specs.Rows.{row_code, read_run, by_mode, vertical, horizontal, is_in_row, second_run}
+use Rattle.fax_reads.specs.Rows.{coloured_twice, read_step, read_steps, read_two_dimensional, is_ended}
+use Rattle.fax_reads.proofs.RunGraph.{bound, goes, stop, row_code_is, row_code_of, run_is, run_of, run_fault_of}
+use Rattle.fax_reads.proofs.RunGraph.{run_shorter}
 
 -- a step within the row that takes bits, by a mode that was taken; or its fault
 abbrev IsGoodStep : ModeCode → List Colour → Position → List Bool → Position × List Bool → Type 0
@@ -32,7 +37,8 @@ IsModeRead mode reference old b r = MatchResult r (IsGoodStep mode reference old
 
 abbrev IsStepRead : List Colour → Position → List Bool → Result (Position × List Bool) RowFault → Type 0
 IsStepRead reference old b r =
-    MatchResult r (λ step. IsStep reference old b step.0 step.1 × (first_pel step.0 ≤ length reference) × (length step.1 < length b))
+    MatchResult r (λ step. IsStep reference old b step.0 step.1 × (first_pel step.0 ≤ length reference)
+    × (length step.1 < length b))
     (IsStepFault reference old b)
 
 -- a number that is not below 0 is a place
@@ -119,7 +125,8 @@ module _ (runs_read : (colour : Colour) → ReadsRunsOneWay colour) (modes_read 
         omega (arith, ints, in_row.within, place),
         omega arith,
       )
-  vertical_is reference old d b false is = ((λ in_row. true≢false (sym (in_row_test reference old d in_row) ∙ is)), refl)
+  vertical_is reference old d b false is =
+      ((λ in_row. true≢false (sym (in_row_test reference old d in_row) ∙ is)), refl)
 
   horizontal_is : (reference : List Colour) (old : Position) (b : List Bool) → first_pel old ≤ length reference
       → IsModeRead Horizontal reference old b (horizontal reference old b)
@@ -133,7 +140,8 @@ module _ (runs_read : (colour : Colour) → ReadsRunsOneWay colour) (modes_read 
       (IsModeFault Horizontal reference old b)
       (read_run (suc (length first.1)) (other old.colour) (length reference) first.0 first.1)
       (λ second. Ok (coloured_twice old first.0 second.0, second.1))
-      (run_is runs_read (suc (length first.1)) (other old.colour) (length reference) first.0 first.1 (omega arith) run.inside)
+      (run_is runs_read (suc (length first.1)) (other old.colour) (length reference) first.0 first.1 (omega arith)
+      run.inside)
       (λ second more. (
         record {
           first = run.n;
@@ -166,7 +174,8 @@ module _ (runs_read : (colour : Colour) → ReadsRunsOneWay colour) (modes_read 
   step_is : (reference : List Colour) (old : Position) (b : List Bool) → first_pel old ≤ length reference
       → IsStepRead reference old b (read_step reference old b)
   step_is reference old b inside =
-      bound (λ step. IsStep reference old b step.0 step.1 × (first_pel step.0 ≤ length reference) × (length step.1 < length b))
+      bound (λ step. IsStep reference old b step.0 step.1 × (first_pel step.0 ≤ length reference)
+      × (length step.1 < length b))
       (IsStepFault reference old b) (row_code modes b) (by_mode reference old) (row_code_is modes b)
       (λ code taken. MatchResult-weaker (by_mode reference old code) (mode_is reference old code inside)
       (λ step is. (
@@ -177,7 +186,8 @@ module _ (runs_read : (colour : Colour) → ReadsRunsOneWay colour) (modes_read 
       (λ fault is. inr (code.0, code.1, taken, is)))
       (λ fault none. inl none)
 
-  mode_of : (reference : List Colour) (old : Position) (mode : ModeCode) (b : List Bool) (new : Position) (rest : List Bool)
+  mode_of : (reference : List Colour) (old : Position) (mode : ModeCode) (b : List Bool) (new : Position)
+      (rest : List Bool)
       → IsStepBy mode reference old b new rest → by_mode reference old (mode, b) ≡ Ok (new, rest)
   mode_of reference old Pass b new rest step = cc (step.0, step.1)
   mode_of reference old (Vertical d) b new rest step =
@@ -186,8 +196,10 @@ module _ (runs_read : (colour : Colour) → ReadsRunsOneWay colour) (modes_read 
       goes _ (vertical_ok reference old _ in_row) (cc (place, step.0.new_is, step.1))
   mode_of reference old Horizontal b new rest step =
       let a1 = first_pel old + step.first in
-      goes _ (run_of runs_read old.colour (length reference) (first_pel old) step.first a1 b step.middle refl (omega (arith, step.within)) step.first_run)
-      (goes _ (run_of runs_read (other old.colour) (length reference) a1 step.second (a1 + step.second) step.middle rest refl step.within step.second_run)
+      goes _ (run_of runs_read old.colour (length reference) (first_pel old) step.first a1 b step.middle refl
+      (omega (arith, step.within)) step.first_run)
+      (goes _ (run_of runs_read (other old.colour) (length reference) a1 step.second (a1 + step.second) step.middle rest
+      refl step.within step.second_run)
       (let same = twice_is old a1 (a1 + step.second) step.first step.second refl refl in cc (same, step.new_is)))
   mode_of reference old ModeExtension b new rest step = absurd step
 
@@ -195,10 +207,13 @@ module _ (runs_read : (colour : Colour) → ReadsRunsOneWay colour) (modes_read 
       → IsModeFault mode reference old b fault → by_mode reference old (mode, b) ≡ Err fault
   mode_fault_of reference old Pass b fault at = absurd at
   mode_fault_of reference old (Vertical d) b fault at =
-      stop _ (vertical_err reference old _ (is_false _ (λ yes. at.0 (test_in_row reference old d yes)))) ∙ ap (λ f. Err f) (sym at.1)
-  mode_fault_of reference old Horizontal b fault (inl at) = stop _ (run_fault_of runs_read old.colour (length reference) (first_pel old) b fault at)
+      stop _ (vertical_err reference old _ (is_false _ (λ yes. at.0 (test_in_row reference old d yes)))) ∙ ap
+      (λ f. Err f) (sym at.1)
+  mode_fault_of reference old Horizontal b fault (inl at) =
+      stop _ (run_fault_of runs_read old.colour (length reference) (first_pel old) b fault at)
   mode_fault_of reference old Horizontal b fault (inr at) =
-      goes _ (run_of runs_read old.colour (length reference) (first_pel old) at.0 (first_pel old + at.0) b at.1 refl at.3 at.2)
+      goes _ (run_of runs_read old.colour (length reference) (first_pel old) at.0 (first_pel old + at.0) b at.1 refl
+      at.3 at.2)
       (stop _ (run_fault_of runs_read (other old.colour) (length reference) (first_pel old + at.0) at.1 fault at.4))
   mode_fault_of reference old ModeExtension b fault at = ap (λ f. Err f) (sym at)
 
@@ -214,7 +229,8 @@ module _ (runs_read : (colour : Colour) → ReadsRunsOneWay colour) (modes_read 
   step_fault_of reference old b fault (inr at) =
       goes _ (row_code_of modes b modes_read (Ok (at.0, at.1)) at.2) (mode_fault_of reference old at.0 at.1 fault at.3)
 
-  step_shorter : (reference : List Colour) (old : Position) (mode : ModeCode) (b : List Bool) (new : Position) (rest : List Bool)
+  step_shorter : (reference : List Colour) (old : Position) (mode : ModeCode) (b : List Bool) (new : Position)
+      (rest : List Bool)
       → IsStepBy mode reference old b new rest → length rest ≤ length b
   step_shorter reference old Pass b new rest step = omega (arith, ap length step.1)
   step_shorter reference old (Vertical d) b new rest step = omega (arith, ap length step.1)
@@ -234,20 +250,24 @@ module _ (runs_read : (colour : Colour) → ReadsRunsOneWay colour) (modes_read 
 
   abbrev AreStepsToFault : List Colour → Position → List Bool → RowFault → Type 0
   AreStepsToFault reference old b fault =
-      (positions : List Position) × (last : Position) × (left : List Bool) × AreSteps reference old b positions last left
+      (positions : List Position) × (last : Position) × (left : List Bool)
+      × AreSteps reference old b positions last left
       × (last.a0 ≢ Some (length reference)) × IsStepFault reference last left fault
 
   abbrev IsRowRead : List Colour → Position → List Bool → Result (List Colour × List Bool) RowFault → Type 0
   IsRowRead reference old b r = MatchResult r (AreStepsToEnd reference old b) (AreStepsToFault reference old b)
 
-  step_before : (reference : List Colour) (old new : Position) (b rest : List Bool) (r : Result (List Colour × List Bool) RowFault)
-      → (old.a0 ≢ Some (length reference)) → IsStep reference old b new rest → IsRowRead reference new rest r → IsRowRead reference old b r
+  step_before : (reference : List Colour) (old new : Position) (b rest : List Bool)
+      (r : Result (List Colour × List Bool) RowFault)
+      → (old.a0 ≢ Some (length reference)) → IsStep reference old b new rest → IsRowRead reference new rest r
+      → IsRowRead reference old b r
   step_before reference old new b rest (Ok (pels, left)) unfinished step (positions, last, steps, ends, is) =
       (new ∷ positions, last, (unfinished, rest, step, steps), ends, is)
   step_before reference old new b rest (Err fault) unfinished step (positions, last, left, steps, begun, at) =
       (new ∷ positions, last, left, (unfinished, rest, step, steps), begun, at)
 
-  steps_by_test : (limit : ℕ) (reference : List Colour) (old : Position) (b : List Bool) (test : Bool) → is_ended reference old.a0 ≡ test
+  steps_by_test : (limit : ℕ) (reference : List Colour) (old : Position) (b : List Bool) (test : Bool)
+      → is_ended reference old.a0 ≡ test
       → first_pel old ≤ length reference
       → ((new : Position) (rest : List Bool) → first_pel new ≤ length reference → length rest < length b
       → IsRowRead reference new rest (read_steps limit reference new rest))
@@ -257,14 +277,16 @@ module _ (runs_read : (colour : Colour) → ReadsRunsOneWay colour) (modes_read 
       ])
   steps_by_test limit reference old b true is inside more = ([], old, (refl, refl), ended_is reference old.a0 is, refl)
   steps_by_test limit reference old b false is inside more =
-      let unfinished : old.a0 ≢ Some (length reference) = λ ends. true≢false (sym (is_ended_of reference old.a0 ends) ∙ is) in
+      let unfinished : old.a0 ≢ Some (length reference) =
+      λ ends. true≢false (sym (is_ended_of reference old.a0 ends) ∙ is) in
       bound (AreStepsToEnd reference old b) (AreStepsToFault reference old b)
       (read_step reference old b) (λ step. read_steps limit reference step.0 step.1) (step_is reference old b inside)
       (λ step is. step_before reference old step.0 b step.1 (read_steps limit reference step.0 step.1) unfinished is.0
       (more step.0 step.1 is.1 is.2))
       (λ fault at. ([], old, b, (refl, refl), unfinished, at))
 
-  steps_are : (limit : ℕ) (reference : List Colour) (old : Position) (b : List Bool) → length b < limit → first_pel old ≤ length reference
+  steps_are : (limit : ℕ) (reference : List Colour) (old : Position) (b : List Bool) → length b < limit
+      → first_pel old ≤ length reference
       → IsRowRead reference old b (read_steps limit reference old b)
   steps_are zero reference old b few inside = absurd (omega (arith, few))
   steps_are (suc limit) reference old b few inside =
@@ -272,8 +294,10 @@ module _ (runs_read : (colour : Colour) → ReadsRunsOneWay colour) (modes_read 
       (λ new rest inside shorter. steps_are limit reference new rest (omega (arith, few, shorter)) inside)
 
   -- steps that are defined are read
-  steps_of : (limit : ℕ) (reference : List Colour) (old : Position) (b : List Bool) (positions : List Position) (last : Position)
-      (rest : List Bool) → length b < limit → AreSteps reference old b positions last rest → last.a0 ≡ Some (length reference)
+  steps_of : (limit : ℕ) (reference : List Colour) (old : Position) (b : List Bool) (positions : List Position)
+      (last : Position)
+      (rest : List Bool) → length b < limit → AreSteps reference old b positions last rest
+      → last.a0 ≡ Some (length reference)
       → read_steps limit reference old b ≡ Ok (last.pels, rest)
   steps_of zero reference old b positions last rest few steps ends = absurd (omega (arith, few))
   steps_of (suc limit) reference old b [] last rest few steps ends =
@@ -288,7 +312,8 @@ module _ (runs_read : (colour : Colour) → ReadsRunsOneWay colour) (modes_read 
         modes_read.takes_bits b steps.2.mode steps.2.after steps.2.taken,
       )) steps.3 ends))
 
-  steps_fault_of : (limit : ℕ) (reference : List Colour) (old : Position) (b : List Bool) (positions : List Position) (last : Position)
+  steps_fault_of : (limit : ℕ) (reference : List Colour) (old : Position) (b : List Bool) (positions : List Position)
+      (last : Position)
       (left : List Bool) (fault : RowFault) → length b < limit → AreSteps reference old b positions last left
       → last.a0 ≢ Some (length reference) → IsStepFault reference last left fault
       → read_steps limit reference old b ≡ Err fault
@@ -312,17 +337,28 @@ module _ (runs_read : (colour : Colour) → ReadsRunsOneWay colour) (modes_read 
       → MatchResult (read_two_dimensional reference b) (λ row. IsTwoDimensionalRow reference b row.0 row.1)
       (IsTwoDimensionalFault reference b)
   row_over_is reference b =
-      MatchResult-weaker (read_two_dimensional reference b) (steps_are (suc (length b)) reference beginning b (omega arith) (omega arith))
+      MatchResult-weaker (read_two_dimensional reference b)
+      (steps_are (suc (length b)) reference beginning b (omega arith) (omega arith))
       (λ row is. record { positions = is.0; last = is.1; steps = is.2; ends = is.3; pels = is.4 })
-      (λ fault is. record { positions = is.0; last = is.1; left = is.2; steps = is.3; unfinished = is.4; at_step = is.5 })
+      (λ fault is. record {
+        positions = is.0;
+        last = is.1;
+        left = is.2;
+        steps = is.3;
+        unfinished = is.4;
+        at_step = is.5;
+      })
 
   -- and what is defined is read
   pub row_over_of : (reference : List Colour) (b : List Bool) (row : List Colour) (rest : List Bool)
       → IsTwoDimensionalRow reference b row rest → read_two_dimensional reference b ≡ Ok (row, rest)
   row_over_of reference b row rest is =
-      rw is.pels (steps_of (suc (length b)) reference beginning b is.positions is.last rest (omega arith) is.steps is.ends)
+      rw is.pels (steps_of (suc (length b)) reference beginning b is.positions is.last rest (omega arith) is.steps
+      is.ends)
 
-  pub row_over_fault_of : (reference : List Colour) (b : List Bool) (fault : RowFault) → IsTwoDimensionalFault reference b fault
+  pub row_over_fault_of : (reference : List Colour) (b : List Bool) (fault : RowFault)
+      → IsTwoDimensionalFault reference b fault
       → read_two_dimensional reference b ≡ Err fault
   row_over_fault_of reference b fault is =
-      steps_fault_of (suc (length b)) reference beginning b is.positions is.last is.left fault (omega arith) is.steps is.unfinished is.at_step
+      steps_fault_of (suc (length b)) reference beginning b is.positions is.last is.left fault (omega arith) is.steps
+      is.unfinished is.at_step

@@ -1,5 +1,6 @@
 -- The rows of a strip that a function reads are those that are defined by relations.
-use Rattle.std.proofs.Common.{arith, ◌≡◌, ℕ, zero, suc, ◌+◌, ◌<◌, List, [], ◌∷◌, Bool, refl, Option, Some, None, Result, Ok, Err}
+use Rattle.std.proofs.Common.{arith, ◌≡◌, ℕ, zero, suc, ◌+◌, ◌<◌, List, [], ◌∷◌, Bool, refl, Option, Some, None, Result}
+use Rattle.std.proofs.Common.{Ok, Err}
 use Rattle.std.specs.Prelude.{MatchResult}
 use Rattle.fax_bits.specs.declared.Colour.{Colour}
 use Rattle.fax_bits.specs.laws.Codes.{ReadsOneWay, ReadsRunsOneWay}
@@ -16,7 +17,8 @@ module _ (runs_read : (colour : Colour) → ReadsRunsOneWay colour) (modes_read 
   AreRead form i reference b read = AreLines form i reference b read.rows read.end read.left
 
   -- rows are read as they are defined
-  by_line : (n : ℕ) (form : StripForm) (i : ℕ) (reference : List Colour) (b : List Bool) (r : Result (List Colour × List Bool) StripFault)
+  by_line : (n : ℕ) (form : StripForm) (i : ℕ) (reference : List Colour) (b : List Bool)
+      (r : Result (List Colour × List Bool) StripFault)
       → i < form.rows → MatchResult r (λ line. IsLine form i reference b line.0 line.1) (IsCause form i reference b)
       → ((row : List Colour) (rest : List Bool) → AreRead form (i + 1) row rest (read_lines n form (i + 1) row rest))
       → AreRead form i reference b (elim r [
@@ -31,11 +33,13 @@ module _ (runs_read : (colour : Colour) → ReadsRunsOneWay colour) (modes_read 
       → AreRead form i reference b (read_lines n form i reference b)
   lines_are zero form i reference b due = (refl, omega (arith, due))
   lines_are (suc n) form i reference b due =
-      by_line n form i reference b (read_line form i reference b) (omega (arith, due)) (line_is runs_read modes_read form i reference b)
+      by_line n form i reference b (read_line form i reference b) (omega (arith, due))
+      (line_is runs_read modes_read form i reference b)
       (λ row rest. lines_are n form (i + 1) row rest (omega (arith, due)))
 
   -- and what is defined is read
-  pub lines_of : (n : ℕ) (form : StripForm) (i : ℕ) (reference : List Colour) (b : List Bool) (rows : List (List Colour))
+  pub lines_of : (n : ℕ) (form : StripForm) (i : ℕ) (reference : List Colour) (b : List Bool)
+      (rows : List (List Colour))
       (end : Option StripFault) (left : List Bool) → i + n ≡ form.rows → AreLines form i reference b rows end left
       → read_lines n form i reference b ≡ record { rows = rows; end = end; left = left }
   lines_of zero form i reference b [] None left due lines = cc (lines.0)

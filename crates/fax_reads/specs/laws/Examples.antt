@@ -158,7 +158,7 @@ pub record AreFaultsOfMmr : Type 0 where
 pub record AreStripsOfMh : Type 0 where
   pub eol : Has Mh (codes "000000000001 1000 11 1000") (codes "WWWBBWWW" ∷ []) []
   pub no_first_eol : Has Mh (codes "1000 11 1000") (codes "WWWBBWWW" ∷ []) []
-  pub ten_zeros_are_no_eol : Has Mh (codes "00110101 000101") (codes "BBBBBBBB" ∷ []) []
+  pub begins_black : Has Mh (codes "00110101 000101") (codes "BBBBBBBB" ∷ []) []
   pub fill : Has Mh (codes "1000 11 1000 00000 000000000001 10011")
       (codes "WWWBBWWW" ∷ codes "WWWWWWWW" ∷ []) []
   pub fill_at_the_beginning : Has Mh (codes "0000 000000000001 10011") (codes "WWWWWWWW" ∷ []) []
@@ -197,8 +197,9 @@ pub record AreStripsOfMr : Type 0 where
       (codes "WWWBBWWW" ∷ []) []
   pub fill : Has Mr (codes "000 000000000001 1 10011 00 000000000001 0 1")
       (codes "WWWWWWWW" ∷ codes "WWWWWWWW" ∷ []) []
-  pub return_to_control_is_left : Has Mr (codes "000000000001 1 10011 000000000001 1 000000000001 1")
-      (codes "WWWWWWWW" ∷ []) (codes "000000000001 1 000000000001 1")
+  pub return_to_control_is_left : Has Mr
+      (codes "000000000001 1 10011 000000000001 1 000000000001 1") (codes "WWWWWWWW" ∷ [])
+      (codes "000000000001 1 000000000001 1")
 
 -- whole strips in MMR
 pub record AreStripsOfMmr : Type 0 where
@@ -207,7 +208,8 @@ pub record AreStripsOfMmr : Type 0 where
       ++ codes " 1 1  011 1  000011 1  0000010 1  0000011 1  000010 1  010 1")
       (codes "WWWWBBBB" ∷ codes "WWWWBBBB" ∷ codes "WWWWWBBB" ∷ codes "WWWWWWWB" ∷ codes "WWWWBBBB"
       ∷ codes "WWWWWWWB" ∷ codes "WWWWWBBB" ∷ codes "WWWWBBBB" ∷ []) []
-  pub pass_mode : Has Mmr (codes "001 1000 11 1  0001 1") (codes "WWWBBWWW" ∷ codes "WWWWWWWW" ∷ []) []
+  pub pass_mode : Has Mmr (codes "001 1000 11 1  0001 1")
+      (codes "WWWBBWWW" ∷ codes "WWWWWWWW" ∷ []) []
   pub pass_mode_to_the_width : Has Mmr (codes "0001") (codes "WWWWWWWW" ∷ []) []
   pub pass_mode_in_black : Has Mmr (codes "001 0111 010 001 1000 11  010 0001 1")
       (codes "WWBWWWBB" ∷ codes "WBBBBBBB" ∷ []) []
