@@ -20,6 +20,9 @@ PROGRAM_CALLS = {"run", "run_words", "parse_words", "WordsFault", "Input", "Sour
 LIBRARY = "fax_c"
 CALL = re.compile(r"pub (?:const |extern \"C\" )?fn (\w+)")
 
+# What is read by functions too: no contract reaches it, so its files stand where they are read.
+FUNCTIONS = "fax_reads"
+
 NAME = r"[A-Za-z_][\w-]*'?"
 USED = re.compile(rf"(?<![\w.])({NAME}(?:\.{NAME})*)")
 HEAD = re.compile(rf"^(?:unfoldable )?(?:abbrev )?(?:pub )?(?:record |data )?({NAME})(?= |$)")
@@ -94,9 +97,9 @@ class Module:
                     yield found
 
 
-def modules():
+def modules(crates=CRATES):
     found = {}
-    for crate in CRATES:
+    for crate in crates:
         folder = os.path.join(TOP, "crates", crate, "specs")
         for base, _, files in os.walk(folder):
             for file in sorted(files):
