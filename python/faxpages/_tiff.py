@@ -1,4 +1,5 @@
-# mypy: disable-error-code="import,misc"
+# Pillow has no types here, or those of python3-typeshed, in which some calls have none.
+# mypy: disable-error-code="import,misc,no-untyped-call,override"
 # pyright: reportMissingImports=false
 """Pillow's image of a TIFF file, which refuses a damaged fax. Only _plugin imports it, since it imports Pillow."""
 
