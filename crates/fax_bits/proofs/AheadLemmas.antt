@@ -35,11 +35,11 @@ one_is_code = record {
   spelled = refl;
 }
 
--- what begins thirty-two bits is no longer
-pub begun_short : {F : Type 0} {means : List Bool → F → Type 0} (number : ℕ) {len : ℕ} {found : F}
-    → IsBegun means (code_bits 32 number) len found → len ≤ 32
-begun_short number begun =
-    omega (arith, begun.long, ap length begun.ahead.1, length-append begun.front begun.ahead.0, length-code_bits 32 number)
+-- what begins so many bits is no longer
+pub begun_short : {F : Type 0} {means : List Bool → F → Type 0} (n number : ℕ) {len : ℕ} {found : F}
+    → IsBegun means (code_bits n number) len found → len ≤ n
+begun_short n number begun =
+    omega (arith, begun.long, ap length begun.ahead.1, length-append begun.front begun.ahead.0, length-code_bits n number)
 
 -- a window after some of its bits
 pub after_ahead : (order : FillOrder) (bytes : List ℕ) (old after : Window) (n : ℕ) → IsAhead order bytes old
@@ -114,25 +114,28 @@ module _ (order : FillOrder) (bytes : List ℕ) (old window : Window) (source : 
         (sym (take-take k n source.left few) ∙ ap (take k) ones_left ∙ take-replicate k n true few)
         ∙ ap (λ rest. replicate k true ++ rest) (sym (left_after_code k after short count at))
 
-  -- the next thirty-two bits, which are loaded
-  module _ (many : 32 ≤ window.count) (number : ℕ) (number_is : number
-      ≡ bits_number (take 32 (padded (bits_ahead order bytes window) 32))) where
-    spelled_is : number ≡ bits_number (take 32 (padded source.left 32))
-    spelled_is = number_is ∙ ap (λ b. bits_number (take 32 (padded b 32))) loaded_left
+  -- the next n bits, which are loaded
+  module _ (n : ℕ) (few : n ≤ 32) (many : n ≤ window.count) (number : ℕ) (number_is : number
+      ≡ bits_number (take n (padded (bits_ahead order bytes window) n))) where
+    spelled_is : number ≡ bits_number (take n (padded source.left n))
+    spelled_is = number_is ∙ ap (λ b. bits_number (take n (padded b n))) loaded_left
 
     -- the first of them mean what is found, and the window after them stands behind these
-    module _ {F : Type 0} {means : List Bool → F → Type 0} {len : ℕ} {found : F} (begun : IsBegun means (code_bits 32 number) len found)
+    module _ {F : Type 0} {means : List Bool → F → Type 0} {len : ℕ} {found : F} (begun : IsBegun means (code_bits n number) len found)
         (after : Window) (count : after.count + len ≡ window.count) (at : after.at ≡ window.at) where
+      short : len ≤ 32
+      short = omega (arith, begun_short n number begun, few)
+
       front_left : drop (place_before after) (bits order bytes) ≡ drop (length begun.front) source.left
-      front_left = left_after_code len after (begun_short number begun) count at ∙ ap (λ n. drop n source.left) (sym begun.long)
+      front_left = left_after_code len after short count at ∙ ap (λ n. drop n source.left) (sym begun.long)
 
       front_taken : source.left ≡ begun.front ++ drop (place_before after) (bits order bytes)
       front_taken =
-          left_after source.left begun.front (begun.ahead.0 ++ drop 32 source.left) (length begun.front)
-          (sym (take-append-drop 32 source.left)
-          ∙ ap (λ b. b ++ drop 32 source.left)
-          (sym (peeked_bits source.left 32 (omega (arith, many, loaded-left)) number spelled_is) ∙ begun.ahead.1)
-          ∙ append_assoc begun.front begun.ahead.0 (drop 32 source.left))
+          left_after source.left begun.front (begun.ahead.0 ++ drop n source.left) (length begun.front)
+          (sym (take-append-drop n source.left)
+          ∙ ap (λ b. b ++ drop n source.left)
+          (sym (peeked_bits source.left n (omega (arith, many, loaded-left)) number spelled_is) ∙ begun.ahead.1)
+          ∙ append_assoc begun.front begun.ahead.0 (drop n source.left))
           refl
           ∙ ap (λ rest. begun.front ++ rest) (sym front_left)
 

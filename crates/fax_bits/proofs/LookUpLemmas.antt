@@ -1,26 +1,28 @@
 -- What one look-up finds, and what was read then.
 use Rattle.std.proofs.Common.{◌≡◌, ℕ, ◌+◌, ◌*◌, ◌/◌, ◌%◌, ◌^◌, ◌≤◌, List, [], ◌++◌, length, Bool, refl, ap, sym, ◌∙◌, arith, rules}
-use Rattle.std.proofs.Common.{append-nil, length-append}
+use Rattle.std.proofs.Common.{append_assoc, append-nil, length-append}
 use Rattle.std.proofs.lemmas.Grind.{common_steps}
 use Rattle.fax_bits.specs.declared.codes.CodeEntry.{CodeEntry}
 use Rattle.fax_bits.specs.declared.pairs.Pair.{Pair}
 use Rattle.fax_bits.specs.Bits.{code_bits}
 use Rattle.fax_bits.specs.Codes.{bits_of, Takes, IsRun}
-use Rattle.fax_bits.specs.Written.{run_bits}
+use Rattle.fax_bits.specs.Written.{run_bits, mode_bits}
 use Rattle.fax_bits.specs.declared.Colour.{Colour}
-use Rattle.fax_bits.specs.Tables.{run_table}
+use Rattle.fax_bits.specs.declared.modes.ModeCode.TheVariants.{Horizontal}
+use Rattle.fax_bits.specs.Tables.{run_table, modes}
 use Rattle.fax_bits.specs.declared.runs.RunCode.{RunCode}
 use Rattle.fax_bits.specs.declared.runs.RunCode.TheVariants.{Terminating, MakeUp}
 use Rattle.fax_bits.specs.code.TableLaws.{run_table_has_short_codes}
 use Rattle.fax_bits.specs.views.Codes.{HasCodeAhead, HasShortCodes}
-use Rattle.fax_bits.specs.views.Pairs.{IsPairRead}
+use Rattle.fax_bits.specs.views.Pairs.{IsPairRead, IsHorizontalPairRead}
 use Rattle.fax_bits.specs.views.Source.{Source}
 use Rattle.fax_bits.specs.code.Pairs.{IsPairAhead}
-use Rattle.fax_bits.specs.code.LookUp.{IsBegun, IsLookedUp, IsCode, IsOneRun, AreTwoRuns}
+use Rattle.fax_bits.specs.code.LookUp.{IsBegun, IsLookedUp, IsCode, IsOneRun, AreTwoRuns, IsHorizontalPair}
 use Rattle.fax_bits.proofs.CodeBitsLemmas.{length-code_bits}
 use Rattle.fax_bits.proofs.ReadBackLemmas.{run_bits_are_read}
 use Rattle.fax_bits.proofs.WrittenRunLemmas.{short_written, long_written, terminating_few, make_up_few}
-use Rattle.fax_bits.proofs.LookedAtLemmas.{begins_all, begins_next}
+use Rattle.fax_bits.proofs.LookedAtLemmas.{begins_all, begins_next, begins_after}
+use Rattle.fax_bits.proofs.ModeLemmas.{mode_bits_are_read}
 
 -- a code that begins the bits is found
 pub code_begins : {M : Type 0} (table : List (CodeEntry M)) (b : List Bool) (len : ℕ) (meaning : M) → HasShortCodes table
@@ -136,3 +138,34 @@ pair_begins b len pair found = grind (arith, length-code_bits)
 pub pair_taken : (front left : List Bool) (pair : Pair) (rest : List Bool) → AreTwoRuns front pair → left ≡ front ++ rest
     → IsPairRead left pair rest
 pair_taken front left pair rest are is = grind (arith, common_steps, run_bits_are_read)
+
+-- the code of horizontal mode
+horizontal_is : code_bits 3 1 ≡ mode_bits Horizontal
+unfolding modes mode_bits code_bits
+horizontal_is = refl
+
+-- and two runs after it are found
+pub horizontal_pair_begins : (number len : ℕ) (pair : Pair) → number / 2 ^ 13 ≡ 1 → IsPairAhead (code_bits 13 (number % 2 ^ 13)) len pair
+    → IsBegun IsHorizontalPair (code_bits 16 number) (3 + len) pair
+horizontal_pair_begins number len pair first found =
+    let begun = pair_begins (code_bits 13 (number % 2 ^ 13)) len pair found in
+    record {
+      front = mode_bits Horizontal ++ begun.front;
+      ahead = begins_after 3 13 number (mode_bits Horizontal) begun.front (ap (code_bits 3) first ∙ horizontal_is) begun.ahead;
+      long =
+          length-append (mode_bits Horizontal) begun.front ∙ ap (λ n. n + length begun.front) (ap length (sym horizontal_is))
+          ∙ ap (λ n. length (code_bits 3 1) + n) begun.long ∙ ap (λ n. n + len) (length-code_bits 3 1);
+      some = omega arith;
+      meaning = record { runs = begun.front; are = begun.meaning; spelled = refl };
+    }
+
+-- and are read
+pub horizontal_pair_taken : (front left : List Bool) (pair : Pair) (rest : List Bool) → IsHorizontalPair front pair
+    → left ≡ front ++ rest → IsHorizontalPairRead left pair rest
+horizontal_pair_taken front left pair rest is taken = record {
+  runs = is.runs ++ rest;
+  mode =
+      rw (taken ∙ ap (λ b. b ++ rest) is.spelled ∙ append_assoc (mode_bits Horizontal) is.runs rest)
+      (mode_bits_are_read Horizontal (is.runs ++ rest) tt);
+  pair_read = pair_taken is.runs (is.runs ++ rest) pair rest is.are refl;
+}

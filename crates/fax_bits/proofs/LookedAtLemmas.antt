@@ -56,3 +56,12 @@ begins_next number len front next few long begins after =
       more.0,
       begins.1 ∙ ap (λ b. front ++ b) (rest ∙ more.1) ∙ sym (append_assoc front next more.0),
     )
+
+-- and one that begins the lowest bits, after the highest ones
+pub begins_after : (high low number : ℕ) (front next : List Bool) → code_bits high (number / 2 ^ low) ≡ front
+    → BeginsWith (code_bits low (number % 2 ^ low)) next → BeginsWith (code_bits (high + low) number) (front ++ next)
+begins_after high low number front next first after = (
+  after.0,
+  parts high low number ∙ ap (λ b. b ++ code_bits low (number % 2 ^ low)) first ∙ ap (λ b. front ++ b) after.1
+      ∙ sym (append_assoc front next after.0),
+)

@@ -4,14 +4,14 @@ ghost use Rattle.std.specs.Prelude.{IfSome, IsSome, None, take, replicate, true,
 ghost use Rattle.fax_bits.specs.Codes.{Takes, IsRun};
 ghost use Rattle.fax_bits.specs.Tables.{modes};
 ghost use Rattle.fax_bits.specs.Written.{run_bits};
-ghost use Rattle.fax_bits.specs.views.Pairs.{IsPairRead};
+ghost use Rattle.fax_bits.specs.views.Pairs.{IsPairRead, IsHorizontalPairRead};
 ghost use Rattle.fax_bits.specs.views.Source.{KeepsEnd};
 ghost use Rattle.fax_bits.specs.views.Verticals.{AreVerticalsRead};
 ghost use Rattle.fax_bits.specs.Bits.{code_bits};
-ghost use Rattle.fax_bits.specs.code.LookUp.{IsBegun, IsOneRun};
+ghost use Rattle.fax_bits.specs.code.LookUp.{IsBegun, IsOneRun, IsHorizontalPair};
 
 use crate::codes::LONGEST_CODE;
-use crate::modes::{ModeCode, find_mode};
+use crate::modes::{HORIZONTAL_CODE, HORIZONTAL_LEN, ModeCode, find_mode};
 use crate::pairs::{Pair, find_pair};
 use crate::runs::{RunCode, find_run_code};
 use crate::verticals::{Verticals, find_verticals};
@@ -22,6 +22,9 @@ const LOOKED_AT: u32 = 32;
 
 /// How many of them stand after those of the longest code.
 const AFTER_CODE: u32 = LOOKED_AT - LONGEST_CODE;
+
+/// How many bits are looked at for horizontal mode and its two runs.
+const LOOKED_AT_FOR_RUNS: u32 = HORIZONTAL_LEN + LONGEST_CODE;
 
 /// The length of a run of the colour that begins thirty-two bits, of one make-up code at most, and
 /// how many pels it has. `None` says nothing of the bits.
@@ -44,6 +47,20 @@ fn find_whole_run(colour: Colour, bits: u32) -> Option<(u32, u32)>
     }
 }
 
+/// The code of horizontal mode and the pair whose terminating codes come after it, where they begin
+/// sixteen bits, and how many of these they take. `None` says nothing of the bits.
+#[inline(always)]
+fn find_horizontal_pair(bits: u32) -> Option<(u32, Pair)>
+    ensures { IfSome result (λ found.
+        IsBegun IsHorizontalPair (code_bits LOOKED_AT_FOR_RUNS bits) found.0 found.1) }
+{
+    if bits >> LONGEST_CODE != HORIZONTAL_CODE {
+        return None;
+    }
+    let (len, pair) = find_pair(bits % (1 << LONGEST_CODE))?;
+    Some((HORIZONTAL_LEN + len, pair))
+}
+
 impl<'a> BitSource<'a> {
     /// Reads a white run and the black one after it by one look-up, in a row of `width` pels of
     /// which `total` stand before them (T.4, section 4.1.1). Where they go past the row's end, or
@@ -62,6 +79,33 @@ impl<'a> BitSource<'a> {
         self.window = self.window.loaded(self.bytes, self.order)?;
         let (len, pair) = find_pair(self.window.number(LOOKED_AT) >> AFTER_CODE)?;
         if total + pair.white + pair.black > width {
+            return None;
+        }
+        self.window = self.window.after(len);
+        Some(pair)
+    }
+
+    /// Reads horizontal mode with a white run and the black one after it by one look-up, in a row of
+    /// `width` pels of which `total` stand before them (T.4, sections 4.1.1 and 4.2.1.3.2). Where
+    /// they go past the row's end, or where that look-up has no such pair, the source is as it was.
+    #[inline(always)]
+    pub fn horizontal_pair_within(&mut self, total: u32, width: u32) -> Option<Pair>
+        requires { total < 2 ^ 31 }
+        ensures read { IfSome result
+            (λ pair. IsHorizontalPairRead self.old.left pair self.new.left) }
+        ensures within { IfSome result (λ pair. total + pair.white + pair.black ≤ width) }
+        ensures unchanged { result ≡ None → self.new ≡ self.old }
+
+        // The source goes on in the same bits.
+        ensures same_end { KeepsEnd self.old self.new }
+        ensures shorter { IsSome result → length self.new.left < length self.old.left }
+    {
+        self.window = self
+            .window
+            .loaded_for(LOOKED_AT_FOR_RUNS, self.bytes, self.order)?;
+        let (len, pair) = find_horizontal_pair(self.window.number(LOOKED_AT_FOR_RUNS))?;
+        let end = total + pair.white + pair.black;
+        if end > width {
             return None;
         }
         self.window = self.window.after(len);

@@ -18,6 +18,11 @@ pub enum ModeCode {
     Extension,
 }
 
+/// The code of horizontal mode, and how many bits it has (T.4, table 4).
+pub(crate) const HORIZONTAL_CODE: u32 = 0b001;
+
+pub(crate) const HORIZONTAL_LEN: u32 = 3;
+
 /// How many entries the mode table has: nine modes, and the extension prefix.
 const MODE_ENTRIES: usize = 10;
 

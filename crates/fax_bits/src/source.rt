@@ -43,7 +43,7 @@ impl<'a> BitSource<'a> {
     {
         BitSource {
             bytes,
-            window: Window::new(0),
+            window: Window::new(0).filled(bytes, order),
             order,
         }
     }

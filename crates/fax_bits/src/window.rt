@@ -172,7 +172,23 @@ impl Window {
             ≡ 8 * self.at + more.count) }
         ensures within { IfSome result (λ more. more.at ≤ length bytes.now) }
     {
-        if self.count >= 32 {
+        self.loaded_for(32, bytes, order)
+    }
+
+    /// The same bits, of which at least `least` are loaded, 0 to 32 of them, or `None` near the end
+    /// of the bytes.
+    #[inline(always)]
+    pub fn loaded_for(self, least: u32, bytes: &[u8], order: FillOrder) -> Option<Window>
+        requires within { self.at ≤ length bytes.now }
+        requires few { least ≤ 32 }
+        ensures ahead { IfSome result (λ more. bits_ahead order bytes.now more
+            ≡ bits_ahead order bytes.now self) }
+        ensures many { IfSome result (λ more. least ≤ more.count) }
+        ensures place { IfSome result (λ more. 8 * more.at + self.count
+            ≡ 8 * self.at + more.count) }
+        ensures within { IfSome result (λ more. more.at ≤ length bytes.now) }
+    {
+        if self.count >= least {
             return Some(self);
         }
         if bytes.len() - self.at < 4 {

@@ -1,6 +1,7 @@
 -- What one look-up finds of the next bits.
 use Rattle.std.specs.Prelude.{◌≡◌, ℕ, ◌<◌, ◌^◌, Bool, List, ◌++◌, length, flat_map, Contains}
 use Rattle.fax_bits.specs.declared.codes.CodeEntry.{CodeEntry}
+use Rattle.fax_bits.specs.declared.modes.ModeCode.TheVariants.{Horizontal}
 use Rattle.fax_bits.specs.declared.pairs.Pair.{Pair}
 use Rattle.fax_bits.specs.Bits.{Colour, White, Black, BeginsWith}
 use Rattle.fax_bits.specs.Codes.{bits_of}
@@ -48,6 +49,12 @@ pub record AreTwoRuns (b : List Bool) (pair : Pair) : Type 0 where
   pub short_white : pair.white < 64
   pub short_black : pair.black < 64
   pub spelled : b ≡ run_bits White pair.white ++ run_bits Black pair.black
+
+-- the bits are the code of horizontal mode and those of such a pair (T.4, section 4.2.1.3.2)
+pub record IsHorizontalPair (b : List Bool) (pair : Pair) : Type 0 where
+  pub runs : List Bool
+  pub are : AreTwoRuns runs pair
+  pub spelled : b ≡ mode_bits Horizontal ++ runs
 
 -- the bits are the codes of these vertical modes, one after another (T.4, table 4)
 pub record AreVerticals (b : List Bool) (found : Verticals) : Type 0 where

@@ -7,7 +7,7 @@ use Rattle.fax_bits.proofs.source.BitSource.verticals.Goals as goal
 pub after-self-inside-requires : goal.after-self-inside-requires
 after-self-inside-requires c =
     let begun = begins_more _ c.number.result c.in_ok-len.len c.in_ok-len.found c.in_ok-len.ensures in
-    let short = begun_short c.number.result begun in
+    let short = begun_short 32 c.number.result begun in
     record { loaded = omega (arith, short, c.in_ok-self-inside.ensures.many); short = omega (arith, short) }
 
 pub returns : goal.returns
@@ -18,7 +18,7 @@ returns c =
     let begun = begins_more _ c.number.result c.in_ok-len.len c.in_ok-len.found c.in_ok-len.ensures in
     let is =
     looked_up order bytes c.self.inside.window w.field-0 c.args.self.now c.self.invariant c.self.view_is w.ensures.ahead
-    w.ensures.place w.ensures.within w.ensures.many c.number.result (c.number.ensures.number order bytes (inl (omega (arith, w.ensures.many))))
+    w.ensures.place w.ensures.within 32 (omega arith) w.ensures.many c.number.result (c.number.ensures.number order bytes (inl (omega (arith, w.ensures.many))))
     begun c.after-self-inside.result c.after-self-inside.ensures.count c.after-self-inside.ensures.at in
     record {
       read = verticals_taken is.front c.args.self.now.left c.in_ok-len.found _ is.meaning is.taken;
