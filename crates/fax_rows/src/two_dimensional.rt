@@ -20,12 +20,14 @@ use codes::{Due, Stop};
 use due::read_on;
 use fax_bits::BitSource;
 use modes::read_by_look_ups;
+use over_white::read_over_white;
 
 mod choices;
 mod codes;
 mod copied;
 mod due;
 mod modes;
+mod over_white;
 mod several;
 mod steps;
 
@@ -60,7 +62,9 @@ fn read_modes<const CHOICE: bool>(
     ensures room { HasRoom reference.entry.width places.new }
     ensures same_end { KeepsEnd source.old source.new }
 {
-    let read = if reference.end < reference.width as usize / FEW_CHANGES {
+    let read = if reference.end == 1 {
+        read_over_white::<CHOICE>(source, reference, places)
+    } else if reference.end < reference.width as usize / FEW_CHANGES {
         read_by_look_ups::<CHOICE, true>(source, reference, places)
     } else {
         read_by_look_ups::<CHOICE, false>(source, reference, places)

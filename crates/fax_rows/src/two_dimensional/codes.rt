@@ -54,7 +54,7 @@ pub(super) struct TwoRuns {
 /// by a look-up. Else it answers the first run, where that is found. `CHOICE` and `SEVERAL` part the
 /// copies of several callers: each is written out in its one caller.
 #[inline(always)]
-fn run_by_run<const CHOICE: bool, const SEVERAL: bool>(
+pub(super) fn run_by_run<const CHOICE: bool, const SEVERAL: bool>(
     source: &mut BitSource,
     colour: Colour,
     width: u32,
