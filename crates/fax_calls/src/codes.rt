@@ -14,6 +14,9 @@ pub fn answer(alloc: Global, words: &[&str]) -> Result<Option<String>, WrongLine
         ["find", table, bits] => found(alloc, table, bits)?,
         ["pairs", skip, bits, most] => pairs(alloc, skip, bits, most)?,
         ["pair_within", total, width, bits] => pair_within(alloc, total, width, bits)?,
+        ["horizontal_pair_within", total, width, bits] => {
+            horizontal_pair_within(alloc, total, width, bits)?
+        }
         ["run_within", colour, bits, most] => run_within(alloc, colour, bits, most)?,
         ["mode", bits] => looked_up_mode(alloc, bits)?,
         ["verticals", bits] => verticals(alloc, bits)?,
@@ -93,6 +96,27 @@ fn pair_within(alloc: Global, total: &str, width: &str, bits: &str) -> Result<St
         return Err(WrongLine::OutOfLimits);
     }
     match source.pair_within(total, width) {
+        Some(pair) => Ok(format!(in alloc; "{},{} {}", pair.white, pair.black, source.place())?),
+        None => Ok(format!(in alloc; "none {}", source.place())?),
+    }
+}
+
+/// The pair that is read after horizontal mode where so many pels of the row's width stand before
+/// it, and the place then.
+fn horizontal_pair_within(
+    alloc: Global,
+    total: &str,
+    width: &str,
+    bits: &str,
+) -> Result<String, WrongLine> {
+    let total = words::number(total)?;
+    let width = words::number(width)?;
+    let bytes = words::bytes(alloc, bits)?;
+    let mut source = BitSource::new(&bytes, FillOrder::MsbFirst);
+    if total >= 0x8000_0000 {
+        return Err(WrongLine::OutOfLimits);
+    }
+    match source.horizontal_pair_within(total, width) {
         Some(pair) => Ok(format!(in alloc; "{},{} {}", pair.white, pair.black, source.place())?),
         None => Ok(format!(in alloc; "none {}", source.place())?),
     }
