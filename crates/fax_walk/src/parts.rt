@@ -147,6 +147,7 @@ impl Parts {
 /// A part of an output: some bytes, and zeros after them.
 #[derive(Clone, Copy)]
 pub struct Part<'a> {
+    /// Bytes, one or more.
     pub held: &'a [u8],
     /// How many zeros stand after the bytes.
     pub zeros: usize,
@@ -176,6 +177,7 @@ impl<'a> PartsLeft<'a> {
         ensures part { IfSome result (λ part. self.old ≡ part_bytes part ++ self.new) }
         ensures some { IfSome result (λ part. 0 < length part.held.now) }
         ensures end { IfNone result (self.old ≡ []) }
+        ensures unchanged { IfNone result (self.new ≡ self.old) }
     {
         let Some((gap, others)) = self.gaps.split_first() else {
             if self.held.is_empty() {
