@@ -7,6 +7,9 @@ use Rattle.fax_rows.proofs.put.put_far_step.Goals as goal
 pub choose-mode-requires-clause-b1 : goal.choose-mode-requires-clause-b1
 choose-mode-requires-clause-b1 c = grind (arith, known_bounds)
 
+pub overflow_sub-first : goal.overflow_sub-first
+overflow_sub-first c = rw c.unwrap_or.ensures (known_bounds c.requires.places).a0
+
 pub overflow_sub-second : goal.overflow_sub-second
 overflow_sub-second c = (known_bounds c.requires.places).a1_a2
 
