@@ -37,6 +37,7 @@ impl<'a> BitSource<'a> {
 
     /// The first bit of at most 4,294,967,295 bytes; `order` says which bit of a byte comes first
     /// (TIFF 6.0, FillOrder).
+    #[inline(never)]
     pub fn new(bytes: &'a [u8], order: FillOrder) -> Self
         requires count { length bytes.now ≤ 4294967295 }
         ensures { result ≡ source_of order bytes.now 0 }
