@@ -1,5 +1,6 @@
 -- Bits that are loaded, and codes that are read from them.
-use Rattle.std.proofs.Common.{Bool, true, false, replicate, ◌≡◌, ℕ, ◌+◌, ◌*◌, ◌≤◌, ◌<◌, List, [], ◌∷◌, ◌++◌, length, take, drop, refl, ap}
+use Rattle.std.proofs.Common.{Bool, true, false, replicate, ◌≡◌, ℕ, ◌+◌, ◌*◌, ◌≤◌, ◌<◌, List, [], ◌∷◌, ◌++◌, length}
+use Rattle.std.proofs.Common.{take, drop, refl, ap}
 use Rattle.std.proofs.Common.{sym, ◌∙◌, arith, append_assoc, length-append, ◌⊎◌}
 use Rattle.std.proofs.lemmas.Grind.{common_steps}
 use Rattle.std.specs.Prelude.{pos}
@@ -39,17 +40,26 @@ one_is_code = record {
 pub begun_short : {F : Type 0} {means : List Bool → F → Type 0} (n number : ℕ) {len : ℕ} {found : F}
     → IsBegun means (code_bits n number) len found → len ≤ n
 begun_short n number begun =
-    omega (arith, begun.long, ap length begun.ahead.1, length-append begun.front begun.ahead.0, length-code_bits n number)
+    omega (
+      arith,
+      begun.long,
+      ap length begun.ahead.1,
+      length-append begun.front begun.ahead.0,
+      length-code_bits n
+          number,
+    )
 
 -- a window after some of its bits
 pub after_ahead : (order : FillOrder) (bytes : List ℕ) (old after : Window) (n : ℕ) → IsAhead order bytes old
-    → bits_ahead order bytes after ≡ drop n (bits_ahead order bytes old) → after.count + n ≡ old.count → after.at ≡ old.at
+    → bits_ahead order bytes after ≡ drop n (bits_ahead order bytes old) → after.count + n ≡ old.count
+    → after.at ≡ old.at
     → IsAhead order bytes after
 after_ahead order bytes old after n is ahead count at = grind (arith, common_steps)
 
 -- a window at the place of another, of which more may be loaded
 module _ (order : FillOrder) (bytes : List ℕ) (old window : Window) (source : Source) (is : IsAhead order bytes old)
-    (shown : source_of order bytes (place_before old) ≡ source) (same : bits_ahead order bytes window ≡ bits_ahead order bytes old)
+    (shown : source_of order bytes (place_before old) ≡ source)
+    (same : bits_ahead order bytes window ≡ bits_ahead order bytes old)
     (place : 8 * window.at + old.count ≡ 8 * old.at + window.count) (within : window.at ≤ length bytes) where
   pub loaded_left : bits_ahead order bytes window ≡ source.left
   loaded_left = same ∙ is.bits_are ∙ ap (λ (s : Source). s.left) shown
@@ -62,7 +72,8 @@ module _ (order : FillOrder) (bytes : List ℕ) (old window : Window) (source : 
   all_loaded all = grind (arith, length-left)
 
   -- after some of its bits
-  module _ (n : ℕ) (after : Window) (short : n ≤ 32) (count : after.count + n ≡ window.count) (at : after.at ≡ window.at) where
+  module _ (n : ℕ) (after : Window) (short : n ≤ 32) (count : after.count + n ≡ window.count)
+      (at : after.at ≡ window.at) where
     place_after : place_before old + n ≡ place_before after
     place_after = omega (arith, is.before)
 
@@ -86,7 +97,8 @@ module _ (order : FillOrder) (bytes : List ℕ) (old window : Window) (source : 
       is ∙ ap (λ b. front ++ true ∷ b) (sym rest)
 
   -- a 1 is gone past
-  pub one_looked_up : (after : Window) → HasZerosAhead (bits_ahead order bytes window) 0 → after.count + 1 ≡ window.count
+  pub one_looked_up : (after : Window) → HasZerosAhead (bits_ahead order bytes window) 0
+      → after.count + 1 ≡ window.count
       → after.at ≡ window.at
       → IsLookedUp (IsCode modes) source (Vertical (pos 0)) (source_of order bytes (place_before after))
   one_looked_up after one count at =
@@ -121,7 +133,8 @@ module _ (order : FillOrder) (bytes : List ℕ) (old window : Window) (source : 
     spelled_is = number_is ∙ ap (λ b. bits_number (take n (padded b n))) loaded_left
 
     -- the first of them mean what is found, and the window after them stands behind these
-    module _ {F : Type 0} {means : List Bool → F → Type 0} {len : ℕ} {found : F} (begun : IsBegun means (code_bits n number) len found)
+    module _ {F : Type 0} {means : List Bool → F → Type 0} {len : ℕ} {found : F}
+        (begun : IsBegun means (code_bits n number) len found)
         (after : Window) (count : after.count + len ≡ window.count) (at : after.at ≡ window.at) where
       short : len ≤ 32
       short = omega (arith, begun_short n number begun, few)

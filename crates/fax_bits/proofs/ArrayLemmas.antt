@@ -7,14 +7,16 @@ use Rattle.fax_bits.specs.declared.runs.RunCode.{RunCode}
 use Rattle.fax_bits.specs.declared.runs.TheConstants.{WHITE_CODES, WHITE_LENS, BLACK_CODES, BLACK_LENS}
 use Rattle.fax_bits.specs.declared.Colour.{Colour}
 use Rattle.fax_bits.specs.declared.Colour.TheVariants.{White, Black}
-use Rattle.fax_bits.specs.Tables.{run_table, white_runs, white_terminating, white_make_up, black_runs, black_terminating, black_make_up}
+use Rattle.fax_bits.specs.Tables.{run_table, white_runs, white_terminating, white_make_up, black_runs}
+use Rattle.fax_bits.specs.Tables.{black_terminating, black_make_up}
 use Rattle.fax_bits.specs.Tables.{common_make_up}
 use Rattle.fax_bits.specs.code.Codes.{run_meaning}
 
 abbrev pub run_entries : ℕ → List ℕ → List ℕ → List (CodeEntry RunCode)
 run_entries i [] lens = []
 run_entries i (c ∷ codes) [] = []
-run_entries i (c ∷ codes) (l ∷ lens) = record { code = c; len = l; meaning = run_meaning i } ∷ run_entries (suc i) codes lens
+run_entries i (c ∷ codes) (l ∷ lens) = record { code = c; len = l; meaning = run_meaning i }
+    ∷ run_entries (suc i) codes lens
 
 pub slice_get-run_entries : (first : ℕ) (codes lens : List ℕ) (i : ℕ) → i < length codes → i < length lens
     → slice_get (run_entries first codes lens) i
@@ -23,7 +25,8 @@ slice_get-run_entries first [] lens i h k = absurd (omega arith)
 slice_get-run_entries first (c ∷ codes) [] i h k = absurd (omega arith)
 slice_get-run_entries first (c ∷ codes) (l ∷ lens) zero h k = grind (arith, common_steps)
 slice_get-run_entries first (c ∷ codes) (l ∷ lens) (suc i) h k =
-    let e : first + suc i ≡ suc first + i = omega arith in rw e (slice_get-run_entries (suc first) codes lens i (omega arith) (omega arith))
+    let e : first + suc i ≡ suc first + i = omega arith in rw e
+    (slice_get-run_entries (suc first) codes lens i (omega arith) (omega arith))
 
 -- the codes of the run table of a colour, and their lengths
 abbrev pub codes_of : Colour → List ℕ
@@ -44,5 +47,10 @@ run_table_is Black = refl
 
 -- its entry at a place
 pub run_entry_at : (colour : Colour) (place : ℕ) → place < 105 → slice_get (run_table colour) place
-    ≡ Some (record { code = get_or (codes_of colour) place 0; len = get_or (lens_of colour) place 0; meaning = run_meaning place })
+    ≡ Some (record {
+      code = get_or (codes_of colour) place 0;
+      len = get_or (lens_of colour) place 0;
+      meaning =
+          run_meaning place;
+    })
 run_entry_at colour place within = grind (arith, common_steps, run_table_is, slice_get-run_entries)

@@ -1,5 +1,6 @@
 -- A code that begins the bits of a number.
-use Rattle.std.proofs.Common.{◌≡◌, ℕ, ◌+◌, ◌-◌, ◌/◌, ◌%◌, ◌^◌, ◌<◌, ◌≤◌, List, ◌++◌, length, take, get_or, Bool, false, nat_eq}
+use Rattle.std.proofs.Common.{◌≡◌, ℕ, ◌+◌, ◌-◌, ◌/◌, ◌%◌, ◌^◌, ◌<◌, ◌≤◌, List, ◌++◌, length, take, get_or, Bool, false}
+use Rattle.std.proofs.Common.{nat_eq}
 use Rattle.std.proofs.Common.{ap, sym, ◌∙◌, subst, arith, length-append}
 use Rattle.std.proofs.Math.Seq.{take-append_seam}
 use Rattle.std.proofs.lemmas.Nat.{pow_pos, mod_below, shr_below, shr_split}
@@ -30,9 +31,11 @@ split_at : (n len window : ℕ) → len ≤ n
 split_at n len window within =
     let e : len + (n - len) ≡ n = omega arith in
     sym (ap (λ k. code_bits k window) e) ∙ ap (code_bits (len + (n - len))) (sym (shr_split window (n - len)))
-    ∙ code_bits-add len (n - len) (window / 2 ^ (n - len)) (window % 2 ^ (n - len)) (mod_below window (2 ^ (n - len)) (pow_pos (n - len)))
+    ∙ code_bits-add len (n - len) (window / 2 ^ (n - len)) (window % 2 ^ (n - len))
+    (mod_below window (2 ^ (n - len)) (pow_pos (n - len)))
 
-pub code_ahead : (n window len code : ℕ) → len ≤ n → window / 2 ^ (n - len) ≡ code → BeginsWith (code_bits n window) (code_bits len code)
+pub code_ahead : (n window len code : ℕ) → len ≤ n → window / 2 ^ (n - len) ≡ code
+    → BeginsWith (code_bits n window) (code_bits len code)
 code_ahead n window len code within is = (
   code_bits (n - len) (window % 2 ^ (n - len)),
   split_at n len window within ∙ ap (λ k. code_bits len k ++ code_bits (n - len) (window % 2 ^ (n - len))) is,
@@ -41,7 +44,13 @@ code_ahead n window len code within is = (
 -- a code that begins the bits is no longer than they are
 pub ahead_is_short : (n window len code : ℕ) → BeginsWith (code_bits n window) (code_bits len code) → len ≤ n
 ahead_is_short n window len code ahead =
-    omega (arith, length-append (code_bits len code) ahead.0, ap length ahead.1, length-code_bits len code, length-code_bits n window)
+    omega (
+      arith,
+      length-append (code_bits len code) ahead.0,
+      ap length ahead.1,
+      length-code_bits len code,
+      length-code_bits n window,
+    )
 
 -- and is the number that the first bits spell
 pub ahead_is_first : (n window len code : ℕ) → len ≤ n → window < 2 ^ n → code < 2 ^ len
@@ -49,7 +58,8 @@ pub ahead_is_first : (n window len code : ℕ) → len ≤ n → window < 2 ^ n 
     → window / 2 ^ (n - len) ≡ code
 ahead_is_first n window len code within fits code_fits ahead =
     let e : len + (n - len) ≡ n = omega arith in
-    let high : window / 2 ^ (n - len) < 2 ^ len = shr_below window len (n - len) (subst (λ k. window < 2 ^ k) (sym e) fits) in
+    let high : window / 2 ^ (n - len) < 2 ^ len = shr_below window len (n - len)
+    (subst (λ k. window < 2 ^ k) (sym e) fits) in
     let first : (number : ℕ) (rest : List Bool) → take len (code_bits len number ++ rest) ≡ code_bits len number =
     λ number rest. ap (λ k. take k (code_bits len number ++ rest)) (sym (length-code_bits len number))
     ∙ take-append_seam (code_bits len number) rest in

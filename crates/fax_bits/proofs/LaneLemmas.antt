@@ -1,9 +1,11 @@
 -- Bytes whose bits are turned round lane by lane.
-use Rattle.std.proofs.Common.{◌≡◌, ℕ, zero, suc, ◌+◌, ◌-◌, ◌<◌, ◌≤◌, List, [], ◌∷◌, map, length, drop, get_or, Bool, true}
+use Rattle.std.proofs.Common.{◌≡◌, ℕ, zero, suc, ◌+◌, ◌-◌, ◌<◌, ◌≤◌, List, [], ◌∷◌, map, length, drop, get_or, Bool}
+use Rattle.std.proofs.Common.{true}
 use Rattle.std.proofs.Common.{nat_eq, refl, ap, sym, ◌∙◌, arith, replicate, inl, inr, length-drop, get_or-drop}
 use Rattle.std.proofs.lemmas.Bool.{agree_below, agree_below_at, eqb-true, cases_lt}
 use Rattle.std.proofs.lemmas.List.{ext_get_or, get_or-map, get_or-take, length-map, length-take-le}
-use Rattle.std.proofs.lemmas.Simd.{length-put_chunk, get_or-put_chunk_below, get_or-put_chunk_at, get_or-put_chunk_above}
+use Rattle.std.proofs.lemmas.Simd.{length-put_chunk, get_or-put_chunk_below, get_or-put_chunk_at}
+use Rattle.std.proofs.lemmas.Simd.{get_or-put_chunk_above}
 use lib.Lanes.{zip2, Each1, chunk, put_chunk}
 use mir.Syntax.{w8}
 use mir.Val.{Fits}
@@ -20,7 +22,8 @@ abbrev pairs : (or and right left : ℕ → ℕ → ℕ) → ℕ → ℕ
 pairs or and right left x = or (and (right (halves or right left x) 2) 51) (left (and (halves or right left x) 51) 2)
 
 abbrev pub turned_by : (or and right left : ℕ → ℕ → ℕ) → ℕ → ℕ
-turned_by or and right left x = or (and (right (pairs or and right left x) 1) 85) (left (and (pairs or and right left x) 85) 1)
+turned_by or and right left x = or (and (right (pairs or and right left x) 1) 85)
+    (left (and (pairs or and right left x) 85) 1)
 
 -- all lanes at once
 abbrev halves_of : (or right left : ℕ → ℕ → ℕ) → ℕ → List ℕ → List ℕ
@@ -62,7 +65,8 @@ pub record IsTurnedUpTo (g : ℕ → ℕ) (old new : List ℕ) (n : ℕ) : Type 
   pub left : (k : ℕ) → n ≤ k → get_or new k 0 ≡ get_or old k 0
 
 -- sixteen more
-pub turned_group : (g : ℕ → ℕ) (old new ys : List ℕ) (n : ℕ) → IsTurnedUpTo g old new n → ys ≡ map g (chunk n 16 new) → n + 16 ≤ length old
+pub turned_group : (g : ℕ → ℕ) (old new ys : List ℕ) (n : ℕ) → IsTurnedUpTo g old new n → ys ≡ map g (chunk n 16 new)
+    → n + 16 ≤ length old
     → IsTurnedUpTo g old (put_chunk n new ys) (n + 16)
 turned_group g old new ys n so_far ys_is within = record {
   len = length-put_chunk n new ys ∙ so_far.len;

@@ -1,5 +1,6 @@
 -- What one look-up finds, and what was read then.
-use Rattle.std.proofs.Common.{◌≡◌, ℕ, ◌+◌, ◌*◌, ◌/◌, ◌%◌, ◌^◌, ◌≤◌, List, [], ◌++◌, length, Bool, refl, ap, sym, ◌∙◌, arith, rules}
+use Rattle.std.proofs.Common.{◌≡◌, ℕ, ◌+◌, ◌*◌, ◌/◌, ◌%◌, ◌^◌, ◌≤◌, List, [], ◌++◌, length, Bool, refl, ap, sym, ◌∙◌}
+use Rattle.std.proofs.Common.{arith, rules}
 use Rattle.std.proofs.Common.{append_assoc, append-nil, length-append}
 use Rattle.std.proofs.lemmas.Grind.{common_steps}
 use Rattle.fax_bits.specs.declared.codes.CodeEntry.{CodeEntry}
@@ -25,7 +26,8 @@ use Rattle.fax_bits.proofs.LookedAtLemmas.{begins_all, begins_next, begins_after
 use Rattle.fax_bits.proofs.ModeLemmas.{mode_bits_are_read}
 
 -- a code that begins the bits is found
-pub code_begins : {M : Type 0} (table : List (CodeEntry M)) (b : List Bool) (len : ℕ) (meaning : M) → HasShortCodes table
+pub code_begins : {M : Type 0} (table : List (CodeEntry M)) (b : List Bool) (len : ℕ) (meaning : M)
+    → HasShortCodes table
     → HasCodeAhead table b len meaning → IsBegun (IsCode table) b len meaning
 code_begins table b len meaning short found = record {
   front = bits_of found.entry;
@@ -51,7 +53,8 @@ pub begins_more : {F : Type 0} (means : List Bool → F → Type 0) (number len 
 begins_more means number len found begun = search (rules, begins_all)
 
 -- a code for a run that begins the bits is taken of its own
-run_code_begins : (colour : Colour) (b : List Bool) (len : ℕ) (code : RunCode) → HasCodeAhead (run_table colour) b len code
+run_code_begins : (colour : Colour) (b : List Bool) (len : ℕ) (code : RunCode)
+    → HasCodeAhead (run_table colour) b len code
     → IsBegun (λ front code. Takes (run_table colour) front code []) b len code
 run_code_begins colour b len code found =
     let begun = code_begins (run_table colour) b len code (run_table_has_short_codes colour) found in
@@ -68,8 +71,13 @@ run_code_begins colour b len code found =
       };
     }
 
-pub run_code_short : (colour : Colour) (b : List Bool) (len : ℕ) (code : RunCode) → HasCodeAhead (run_table colour) b len code → len ≤ 13
-run_code_short colour b len code found = omega (arith, (run_table_has_short_codes colour found.entry found.listed).1, found.length)
+pub run_code_short : (colour : Colour) (b : List Bool) (len : ℕ) (code : RunCode)
+    → HasCodeAhead (run_table colour) b len code → len ≤ 13
+run_code_short colour b len code found = omega (
+  arith,
+  (run_table_has_short_codes colour found.entry found.listed).1,
+  found.length,
+)
 
 -- a run of a terminating code alone
 pub short_run_begins : (colour : Colour) (b : List Bool) (len pels : ℕ)
@@ -93,8 +101,10 @@ pub long_run_begins : (colour : Colour) (number len first more last : ℕ)
     → HasCodeAhead (run_table colour) (code_bits 13 (number * 2 ^ len % 2 ^ 32 / 2 ^ 19)) more (Terminating last)
     → IsBegun (IsOneRun colour) (code_bits 32 number) (len + more) (first + last)
 long_run_begins colour number len first more last found after =
-    let begun = begins_more _ number len (MakeUp first) (run_code_begins colour (code_bits 13 (number / 2 ^ 19)) len (MakeUp first) found) in
-    let next = run_code_begins colour (code_bits 13 (number * 2 ^ len % 2 ^ 32 / 2 ^ 19)) more (Terminating last) after in
+    let begun = begins_more _ number len (MakeUp first) (run_code_begins colour (code_bits 13 (number / 2 ^ 19)) len
+    (MakeUp first) found) in
+    let next = run_code_begins colour (code_bits 13 (number * 2 ^ len % 2 ^ 32 / 2 ^ 19)) more (Terminating last) after
+    in
     let make_up : Takes (run_table colour) (begun.front ++ next.front) (MakeUp first) next.front = record {
       entry = begun.meaning.entry;
       listed = begun.meaning.listed;
@@ -104,8 +114,10 @@ long_run_begins colour number len first more last found after =
     record {
       front = begun.front ++ next.front;
       ahead =
-          begins_next number len begun.front next.front (run_code_short colour _ len (MakeUp first) found) begun.long begun.ahead next.ahead;
-      long = length-append begun.front next.front ∙ ap (λ n. n + length next.front) begun.long ∙ ap (λ n. len + n) next.long;
+          begins_next number len begun.front next.front (run_code_short colour _ len (MakeUp first) found) begun.long
+          begun.ahead next.ahead;
+      long = length-append begun.front next.front ∙ ap (λ n. n + length next.front) begun.long
+          ∙ ap (λ n. len + n) next.long;
       some = omega (arith, begun.some);
       meaning = record {
         spelled =
@@ -135,7 +147,8 @@ pub pair_begins : (b : List Bool) (len : ℕ) (pair : Pair) → IsPairAhead b le
 pair_begins b len pair found = grind (arith, length-code_bits)
 
 -- and are read
-pub pair_taken : (front left : List Bool) (pair : Pair) (rest : List Bool) → AreTwoRuns front pair → left ≡ front ++ rest
+pub pair_taken : (front left : List Bool) (pair : Pair) (rest : List Bool) → AreTwoRuns front pair
+    → left ≡ front ++ rest
     → IsPairRead left pair rest
 pair_taken front left pair rest are is = grind (arith, common_steps, run_bits_are_read)
 
@@ -145,15 +158,18 @@ unfolding modes mode_bits code_bits
 horizontal_is = refl
 
 -- and two runs after it are found
-pub horizontal_pair_begins : (number len : ℕ) (pair : Pair) → number / 2 ^ 13 ≡ 1 → IsPairAhead (code_bits 13 (number % 2 ^ 13)) len pair
+pub horizontal_pair_begins : (number len : ℕ) (pair : Pair) → number / 2 ^ 13 ≡ 1
+    → IsPairAhead (code_bits 13 (number % 2 ^ 13)) len pair
     → IsBegun IsHorizontalPair (code_bits 16 number) (3 + len) pair
 horizontal_pair_begins number len pair first found =
     let begun = pair_begins (code_bits 13 (number % 2 ^ 13)) len pair found in
     record {
       front = mode_bits Horizontal ++ begun.front;
-      ahead = begins_after 3 13 number (mode_bits Horizontal) begun.front (ap (code_bits 3) first ∙ horizontal_is) begun.ahead;
+      ahead = begins_after 3 13 number (mode_bits Horizontal) begun.front (ap (code_bits 3) first ∙ horizontal_is)
+          begun.ahead;
       long =
-          length-append (mode_bits Horizontal) begun.front ∙ ap (λ n. n + length begun.front) (ap length (sym horizontal_is))
+          length-append (mode_bits Horizontal) begun.front ∙ ap (λ n. n + length begun.front)
+          (ap length (sym horizontal_is))
           ∙ ap (λ n. length (code_bits 3 1) + n) begun.long ∙ ap (λ n. n + len) (length-code_bits 3 1);
       some = omega arith;
       meaning = record { runs = begun.front; are = begun.meaning; spelled = refl };

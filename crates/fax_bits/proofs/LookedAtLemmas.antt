@@ -1,5 +1,6 @@
 -- Thirty-two bits that are looked at, and the codes that begin them.
-use Rattle.std.proofs.Common.{◌≡◌, ℕ, ◌+◌, ◌-◌, ◌*◌, ◌/◌, ◌%◌, ◌^◌, ◌≤◌, List, ◌++◌, length, drop, Bool, ap, sym, ◌∙◌, subst, arith}
+use Rattle.std.proofs.Common.{◌≡◌, ℕ, ◌+◌, ◌-◌, ◌*◌, ◌/◌, ◌%◌, ◌^◌, ◌≤◌, List, ◌++◌, length, drop, Bool, ap, sym, ◌∙◌}
+use Rattle.std.proofs.Common.{subst, arith}
 use Rattle.std.proofs.Common.{append_assoc, add-zero}
 use Rattle.std.proofs.Math.Nat.{div-div-eq-div-mul, mul-mod_left}
 use Rattle.std.proofs.Math.Seq.{drop-append_seam}
@@ -8,7 +9,8 @@ use Rattle.fax_bits.specs.Bits.{code_bits, BeginsWith}
 use Rattle.fax_bits.proofs.CodeBitsLemmas.{code_bits-add, length-code_bits}
 
 -- the highest bits of a number, and the others
-parts : (high low number : ℕ) → code_bits (high + low) number ≡ code_bits high (number / 2 ^ low) ++ code_bits low (number % 2 ^ low)
+parts : (high low number : ℕ) → code_bits (high + low) number
+    ≡ code_bits high (number / 2 ^ low) ++ code_bits low (number % 2 ^ low)
 parts high low number =
     ap (code_bits (high + low)) (sym (shr_split number low))
     ∙ code_bits-add high low (number / 2 ^ low) (number % 2 ^ low) (mod_below number (2 ^ low) (pow_pos low))
@@ -33,12 +35,16 @@ shifted number len few =
     ∙ ap (λ r. number * 2 ^ len / 2 ^ len % 2 ^ (32 - len) * 2 ^ len + r) (mul-mod_left number (2 ^ len))
     ∙ add-zero (number * 2 ^ len / 2 ^ len % 2 ^ (32 - len) * 2 ^ len)
     ∙ ap (λ k. k % 2 ^ (32 - len) * 2 ^ len) (shl-shr number len) in
-    ap (λ n. n / 2 ^ 19) up ∙ ap (λ k. low * 2 ^ len / 2 ^ k) (sym most) ∙ ap (λ m. low * 2 ^ len / m) (pow-add 2 len (19 - len))
-    ∙ sym (div-div-eq-div-mul (low * 2 ^ len) (2 ^ len) (2 ^ (19 - len))) ∙ ap (λ n. n / 2 ^ (19 - len)) (shl-shr low len)
+    ap (λ n. n / 2 ^ 19) up ∙ ap (λ k. low * 2 ^ len / 2 ^ k) (sym most)
+    ∙ ap (λ m. low * 2 ^ len / m) (pow-add 2 len (19 - len))
+    ∙ sym (div-div-eq-div-mul (low * 2 ^ len) (2 ^ len) (2 ^ (19 - len)))
+    ∙ ap (λ n. n / 2 ^ (19 - len)) (shl-shr low len)
 
 -- and a code that begins these
-pub begins_next : (number len : ℕ) (front next : List Bool) → len ≤ 13 → length front ≡ len → BeginsWith (code_bits 32 number) front
-    → BeginsWith (code_bits 13 (number * 2 ^ len % 2 ^ 32 / 2 ^ 19)) next → BeginsWith (code_bits 32 number) (front ++ next)
+pub begins_next : (number len : ℕ) (front next : List Bool) → len ≤ 13 → length front ≡ len
+    → BeginsWith (code_bits 32 number) front
+    → BeginsWith (code_bits 13 (number * 2 ^ len % 2 ^ 32 / 2 ^ 19)) next
+    → BeginsWith (code_bits 32 number) (front ++ next)
 begins_next number len front next few long begins after =
     let left = 32 - len in
     let all : len + left ≡ 32 = omega arith in
@@ -48,11 +54,13 @@ begins_next number len front next few long begins after =
     ap (λ k. code_bits k number) (sym all) ∙ parts len left number in
     let rest : begins.0 ≡ code_bits left low =
     sym (drop-append_seam front begins.0) ∙ ap (drop (length front)) (sym begins.1 ∙ split)
-    ∙ ap (λ k. drop k (code_bits len (number / 2 ^ left) ++ code_bits left low)) (long ∙ sym (length-code_bits len (number / 2 ^ left)))
+    ∙ ap (λ k. drop k (code_bits len (number / 2 ^ left) ++ code_bits left low))
+    (long ∙ sym (length-code_bits len (number / 2 ^ left)))
     ∙ drop-append_seam (code_bits len (number / 2 ^ left)) (code_bits left low) in
     let more : BeginsWith (code_bits left low) next =
     subst (λ k. BeginsWith (code_bits k low) next) those
-    (begins_all 13 (19 - len) low next (subst (λ n. BeginsWith (code_bits 13 n) next) (shifted number len few) after)) in (
+    (begins_all 13 (19 - len) low next (subst (λ n. BeginsWith (code_bits 13 n) next) (shifted number len few) after))
+    in (
       more.0,
       begins.1 ∙ ap (λ b. front ++ b) (rest ∙ more.1) ∙ sym (append_assoc front next more.0),
     )

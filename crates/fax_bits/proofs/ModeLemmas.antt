@@ -1,5 +1,6 @@
 -- The codes of modes by their places in the mode table.
-use Rattle.std.proofs.Common.{◌≡◌, List, ◌++◌, Bool, ℕ, zero, suc, ◌-◌, ◌/◌, ◌^◌, ◌<◌, ◌≤◌, ℤ, pos, negsuc, unsigned_abs, get_or}
+use Rattle.std.proofs.Common.{◌≡◌, List, ◌++◌, Bool, ℕ, zero, suc, ◌-◌, ◌/◌, ◌^◌, ◌<◌, ◌≤◌, ℤ, pos, negsuc}
+use Rattle.std.proofs.Common.{unsigned_abs, get_or}
 use Rattle.std.proofs.lemmas.Grind.{common_steps}
 use Rattle.std.proofs.Common.{map, to_z, of_z, w8, w32, refl, ap, sym, ◌∙◌, arith}
 use Rattle.std.specs.Prelude.{Option, None, Some, slice_get, nat_abs, ◌+ℤ◌}
@@ -33,8 +34,10 @@ place_of_distance d = nat_abs (to_z w32 (of_z w32 (to_z w32 (of_z w32 (to_z w8 (
 pub record HasCode (d : ℤ) : Type 0 where
   pub distance_is : to_z w8 (of_z w8 d) ≡ d
   pub short : get_or VERTICAL_CODES.lens (place_of_distance d) 0 < 8
-  pub fits : get_or VERTICAL_CODES.codes (place_of_distance d) 0 < 2 ^ get_or VERTICAL_CODES.lens (place_of_distance d) 0
-  pub bits : code_bits (get_or VERTICAL_CODES.lens (place_of_distance d) 0) (get_or VERTICAL_CODES.codes (place_of_distance d) 0)
+  pub fits : get_or VERTICAL_CODES.codes (place_of_distance d) 0 < 2 ^ get_or VERTICAL_CODES.lens (place_of_distance d)
+      0
+  pub bits : code_bits (get_or VERTICAL_CODES.lens (place_of_distance d) 0)
+      (get_or VERTICAL_CODES.codes (place_of_distance d) 0)
       ≡ mode_bits (Vertical d)
 
 pub has_code : (d : ℤ) → IsWritten (Vertical d) → HasCode d
@@ -58,7 +61,8 @@ mode_bits_are_read (Vertical (pos (suc (suc (suc (suc n)))))) more written = gri
 mode_bits_are_read (Vertical (negsuc zero)) more written = takes_mode 6 _ more refl refl
 mode_bits_are_read (Vertical (negsuc (suc zero))) more written = takes_mode 7 _ more refl refl
 mode_bits_are_read (Vertical (negsuc (suc (suc zero)))) more written = takes_mode 8 _ more refl refl
-mode_bits_are_read (Vertical (negsuc (suc (suc (suc n))))) more written = absurd (omega (arith, few (negsuc (suc (suc (suc n)))) written))
+mode_bits_are_read (Vertical (negsuc (suc (suc (suc n))))) more written =
+    absurd (omega (arith, few (negsuc (suc (suc (suc n)))) written))
 mode_bits_are_read ModeExtension more written = absurd written
 
 -- a code of the table that is the first of thirteen bits
@@ -110,9 +114,12 @@ vertical_is_ahead number within some =
     let at = number / 2 ^ 6 in
     let short : at < 128 = omega arith in
     let len : get_or VERTICAL_MODES.lens at 0 ≡ len_at (slice_get modes (get_or MODE_PLACES at 0)) =
-    ap (λ xs. get_or xs at 0) lens_are ∙ get_or-map (λ place. len_at (slice_get modes place)) MODE_PLACES at 0 0 short in
-    let shift : read_shift (get_or VERTICAL_MODES.shifts at (pos 0)) ≡ shift_at (slice_get modes (get_or MODE_PLACES at 0)) =
-    sym (get_or-map read_shift VERTICAL_MODES.shifts at (pos 0) (pos 0) short) ∙ ap (λ xs. get_or xs at (pos 0)) shifts_are
+    ap (λ xs. get_or xs at 0) lens_are ∙ get_or-map (λ place. len_at (slice_get modes place)) MODE_PLACES at 0 0 short
+    in
+    let shift : read_shift (get_or VERTICAL_MODES.shifts at (pos 0))
+    ≡ shift_at (slice_get modes (get_or MODE_PLACES at 0)) =
+    sym (get_or-map read_shift VERTICAL_MODES.shifts at (pos 0) (pos 0) short)
+    ∙ ap (λ xs. get_or xs at (pos 0)) shifts_are
     ∙ get_or-map (λ place. shift_at (slice_get modes place)) MODE_PLACES at 0 (pos 0) short in
     rw (len, shift)
     (vertical_begins number (get_or MODE_PLACES at 0) _ (mode_place number within) refl (omega (arith, len, some)))

@@ -15,7 +15,8 @@ abbrev digit_of : Bool → ℕ
 digit_of bit = if bit then 1 else 0
 
 -- bits after a number
-number-after : (b : List Bool) (a : ℕ) → fold (λ number bit. 2 * number + digit_of bit) a b ≡ a * 2 ^ length b + bits_number b
+number-after : (b : List Bool) (a : ℕ) → fold (λ number bit. 2 * number + digit_of bit) a b
+    ≡ a * 2 ^ length b + bits_number b
 number-after [] a = omega arith
 number-after (x ∷ b) a =
     let here = number-after b (2 * a + digit_of x) in
@@ -30,7 +31,15 @@ number-cons false b = number-after b 0
 pub code_bits-number : (b : List Bool) → code_bits (length b) (bits_number b) ≡ b
 unfolding code_bits
 code_bits-number [] = refl
-code_bits-number (x ∷ b) = grind (arith, common_steps, number-cons, bit_at_cat_high, bits_number-lt, code_bits-low, code_bits-number b)
+code_bits-number (x ∷ b) = grind (
+  arith,
+  common_steps,
+  number-cons,
+  bit_at_cat_high,
+  bits_number-lt,
+  code_bits-low,
+  code_bits-number b,
+)
 
 -- the number that the bits of a number spell
 pub number-code_bits : (len number : ℕ) → number < 2 ^ len → bits_number (code_bits len number) ≡ number

@@ -1,5 +1,6 @@
 -- Ones that a word of 64 bits begins with.
-use Rattle.std.proofs.Common.{◌≡◌, ℕ, zero, suc, ◌+◌, ◌-◌, ◌*◌, ◌/◌, ◌%◌, ◌^◌, ◌<◌, ◌≤◌, List, ◌∷◌, ◌++◌, take, replicate}
+use Rattle.std.proofs.Common.{◌≡◌, ℕ, zero, suc, ◌+◌, ◌-◌, ◌*◌, ◌/◌, ◌%◌, ◌^◌, ◌<◌, ◌≤◌, List, ◌∷◌, ◌++◌, take}
+use Rattle.std.proofs.Common.{replicate}
 use Rattle.std.proofs.Common.{Bool, true, nat_eq, refl, ap, sym, ◌∙◌, subst, arith, inl, inr}
 use Rattle.std.proofs.Math.Nat.{pow-succ', mul-le-mul_right}
 use Rattle.std.proofs.Math.Pow.{pow-lt}
@@ -23,7 +24,8 @@ ones_after (suc n) high =
     let odd : (2 * high + 1) % 2 ≡ 1 = omega arith in
     let low : 2 ^ n - 1 < 2 ^ n = omega (arith, pow_pos n) in
     ap (code_bits (suc n)) is ∙ ap (λ d. nat_eq d 1 ∷ code_bits n ((2 * high + 1) * 2 ^ n + (2 ^ n - 1)))
-    (ap (λ d. d % 2) (shr_high (2 * high + 1) n (2 ^ n - 1) low) ∙ odd) ∙ ap (λ b. true ∷ b) (ones_after n (2 * high + 1))
+    (ap (λ d. d % 2) (shr_high (2 * high + 1) n (2 ^ n - 1) low) ∙ odd)
+    ∙ ap (λ b. true ∷ b) (ones_after n (2 * high + 1))
 
 -- what n bits are that leave less than 2 ^ m up to the highest word
 high_ones : (word left n m : ℕ) → n + m ≡ 64 → left < 2 ^ m → word + left + 1 ≡ 2 ^ 64 → word / 2 ^ m ≡ 2 ^ n - 1
@@ -49,12 +51,14 @@ zeros_leave word left count m few fits zeros small sum =
     let power : 2 ^ 64 ≡ 2 ^ count * 2 ^ (64 - count) = ap (λ k. 2 ^ k) (sym parts) ∙ pow-add 2 count (64 - count) in
     let below : suc number ≤ 2 ^ count = shr_below word count (64 - count)
     (subst (λ k. word < 2 ^ k) (sym parts) fits) in
-    let within : suc number * 2 ^ (64 - count) ≤ 2 ^ count * 2 ^ (64 - count) = mul-le-mul_right (2 ^ (64 - count)) below in
+    let within : suc number * 2 ^ (64 - count) ≤ 2 ^ count * 2 ^ (64 - count) =
+    mul-le-mul_right (2 ^ (64 - count)) below in
     let whole : word ≡ number * 2 ^ (64 - count) = omega (arith, shr_split word (64 - count), zeros) in
     let apart : word + 2 ^ (64 - count) ≤ 2 ^ 64 = omega (arith, whole, within, power) in
     elim (leb_tells (64 - count) m) [ inl h ↦ h.1 | inr h ↦ absurd (omega (arith, apart, small, sum, pow-lt h.1)) ]
 
-pub ones_before : (count word n : ℕ) (more : List Bool) → count ≤ 64 → word < 2 ^ 64 → n ≡ count_leading_zeros 64 (2 ^ 64 - 1 - word)
+pub ones_before : (count word n : ℕ) (more : List Bool) → count ≤ 64 → word < 2 ^ 64
+    → n ≡ count_leading_zeros 64 (2 ^ 64 - 1 - word)
     → n ≤ count → take n (first_bits count word ++ more) ≡ replicate n true
 ones_before count word n more few fits is within =
     let left = 2 ^ 64 - 1 - word in

@@ -1,5 +1,6 @@
 -- The bytes of bits.
-use Rattle.std.proofs.Common.{◌≡◌, ℕ, zero, suc, ◌+◌, ◌-◌, ◌*◌, ◌/◌, ◌<◌, ◌≤◌, List, [], ◌∷◌, ◌++◌, length, take, drop, map, replicate}
+use Rattle.std.proofs.Common.{◌≡◌, ℕ, zero, suc, ◌+◌, ◌-◌, ◌*◌, ◌/◌, ◌<◌, ◌≤◌, List, [], ◌∷◌, ◌++◌, length, take, drop}
+use Rattle.std.proofs.Common.{map, replicate}
 use Rattle.std.proofs.Common.{Bool, false, refl, ap, sym, ◌∙◌, subst, arith, append_assoc, length-append, length-drop}
 use Rattle.std.specs.Prelude.{All}
 use Rattle.std.specs.Simd.{first_chunks}
@@ -13,7 +14,8 @@ use Rattle.fax_bits.proofs.NumberLemmas.{byte_bits-number, number-byte_bits}
 use Rattle.fax_bits.proofs.SourceLemmas.{length-bits, length-byte_bits}
 
 -- the byte of eight bits holds them
-byte_bits-byte_of : (order : FillOrder) (eight : List Bool) → length eight ≡ 8 → byte_bits order (byte_of order eight) ≡ eight
+byte_bits-byte_of : (order : FillOrder) (eight : List Bool) → length eight ≡ 8
+    → byte_bits order (byte_of order eight) ≡ eight
 unfolding byte_bits
 byte_bits-byte_of order eight len = grind (arith, byte_bits-number, length-reverse, reverse-reverse)
 
@@ -44,12 +46,15 @@ chunks-bits order (byte ∷ bytes) more fit =
     let after = bits order bytes ++ more in
     let all : (eight ++ bits order bytes) ++ more ≡ eight ++ after = append_assoc eight (bits order bytes) more in
     let len : length eight ≡ 8 = length-byte_bits order byte in
-    let front : take 8 (eight ++ after) ≡ eight = subst (λ n. take n (eight ++ after) ≡ eight) len (take-append_seam eight after) in
-    let rest : drop 8 (eight ++ after) ≡ after = subst (λ n. drop n (eight ++ after) ≡ after) len (drop-append_seam eight after) in
+    let front : take 8 (eight ++ after) ≡ eight = subst (λ n. take n (eight ++ after) ≡ eight) len
+    (take-append_seam eight after) in
+    let rest : drop 8 (eight ++ after) ≡ after = subst (λ n. drop n (eight ++ after) ≡ after) len
+    (drop-append_seam eight after) in
     let first : byte_of order (take 8 ((eight ++ bits order bytes) ++ more)) ≡ byte =
     ap (λ (b : List Bool). byte_of order (take 8 b)) all ∙ ap (byte_of order) front
     ∙ byte_of-byte_bits order byte (fit zero byte (omega arith)) in
-    let others : map (byte_of order) (first_chunks 8 (length bytes) (drop 8 ((eight ++ bits order bytes) ++ more))) ≡ bytes =
+    let others : map (byte_of order) (first_chunks 8 (length bytes) (drop 8 ((eight ++ bits order bytes) ++ more)))
+    ≡ bytes =
     ap (λ (b : List Bool). map (byte_of order) (first_chunks 8 (length bytes) (drop 8 b))) all
     ∙ ap (λ (b : List Bool). map (byte_of order) (first_chunks 8 (length bytes) b)) rest
     ∙ chunks-bits order bytes more (λ j d h. fit (suc j) d (omega (arith, h))) in
@@ -81,7 +86,8 @@ packed-only order b bytes zeros few fit holds =
     let seven : zeros + (7 - zeros) ≡ 7 = omega arith in
     let more : bits order bytes ++ missing ≡ b ++ replicate 7 false =
     ap (λ (c : List Bool). c ++ missing) holds ∙ append_assoc b (replicate zeros false) missing
-    ∙ ap (λ (c : List Bool). b ++ c) (replicate-append-replicate zeros (7 - zeros) false ∙ ap (λ k. replicate k false) seven) in
+    ∙ ap (λ (c : List Bool). b ++ c) (replicate-append-replicate zeros (7 - zeros) false
+    ∙ ap (λ k. replicate k false) seven) in
     sym (chunks-bits order bytes missing fit)
     ∙ ap (λ (c : List Bool). map (byte_of order) (first_chunks 8 (length bytes) c)) more
     ∙ ap (λ n. map (byte_of order) (first_chunks 8 n (b ++ replicate 7 false))) count

@@ -1,6 +1,7 @@
 -- The arrays of the pairs hold two codes each: a white terminating code and a black one after it.
 use Rattle.std.proofs.lemmas.Grind.{common_steps}
-use Rattle.std.proofs.Common.{◌≡◌, ℕ, zero, suc, ◌+◌, ◌-◌, ◌*◌, ◌/◌, ◌%◌, ◌^◌, ◌<◌, ◌≤◌, List, [], ◌∷◌, ◌++◌, map, length, get_or, Bool, true, false}
+use Rattle.std.proofs.Common.{◌≡◌, ℕ, zero, suc, ◌+◌, ◌-◌, ◌*◌, ◌/◌, ◌%◌, ◌^◌, ◌<◌, ◌≤◌, List, [], ◌∷◌, ◌++◌, map}
+use Rattle.std.proofs.Common.{length, get_or, Bool, true, false}
 use Rattle.std.proofs.Common.{if◌then◌else◌, refl, ap, sym, ◌∙◌, subst, arith, zero-add}
 use Rattle.std.specs.Prelude.{◌&&◌, nat_lt, nat_le, nat_eq}
 use Rattle.std.proofs.lemmas.Bool.{and_parts}
@@ -10,7 +11,8 @@ use Rattle.std.proofs.Math.Nat.{div-div-eq-div-mul, pow-succ'}
 use Rattle.std.specs.List.{range_with_len}
 use Rattle.fax_bits.specs.declared.Colour.{Colour}
 use Rattle.fax_bits.specs.declared.Colour.TheVariants.{White, Black}
-use Rattle.fax_bits.specs.declared.indexes.TheConstants.{PAIRS, WHITE_PAIR_CODES, WHITE_PAIR_LENS, BLACK_PAIR_CODES, BLACK_PAIR_LENS}
+use Rattle.fax_bits.specs.declared.indexes.TheConstants.{PAIRS, WHITE_PAIR_CODES, WHITE_PAIR_LENS, BLACK_PAIR_CODES}
+use Rattle.fax_bits.specs.declared.indexes.TheConstants.{BLACK_PAIR_LENS}
 use Rattle.fax_bits.specs.declared.runs.TheConstants.{WHITE_CODES, WHITE_LENS, BLACK_CODES, BLACK_LENS}
 use Rattle.fax_bits.specs.Bits.{code_bits}
 use Rattle.fax_bits.specs.Tables.{run_table}
@@ -28,7 +30,8 @@ use Rattle.fax_bits.proofs.TableLemmas.{listed}
 -- the first bits of the twelve that a number spells are the codes of the two runs
 abbrev spells_pair : ℕ → ℕ → ℕ → ℕ → Bool
 spells_pair number white black len =
-    nat_eq (number / 2 ^ (12 - len)) (get_or WHITE_CODES white 0 * 2 ^ get_or BLACK_LENS black 0 + get_or BLACK_CODES black 0)
+    nat_eq (number / 2 ^ (12 - len)) (get_or WHITE_CODES white 0 * 2 ^ get_or BLACK_LENS black 0 + get_or BLACK_CODES
+    black 0)
 
 -- of a white run and a black one, both of pels and of one code, and the length of both codes
 abbrev is_pair : ℕ → ℕ → ℕ → ℕ → Bool
@@ -47,7 +50,8 @@ are_pairs number (white ∷ whites) (black ∷ blacks) (len ∷ lens) =
 pairs_are : are_pairs 0 PAIRS.whites PAIRS.blacks PAIRS.lens ≡ true
 pairs_are = refl
 
-pair_at : (number : ℕ) (whites blacks lens : List ℕ) (i : ℕ) → are_pairs number whites blacks lens ≡ true → i < length lens
+pair_at : (number : ℕ) (whites blacks lens : List ℕ) (i : ℕ) → are_pairs number whites blacks lens ≡ true
+    → i < length lens
     → 0 < get_or lens i 0 → is_pair (number + i) (get_or whites i 0) (get_or blacks i 0) (get_or lens i 0) ≡ true
 pair_at number whites blacks [] i are within some = absurd (omega arith)
 pair_at number [] blacks (len ∷ lens) i are within some = cc
@@ -66,7 +70,8 @@ pub record IsPair (number white black len : ℕ) : Type 0 where
   pub black_short : black < 64
   pub within : len ≤ 12
   pub len_is : len ≡ get_or WHITE_LENS white 0 + get_or BLACK_LENS black 0
-  pub spelled : number / 2 ^ (12 - len) ≡ get_or WHITE_CODES white 0 * 2 ^ get_or BLACK_LENS black 0 + get_or BLACK_CODES black 0
+  pub spelled : number / 2 ^ (12 - len) ≡ get_or WHITE_CODES white 0 * 2 ^ get_or BLACK_LENS black 0 + get_or
+      BLACK_CODES black 0
 
 from_test : (number white black len : ℕ) → is_pair number white black len ≡ true → IsPair number white black len
 from_test number white black len is = grind (arith, common_steps)
@@ -76,14 +81,16 @@ pub found : (number : ℕ) → number < 4096 → 0 < get_or PAIRS.lens number 0
 found number within some =
     let e : 0 + number ≡ number = zero-add number in
     from_test number _ _ _
-    (subst (λ n. is_pair n (get_or PAIRS.whites number 0) (get_or PAIRS.blacks number 0) (get_or PAIRS.lens number 0) ≡ true) e
+    (subst (λ n. is_pair n (get_or PAIRS.whites number 0) (get_or PAIRS.blacks number 0) (get_or PAIRS.lens number 0)
+    ≡ true) e
     (pair_at 0 PAIRS.whites PAIRS.blacks PAIRS.lens number pairs_are within some))
 
 -- the code of a run of fewer than 64 pels, and its length
 abbrev IsShortCode : Colour → ℕ → ℕ → ℕ → Type 0
 IsShortCode colour n code len = (len ≤ 13) × (code < 2 ^ len) × (code_bits len code ≡ run_bits colour n)
 
-short_code : (colour : Colour) (n : ℕ) → n < 64 → IsShortCode colour n (get_or (codes_of colour) n 0) (get_or (lens_of colour) n 0)
+short_code : (colour : Colour) (n : ℕ) → n < 64 → IsShortCode colour n (get_or (codes_of colour) n 0)
+    (get_or (lens_of colour) n 0)
 short_code colour n short =
     let table = run_table colour in
     let found = run_entry_at colour n (omega arith) in
@@ -106,9 +113,11 @@ pair_is_ahead number fits some = record {
   ahead = code_ahead 13 number len code (omega (arith, is.within)) (first ∙ is.spelled);
   spelled =
       ap (λ n. code_bits n code) is.len_is
-      ∙ code_bits-add (get_or WHITE_LENS white 0) (get_or BLACK_LENS black 0) (get_or WHITE_CODES white 0) (get_or BLACK_CODES black 0)
+      ∙ code_bits-add (get_or WHITE_LENS white 0) (get_or BLACK_LENS black 0) (get_or WHITE_CODES white 0)
+      (get_or BLACK_CODES black 0)
       (short_code Black black is.black_short).1
-      ∙ ap (λ b. b ++ code_bits (get_or BLACK_LENS black 0) (get_or BLACK_CODES black 0)) (short_code White white is.white_short).2
+      ∙ ap (λ b. b ++ code_bits (get_or BLACK_LENS black 0) (get_or BLACK_CODES black 0))
+      (short_code White white is.white_short).2
       ∙ ap (λ b. run_bits White white ++ b) (short_code Black black is.black_short).2;
 }
   where
@@ -174,7 +183,8 @@ pair_bits_are White first second = refl
 pair_bits_are Black first second = refl
 
 -- an array of them at two runs
-at_pair : (array : List ℕ) (f : ℕ → ℕ) (first second : ℕ) → array ≡ map f (range_with_len 0 256) → first < 16 → second < 16
+at_pair : (array : List ℕ) (f : ℕ → ℕ) (first second : ℕ) → array ≡ map f (range_with_len 0 256) → first < 16
+    → second < 16
     → get_or array (first * 16 + second) 0 ≡ f (first * 16 + second)
 at_pair array f first second is short other_short =
     ap (λ xs. get_or xs (first * 16 + second) 0) is
@@ -199,7 +209,8 @@ low_of first second short = omega arith
 
 -- what is looked up for two short runs
 pub short_pair : (colour : Colour) (first second : ℕ) → first < 16 → second < 16
-    → IsPairCode (get_or (pair_codes_of colour) (first * 16 + second) 0) (get_or (pair_lens_of colour) (first * 16 + second) 0)
+    → IsPairCode (get_or (pair_codes_of colour) (first * 16 + second) 0)
+    (get_or (pair_lens_of colour) (first * 16 + second) 0)
     (pair_bits colour first second)
 short_pair colour first second short short' =
     rw (

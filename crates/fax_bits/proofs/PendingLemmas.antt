@@ -15,7 +15,8 @@ pub length-waiting : (count number : ℕ) (b : List Bool) → code_bits count nu
 length-waiting count number b is = ap length (sym is) ∙ length-code_bits count number
 
 -- bits that wait, and the next ones, as one number
-module _ (count number next_count next_number : ℕ) (first : AreWaiting count number) (next : AreWaiting next_count next_number) where
+module _ (count number next_count next_number : ℕ) (first : AreWaiting count number)
+    (next : AreWaiting next_count next_number) where
   pub both-lt : bit_or (number * 2 ^ next_count % 2 ^ 64) next_number < 2 ^ (count + next_count)
   both-lt = joined-lt count number next_count next_number first.fits next.fits (omega (arith, first.few, next.few))
 
@@ -23,7 +24,8 @@ module _ (count number next_count next_number : ℕ) (first : AreWaiting count n
       → code_bits (count + next_count) (bit_or (number * 2 ^ next_count % 2 ^ 64) next_number) ≡ b ++ c
   both_bits b c b_is c_is = grind (arith, joined_bits)
 
-pub prefix-second : (old mid new : Sink) (first second : List Bool) → Appends old first mid → AppendsPrefix mid second new
+pub prefix-second : (old mid new : Sink) (first second : List Bool) → Appends old first mid
+    → AppendsPrefix mid second new
     → AppendsPrefix old (first ++ second) new
 prefix-second old mid new first second one two = grind (arith, common_steps)
 

@@ -1,6 +1,7 @@
 -- A code that is found by its place in a table.
 use Rattle.std.proofs.lemmas.Grind.{common_steps}
-use Rattle.std.proofs.Common.{◌≡◌, ℕ, zero, suc, ◌+◌, ◌-◌, ◌*◌, ◌/◌, ◌%◌, ◌^◌, ◌<◌, ◌≤◌, List, [], ◌∷◌, ◌++◌, length, get_or, Bool, true}
+use Rattle.std.proofs.Common.{◌≡◌, ℕ, zero, suc, ◌+◌, ◌-◌, ◌*◌, ◌/◌, ◌%◌, ◌^◌, ◌<◌, ◌≤◌, List, [], ◌∷◌, ◌++◌, length}
+use Rattle.std.proofs.Common.{get_or, Bool, true}
 use Rattle.std.proofs.Common.{false, refl, ap, sym, ◌∙◌, subst, arith, inl, inr, append_assoc, length-append}
 use Rattle.std.specs.Prelude.{◌&&◌, ◌||◌, Option, Some, None, MatchOption, slice_get, Contains, nat_le}
 use Rattle.std.proofs.lemmas.Bool.{and_parts, cases_Bool}
@@ -21,16 +22,19 @@ begins_true : {M : Type 0} (entry : CodeEntry M) (width number : ℕ) → begins
     → (entry.len ≤ width) × (number / 2 ^ (width - entry.len) ≡ entry.code)
 begins_true entry width number h = grind (arith, common_steps)
 
-pub begins_from : {M : Type 0} (entry : CodeEntry M) (width number : ℕ) → entry.len ≤ width → number / 2 ^ (width - entry.len) ≡ entry.code
+pub begins_from : {M : Type 0} (entry : CodeEntry M) (width number : ℕ) → entry.len ≤ width
+    → number / 2 ^ (width - entry.len) ≡ entry.code
     → begins entry width number ≡ true
 begins_from entry width number short is = grind (arith, common_steps)
 
 -- the place of the first entry, by what it is
-first_place : {M : Type 0} (first : CodeEntry M) (table : List (CodeEntry M)) (width number : ℕ) → begins first width number ≡ true
+first_place : {M : Type 0} (first : CodeEntry M) (table : List (CodeEntry M)) (width number : ℕ)
+    → begins first width number ≡ true
     → place_of (first ∷ table) width number ≡ zero
 first_place first table width number h = ap (λ b. place_after b (place_of table width number)) h
 
-later_place : {M : Type 0} (first : CodeEntry M) (table : List (CodeEntry M)) (width number : ℕ) → begins first width number ≡ false
+later_place : {M : Type 0} (first : CodeEntry M) (table : List (CodeEntry M)) (width number : ℕ)
+    → begins first width number ≡ false
     → place_of (first ∷ table) width number ≡ suc (place_of table width number)
 later_place first table width number h = ap (λ b. place_after b (place_of table width number)) h
 
@@ -41,10 +45,12 @@ place_begins [] width number entry at = cc
 place_begins (first ∷ table) width number entry at = grind (arith, place_begins table width number entry)
 
 -- a code that begins thirteen bits, by its place
-pub found_at_place : {M : Type 0} (table : List (CodeEntry M)) (number place : ℕ) (entry : CodeEntry M) → place ≡ place_of table 13 number
+pub found_at_place : {M : Type 0} (table : List (CodeEntry M)) (number place : ℕ) (entry : CodeEntry M)
+    → place ≡ place_of table 13 number
     → slice_get table place ≡ Some entry → HasCodeAhead table (code_bits 13 number) entry.len entry.meaning
 found_at_place table number place entry place_is found =
-    let is = begins_true entry 13 number (place_begins table 13 number entry (ap (slice_get table) (sym place_is) ∙ found)) in
+    let is = begins_true entry 13 number (place_begins table 13 number entry
+    (ap (slice_get table) (sym place_is) ∙ found)) in
     record {
       entry = entry;
       listed = listed table place entry found;
@@ -54,15 +60,18 @@ found_at_place table number place entry place_is found =
     }
 
 -- where the place is past the table, no entry begins the bits
-past_begins_none : {M : Type 0} (table : List (CodeEntry M)) (width number : ℕ) → length table ≤ place_of table width number
-    → (k : ℕ) (entry : CodeEntry M) → k < length table → get_or table k entry ≡ entry → begins entry width number ≡ true → ⊥
+past_begins_none : {M : Type 0} (table : List (CodeEntry M)) (width number : ℕ)
+    → length table ≤ place_of table width number
+    → (k : ℕ) (entry : CodeEntry M) → k < length table → get_or table k entry ≡ entry → begins entry width number ≡ true
+    → ⊥
 past_begins_none [] width number past k entry within is begun = absurd (omega arith)
 past_begins_none (first ∷ table) width number past zero entry within is begun = grind (arith, common_steps)
 past_begins_none (first ∷ table) width number past (suc k) entry within is begun =
     elim (cases_Bool (begins first width number)) [
       | inl here ↦ omega (arith, past, first_place first table width number here)
       | inr other ↦
-          past_begins_none table width number (omega (arith, past, later_place first table width number other)) k entry (omega arith) is
+          past_begins_none table width number (omega (arith, past, later_place first table width number other)) k entry
+          (omega arith) is
           begun
     ]
 
@@ -81,7 +90,8 @@ first_of_first number width short len in_short in_width =
     div-div-eq-div-mul number (2 ^ (width - short)) (2 ^ (short - len))
     ∙ ap (λ m. number / m) (sym (pow-add 2 (width - short) (short - len))) ∙ ap (λ k. number / 2 ^ k) e
 
-long_is_low : {M : Type 0} (entry : CodeEntry M) (low number : ℕ) → low ≤ number → (entry.code + 1) * 2 ^ (13 - entry.len) ≤ low
+long_is_low : {M : Type 0} (entry : CodeEntry M) (low number : ℕ) → low ≤ number
+    → (entry.code + 1) * 2 ^ (13 - entry.len) ≤ low
     → number / 2 ^ (13 - entry.len) ≡ entry.code → ⊥
 long_is_low entry low number above below is = grind (arith, common_steps, pow_pos)
 
@@ -92,17 +102,21 @@ same_begins : {M : Type 0} (entry : CodeEntry M) (short low number : ℕ) → sh
 same_begins entry short low number few above test = grind (arith, common_steps, first_of_first, long_is_low)
 
 -- the first `short` bits of 13 tell as much, where they are no beginning of a long code
-pub short_place : {M : Type 0} (table : List (CodeEntry M)) (short low number : ℕ) → short ≤ 13 → long_codes_test short low table ≡ true
+pub short_place : {M : Type 0} (table : List (CodeEntry M)) (short low number : ℕ) → short ≤ 13
+    → long_codes_test short low table ≡ true
     → low ≤ number → place_of table short (number / 2 ^ (13 - short)) ≡ place_of table 13 number
 short_place [] short low number few test above = refl
 short_place (first ∷ table) short low number few test above =
-    let parts = and_parts (nat_le first.len 13 && (nat_le first.len short || nat_le ((first.code + 1) * 2 ^ (13 - first.len)) low))
+    let parts = and_parts (nat_le first.len 13 && (nat_le first.len short || nat_le
+    ((first.code + 1) * 2 ^ (13 - first.len)) low))
     (long_codes_test short low table) test in
-    ap (λ b. place_after b (place_of table short (number / 2 ^ (13 - short)))) (same_begins first short low number few above parts.0)
+    ap (λ b. place_after b (place_of table short (number / 2 ^ (13 - short))))
+    (same_begins first short low number few above parts.0)
     ∙ ap (place_after (begins first 13 number)) (short_place table short low number few parts.1 above)
 
 -- a number of n bits, with zeros after it up to 13 bits
-pub aligned-first : (n window len : ℕ) → len ≤ n → n ≤ 13 → window * 2 ^ (13 - n) / 2 ^ (13 - len) ≡ window / 2 ^ (n - len)
+pub aligned-first : (n window len : ℕ) → len ≤ n → n ≤ 13 → window * 2 ^ (13 - n) / 2 ^ (13 - len)
+    ≡ window / 2 ^ (n - len)
 aligned-first n window len short few =
     let e : 13 - len ≡ (13 - n) + (n - len) = omega arith in
     ap (λ k. window * 2 ^ (13 - n) / 2 ^ k) e
@@ -119,7 +133,8 @@ aligned-lt n window few fits =
 aligned_is : (n window : ℕ) → n ≤ 13 → window < 2 ^ n → window * 2 ^ (13 - n) % 2 ^ 32 ≡ window * 2 ^ (13 - n)
 aligned_is n window few fits = omega (arith, aligned-lt n window few fits)
 
-aligned_bits : (n window : ℕ) → n ≤ 13 → code_bits 13 (window * 2 ^ (13 - n)) ≡ code_bits n window ++ code_bits (13 - n) 0
+aligned_bits : (n window : ℕ) → n ≤ 13 → code_bits 13 (window * 2 ^ (13 - n))
+    ≡ code_bits n window ++ code_bits (13 - n) 0
 aligned_bits n window few =
     let e : n + (13 - n) ≡ 13 = omega arith in
     let none : window * 2 ^ (13 - n) + 0 ≡ window * 2 ^ (13 - n) = omega arith in
@@ -135,7 +150,8 @@ aligned_ahead n window len code few ahead = (
       ∙ append_assoc (code_bits len code) ahead.0 (code_bits (13 - n) 0),
 )
 
-module _ {M : Type 0} (table : List (CodeEntry M)) (short : HasShortCodes table) (free : IsPrefixFree table) (n window place : ℕ)
+module _ {M : Type 0} (table : List (CodeEntry M)) (short : HasShortCodes table) (free : IsPrefixFree table)
+    (n window place : ℕ)
     (few : n ≤ 13)
     (fits : window < 2 ^ n) (place_is : place ≡ place_of table 13 (window * 2 ^ (13 - n))) where
   -- an entry that begins n bits
@@ -169,7 +185,8 @@ module _ {M : Type 0} (table : List (CodeEntry M)) (short : HasShortCodes table)
   }
 
   -- the code at the place is longer than n bits: it and a shorter one would begin the same 13 bits
-  place_long : (entry : CodeEntry M) → slice_get table place ≡ Some entry → n < entry.len → HasNoCode table (code_bits n window)
+  place_long : (entry : CodeEntry M) → slice_get table place ≡ Some entry → n < entry.len
+      → HasNoCode table (code_bits n window)
   place_long entry found long other here ahead =
       let number = window * 2 ^ (13 - n) in
       let whole = code_ahead 13 number entry.len entry.code (at_place entry found).0 (at_place entry found).1 in
@@ -191,21 +208,27 @@ module _ {M : Type 0} (table : List (CodeEntry M)) (short : HasShortCodes table)
       )
 
 -- what `find` answers by the entry at the place: a code of at most n bits, or none
-pub found_by_place : {M : Type 0} (table : List (CodeEntry M)) → HasShortCodes table → IsPrefixFree table → (n window place : ℕ) → n ≤ 13
+pub found_by_place : {M : Type 0} (table : List (CodeEntry M)) → HasShortCodes table → IsPrefixFree table
+    → (n window place : ℕ) → n ≤ 13
     → window < 2 ^ n → place ≡ place_of table 13 (window * 2 ^ (13 - n) % 2 ^ 32) → (entry : CodeEntry M)
     → slice_get table place ≡ Some entry → (found : Option (ℕ × M))
     → MatchOption found (n < entry.len) (λ found. (entry.len ≤ n) × (found.0 ≡ entry.len) × (found.1 ≡ entry.meaning))
-    → MatchOption found (HasNoCode table (code_bits n window)) (λ found. HasCodeAhead table (code_bits n window) found.0 found.1)
+    → MatchOption found (HasNoCode table (code_bits n window))
+    (λ found. HasCodeAhead table (code_bits n window) found.0 found.1)
 found_by_place table short free n window place few fits place_is entry at None long =
-    place_long table short free n window place few fits (place_is ∙ ap (place_of table 13) (aligned_is n window few fits)) entry at long
-found_by_place table short free n window place few fits place_is entry at (Some found) is = grind (arith, place_found, aligned_is)
+    place_long table short free n window place few fits (place_is
+    ∙ ap (place_of table 13) (aligned_is n window few fits)) entry at long
+found_by_place table short free n window place few fits place_is entry at (Some found) is =
+    grind (arith, place_found, aligned_is)
 
 -- where the place is past the table, it answers none
-pub none_by_place : {M : Type 0} (table : List (CodeEntry M)) → HasShortCodes table → IsPrefixFree table → (n window place : ℕ) → n ≤ 13
+pub none_by_place : {M : Type 0} (table : List (CodeEntry M)) → HasShortCodes table → IsPrefixFree table
+    → (n window place : ℕ) → n ≤ 13
     → window < 2 ^ n → place ≡ place_of table 13 (window * 2 ^ (13 - n) % 2 ^ 32) → length table ≤ place
     → HasNoCode table (code_bits n window)
 none_by_place table short free n window place few fits place_is past =
-    place_past table short free n window place few fits (place_is ∙ ap (place_of table 13) (aligned_is n window few fits)) past
+    place_past table short free n window place few fits (place_is
+    ∙ ap (place_of table 13) (aligned_is n window few fits)) past
 
 -- thirteen bits: the window with zeros after it
 pub aligned_fits : (n window : ℕ) → n ≤ 13 → window < 2 ^ n → window * 2 ^ (13 - n) % 2 ^ 32 < 2 ^ 13

@@ -1,5 +1,6 @@
 -- A table that keeps its rules is read in one way.
-use Rattle.std.proofs.Common.{rules, ◌≡◌, List, [], ◌∷◌, ◌++◌, length, length-append, Bool, refl, ap, sym, ◌∙◌, arith, inl, inr}
+use Rattle.std.proofs.Common.{rules, ◌≡◌, List, [], ◌∷◌, ◌++◌, length, length-append, Bool, refl, ap, sym, ◌∙◌, arith}
+use Rattle.std.proofs.Common.{inl, inr}
 use Rattle.std.proofs.lemmas.Grind.{common_steps}
 use Rattle.std.specs.Prelude.{◌⊎◌, Contains}
 use Rattle.std.proofs.lemmas.List.{append_cancel_left}
@@ -29,13 +30,15 @@ took_same : {M : Type 0} (table : List (CodeEntry M)) (b : List Bool) (meaning o
 took_same table b meaning other rest remaining first second same = grind (arith, common_steps, append_cancel_left)
 
 -- an entry whose code begins the code of another is that entry
-same_entry : {M : Type 0} (table : List (CodeEntry M)) (entry other : CodeEntry M) (more : List Bool) → IsPrefixFree table
+same_entry : {M : Type 0} (table : List (CodeEntry M)) (entry other : CodeEntry M) (more : List Bool)
+    → IsPrefixFree table
     → Contains table entry → Contains table other → bits_of other ≡ bits_of entry ++ more → entry ≡ other
 same_entry table entry other more free here there is = grind (arith, common_steps, slice_get_read)
 
 pub takes_one : {M : Type 0} (table : List (CodeEntry M)) → IsPrefixFree table → HasOneAnswer (Takes table)
 takes_one table free b meaning other rest remaining first second =
-    elim (one_starts_the_other (bits_of first.entry) (bits_of second.entry) rest remaining (sym first.spelled ∙ second.spelled)) [
+    elim (one_starts_the_other (bits_of first.entry) (bits_of second.entry) rest remaining
+    (sym first.spelled ∙ second.spelled)) [
       | inl longer ↦
           took_same table b meaning other rest remaining first second
           (same_entry table first.entry second.entry longer.0 free first.listed second.listed longer.1)
@@ -57,5 +60,13 @@ takes_bits table short b meaning rest takes =
     )
 
 -- a table is read in one way
-pub reads_one_way : {M : Type 0} (table : List (CodeEntry M)) → HasShortCodes table → IsPrefixFree table → ReadsOneWay table
-reads_one_way table short free = search (rules, takes_bits, takes_one, takes_or_fails, taken_has_no_fault, has_one_fault)
+pub reads_one_way : {M : Type 0} (table : List (CodeEntry M)) → HasShortCodes table → IsPrefixFree table
+    → ReadsOneWay table
+reads_one_way table short free = search (
+  rules,
+  takes_bits,
+  takes_one,
+  takes_or_fails,
+  taken_has_no_fault,
+  has_one_fault,
+)

@@ -1,6 +1,7 @@
 -- Codes that are put one after another.
 use Rattle.std.proofs.lemmas.Grind.{common_steps}
-use Rattle.std.proofs.Common.{◌≡◌, ℕ, ◌+◌, ◌-◌, ◌*◌, ◌/◌, ◌%◌, ◌<◌, ◌≤◌, List, ◌++◌, replicate, ap, sym, ◌∙◌, arith, append_assoc}
+use Rattle.std.proofs.Common.{◌≡◌, ℕ, ◌+◌, ◌-◌, ◌*◌, ◌/◌, ◌%◌, ◌<◌, ◌≤◌, List, ◌++◌, replicate, ap, sym, ◌∙◌, arith}
+use Rattle.std.proofs.Common.{append_assoc}
 use Rattle.std.specs.Prelude.{flat_map, Result, OnErr}
 use Rattle.std.proofs.lemmas.List.{replicate-append-replicate}
 use Rattle.fax_bits.specs.declared.Colour.{Colour}
@@ -16,7 +17,13 @@ Put colour old codes new = Appends old (flat_map (run_code_bits colour) codes) n
 -- codes that were put are the first of a run's codes
 pub put-prefix : (colour : Colour) (n : ℕ) (old new : Sink) (front back : List RunCode) → Put colour old front new
     → run_codes n ≡ front ++ back → AppendsCodes old colour (run_codes n) new
-put-prefix colour n old new front back put parts = record { done = front; missing = back; appended = put; parts = parts }
+put-prefix colour n old new front back put parts = record {
+  done = front;
+  missing = back;
+  appended = put;
+  parts =
+      parts;
+}
 
 -- a run's codes are as many make-up codes of 2560 as fit, and those of the rest
 codes_of_rest : (n : ℕ) → run_codes n ≡ replicate (n / 2560) (MakeUp 2560) ++ run_codes (n % 2560)

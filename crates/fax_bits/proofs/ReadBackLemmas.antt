@@ -1,6 +1,7 @@
 -- Runs that are written are read again, and as nothing else.
 use Rattle.std.proofs.lemmas.Grind.{common_steps}
-use Rattle.std.proofs.Common.{◌≡◌, ℕ, zero, suc, ◌+◌, ◌*◌, ◌/◌, ◌%◌, ◌<◌, ◌≤◌, List, [], ◌∷◌, ◌++◌, map, replicate, Bool}
+use Rattle.std.proofs.Common.{◌≡◌, ℕ, zero, suc, ◌+◌, ◌*◌, ◌/◌, ◌%◌, ◌<◌, ◌≤◌, List, [], ◌∷◌, ◌++◌, map, replicate}
+use Rattle.std.proofs.Common.{Bool}
 use Rattle.std.proofs.Common.{refl, ap, sym, ◌∙◌, subst, arith, append_assoc, append-nil}
 use Rattle.std.specs.Prelude.{sum, flat_map}
 use Rattle.fax_bits.specs.declared.codes.CodeEntry.{CodeEntry}
@@ -30,7 +31,8 @@ spells_one colour place code more within is = grind (arith, takes_run_code)
 
 spells_terminating : (colour : Colour) (n : ℕ) (more : List Bool) → n < 64
     → Spells (run_table colour) (run_code_bits colour (Terminating n) ++ more) (Terminating n ∷ []) more
-spells_terminating colour n more short = spells_one colour n (Terminating n) more (omega arith) (run_meaning-terminating n short)
+spells_terminating colour n more short = spells_one colour n (Terminating n) more (omega arith)
+    (run_meaning-terminating n short)
 
 spells_make_up : (colour : Colour) (steps : ℕ) (more : List Bool) → 0 < steps → steps ≤ 40
     → Spells (run_table colour) (run_code_bits colour (MakeUp (64 * steps)) ++ more) (MakeUp (64 * steps) ∷ []) more
@@ -38,7 +40,8 @@ spells_make_up colour steps more some few =
     spells_one colour (63 + steps) (MakeUp (64 * steps)) more (omega arith) (run_meaning-make_up steps some few)
 
 spells_often : (colour : Colour) (q : ℕ) (more : List Bool)
-    → Spells (run_table colour) (flat_map (run_code_bits colour) (replicate q (MakeUp 2560)) ++ more) (replicate q (MakeUp 2560)) more
+    → Spells (run_table colour) (flat_map (run_code_bits colour) (replicate q (MakeUp 2560)) ++ more)
+    (replicate q (MakeUp 2560)) more
 spells_often colour zero more = refl
 spells_often colour (suc q) more =
     let f = run_code_bits colour in
@@ -47,7 +50,8 @@ spells_often colour (suc q) more =
     spells_make_up colour 40 rest (omega arith) (omega arith) in
     subst (λ b. Spells (run_table colour) b (MakeUp 2560 ∷ replicate q (MakeUp 2560)) more)
     (sym (append_assoc (f (MakeUp 2560)) (flat_map f (replicate q (MakeUp 2560))) more))
-    (spells-append (run_table colour) (f (MakeUp 2560) ++ rest) rest more (MakeUp 2560 ∷ []) (replicate q (MakeUp 2560)) first
+    (spells-append (run_table colour) (f (MakeUp 2560) ++ rest) rest more (MakeUp 2560 ∷ []) (replicate q (MakeUp 2560))
+    first
     (spells_often colour q more))
 
 spells_rest : (colour : Colour) (steps : ℕ) (more : List Bool) → steps ≤ 40
@@ -57,7 +61,8 @@ spells_rest colour (suc k) more few = grind (arith, common_steps, spells_make_up
 
 -- codes that are spelled by their own bits, whatever follows them
 abbrev SpelledByOwn : Colour → List RunCode → Type 0
-SpelledByOwn colour codes = (more : List Bool) → Spells (run_table colour) (flat_map (run_code_bits colour) codes ++ more) codes more
+SpelledByOwn colour codes = (more : List Bool) → Spells (run_table colour)
+    (flat_map (run_code_bits colour) codes ++ more) codes more
 
 spelled-both : (colour : Colour) (codes others : List RunCode) → SpelledByOwn colour codes → SpelledByOwn colour others
     → SpelledByOwn colour (codes ++ others)
@@ -65,7 +70,8 @@ spelled-both colour codes others first second more = grind (arith, common_steps,
 
 spelled-terminating : (colour : Colour) (n : ℕ) → n < 64 → SpelledByOwn colour (Terminating n ∷ [])
 spelled-terminating colour n short more =
-    subst (λ b. Spells (run_table colour) (b ++ more) (Terminating n ∷ []) more) (sym (append-nil (run_code_bits colour (Terminating n))))
+    subst (λ b. Spells (run_table colour) (b ++ more) (Terminating n ∷ []) more)
+    (sym (append-nil (run_code_bits colour (Terminating n))))
     (spells_terminating colour n more short)
 
 spelled-run : (colour : Colour) (n : ℕ) → SpelledByOwn colour (run_codes n)
@@ -80,7 +86,8 @@ map-replicate : (q pels : ℕ) → map MakeUp (replicate q pels) ≡ replicate q
 map-replicate zero pels = refl
 map-replicate (suc q) pels = ap (λ codes. MakeUp pels ∷ codes) (map-replicate q pels)
 
-codes_are : (n : ℕ) → map MakeUp (replicate (n / 2560) 2560 ++ rest_pels (n % 2560 / 64)) ++ Terminating (n % 64) ∷ [] ≡ run_codes n
+codes_are : (n : ℕ) → map MakeUp (replicate (n / 2560) 2560 ++ rest_pels (n % 2560 / 64)) ++ Terminating (n % 64) ∷ []
+    ≡ run_codes n
 codes_are n = grind (arith, common_steps, map-replicate)
 
 pels_are : (n : ℕ) → sum (replicate (n / 2560) 2560 ++ rest_pels (n % 2560 / 64)) + n % 64 ≡ n
@@ -92,7 +99,8 @@ run_bits_are_read colour n more few = record {
   make_up = replicate (n / 2560) 2560 ++ rest_pels (n % 2560 / 64);
   last = n % 64;
   spelled =
-      subst (λ codes. Spells (run_table colour) (run_bits colour n ++ more) codes more) (sym (codes_are n)) (spelled-run colour n more);
+      subst (λ codes. Spells (run_table colour) (run_bits colour n ++ more) codes more) (sym (codes_are n))
+      (spelled-run colour n more);
   length = sym (pels_are n);
 }
 
@@ -116,7 +124,8 @@ same_run colour b (n ∷ pels) (m ∷ others) last end rest remaining first seco
     let same = takes_one (run_table colour) (run_table_is_prefix_free colour) b _ _ _ _ first.1 second.1 in
     let here : n ≡ m = cc (same.0) in
     let after = same_run colour first.0 pels others last end rest remaining first.2
-    (subst (λ x. Spells (run_table colour) x (map MakeUp others ++ Terminating end ∷ []) remaining) (sym same.1) second.2) in
+    (subst (λ x. Spells (run_table colour) x (map MakeUp others ++ Terminating end ∷ []) remaining) (sym same.1)
+    second.2) in
     (cc (here, after.0), after.1, after.2)
 
 pub runs_are_one : (colour : Colour) → HasOneAnswer (IsRun colour)

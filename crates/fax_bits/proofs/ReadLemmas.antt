@@ -25,7 +25,8 @@ module _ (left : List Bool) (n : ℕ) (all : n ≤ length left) where
   peeked-below number is = grind (arith, common_steps, bits_number-lt)
 
 -- a code that begins the next bits is taken
-pub takes_found : {M : Type 0} {table : List (CodeEntry M)} {left b : List Bool} (n : ℕ) {len : ℕ} {meaning : M} → b ≡ take n left
+pub takes_found : {M : Type 0} {table : List (CodeEntry M)} {left b : List Bool} (n : ℕ) {len : ℕ} {meaning : M}
+    → b ≡ take n left
     → HasCodeAhead table b len meaning → Takes table left meaning (drop len left)
 takes_found {left = left} n {len = len} next found = record {
   entry = found.entry;
@@ -50,18 +51,21 @@ found_is_short n number found =
     )
 
 -- none begins the bits where none begins the next ones: 13, or all of them
-pub none_begins : {M : Type 0} (table : List (CodeEntry M)) {left b : List Bool} {n : ℕ} → HasShortCodes table → n ≤ length left
+pub none_begins : {M : Type 0} (table : List (CodeEntry M)) {left b : List Bool} {n : ℕ} → HasShortCodes table
+    → n ≤ length left
     → ((k : ℕ) → k ≤ 13 → k ≤ length left → k ≤ n) → b ≡ take n left → HasNoCode table b → HasNoCode table left
 none_begins table {left = left} {n = n} short within all next none entry here ahead =
     let in_next : entry.len ≤ n = all entry.len (short entry here).1 (ahead_fits entry.len entry.code left ahead) in
     let e : n ≡ length (bits_of entry) + (n - entry.len) = omega (arith, length-code_bits entry.len entry.code) in
     none entry here (
       take (n - entry.len) ahead.0,
-      next ∙ ap (take n) ahead.1 ∙ ap (λ k. take k (bits_of entry ++ ahead.0)) e ∙ take-append-add (bits_of entry) ahead.0 (n - entry.len),
+      next ∙ ap (take n) ahead.1 ∙ ap (λ k. take k (bits_of entry ++ ahead.0)) e
+          ∙ take-append-add (bits_of entry) ahead.0 (n - entry.len),
     )
 
 -- 13 bits end within no code
-pub not_cut : {M : Type 0} (table : List (CodeEntry M)) (left : List Bool) → HasShortCodes table → 13 ≤ length left → IsCutShort table left
+pub not_cut : {M : Type 0} (table : List (CodeEntry M)) (left : List Bool) → HasShortCodes table → 13 ≤ length left
+    → IsCutShort table left
     → ⊥
 not_cut table left short long cut =
     omega (

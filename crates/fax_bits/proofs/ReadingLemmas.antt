@@ -1,5 +1,6 @@
 -- Bits begin with a code of a table, or they have one fault.
-use Rattle.std.proofs.Common.{◌≡◌, ℕ, suc, ◌<◌, List, [], ◌∷◌, ◌++◌, length, length-append, ap, get_or, Bool, refl, sym, subst, arith, inl, inr}
+use Rattle.std.proofs.Common.{◌≡◌, ℕ, suc, ◌<◌, List, [], ◌∷◌, ◌++◌, length, length-append, ap, get_or, Bool, refl, sym}
+use Rattle.std.proofs.Common.{subst, arith, inl, inr}
 use Rattle.std.specs.Prelude.{◌⊎◌, Contains}
 use Rattle.fax_bits.specs.declared.codes.CodeEntry.{CodeEntry}
 use Rattle.fax_bits.specs.declared.codes.CodeFault.TheVariants.{DataEnds, BadCode}
@@ -43,13 +44,16 @@ decide_cut (c ∷ code) (x ∷ b) =
       | inr other ↦ inr (λ cut. other (cc (cut.2)))
     ]
 
-listed_cases : {M : Type 0} (first entry : CodeEntry M) (table : List (CodeEntry M)) (k : ℕ) → k < length (first ∷ table)
+listed_cases : {M : Type 0} (first entry : CodeEntry M) (table : List (CodeEntry M)) (k : ℕ)
+    → k < length (first ∷ table)
     → get_or (first ∷ table) k entry ≡ entry → (first ≡ entry) ⊎ Contains table entry
 listed_cases first entry table k within is = grind arith
 
 -- some entry of the table has a property that can be tested, or none has
-decide_listed : {M : Type 0} (P : CodeEntry M → Type 0) → ((entry : CodeEntry M) → P entry ⊎ (P entry → ⊥)) → (table : List (CodeEntry M))
-    → ((entry : CodeEntry M) × Contains table entry × P entry) ⊎ ((entry : CodeEntry M) → Contains table entry → P entry → ⊥)
+decide_listed : {M : Type 0} (P : CodeEntry M → Type 0) → ((entry : CodeEntry M) → P entry ⊎ (P entry → ⊥))
+    → (table : List (CodeEntry M))
+    → ((entry : CodeEntry M) × Contains table entry × P entry)
+    ⊎ ((entry : CodeEntry M) → Contains table entry → P entry → ⊥)
 decide_listed P test [] = inr (λ entry listed p. absurd (omega (arith, listed.1)))
 decide_listed P test (first ∷ table) =
     elim (test first) [
@@ -64,21 +68,35 @@ decide_listed P test (first ∷ table) =
     ]
 
 pub takes_or_fails : {M : Type 0} (table : List (CodeEntry M)) (b : List Bool)
-    → ((meaning : M) × (rest : List Bool) × Takes table b meaning rest) ⊎ ((fault : CodeFault) × IsFaultOf table b fault)
+    → ((meaning : M) × (rest : List Bool) × Takes table b meaning rest)
+    ⊎ ((fault : CodeFault) × IsFaultOf table b fault)
 takes_or_fails table b =
     elim (decide_listed (λ entry. BeginsWith b (bits_of entry)) (λ entry. decide_ahead (bits_of entry) b) table) [
-      | inl found ↦ inl (found.0.meaning, found.2.0, record { entry = found.0; listed = found.1; means = refl; spelled = found.2.1 })
-      | inr none ↦ elim (decide_listed (λ entry. IsCutBy (bits_of entry) b) (λ entry. decide_cut (bits_of entry) b) table) [
-        | inl short ↦ inr (DataEnds, (none, short))
-        | inr whole ↦ inr (BadCode, (none, λ short. whole short.0 short.1 short.2))
-      ]
+      | inl found ↦ inl (
+        found.0.meaning,
+        found.2.0,
+        record {
+          entry = found.0;
+          listed = found.1;
+          means = refl;
+          spelled =
+              found.2.1;
+        },
+      )
+      | inr none ↦ elim (decide_listed (λ entry. IsCutBy (bits_of entry) b) (λ entry. decide_cut (bits_of entry) b)
+          table) [
+            | inl short ↦ inr (DataEnds, (none, short))
+            | inr whole ↦ inr (BadCode, (none, λ short. whole short.0 short.1 short.2))
+          ]
     ]
 
-pub taken_has_no_fault : {M : Type 0} (table : List (CodeEntry M)) (b : List Bool) (meaning : M) (rest : List Bool) (fault : CodeFault)
+pub taken_has_no_fault : {M : Type 0} (table : List (CodeEntry M)) (b : List Bool) (meaning : M) (rest : List Bool)
+    (fault : CodeFault)
     → Takes table b meaning rest → IsFaultOf table b fault → ⊥
 taken_has_no_fault table b meaning rest DataEnds takes fault = fault.0 takes.entry takes.listed (rest, takes.spelled)
 taken_has_no_fault table b meaning rest BadCode takes fault = fault.0 takes.entry takes.listed (rest, takes.spelled)
 
-pub has_one_fault : {M : Type 0} (table : List (CodeEntry M)) (b : List Bool) (fault other : CodeFault) → IsFaultOf table b fault
+pub has_one_fault : {M : Type 0} (table : List (CodeEntry M)) (b : List Bool) (fault other : CodeFault)
+    → IsFaultOf table b fault
     → IsFaultOf table b other → fault ≡ other
 has_one_fault table b fault other first second = grind arith

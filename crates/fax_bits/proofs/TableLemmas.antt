@@ -5,7 +5,8 @@ use Rattle.std.specs.Prelude.{Some, slice_get, Contains}
 use Rattle.std.proofs.lemmas.Option.{slice_get_within, get_or_from_slice_get, slice_get_read}
 use Rattle.fax_bits.specs.declared.codes.CodeEntry.{CodeEntry}
 
-pub listed : {M : Type 0} (table : List (CodeEntry M)) (i : ℕ) (entry : CodeEntry M) → slice_get table i ≡ Some entry → Contains table entry
+pub listed : {M : Type 0} (table : List (CodeEntry M)) (i : ℕ) (entry : CodeEntry M) → slice_get table i ≡ Some entry
+    → Contains table entry
 listed table i entry found = (i, slice_get_within table i entry found, get_or_from_slice_get table i entry entry found)
 
 -- a fact of each entry below i
@@ -21,5 +22,6 @@ pub each-from_below : {M : Type 0} (P : CodeEntry M → Type 0) (table : List (C
 each-from_below P table i all below entry at = grind (arith, slice_get_read)
 
 -- the bits after a code that was skipped
-pub left_after : (left code rest : List Bool) (n : ℕ) → left ≡ code ++ rest → length code ≡ n → left ≡ code ++ drop n left
+pub left_after : (left code rest : List Bool) (n : ℕ) → left ≡ code ++ rest → length code ≡ n
+    → left ≡ code ++ drop n left
 left_after left code rest n ahead len = grind (arith, common_steps)

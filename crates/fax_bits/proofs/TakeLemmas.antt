@@ -1,7 +1,9 @@
 -- Bits that stand next in a source.
 use Rattle.std.proofs.lemmas.Grind.{common_steps}
-use Rattle.std.proofs.Common.{◌≡◌, ℕ, suc, ◌+◌, ◌-◌, ◌*◌, ◌/◌, ◌%◌, ◌^◌, ◌<◌, ◌≤◌, subst, List, ◌∷◌, ◌++◌, length, take, drop, replicate}
-use Rattle.std.proofs.Common.{get_or, Bool, false, ◌↔◌, IsTrue, ap, sym, ◌∙◌, arith, append_assoc, length-append, drop-cons}
+use Rattle.std.proofs.Common.{◌≡◌, ℕ, suc, ◌+◌, ◌-◌, ◌*◌, ◌/◌, ◌%◌, ◌^◌, ◌<◌, ◌≤◌, subst, List, ◌∷◌, ◌++◌, length, take}
+use Rattle.std.proofs.Common.{drop, replicate}
+use Rattle.std.proofs.Common.{get_or, Bool, false, ◌↔◌, IsTrue, ap, sym, ◌∙◌, arith, append_assoc, length-append}
+use Rattle.std.proofs.Common.{drop-cons}
 use Rattle.std.specs.Prelude.{bit_and}
 use Rattle.std.proofs.lemmas.Nat.{one_shl, and_mask, shr_below, shr_split, mod_below, pow_pos}
 use Rattle.fax_bits.proofs.CodeBitsLemmas.{code_bits-add, length-code_bits}
@@ -38,7 +40,8 @@ spells_it b len number fits begins = grind (arith, common_steps, length-code_bit
 pub begins_after : (b c front more : List Bool) → b ≡ front ++ c → BeginsWith c more ↔ BeginsWith b (front ++ more)
 begins_after b c front more is = grind (arith, common_steps, append_cancel_left)
 
-pub taken_iff : (front b : List Bool) (result : Bool) (rest : List Bool) → IsTaken front b result rest → IsTrue result ↔ BeginsWith b front
+pub taken_iff : (front b : List Bool) (result : Bool) (rest : List Bool) → IsTaken front b result rest
+    → IsTrue result ↔ BeginsWith b front
 taken_iff front b result rest taken = grind arith
 
 -- whether bits begin with two parts, the first of which stands next
@@ -82,32 +85,38 @@ unfolding bits
 bits-cons byte bytes = ap (λ b. b ++ bits MsbFirst bytes) (byte_bits-msb byte)
 
 -- the bytes of a sink, compared one after another, with some pending bits after them
-module _ (bytes : List ℕ) (i : ℕ) (source ahead : List Bool) (so_far : source ≡ bits MsbFirst (take i bytes) ++ ahead) where
-  pub next_byte : (byte : ℕ) (rest : List Bool) → i < length bytes → byte ≡ get_or bytes i 0 → ahead ≡ code_bits 8 byte ++ rest
-      → source ≡ bits MsbFirst (take (i + 1) bytes) ++ rest
-  next_byte byte rest within byte_is taken = grind (arith, common_steps, byte_bits-msb, bits-push)
+module _ (bytes : List ℕ) (i : ℕ) (source ahead : List Bool) (so_far : source ≡ bits MsbFirst (take i bytes) ++ ahead)
+  where
+    pub next_byte : (byte : ℕ) (rest : List Bool) → i < length bytes → byte ≡ get_or bytes i 0
+        → ahead ≡ code_bits 8 byte ++ rest
+        → source ≡ bits MsbFirst (take (i + 1) bytes) ++ rest
+    next_byte byte rest within byte_is taken = grind (arith, common_steps, byte_bits-msb, bits-push)
 
-  pub other_byte : (byte : ℕ) (pending : List Bool) → i < length bytes → byte ≡ get_or bytes i 0
-      → (BeginsWith ahead (code_bits 8 byte) → ⊥) → BeginsWith source (bits MsbFirst bytes ++ pending) → ⊥
-  other_byte byte pending within byte_is other begins =
-      let front = bits MsbFirst (take i bytes) in
-      let here = code_bits 8 byte in
-      let after = bits MsbFirst (drop (suc i) bytes) in
-      let parts : bits MsbFirst bytes ≡ front ++ (here ++ after) =
-      sym (ap (bits MsbFirst) (take-append-drop i bytes)) ∙ ap (λ xs. bits MsbFirst (take i bytes ++ xs)) (drop-cons bytes i 0 within)
-      ∙ bits-append (take i bytes) (get_or bytes i 0 ∷ drop (suc i) bytes)
-      ∙ ap (λ b. front ++ b) (bits-cons (get_or bytes i 0) (drop (suc i) bytes) ∙ ap (λ n. code_bits 8 n ++ after) (sym byte_is)) in
-      let all : bits MsbFirst bytes ++ pending ≡ front ++ (here ++ (after ++ pending)) =
-      ap (λ b. b ++ pending) parts ∙ append_assoc front (here ++ after) pending
-      ∙ ap (λ b. front ++ b) (append_assoc here after pending) in
-      let more =
-      (begins_after source ahead front (here ++ (after ++ pending)) so_far).1 (begins.0, begins.1 ∙ ap (λ b. b ++ begins.0) all) in
-      other (after ++ pending ++ more.0, more.1 ∙ append_assoc here (after ++ pending) more.0)
+    pub other_byte : (byte : ℕ) (pending : List Bool) → i < length bytes → byte ≡ get_or bytes i 0
+        → (BeginsWith ahead (code_bits 8 byte) → ⊥) → BeginsWith source (bits MsbFirst bytes ++ pending) → ⊥
+    other_byte byte pending within byte_is other begins =
+        let front = bits MsbFirst (take i bytes) in
+        let here = code_bits 8 byte in
+        let after = bits MsbFirst (drop (suc i) bytes) in
+        let parts : bits MsbFirst bytes ≡ front ++ (here ++ after) =
+        sym (ap (bits MsbFirst) (take-append-drop i bytes)) ∙ ap (λ xs. bits MsbFirst (take i bytes ++ xs))
+        (drop-cons bytes i 0 within)
+        ∙ bits-append (take i bytes) (get_or bytes i 0 ∷ drop (suc i) bytes)
+        ∙ ap (λ b. front ++ b) (bits-cons (get_or bytes i 0) (drop (suc i) bytes)
+        ∙ ap (λ n. code_bits 8 n ++ after) (sym byte_is)) in
+        let all : bits MsbFirst bytes ++ pending ≡ front ++ (here ++ (after ++ pending)) =
+        ap (λ b. b ++ pending) parts ∙ append_assoc front (here ++ after) pending
+        ∙ ap (λ b. front ++ b) (append_assoc here after pending) in
+        let more =
+        (begins_after source ahead front (here ++ (after ++ pending)) so_far).1
+        (begins.0, begins.1 ∙ ap (λ b. b ++ begins.0) all) in
+        other (after ++ pending ++ more.0, more.1 ∙ append_assoc here (after ++ pending) more.0)
 
-  pub last_bits : (pending : List Bool) (result : Bool) → i ≡ length bytes → IsTrue result ↔ BeginsWith ahead pending
-      → IsTrue result ↔ BeginsWith source (bits MsbFirst bytes ++ pending)
-  last_bits pending result all here =
-      let is : source ≡ bits MsbFirst bytes ++ ahead =
-      so_far ∙ ap (λ n. bits MsbFirst (take n bytes) ++ ahead) all ∙ ap (λ xs. bits MsbFirst xs ++ ahead) (take-length bytes) in
-      let whole = begins_after source ahead (bits MsbFirst bytes) pending is in
-      (λ yes. whole.0 (here.0 yes), λ begins. here.1 (whole.1 begins))
+    pub last_bits : (pending : List Bool) (result : Bool) → i ≡ length bytes → IsTrue result ↔ BeginsWith ahead pending
+        → IsTrue result ↔ BeginsWith source (bits MsbFirst bytes ++ pending)
+    last_bits pending result all here =
+        let is : source ≡ bits MsbFirst bytes ++ ahead =
+        so_far ∙ ap (λ n. bits MsbFirst (take n bytes) ++ ahead) all
+        ∙ ap (λ xs. bits MsbFirst xs ++ ahead) (take-length bytes) in
+        let whole = begins_after source ahead (bits MsbFirst bytes) pending is in
+        (λ yes. whole.0 (here.0 yes), λ begins. here.1 (whole.1 begins))

@@ -1,7 +1,8 @@
 -- The arrays of the vertical modes hold codes of vertical modes, one after another.
 use Rattle.std.proofs.lemmas.Bool.{and_parts}
 use Rattle.std.proofs.lemmas.Grind.{common_steps}
-use Rattle.std.proofs.Common.{◌≡◌, ℕ, zero, suc, ◌+◌, ◌-◌, ◌*◌, ◌/◌, ◌^◌, ◌<◌, ◌≤◌, List, [], ◌∷◌, ◌++◌, map, length, take, get_or, Bool, true}
+use Rattle.std.proofs.Common.{◌≡◌, ℕ, zero, suc, ◌+◌, ◌-◌, ◌*◌, ◌/◌, ◌^◌, ◌<◌, ◌≤◌, List, [], ◌∷◌, ◌++◌, map, length}
+use Rattle.std.proofs.Common.{take, get_or, Bool, true}
 use Rattle.std.proofs.Common.{false, if◌then◌else◌, refl, ap, sym, ◌∙◌, subst, arith, append_assoc, zero-add}
 use Rattle.std.specs.Prelude.{◌&&◌, nat_lt, nat_le, nat_eq, flat_map, All, pos, negsuc, ◌≤ℤ◌}
 use Rattle.std.specs.Int.{to_le_bytes, w32}
@@ -44,12 +45,14 @@ are_near (raised ∷ raises) = nat_lt raised 7 && are_near raises
 -- the first bits of the twelve that a number spells are the codes of these modes
 abbrev spells : ℕ → ℕ → List ℕ → Bool
 spells number len raises =
-    nat_le len 12 && (are_near raises && (nat_eq len (len_of raises) && nat_eq (number / 2 ^ (12 - len)) (code_of raises)))
+    nat_le len 12 && (are_near raises && (nat_eq len (len_of raises) && nat_eq (number / 2 ^ (12 - len))
+    (code_of raises)))
 
 -- and they are one to four of four
 abbrev is_several : ℕ → ℕ → ℕ → List ℕ → Bool
 is_several number len count four =
-    nat_lt 0 count && (nat_le count 4 && (nat_eq (length four) 4 && (are_near four && spells number len (take count four))))
+    nat_lt 0 count && (nat_le count 4 && (nat_eq (length four) 4 &&
+    (are_near four && spells number len (take count four))))
 
 -- those of each number from this one on are, where they have a length
 abbrev are_verticals : ℕ → List ℕ → List ℕ → List ℕ → Bool
@@ -57,12 +60,14 @@ are_verticals number [] counts raises = true
 are_verticals number (len ∷ lens) [] raises = false
 are_verticals number (len ∷ lens) (count ∷ counts) [] = false
 are_verticals number (len ∷ lens) (count ∷ counts) (four ∷ raises) =
-    (if nat_eq len 0 then true else is_several number len count (to_le_bytes w32 four)) && are_verticals (suc number) lens counts raises
+    (if nat_eq len 0 then true else is_several number len count (to_le_bytes w32 four)) && are_verticals (suc number)
+    lens counts raises
 
 verticals_are : are_verticals 0 VERTICALS.lens VERTICALS.counts VERTICALS.raises ≡ true
 verticals_are = refl
 
-vertical_at : (number : ℕ) (lens counts : List ℕ) (raises : List ℕ) (i : ℕ) → are_verticals number lens counts raises ≡ true
+vertical_at : (number : ℕ) (lens counts : List ℕ) (raises : List ℕ) (i : ℕ)
+    → are_verticals number lens counts raises ≡ true
     → i < length lens → 0 < get_or lens i 0
     → is_several (number + i) (get_or lens i 0) (get_or counts i 0) (to_le_bytes w32 (get_or raises i 0)) ≡ true
 vertical_at number [] counts raises i are within some = absurd (omega arith)
@@ -72,7 +77,8 @@ vertical_at number (len ∷ lens) (count ∷ counts) (four ∷ raises) zero are 
 vertical_at number (len ∷ lens) (count ∷ counts) (four ∷ raises) (suc i) are within some =
     let e : number + suc i ≡ suc number + i = omega arith in
     rw e (vertical_at (suc number) lens counts raises i
-    (and_parts (if nat_eq len 0 then true else is_several number len count (to_le_bytes w32 four)) _ are).1 (omega arith) some)
+    (and_parts (if nat_eq len 0 then true else is_several number len count (to_le_bytes w32 four)) _ are).1
+    (omega arith) some)
 
 lt-from_test : (n m : ℕ) → nat_lt n m ≡ true → n < m
 lt-from_test n m h = grind arith
@@ -84,7 +90,8 @@ near_from_test (raised ∷ raises) h =
     All-cons (λ raised. raised < 7) raised raises (lt-from_test raised 7 parts.0) (near_from_test raises parts.1)
 
 -- each code is that of its mode, and fits
-one_vertical : (raised : ℕ) → raised < 7 → code_bits (get_or code_lens raised 0) (get_or codes raised 0) ≡ mode_bits (vertical raised)
+one_vertical : (raised : ℕ) → raised < 7 → code_bits (get_or code_lens raised 0) (get_or codes raised 0)
+    ≡ mode_bits (vertical raised)
 unfolding modes mode_bits code_bits
 one_vertical raised h = grind arith
 
@@ -109,7 +116,8 @@ unfolding code_bits
 all_spelled [] near = refl
 all_spelled (raised ∷ raises) near =
     let parts = and_parts (nat_lt raised 7) (are_near raises) near in
-    code_bits-add (get_or code_lens raised 0) (len_of raises) (get_or codes raised 0) (code_of raises) (all_fit raises parts.1)
+    code_bits-add (get_or code_lens raised 0) (len_of raises) (get_or codes raised 0) (code_of raises)
+    (all_fit raises parts.1)
     ∙ ap (λ b. b ++ code_bits (len_of raises) (code_of raises)) (one_vertical raised (lt-from_test raised 7 parts.0))
     ∙ ap (λ b. mode_bits (vertical raised) ++ b) (all_spelled raises parts.1)
 
@@ -124,11 +132,13 @@ pub record IsSeveral (number len count : ℕ) (four : List ℕ) : Type 0 where
   pub len_is : len ≡ len_of (take count four)
   pub spelled : number / 2 ^ (12 - len) ≡ code_of (take count four)
 
-from_test : (number len count : ℕ) (four : List ℕ) → is_several number len count four ≡ true → IsSeveral number len count four
+from_test : (number len count : ℕ) (four : List ℕ) → is_several number len count four ≡ true
+    → IsSeveral number len count four
 from_test number len count four is = grind arith
 
 found : (number : ℕ) → number < 4096 → 0 < get_or VERTICALS.lens number 0
-    → IsSeveral number (get_or VERTICALS.lens number 0) (get_or VERTICALS.counts number 0) (to_le_bytes w32 (get_or VERTICALS.raises number 0))
+    → IsSeveral number (get_or VERTICALS.lens number 0) (get_or VERTICALS.counts number 0)
+    (to_le_bytes w32 (get_or VERTICALS.raises number 0))
 found number within some =
     let e : 0 + number ≡ number = zero-add number in
     from_test number _ _ _
@@ -139,7 +149,11 @@ found number within some =
 -- the modes whose codes begin thirteen bits
 pub verticals_begin : (number : ℕ) → number < 2 ^ 13 → 0 < get_or VERTICALS.lens (number / 2) 0
     → IsBegun AreVerticals (code_bits 13 number) (get_or VERTICALS.lens (number / 2) 0)
-    (record { count = get_or VERTICALS.counts (number / 2) 0; raises = to_le_bytes w32 (get_or VERTICALS.raises (number / 2) 0) })
+    (record {
+      count = get_or VERTICALS.counts (number / 2) 0;
+      raises =
+          to_le_bytes w32 (get_or VERTICALS.raises (number / 2) 0);
+    })
 verticals_begin number fits some = record {
   front = code_bits len (code_of raises);
   ahead = code_ahead 13 number len (code_of raises) (omega (arith, is.within)) (first ∙ is.spelled);
@@ -160,7 +174,8 @@ verticals_begin number fits some = record {
     raises : List ℕ
     raises = take (get_or VERTICALS.counts (number / 2) 0) four
 
-    is : IsSeveral (number / 2) len (get_or VERTICALS.counts (number / 2) 0) (to_le_bytes w32 (get_or VERTICALS.raises (number / 2) 0))
+    is : IsSeveral (number / 2) len (get_or VERTICALS.counts (number / 2) 0)
+        (to_le_bytes w32 (get_or VERTICALS.raises (number / 2) 0))
     is = found (number / 2) (omega arith) some
 
     first : number / 2 ^ (13 - len) ≡ number / 2 / 2 ^ (12 - len)
@@ -180,11 +195,14 @@ all_read (raised ∷ raises) rest near =
     let more = flat_map (λ raised. mode_bits (vertical raised)) raises ++ rest in (
       more,
       subst (λ b. Takes modes b (vertical raised) more)
-          (sym (append_assoc (mode_bits (vertical raised)) (flat_map (λ raised. mode_bits (vertical raised)) raises) rest))
-          (mode_bits_are_read (vertical raised) more (shift_is raised (All-head (λ raised. raised < 7) raised raises near))),
+          (sym (append_assoc (mode_bits (vertical raised)) (flat_map (λ raised. mode_bits (vertical raised)) raises)
+          rest))
+          (mode_bits_are_read (vertical raised) more (shift_is raised
+          (All-head (λ raised. raised < 7) raised raises near))),
       all_read raises rest (All-tail (λ raised. raised < 7) raised raises near),
     )
 
-pub verticals_taken : (front left : List Bool) (found : Verticals) (rest : List Bool) → AreVerticals front found → left ≡ front ++ rest
+pub verticals_taken : (front left : List Bool) (found : Verticals) (rest : List Bool) → AreVerticals front found
+    → left ≡ front ++ rest
     → AreVerticalsRead left found rest
 verticals_taken front left found rest are taken = grind (arith, common_steps, all_read)

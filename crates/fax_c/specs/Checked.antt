@@ -12,7 +12,7 @@ use Rattle.fax_c.specs.declared.checking.FaxReport.{FaxReport}
 use Rattle.fax_c.specs.declared.faults.FaxFault.{FaxFault}
 use Rattle.fax_c.specs.Told.{fault_of_cause, no_fault}
 
--- a note as it stands in memory of the caller: one on a directory has the largest number for a strip
+-- a note in the memory of the caller: one on a directory has the largest number for a strip
 abbrev pub note_of : Note → FaxNote
 note_of note = record {
   page = note.page;

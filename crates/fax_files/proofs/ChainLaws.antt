@@ -67,23 +67,28 @@ module _ (endian : Endian) (file : List ℕ) where
   -- a chain of at most so many offsets
   abbrev Found : ℕ → List ℕ → ℕ → Type 0
   Found most before due =
-      (offsets : List ℕ) × (end : Option FileFault) × IsChainFrom endian file before due offsets end × (length offsets ≤ most)
+      (offsets : List ℕ) × (end : Option FileFault) × IsChainFrom endian file before due offsets end
+      × (length offsets ≤ most)
 
-  at_fault : (most : ℕ) (before : List ℕ) (due : ℕ) (fault : Option FileFault) → due ≢ 0 → offset_fault endian file before due ≡ fault
-      → (GoesOn endian file before due → Found most (due ∷ before) (next_offset endian file due)) → Found (most + 1) before due
+  at_fault : (most : ℕ) (before : List ℕ) (due : ℕ) (fault : Option FileFault) → due ≢ 0
+      → offset_fault endian file before due ≡ fault
+      → (GoesOn endian file before due → Found most (due ∷ before) (next_offset endian file due))
+      → Found (most + 1) before due
   at_fault most before due (Some fault) some e rest = ([], Some fault, (some, e), omega arith)
   at_fault most before due None some e rest =
       let found = rest (going_on endian file before due some e) in
       (due ∷ found.0, found.1, (refl, some, e, found.2), omega (arith, found.3))
 
   at_offset : (most : ℕ) (before : List ℕ) (due : ℕ)
-      → (GoesOn endian file before due → Found most (due ∷ before) (next_offset endian file due)) → Found (most + 1) before due
+      → (GoesOn endian file before due → Found most (due ∷ before) (next_offset endian file due))
+      → Found (most + 1) before due
   at_offset most before zero rest = ([], None, refl, omega arith)
   at_offset most before (suc n) rest =
       at_fault most before (suc n) (offset_fault endian file before (suc n)) (λ e. absurd cc) refl rest
 
   -- at the most so many offsets, the chain has ended
-  at_last_fault : (before : List ℕ) (due : ℕ) (fault : Option FileFault) → due ≢ 0 → offset_fault endian file before due ≡ fault
+  at_last_fault : (before : List ℕ) (due : ℕ) (fault : Option FileFault) → due ≢ 0
+      → offset_fault endian file before due ≡ fault
       → (GoesOn endian file before due → ⊥) → Found 0 before due
   at_last_fault before due (Some fault) some e none = ([], Some fault, (some, e), omega arith)
   at_last_fault before due None some e none = absurd (none (going_on endian file before due some e))
@@ -94,7 +99,8 @@ module _ (endian : Endian) (file : List ℕ) where
       at_last_fault before (suc n) (offset_fault endian file before (suc n)) (λ e. absurd cc) refl none
 
   -- there are at most as many offsets as the file has bytes
-  exists : (fuel : ℕ) (before : List ℕ) (due : ℕ) → length before + fuel ≡ length file → IsApart before → AreBelow before (length file)
+  exists : (fuel : ℕ) (before : List ℕ) (due : ℕ) → length before + fuel ≡ length file → IsApart before
+      → AreBelow before (length file)
       → Found fuel before due
   exists zero before due count apart all = at_last before due (λ on.
       let within = begins_inside endian file due on.there in

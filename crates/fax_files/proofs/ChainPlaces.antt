@@ -1,5 +1,6 @@
 -- The offsets of a chain by their places in it.
-use Rattle.std.proofs.Common.{◌≡◌, ℕ, zero, suc, ◌+◌, ◌^◌, ◌<◌, ◌≤◌, ◌≢◌, ◌⊎◌, inl, inr, Bool, true, false, ◌||◌, List, [], ◌∷◌, length}
+use Rattle.std.proofs.Common.{◌≡◌, ℕ, zero, suc, ◌+◌, ◌^◌, ◌<◌, ◌≤◌, ◌≢◌, ◌⊎◌, inl, inr, Bool, true, false, ◌||◌, List}
+use Rattle.std.proofs.Common.{[], ◌∷◌, length}
 use Rattle.std.proofs.Common.{get_or, Option, Some, None, refl, sym, ap, ◌∙◌, arith}
 use Rattle.std.specs.Prelude.{◌==◌, slice_get}
 use Rattle.std.specs.List.{list_any}
@@ -49,13 +50,15 @@ module _ (endian : Endian) (file : List ℕ) where
     pub apart : (i j : ℕ) → i < j → j < length offsets → link endian file due i ≢ link endian file due j
     pub ends : EndsSo due (length offsets) end
 
-  at : (before : List ℕ) (due : ℕ) (offsets : List ℕ) (end : Option FileFault) → IsChainFrom endian file before due offsets end
+  at : (before : List ℕ) (due : ℕ) (offsets : List ℕ) (end : Option FileFault)
+      → IsChainFrom endian file before due offsets end
       → (i : ℕ) → i < length offsets → slice_get offsets i ≡ Some (link endian file due i)
   at before due [] end is i h = absurd (omega arith)
   at before due (q ∷ offsets) end is zero h = ap (λ (n : ℕ). Some n) is.0
   at before due (q ∷ offsets) end is (suc i) h = at (due ∷ before) (next due) offsets end is.3 i (omega arith)
 
-  on : (before : List ℕ) (due : ℕ) (offsets : List ℕ) (end : Option FileFault) → IsChainFrom endian file before due offsets end
+  on : (before : List ℕ) (due : ℕ) (offsets : List ℕ) (end : Option FileFault)
+      → IsChainFrom endian file before due offsets end
       → (i : ℕ) → i < length offsets → (some : List ℕ) × GoesOn endian file some (link endian file due i)
   on before due [] end is i h = absurd (omega arith)
   on before due (q ∷ offsets) end is zero h = (before, going_on endian file before due is.1 is.2)
@@ -68,14 +71,17 @@ module _ (endian : Endian) (file : List ℕ) where
   here x xs = let e : (x == x) ≡ true = grind (arith, nat_tests) in rw e refl
 
   -- no offset is one of those before
-  not_before : (before : List ℕ) (due : ℕ) (offsets : List ℕ) (end : Option FileFault) → IsChainFrom endian file before due offsets end
+  not_before : (before : List ℕ) (due : ℕ) (offsets : List ℕ) (end : Option FileFault)
+      → IsChainFrom endian file before due offsets end
       → (x : ℕ) → list_any (λ q. x == q) before ≡ true → (j : ℕ) → j < length offsets → x ≢ link endian file due j
   not_before before due [] end is x there j h = absurd (omega arith)
   not_before before due (q ∷ offsets) end is x there zero h = grind arith
   not_before before due (q ∷ offsets) end is x there (suc j) h =
-      not_before (due ∷ before) (next due) offsets end is.3 x (or_right (x == due) (list_any (λ y. x == y) before) there) j (omega arith)
+      not_before (due ∷ before) (next due) offsets end is.3 x (or_right (x == due) (list_any (λ y. x == y) before)
+      there) j (omega arith)
 
-  apart : (before : List ℕ) (due : ℕ) (offsets : List ℕ) (end : Option FileFault) → IsChainFrom endian file before due offsets end
+  apart : (before : List ℕ) (due : ℕ) (offsets : List ℕ) (end : Option FileFault)
+      → IsChainFrom endian file before due offsets end
       → (i j : ℕ) → i < j → j < length offsets → link endian file due i ≢ link endian file due j
   apart before due [] end is i j lower h = absurd (omega arith)
   apart before due (q ∷ offsets) end is i zero lower h = absurd (omega arith)
@@ -106,7 +112,8 @@ module _ (endian : Endian) (file : List ℕ) where
   met_one_on before due n (inl there) = grind arith
   met_one_on before due n (inr p) = inr (suc p.0, omega arith, p.2)
 
-  ends : (before : List ℕ) (due : ℕ) (offsets : List ℕ) (end : Option FileFault) → IsChainFrom endian file before due offsets end
+  ends : (before : List ℕ) (due : ℕ) (offsets : List ℕ) (end : Option FileFault)
+      → IsChainFrom endian file before due offsets end
       → EndsAfterPlaces before due (length offsets) end
   ends before due [] None is = let last : (due == 0) ≡ true = rw is refl in inl (last, refl)
   ends before due [] (Some fault) is = grind arith
@@ -134,20 +141,24 @@ module _ (endian : Endian) (file : List ℕ) where
     unfolding number_at
     number_below order place = grind (arith, get_or-drop)
 
-    short : (before : List ℕ) (due : ℕ) (offsets : List ℕ) (end : Option FileFault) → IsChainFrom endian file before due offsets end
+    short : (before : List ℕ) (due : ℕ) (offsets : List ℕ) (end : Option FileFault)
+        → IsChainFrom endian file before due offsets end
         → IsApart before → AreBelow before (2 ^ 32) → list_any (λ q. 0 == q) before ≡ false → due < 2 ^ 32
         → length before + length offsets < 2 ^ 32
     short before due [] end is apart all none within =
-        let n : length (0 ∷ before) ≤ 2 ^ 32 = few (0 ∷ before) (2 ^ 32) (none, apart) (still_below before (2 ^ 32) 0 (omega arith) all) in
+        let n : length (0 ∷ before) ≤ 2 ^ 32 = few (0 ∷ before) (2 ^ 32) (none, apart)
+        (still_below before (2 ^ 32) 0 (omega arith) all) in
         omega arith
     short before due (q ∷ offsets) end is apart all none within =
         let on : GoesOn endian file before due = going_on endian file before due is.1 is.2 in
         let not_first : (0 == due) ≡ false = grind (arith, nat_tests, on.not_last) in
-        let rest = short (due ∷ before) (next due) offsets end is.3 (on.fresh, apart) (still_below before (2 ^ 32) due within all)
+        let rest = short (due ∷ before) (next due) offsets end is.3 (on.fresh, apart)
+        (still_below before (2 ^ 32) due within all)
         (rw not_first none) (number_below endian _) in
         omega (arith, rest)
 
     -- a chain has fewer than 2^32 offsets
-    pub few_places : (due : ℕ) (offsets : List ℕ) (end : Option FileFault) → IsChainFrom endian file [] due offsets end → due < 2 ^ 32
+    pub few_places : (due : ℕ) (offsets : List ℕ) (end : Option FileFault) → IsChainFrom endian file [] due offsets end
+        → due < 2 ^ 32
         → length offsets < 2 ^ 32
     few_places due offsets end is within = grind (arith, short)

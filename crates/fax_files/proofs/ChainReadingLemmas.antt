@@ -1,5 +1,6 @@
 -- What a reader of a chain answers.
-use Rattle.std.proofs.Common.{◌≡◌, ℕ, zero, suc, ◌+◌, ◌^◌, ◌<◌, ◌≤◌, ◌≢◌, inl, inr, true, false, List, [], ◌∷◌, length, Option, Some, None}
+use Rattle.std.proofs.Common.{◌≡◌, ℕ, zero, suc, ◌+◌, ◌^◌, ◌<◌, ◌≤◌, ◌≢◌, inl, inr, true, false, List, [], ◌∷◌, length}
+use Rattle.std.proofs.Common.{Option, Some, None}
 use Rattle.std.proofs.Common.{Result, Ok, Err, refl, sym, ap, ◌∙◌, arith}
 use Rattle.std.specs.Prelude.{◌==◌, slice_get}
 use Rattle.std.proofs.lemmas.Bool.Decides.{nat_tests}
@@ -18,7 +19,8 @@ past [] i h = refl
 past (x ∷ xs) zero h = absurd (omega arith)
 past (x ∷ xs) (suc i) h = past xs i (omega arith)
 
-turning : (end : Option FileFault) (pages given : ℕ) → Some given ≡ turning_page end pages → (end ≡ Some DirectoryLoop) × (given ≡ pages)
+turning : (end : Option FileFault) (pages given : ℕ) → Some given ≡ turning_page end pages
+    → (end ≡ Some DirectoryLoop) × (given ≡ pages)
 turning end pages given e = grind arith
 
 module _ (tiff : TiffFile) (due given : ℕ) (turn : Option ℕ) (sound : IsChainPlace tiff due given turn) where
@@ -34,7 +36,11 @@ module _ (tiff : TiffFile) (due given : ℕ) (turn : Option ℕ) (sound : IsChai
 
     known_alike : (i j : ℕ) → place tiff i ≡ place tiff j → j < length offsets → Known i
     known_alike i j same h =
-        let p = known j h in (ap (λ (q : ℕ). q == 0) same ∙ p.0, ap (is_directory tiff.head.endian tiff.file) same ∙ p.1)
+        let p = known j h in (
+          ap (λ (q : ℕ). q == 0) same ∙ p.0,
+          ap (is_directory tiff.head.endian tiff.file) same
+              ∙ p.1,
+        )
 
     within : given ≤ length offsets
     within = sound.within offsets end is
@@ -46,7 +52,8 @@ module _ (tiff : TiffFile) (due given : ℕ) (turn : Option ℕ) (sound : IsChai
     abbrev answer : Result (Option TiffDirectory) FileFault
     answer = answer_at tiff (slice_get offsets given) end
 
-    ends_with : (some : Option FileFault) → slice_get offsets given ≡ None → end ≡ some → answer ≡ answer_at tiff None some
+    ends_with : (some : Option FileFault) → slice_get offsets given ≡ None → end ≡ some
+        → answer ≡ answer_at tiff None some
     ends_with some none e = rw (none, e) refl
 
     pub none_left : due ≡ 0 → Ok None ≡ answer
@@ -82,7 +89,8 @@ module _ (tiff : TiffFile) (due given : ℕ) (turn : Option ℕ) (sound : IsChai
     found directory is_it some there no_turn = grind (arith, the_places)
 
     -- what an answer says of the place
-    pub answered : (directory : TiffDirectory) → (let r : Result (Option TiffDirectory) FileFault = Ok (Some directory) in r) ≡ answer
+    pub answered : (directory : TiffDirectory) → (let r : Result (Option TiffDirectory) FileFault =
+        Ok (Some directory) in r) ≡ answer
         → (given < length offsets) × (directory ≡ directory_of tiff (place tiff given))
     answered directory e = grind (arith, the_places, past)
 
@@ -103,7 +111,8 @@ module _ (tiff : TiffFile) (due given : ℕ) (turn : Option ℕ) (sound : IsChai
         let one = has_one_chain tiff.head tiff.file in
         let p = answered one.offsets one.end one.is directory (due_answer one.offsets one.end one.is) in
         record {
-          due_is = next_is ∙ ap (λ (d : TiffDirectory). next_offset d.endian d.file d.offset) p.1 ∙ sym (place_next tiff given);
+          due_is = next_is ∙ ap (λ (d : TiffDirectory). next_offset d.endian d.file d.offset) p.1
+              ∙ sym (place_next tiff given);
           within = λ offsets end is. omega (arith, (answered offsets end is directory (due_answer offsets end is)).0);
           turn_is = sound.turn_is;
           few = sound.few;

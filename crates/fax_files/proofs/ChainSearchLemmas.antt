@@ -1,5 +1,6 @@
 -- A search that goes along with a reader of a chain.
-use Rattle.std.proofs.Common.{◌≡◌, ◌≢◌, ℕ, zero, suc, ◌+◌, ◌-◌, ◌*◌, ◌/◌, ◌%◌, ◌<◌, ◌≤◌, inl, inr, true, false, List, length, Option, Some}
+use Rattle.std.proofs.Common.{◌≡◌, ◌≢◌, ℕ, zero, suc, ◌+◌, ◌-◌, ◌*◌, ◌/◌, ◌%◌, ◌<◌, ◌≤◌, inl, inr, true, false, List}
+use Rattle.std.proofs.Common.{length, Option, Some}
 use Rattle.std.proofs.Common.{None, sym, ap, ◌∙◌, arith}
 use Rattle.std.proofs.lemmas.Bool.Decides.{nat_tests}
 use Rattle.fax_files.specs.declared.FileFault.{FileFault}
@@ -8,7 +9,8 @@ use Rattle.fax_files.specs.declared.chain.Search.{Search}
 use Rattle.fax_files.specs.declared.chain.Search.TheVariants.{Running, Known}
 use Rattle.fax_files.specs.views.Tiff.{TiffFile}
 use Rattle.fax_files.specs.Directory.{IsChain}
-use Rattle.fax_files.specs.code.Chain.{onward, place, LeadsOn, IsTurningPage, turning_page, IsChainPlace, IsSearch, IsSearchPlace, turns_at}
+use Rattle.fax_files.specs.code.Chain.{onward, place, LeadsOn, IsTurningPage, turning_page, IsChainPlace, IsSearch}
+use Rattle.fax_files.specs.code.Chain.{IsSearchPlace, turns_at}
 use Rattle.fax_files.proofs.ChainLaws.{has_one_chain}
 use Rattle.fax_files.proofs.ChainPlaces.{IsByPlaces, by_places}
 use Rattle.fax_files.proofs.LoopLemmas.{along_places, leads, stops, no_turning_page}
@@ -56,7 +58,8 @@ module _ (tiff : TiffFile) where
             ∙ ap (λ (l : List ℕ). turning_page end (length l)) (sym same.0),
       )
 
-  turning : (end : Option FileFault) (pages given : ℕ) → Some given ≡ turning_page end pages → (end ≡ Some DirectoryLoop) × (given ≡ pages)
+  turning : (end : Option FileFault) (pages given : ℕ) → Some given ≡ turning_page end pages
+      → (end ≡ Some DirectoryLoop) × (given ≡ pages)
   turning end pages given e = grind arith
 
   -- while a search runs, the chain does not turn back at the reader's place
@@ -72,18 +75,27 @@ module _ (tiff : TiffFile) where
   turn_of (Running fast) = true_turn.0
   turn_of (Known turn) = turn
 
-  pub place_of : (due given : ℕ) (search : Search) → IsSearchPlace tiff due given search → IsChainPlace tiff due given (turn_of search)
+  pub place_of : (due given : ℕ) (search : Search) → IsSearchPlace tiff due given search
+      → IsChainPlace tiff due given (turn_of search)
   unfolding turn_of
-  place_of due given (Running fast) sound = record { due_is = sound.due_is; within = sound.within; turn_is = true_turn.1; few = sound.few }
+  place_of due given (Running fast) sound = record {
+    due_is = sound.due_is;
+    within = sound.within;
+    turn_is =
+        true_turn.1;
+    few = sound.few;
+  }
   place_of due given (Known turn) sound = grind arith
 
   pub turned_here : (search : Search) (given : ℕ) → turns_at search given ≡ true → turn_of search ≡ Some given
   unfolding turn_of
   turned_here (Running fast) given e = absurd cc
   turned_here (Known None) given e = absurd cc
-  turned_here (Known (Some turn)) given e = let same : turn ≡ given = grind (arith, nat_tests) in ap (λ (n : ℕ). Some n) same
+  turned_here (Known (Some turn)) given e = let same : turn ≡ given = grind (arith, nat_tests) in
+      ap (λ (n : ℕ). Some n) same
 
-  pub not_here : (search : Search) (given : ℕ) → IsSearch tiff given search → turns_at search given ≡ false → turn_of search ≢ Some given
+  pub not_here : (search : Search) (given : ℕ) → IsSearch tiff given search → turns_at search given ≡ false
+      → turn_of search ≢ Some given
   unfolding turn_of
   not_here (Running fast) given is e = running given fast is
   not_here (Known None) given is e = λ same. cc
@@ -91,7 +103,8 @@ module _ (tiff : TiffFile) where
 
   -- one directory on
   pub one_further : (due given : ℕ) (search later : Search) (next : ℕ) → IsSearchPlace tiff due given search
-      → IsChainPlace tiff next (given + 1) (turn_of search) → IsSearch tiff (given + 1) later → IsSearchPlace tiff next (given + 1) later
+      → IsChainPlace tiff next (given + 1) (turn_of search) → IsSearch tiff (given + 1) later
+      → IsSearchPlace tiff next (given + 1) later
   one_further due given search later next sound on found = grind arith
 
   -- A step of the search.
@@ -101,14 +114,16 @@ module _ (tiff : TiffFile) where
     first_lead = leads tiff (given + given) between (rw search.0 at first)
 
     pub stopped : onward tiff.head.endian tiff.file between ≡ None → IsTurningPage tiff None
-    stopped none = no_turning_page tiff (λ offsets end is. stops tiff offsets end is (given + given + 1) (rw first_lead.0 at none))
+    stopped none = no_turning_page tiff (λ offsets end is. stops tiff offsets end is (given + given + 1)
+        (rw first_lead.0 at none))
 
     module _ (next : ℕ) (second : onward tiff.head.endian tiff.file between ≡ Some next) where
       second_lead : (next ≡ place tiff (given + given + 1 + 1)) × LeadsOn tiff (given + given + 1)
       second_lead = leads tiff (given + given + 1) next (rw first_lead.0 at second)
 
       pub next_is : next ≡ place tiff (given + 1 + (given + 1))
-      next_is = let n : given + given + 1 + 1 ≡ given + 1 + (given + 1) = omega arith in second_lead.0 ∙ ap (place tiff) n
+      next_is = let n : given + given + 1 + 1 ≡ given + 1 + (given + 1) = omega arith in
+          second_lead.0 ∙ ap (place tiff) n
 
       pub on_two : (i : ℕ) → i < given + 1 + (given + 1) → LeadsOn tiff i
       on_two i h = grind (arith, second_lead, first_lead)
@@ -116,6 +131,7 @@ module _ (tiff : TiffFile) where
       pub still_running : next ≢ place tiff (given + 1) → IsSearch tiff (given + 1) (Running next)
       still_running differs = grind (arith, on_two)
 
-  pub stopped_first : (given fast : ℕ) → IsSearch tiff given (Running fast) → onward tiff.head.endian tiff.file fast ≡ None
+  pub stopped_first : (given fast : ℕ) → IsSearch tiff given (Running fast)
+      → onward tiff.head.endian tiff.file fast ≡ None
       → IsTurningPage tiff None
   stopped_first given fast search none = grind (arith, stops)

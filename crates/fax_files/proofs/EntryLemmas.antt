@@ -12,19 +12,22 @@ pub record HoldsIntegers (endian : Endian) (file : List ℕ) (entry : Entry) (n 
   pub count : n ≤ entry.count
   pub inside : values_place endian file entry + n * value_len entry ≤ length file
 
-pub holds_integers : (endian : Endian) (file : List ℕ) (entry : Entry) (n : ℕ) → IsTrue (has_integers endian file entry n)
+pub holds_integers : (endian : Endian) (file : List ℕ) (entry : Entry) (n : ℕ)
+    → IsTrue (has_integers endian file entry n)
     → HoldsIntegers endian file entry n
 unfolding has_integers
 holds_integers endian file entry n there = grind arith
 
 -- the value at an index below the count lies in the file
-pub value_inside : (endian : Endian) (file : List ℕ) (entry : Entry) (i place len : ℕ) → place ≡ values_place endian file entry
+pub value_inside : (endian : Endian) (file : List ℕ) (entry : Entry) (i place len : ℕ)
+    → place ≡ values_place endian file entry
     → len ≡ value_len entry
     → IsTrue (has_integers endian file entry (i + 1)) → place + i * len + len ≤ length file
 value_inside endian file entry i place len place_is len_is there = grind (arith, holds_integers)
 
 -- an entry with n values has each number of values up to n
-pub fewer_integers : (endian : Endian) (file : List ℕ) (entry : Entry) (m n : ℕ) → m ≤ n → IsTrue (has_integers endian file entry n)
+pub fewer_integers : (endian : Endian) (file : List ℕ) (entry : Entry) (m n : ℕ) → m ≤ n
+    → IsTrue (has_integers endian file entry n)
     → IsTrue (has_integers endian file entry m)
 unfolding has_integers
 fewer_integers endian file entry m n le there = grind arith

@@ -1,6 +1,8 @@
 -- The first entries of the tags that are looked for.
-use Rattle.std.proofs.Common.{◌≡◌, ◌≢◌, ℕ, zero, suc, ◌+◌, ◌-◌, ◌*◌, ◌<◌, ◌≤◌, Bool, true, false, ◌&&◌, List, [], ◌∷◌, length, get_or}
-use Rattle.std.proofs.Common.{Option, Some, None, Result, Ok, Err, inl, inr, refl, sym, ◌∙◌, arith, get_or-set_other, get_or-set_same}
+use Rattle.std.proofs.Common.{◌≡◌, ◌≢◌, ℕ, zero, suc, ◌+◌, ◌-◌, ◌*◌, ◌<◌, ◌≤◌, Bool, true, false, ◌&&◌, List, [], ◌∷◌}
+use Rattle.std.proofs.Common.{length, get_or}
+use Rattle.std.proofs.Common.{Option, Some, None, Result, Ok, Err, inl, inr, refl, sym, ◌∙◌, arith, get_or-set_other}
+use Rattle.std.proofs.Common.{get_or-set_same}
 use Rattle.std.specs.Prelude.{IsTrue, IfSome, ◌==◌, MatchResult, nat_lt}
 use Rattle.std.specs.List.Sorted.{IsBinarySearchResult}
 use Rattle.std.specs.Ordering.{nat_cmp}
@@ -87,13 +89,15 @@ seen entry fields first slot inside same h = record {
         let hit : (entry.tag == get_or TAGS slot 0) ≡ true = eq-eqb _ _ (sym same) in
         rw (e, hit) (get_or-set_same first slot (Some entry) None there))
     | inr ne ↦
-        (let miss : (entry.tag == get_or TAGS i 0) ≡ false = ne_eqb _ _ (λ e. apart i slot lt inside ne (sym e ∙ sym same)) in
+        (let miss : (entry.tag == get_or TAGS i 0) ≡ false = ne_eqb _ _
+        (λ e. apart i slot lt inside ne (sym e ∙ sym same)) in
         rw miss (get_or-set_other first slot i (Some entry) None ne ∙ h.first_is i lt))
   ];
 }
 
 -- an entry of another tag
-pub passed : (entry : Entry) (fields : List Entry) (first : List (Option Entry)) → ((k : ℕ) → k < length TAGS → get_or TAGS k 0 ≢ entry.tag)
+pub passed : (entry : Entry) (fields : List Entry) (first : List (Option Entry))
+    → ((k : ℕ) → k < length TAGS → get_or TAGS k 0 ≢ entry.tag)
     → AreFirst fields first → AreFirst (entry ∷ fields) first
 passed entry fields first other h = record {
   count = h.count;
@@ -103,7 +107,8 @@ passed entry fields first other h = record {
 }
 
 -- the entry at the place of a tag is the first of that tag
-pub found_first : (fields : List Entry) (first : List (Option Entry)) (slot tag : ℕ) (other : Option Entry) → slot < length TAGS
+pub found_first : (fields : List Entry) (first : List (Option Entry)) (slot tag : ℕ) (other : Option Entry)
+    → slot < length TAGS
     → get_or TAGS slot 0 ≡ tag
     → AreFirst fields first → get_or first slot other ≡ field fields tag
 found_first fields first slot tag other inside is h = grind (arith, get_or_default)
@@ -112,10 +117,12 @@ found_first fields first slot tag other inside is h = grind (arith, get_or_defau
 pub sought_stands : (tag : ℕ) → IsTrue (is_sought tag) → ((k : ℕ) → k < length TAGS → get_or TAGS k 0 ≢ tag) → ⊥
 sought_stands tag sought none =
     let there = Any-from_list_any (λ (known : ℕ). known == tag) TAGS sought in
-    none there.0 there.2 (sym (get_or_default_zero TAGS there.0 there.1 there.2) ∙ there.3 ∙ eqb-true there.1 tag there.4)
+    none there.0 there.2 (sym (get_or_default_zero TAGS there.0 there.1 there.2) ∙ there.3
+    ∙ eqb-true there.1 tag there.4)
 
 -- an entry that was found lies in the file
-pub entry_inside : (endian : Endian) (file : List ℕ) (place n tag : ℕ) (found : Option Entry) → place + 12 * n ≤ length file
+pub entry_inside : (endian : Endian) (file : List ℕ) (place n tag : ℕ) (found : Option Entry)
+    → place + 12 * n ≤ length file
     → found ≡ field (entries_at endian file place n) tag → IfSome found (λ entry. entry.place + 4 ≤ length file)
 unfolding entries_at
 entry_inside endian file place zero tag found inside is = rw is tt
@@ -128,7 +135,8 @@ unfolding entries_at
 none_left endian file place count first none = grind arith
 
 -- an entry, and those after it
-pub one_more : (endian : Endian) (file : List ℕ) (start count k : ℕ) (entry : Entry) (old new : List (Option Entry)) → 0 < k → k ≤ count
+pub one_more : (endian : Endian) (file : List ℕ) (start count k : ℕ) (entry : Entry) (old new : List (Option Entry))
+    → 0 < k → k ≤ count
     → entry ≡ entry_at endian file (start + 12 * (k - 1))
     → AreFirst (entries_at endian file (start + 12 * k) (count - k)) old
     → ((fields : List Entry) → AreFirst fields old → AreFirst (entry ∷ fields) new)
@@ -142,7 +150,8 @@ one_more endian file start count k entry old new some within is so_far seen =
 -- two entries or more ascend where the first two do and all from the second on do
 two_ascend : (endian : Endian) (file : List ℕ) (place n m : ℕ) → n ≡ suc m → 0 < m
     → ascend (entries_at endian file place n)
-    ≡ (nat_lt (number_at endian 2 file place) (number_at endian 2 file (place + 12)) && ascend (entries_at endian file (place + 12) m))
+    ≡ (nat_lt (number_at endian 2 file place) (number_at endian 2 file (place + 12)) && ascend
+    (entries_at endian file (place + 12) m))
 unfolding entries_at
 two_ascend endian file place n zero is some = absurd (omega arith)
 two_ascend endian file place n (suc m) is some = rw is refl

@@ -12,15 +12,18 @@ use Rattle.fax_files.proofs.PageLemmas.{strip_begins_before}
 use Rattle.fax_files.proofs.StepLemmas.{form_of_fields, form_within}
 
 -- a form of good numbers
-pub within : (endian : Endian) (file : List ℕ) (fields : List Entry) (form : PageForm) → IsFormOf endian file fields form
+pub within : (endian : Endian) (file : List ℕ) (fields : List Entry) (form : PageForm)
+    → IsFormOf endian file fields form
     → IsGoodResolution (resolution_in endian file fields) → IsPageForm form
 within endian file fields form is good = grind arith
 
 -- the form that fields say
-pub limits : (endian : Endian) (file : List ℕ) (fields : List Entry) (form : PageForm) → form_in endian file fields ≡ Ok form
+pub limits : (endian : Endian) (file : List ℕ) (fields : List Entry) (form : PageForm)
+    → form_in endian file fields ≡ Ok form
     → IsGoodResolution (resolution_in endian file fields) → IsPageForm form
 limits endian file fields form is good =
-    within endian file fields form (subst (λ r. IfOk r (IsFormOf endian file fields)) is (form_within endian file fields)) good
+    within endian file fields form (subst (λ r. IfOk r (IsFormOf endian file fields)) is
+    (form_within endian file fields)) good
 
 -- a form within the limits
 pub forms_are_whole : FormsAreWhole

@@ -1,5 +1,6 @@
 -- Where a chain turns back.
-use Rattle.std.proofs.Common.{◌≡◌, ℕ, zero, suc, ◌+◌, ◌-◌, ◌^◌, ◌<◌, ◌≤◌, ◌≢◌, inl, inr, Bool, true, false, List, length, Option, Some}
+use Rattle.std.proofs.Common.{◌≡◌, ℕ, zero, suc, ◌+◌, ◌-◌, ◌^◌, ◌<◌, ◌≤◌, ◌≢◌, inl, inr, Bool, true, false, List}
+use Rattle.std.proofs.Common.{length, Option, Some}
 use Rattle.std.proofs.Common.{None, refl, sym, ap, ◌∙◌, arith}
 use Rattle.std.specs.Prelude.{◌==◌, if◌then◌else◌}
 use Rattle.std.proofs.lemmas.Bool.{cases_lt}
@@ -7,7 +8,8 @@ use Rattle.fax_files.specs.declared.FileFault.{FileFault}
 use Rattle.fax_files.specs.declared.FileFault.TheVariants.{DirectoryLoop}
 use Rattle.fax_files.specs.Directory.{is_directory, next_offset, IsChain}
 use Rattle.fax_files.specs.views.Tiff.{TiffFile}
-use Rattle.fax_files.specs.code.Chain.{onward, place, LeadsOn, IsRound, IsTurn, HasNoLoop, HasFewPages, IsTurningPage, turning_page}
+use Rattle.fax_files.specs.code.Chain.{onward, place, LeadsOn, IsRound, IsTurn, HasNoLoop, HasFewPages, IsTurningPage}
+use Rattle.fax_files.specs.code.Chain.{turning_page}
 use Rattle.fax_files.proofs.ChainLaws.{has_one_chain}
 use Rattle.fax_files.proofs.ChainPlaces.{IsByPlaces, by_places, along, link_next, onward_on}
 
@@ -30,10 +32,12 @@ module _ (tiff : TiffFile) where
   led i x e = grind arith
 
   -- a place leads on to the next one
-  pub leads : (i x : ℕ) → onward tiff.head.endian tiff.file (place tiff i) ≡ Some x → (x ≡ place tiff (i + 1)) × LeadsOn tiff i
+  pub leads : (i x : ℕ) → onward tiff.head.endian tiff.file (place tiff i) ≡ Some x
+      → (x ≡ place tiff (i + 1)) × LeadsOn tiff i
   leads i x e = grind (arith, place_next)
 
-  alike : (i j : ℕ) → place tiff i ≡ place tiff j → LeadsOn tiff j → (x : ℕ) × (onward tiff.head.endian tiff.file (place tiff i) ≡ Some x)
+  alike : (i j : ℕ) → place tiff i ≡ place tiff j → LeadsOn tiff j
+      → (x : ℕ) × (onward tiff.head.endian tiff.file (place tiff i) ≡ Some x)
   alike i j same on = (place tiff (j + 1), ap (onward tiff.head.endian tiff.file) same ∙ on)
 
   pub leads_alike : (i j : ℕ) → place tiff i ≡ place tiff j → LeadsOn tiff j → LeadsOn tiff i
@@ -63,7 +67,8 @@ module _ (tiff : TiffFile) where
     pub before_end : (i : ℕ) → i < n → LeadsOn tiff i
     before_end i h =
         let p = the_places.on i h in
-        (leads i (next_offset tiff.head.endian tiff.file (place tiff i)) (onward_on tiff.head.endian tiff.file p.0 (place tiff i) p.1)).1
+        (leads i (next_offset tiff.head.endian tiff.file (place tiff i))
+        (onward_on tiff.head.endian tiff.file p.0 (place tiff i) p.1)).1
 
     abbrev Turns : Type 0
     Turns = (j : ℕ) × (j < n) × (place tiff n ≡ place tiff j) × (end ≡ Some DirectoryLoop)
@@ -81,12 +86,14 @@ module _ (tiff : TiffFile) where
         | inr high ↦
             let before = canonical i high in
             let k = before.0 in
-            let moved : place tiff (suc i) ≡ place tiff (k + 1) = along_places i k 1 (suc i) (k + 1) (omega arith) refl before.3 in
+            let moved : place tiff (suc i) ≡ place tiff (k + 1) = along_places i k 1 (suc i) (k + 1) (omega arith) refl
+            before.3 in
             let _kept = before.1 in
             let below : k < n = before.2 in
             elim (cases_lt (k + 1) n) [
               | inl inside ↦ (k + 1, omega (arith, before.1), inside, moved)
-              | inr outside ↦ let whole : k + 1 ≡ n = omega arith in (j, omega arith, earlier, moved ∙ ap (place tiff) whole ∙ back)
+              | inr outside ↦ let whole : k + 1 ≡ n = omega arith in
+                  (j, omega arith, earlier, moved ∙ ap (place tiff) whole ∙ back)
             ]
       ]
 
@@ -161,7 +168,8 @@ module _ (tiff : TiffFile) where
       pub turning : (end ≡ Some DirectoryLoop) × (page + len ≡ n)
       turning = grind (arith, length_is, page_is)
 
-  pub is_turning_page : (start len page : ℕ) → IsRound tiff start len → IsTurn tiff len page → IsTurningPage tiff (Some (page + len))
+  pub is_turning_page : (start len page : ℕ) → IsRound tiff start len → IsTurn tiff len page
+      → IsTurningPage tiff (Some (page + len))
   is_turning_page start len page round turn = λ offsets end is.
       let p = turning offsets end is start len page round turn in
       rw (p.0, p.1) refl
@@ -172,7 +180,8 @@ module _ (tiff : TiffFile) where
   pub no_turning_page : HasNoLoop tiff → IsTurningPage tiff None
   no_turning_page none = λ offsets end is. not_turning end (length offsets) (none offsets end is)
 
-  pub turning_below : HasFewPages tiff → (start len page : ℕ) → IsRound tiff start len → IsTurn tiff len page → page + len < 2 ^ 32
+  pub turning_below : HasFewPages tiff → (start len page : ℕ) → IsRound tiff start len → IsTurn tiff len page
+      → page + len < 2 ^ 32
   turning_below few start len page round turn =
       let one = has_one_chain tiff.head tiff.file in
       let p = turning one.offsets one.end one.is start len page round turn in

@@ -1,5 +1,6 @@
 -- Gaps in a PBM's header: a gap that is read is one, and each gap is read to its end.
-use Rattle.std.proofs.Common.{◌≡◌, ℕ, inl, inr, Bool, true, false, not, List, [], ◌∷◌, ◌++◌, Some, None, refl, sym, ap, ◌∙◌, arith}
+use Rattle.std.proofs.Common.{◌≡◌, ℕ, inl, inr, Bool, true, false, not, List, [], ◌∷◌, ◌++◌, Some, None, refl, sym, ap}
+use Rattle.std.proofs.Common.{◌∙◌, arith}
 use Rattle.std.proofs.Common.{append_assoc}
 use Rattle.std.specs.Prelude.{◌==◌, IsTrue, if◌then◌else◌}
 use Rattle.std.specs.List.{list_all}
@@ -61,7 +62,8 @@ comment_ends c bytes rest ends has = record {
   is = ap (λ (l : List ℕ). c ∷ l) has.is;
 }
 
-comment_goes_on : (c : ℕ) (bytes rest : List ℕ) → is_line_end c ≡ false → HasComment bytes rest → HasComment (c ∷ bytes) rest
+comment_goes_on : (c : ℕ) (bytes rest : List ℕ) → is_line_end c ≡ false → HasComment bytes rest
+    → HasComment (c ∷ bytes) rest
 comment_goes_on c bytes rest goes_on has = record {
   text = c ∷ has.text;
   end = has.end;
@@ -84,12 +86,14 @@ comment_is_piece c bytes rest hash has =
       is =
           rw (hash, has.is) (
           ap (λ (l : List ℕ). 35 ∷ l) (
-          sym (append_assoc (has.text ++ has.end ∷ []) has.gap rest ∙ append_assoc has.text (has.end ∷ []) (has.gap ++ rest))
+          sym (append_assoc (has.text ++ has.end ∷ []) has.gap rest
+          ∙ append_assoc has.text (has.end ∷ []) (has.gap ++ rest))
           )
           );
     }
 
-white_is_piece : (c : ℕ) (bytes rest : List ℕ) → is_white_space c ≡ true → HasPieces bytes rest → HasGap (c ∷ bytes) rest
+white_is_piece : (c : ℕ) (bytes rest : List ℕ) → is_white_space c ≡ true → HasPieces bytes rest
+    → HasGap (c ∷ bytes) rest
 white_is_piece c bytes rest white has = record {
   first = c ∷ [];
   pieces = has.pieces;
@@ -107,23 +111,28 @@ first_piece : (c : ℕ) (bytes rest : List ℕ) → begins_piece c ≡ true
     → after_pieces (c == 35) bytes ≡ Some rest → HasGap (c ∷ bytes) rest
 first_piece c bytes rest begins has next = grind (arith, comment_is_piece, white_is_piece)
 
-has_read : (in_comment : Bool) (bytes rest : List ℕ) → after_pieces in_comment bytes ≡ Some rest → Has in_comment bytes rest
+has_read : (in_comment : Bool) (bytes rest : List ℕ) → after_pieces in_comment bytes ≡ Some rest
+    → Has in_comment bytes rest
 has_read in_comment [] rest is = let no : ⊥ = cc in absurd no
 has_read true (c ∷ bytes) rest is =
-    elim (is_line_end c) as (λ v. is_line_end c ≡ v → after_pieces (not v) bytes ≡ Some rest → HasComment (c ∷ bytes) rest) [
+    elim (is_line_end c) as (λ v. is_line_end c ≡ v → after_pieces (not v) bytes ≡ Some rest
+    → HasComment (c ∷ bytes) rest) [
       | true ↦ λ ends next. comment_ends c bytes rest ends (has_read false bytes rest next)
       | false ↦ λ goes_on next. comment_goes_on c bytes rest goes_on (has_read true bytes rest next)
     ] refl is
 has_read false (c ∷ bytes) rest is =
-    elim (begins_piece c) as (λ v. begins_piece c ≡ v → (if v then (after_pieces (c == 35) bytes) else (Some (c ∷ bytes))) ≡ Some rest
+    elim (begins_piece c) as (λ v. begins_piece c ≡ v → (if v then (after_pieces (c == 35) bytes) else
+    (Some (c ∷ bytes))) ≡ Some rest
     → HasPieces (c ∷ bytes) rest) [
       | true ↦ λ begins next.
-          gap_has_pieces (c ∷ bytes) rest (first_piece c bytes rest begins (λ in_comment more. has_read in_comment bytes rest more) next)
+          gap_has_pieces (c ∷ bytes) rest (first_piece c bytes rest begins
+          (λ in_comment more. has_read in_comment bytes rest more) next)
       | false ↦ λ none same. record { pieces = []; gap = []; are = refl; is = cc }
     ] refl is
 
 -- a gap that is read is one
-pub gap_is_read : (bytes rest : List ℕ) → after_gap bytes ≡ Some rest → (gap : List ℕ) × IsGap gap × (bytes ≡ gap ++ rest)
+pub gap_is_read : (bytes rest : List ℕ) → after_gap bytes ≡ Some rest
+    → (gap : List ℕ) × IsGap gap × (bytes ≡ gap ++ rest)
 gap_is_read [] rest is = let no : ⊥ = cc in absurd no
 gap_is_read (c ∷ bytes) rest is =
     elim (begins_piece c) as (λ v. begins_piece c ≡ v
@@ -136,7 +145,8 @@ gap_is_read (c ∷ bytes) rest is =
     ] refl is
 
 -- in a comment
-after_text : (text : List ℕ) (c : ℕ) (more : List ℕ) → list_all (λ t. not (is_line_end t)) text ≡ true → is_line_end c ≡ true
+after_text : (text : List ℕ) (c : ℕ) (more : List ℕ) → list_all (λ t. not (is_line_end t)) text ≡ true
+    → is_line_end c ≡ true
     → after_pieces true (text ++ c ∷ more) ≡ after_pieces false more
 after_text [] c more all ends = ap (λ v. after_pieces (not v) more) ends
 after_text (t ∷ text) c more all ends =
@@ -149,7 +159,13 @@ piece_passed piece more h = grind (arith, append_assoc, after_text)
 pieces_passed : (pieces : List (List ℕ)) (gap rest : List ℕ) → ArePieces pieces gap
     → after_pieces false (gap ++ rest) ≡ after_pieces false rest
 pieces_passed [] gap rest are = ap (λ (g : List ℕ). after_pieces false (g ++ rest)) are
-pieces_passed (piece ∷ pieces) gap rest are = grind (arith, append_assoc, piece_passed, pieces_passed pieces are.0 rest are.2)
+pieces_passed (piece ∷ pieces) gap rest are = grind (
+  arith,
+  append_assoc,
+  piece_passed,
+  pieces_passed pieces are.0 rest
+      are.2,
+)
 
 -- a gap's first byte
 record Begins (gap : List ℕ) : Type 0 where

@@ -1,5 +1,6 @@
 -- The header of a PBM's image: one that is read is one, and each is read, in one way.
-use Rattle.std.proofs.Common.{◌≡◌, ℕ, ◌-◌, ◌≤◌, Bool, true, false, List, ◌∷◌, ◌++◌, length, take, drop, sym, ap, ◌∙◌, arith}
+use Rattle.std.proofs.Common.{◌≡◌, ℕ, ◌-◌, ◌≤◌, Bool, true, false, List, ◌∷◌, ◌++◌, length, take, drop, sym, ap, ◌∙◌}
+use Rattle.std.proofs.Common.{arith}
 use Rattle.std.specs.Prelude.{codes}
 use Rattle.std.proofs.lemmas.Grind.{common_steps}
 use Rattle.fax_files.specs.declared.pbm.PbmFault.TheVariants.{BadHeader, OutOfLimits}
@@ -83,19 +84,22 @@ head_passed bytes width height rest head =
       space_is = head.space_is;
     }
 
-pub within_is_exact : (width height : ℕ) → is_within_limits width height ≡ true → (capped width ≡ width) × (capped height ≡ height)
+pub within_is_exact : (width height : ℕ) → is_within_limits width height ≡ true
+    → (capped width ≡ width) × (capped height ≡ height)
 within_is_exact width height within = grind arith
 
 -- where there is no header
 pub no_head : (bytes : List ℕ) → ((width height : ℕ) (rest : List ℕ) → IsHeadRead bytes width height rest → ⊥)
     → IsImageFault bytes BadHeader
-no_head bytes none = λ width height rest head. none (capped width) (capped height) rest (head_passed bytes width height rest head)
+no_head bytes none = λ width height rest head. none (capped width) (capped height) rest
+    (head_passed bytes width height rest head)
 
 head_along : (bytes : List ℕ) (w width h height : ℕ) (rest : List ℕ) → width ≡ w → height ≡ h → IsHead bytes w h rest
     → IsHead bytes width height rest
 head_along bytes w width h height rest width_is height_is head = rw (width_is, height_is) head
 
-limits_along : (w width h height : ℕ) (v : Bool) → width ≡ capped w → height ≡ capped h → is_within_limits width height ≡ v
+limits_along : (w width h height : ℕ) (v : Bool) → width ≡ capped w → height ≡ capped h
+    → is_within_limits width height ≡ v
     → is_within_limits w h ≡ v
 limits_along w width h height v width_is height_is within = grind arith
 
@@ -104,9 +108,11 @@ pub exact_head : (bytes : List ℕ) (width height : ℕ) (rest : List ℕ) → I
     → is_within_limits width height ≡ true → IsHead bytes width height rest
 exact_head bytes width height rest read within =
     let has = head_is_read bytes width height rest read in
-    let within_exact = limits_along has.exact_width width has.exact_height height true has.width_is has.height_is within in
+    let within_exact = limits_along has.exact_width width has.exact_height height true has.width_is has.height_is within
+    in
     let exact = within_is_exact has.exact_width has.exact_height within_exact in
-    head_along bytes has.exact_width width has.exact_height height rest (has.width_is ∙ exact.0) (has.height_is ∙ exact.1) has.head
+    head_along bytes has.exact_width width has.exact_height height rest (has.width_is ∙ exact.0)
+    (has.height_is ∙ exact.1) has.head
 
 -- a header past the limits
 pub head_outside : (bytes : List ℕ) (width height : ℕ) (rest : List ℕ) → IsHeadRead bytes width height rest
@@ -121,8 +127,10 @@ head_outside bytes width height rest read outside =
     )
 
 -- an image after its header
-pub image_read : (bytes : List ℕ) (width height : ℕ) (raster rest : List ℕ) → IsHeadRead bytes width height (raster ++ rest)
-    → is_within_limits width height ≡ true → length raster ≡ raster_len width height → IsImage bytes (image_of width height raster) rest
+pub image_read : (bytes : List ℕ) (width height : ℕ) (raster rest : List ℕ)
+    → IsHeadRead bytes width height (raster ++ rest)
+    → is_within_limits width height ≡ true → length raster ≡ raster_len width height
+    → IsImage bytes (image_of width height raster) rest
 image_read bytes width height raster rest read within whole = grind (arith, exact_head)
 
 -- the two parts of a list

@@ -1,5 +1,6 @@
 -- Numbers in a PBM's header: a number that is read is one, and each number is read to its end.
-use Rattle.std.proofs.Common.{◌≡◌, ◌≢◌, ℕ, ◌+◌, ◌-◌, ◌*◌, true, false, ◌&&◌, List, [], ◌∷◌, ◌++◌, refl, sym, ap, ◌∙◌, arith}
+use Rattle.std.proofs.Common.{◌≡◌, ◌≢◌, ℕ, ◌+◌, ◌-◌, ◌*◌, true, false, ◌&&◌, List, [], ◌∷◌, ◌++◌, refl, sym, ap, ◌∙◌}
+use Rattle.std.proofs.Common.{arith}
 use Rattle.std.specs.Prelude.{fold, if◌then◌else◌}
 use Rattle.std.specs.List.{list_all}
 use Rattle.std.proofs.lemmas.Bool.{and_parts, false≢true, both_ways}
@@ -78,7 +79,8 @@ pub digits_passed : (digits after : List ℕ) → list_all is_digit digits ≡ t
 digits_passed [] after all none = stays after none
 digits_passed (c ∷ digits) after all none =
     let parts = and_parts (is_digit c) (list_all is_digit digits) all in
-    ap (λ v. if v then (after_digits (digits ++ after)) else (c ∷ digits ++ after)) parts.0 ∙ digits_passed digits after parts.1 none
+    ap (λ v. if v then (after_digits (digits ++ after)) else (c ∷ digits ++ after)) parts.0
+    ∙ digits_passed digits after parts.1 none
 
 number_from : (n : ℕ) (digits after : List ℕ) → list_all is_digit digits ≡ true → has_digit after ≡ false
     → capped_from (capped n) (digits ++ after) ≡ capped (fold with_digit n digits)
@@ -94,6 +96,7 @@ pub number_passed : (digits : List ℕ) (n : ℕ) (after : List ℕ) → SpellsN
     → capped_from 0 (digits ++ after) ≡ capped n
 number_passed digits n after is none = number_from 0 digits after is.1 none ∙ ap capped (sym is.2)
 
-pub number_begins : (digits : List ℕ) (n : ℕ) (after : List ℕ) → SpellsNumber digits n → has_digit (digits ++ after) ≡ true
+pub number_begins : (digits : List ℕ) (n : ℕ) (after : List ℕ) → SpellsNumber digits n
+    → has_digit (digits ++ after) ≡ true
 number_begins [] n after is = absurd (is.0 refl)
 number_begins (c ∷ digits) n after is = (and_parts (is_digit c) (list_all is_digit digits) is.1).0

@@ -1,5 +1,6 @@
 -- Bytes are read as images in one way.
-use Rattle.std.proofs.Common.{◌≡◌, ◌≢◌, ℕ, ◌+◌, ◌<◌, inl, inr, true, List, [], ◌∷◌, ◌++◌, length, take, drop, Option, Some, refl, sym, ap}
+use Rattle.std.proofs.Common.{◌≡◌, ◌≢◌, ℕ, ◌+◌, ◌<◌, inl, inr, true, List, [], ◌∷◌, ◌++◌, length, take, drop, Option}
+use Rattle.std.proofs.Common.{Some, refl, sym, ap}
 use Rattle.std.proofs.Common.{subst, ◌∙◌, arith}
 use Rattle.std.proofs.lemmas.Bool.{both_ways}
 use Rattle.std.proofs.lemmas.List.{length-append}
@@ -22,7 +23,8 @@ record IsOneHead (width height w h : ℕ) (rest others : List ℕ) : Type 0 wher
   height_is : capped height ≡ capped h
   rest_is : rest ≡ others
 
-one_head : (bytes : List ℕ) (width height w h : ℕ) (rest others : List ℕ) → IsHead bytes width height rest → IsHead bytes w h others
+one_head : (bytes : List ℕ) (width height w h : ℕ) (rest others : List ℕ) → IsHead bytes width height rest
+    → IsHead bytes w h others
     → IsOneHead width height w h rest others
 one_head bytes width height w h rest others first second =
     let a = head_passed bytes width height rest first in
@@ -30,7 +32,8 @@ one_head bytes width height w h rest others first second =
     let gap : a.at_gap ≡ b.at_gap = ap (drop 2) (sym a.magic ∙ b.magic) in
     let at_width : a.at_width ≡ b.at_width = of_some a.at_width b.at_width (sym a.gap ∙ ap after_gap gap ∙ b.gap) in
     let at_height : a.at_height ≡ b.at_height =
-    of_some a.at_height b.at_height (sym a.second_gap ∙ ap (λ (l : List ℕ). after_gap (after_digits l)) at_width ∙ b.second_gap) in
+    of_some a.at_height b.at_height (sym a.second_gap ∙ ap (λ (l : List ℕ). after_gap (after_digits l)) at_width
+    ∙ b.second_gap) in
     record {
       width_is = a.width_is ∙ ap (capped_from 0) at_width ∙ sym b.width_is;
       height_is = a.height_is ∙ ap (capped_from 0) at_height ∙ sym b.height_is;
@@ -42,7 +45,8 @@ same_limits : (width height w h : ℕ) → capped width ≡ capped w → capped 
 same_limits width height w h width_is height_is = grind arith
 
 -- within the limits the numbers are the same
-same_sizes : (width height w h : ℕ) → capped width ≡ capped w → capped height ≡ capped h → is_within_limits width height ≡ true
+same_sizes : (width height w h : ℕ) → capped width ≡ capped w → capped height ≡ capped h
+    → is_within_limits width height ≡ true
     → (width ≡ w) × (height ≡ h)
 same_sizes width height w h width_is height_is within = grind arith
 
@@ -57,10 +61,12 @@ back_of a b c d len same =
 same_image : (image other : Image) → image.width ≡ other.width → image.rows ≡ other.rows → image ≡ other
 same_image image other width_is rows_are = grind arith
 
-pub one_image : (bytes : List ℕ) (image other : Image) (rest others : List ℕ) → IsImage bytes image rest → IsImage bytes other others
+pub one_image : (bytes : List ℕ) (image other : Image) (rest others : List ℕ) → IsImage bytes image rest
+    → IsImage bytes other others
     → (image ≡ other) × (rest ≡ others)
 one_image bytes image other rest others a b =
-    let one = one_head bytes image.width a.height other.width b.height (a.raster ++ rest) (b.raster ++ others) a.head b.head in
+    let one = one_head bytes image.width a.height other.width b.height (a.raster ++ rest) (b.raster ++ others) a.head
+    b.head in
     let sizes = same_sizes image.width a.height other.width b.height one.width_is one.height_is a.within in
     let len : length a.raster ≡ length b.raster =
     a.whole ∙ ap (λ w. raster_len w a.height) sizes.0 ∙ ap (raster_len other.width) sizes.1 ∙ sym b.whole in
@@ -73,7 +79,8 @@ one_image bytes image other rest others a b =
     ∙ sym b.rows_are in
     (same_image image other sizes.0 rows, back_of a.raster rest b.raster others len one.rest_is)
 
-no_fault : (bytes : List ℕ) (image : Image) (rest : List ℕ) (fault : PbmFault) → IsImage bytes image rest → IsImageFault bytes fault → ⊥
+no_fault : (bytes : List ℕ) (image : Image) (rest : List ℕ) (fault : PbmFault) → IsImage bytes image rest
+    → IsImageFault bytes fault → ⊥
 no_fault bytes image rest BadHeader a bad = bad image.width a.height (a.raster ++ rest) a.head
 no_fault bytes image rest OutOfLimits a bad =
     let one = one_head bytes image.width a.height bad.0 bad.1 (a.raster ++ rest) bad.2 a.head bad.3 in
@@ -84,7 +91,8 @@ no_fault bytes image rest ShortRaster a bad =
     let sizes = same_sizes image.width a.height bad.0 bad.1 one.width_is one.height_is a.within in
     let len : length a.raster ≡ raster_len bad.0 bad.1 =
     a.whole ∙ ap (λ w. raster_len w a.height) sizes.0 ∙ ap (raster_len bad.0) sizes.1 in
-    let rest_len : length a.raster + length rest ≡ length bad.2 = sym (length-append a.raster rest) ∙ ap length one.rest_is in
+    let rest_len : length a.raster + length rest ≡ length bad.2 =
+    sym (length-append a.raster rest) ∙ ap length one.rest_is in
     let short : length bad.2 < raster_len bad.0 bad.1 = bad.5 in
     omega (arith, len, rest_len, short)
 
@@ -93,7 +101,8 @@ limits_differ bytes a b =
     let one = one_head bytes a.0 a.1 b.0 b.1 a.2 b.2 a.3 b.3 in
     both_ways (is_within_limits b.0 b.1) (sym (same_limits a.0 a.1 b.0 b.1 one.width_is one.height_is) ∙ a.4) b.4
 
-one_fault : (bytes : List ℕ) (fault other : PbmFault) → IsImageFault bytes fault → IsImageFault bytes other → fault ≡ other
+one_fault : (bytes : List ℕ) (fault other : PbmFault) → IsImageFault bytes fault → IsImageFault bytes other
+    → fault ≡ other
 one_fault bytes BadHeader BadHeader a b = refl
 one_fault bytes BadHeader OutOfLimits a b = absurd (a b.0 b.1 b.2 b.3)
 one_fault bytes BadHeader ShortRaster a b = absurd (a b.0 b.1 b.2 b.3)
@@ -108,7 +117,8 @@ one_fault bytes ShortRaster ShortRaster a b = refl
 image_has_bytes : (bytes : List ℕ) (image : Image) (rest : List ℕ) → IsImage bytes image rest → bytes ≢ []
 image_has_bytes bytes image rest a = grind arith
 
-ends_are_one : (bytes : List ℕ) (end other : Option PbmFault) → AreImages bytes [] end → AreImages bytes [] other → end ≡ other
+ends_are_one : (bytes : List ℕ) (end other : Option PbmFault) → AreImages bytes [] end → AreImages bytes [] other
+    → end ≡ other
 ends_are_one bytes end other h h' = grind (arith, one_fault)
 
 end_is_no_image : (bytes : List ℕ) (end : Option PbmFault) (image : Image) (rest : List ℕ) → AreImages bytes [] end

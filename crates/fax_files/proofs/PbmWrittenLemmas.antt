@@ -1,6 +1,7 @@
 -- Images that are written are read back.
 use Rattle.std.proofs.lemmas.Grind.{common_steps}
-use Rattle.std.proofs.Common.{◌≡◌, ◌≢◌, ℕ, suc, ◌+◌, ◌/◌, ◌%◌, ◌^◌, ◌<◌, ◌≤◌, inl, List, [], ◌∷◌, ◌++◌, length, drop, None, refl, sym, ap}
+use Rattle.std.proofs.Common.{◌≡◌, ◌≢◌, ℕ, suc, ◌+◌, ◌/◌, ◌%◌, ◌^◌, ◌<◌, ◌≤◌, inl, List, [], ◌∷◌, ◌++◌, length, drop}
+use Rattle.std.proofs.Common.{None, refl, sym, ap}
 use Rattle.std.proofs.Common.{◌∙◌, arith, append_assoc}
 use Rattle.std.specs.Prelude.{codes, decimal}
 use Rattle.std.specs.List.{flat_map}
@@ -25,7 +26,8 @@ nonempty_push : (digits : List ℕ) (d : ℕ) → digits ++ d ∷ [] ≢ []
 nonempty_push [] d = λ e. cc
 nonempty_push (c ∷ digits) d = λ e. cc
 
-more_is_number : (n : ℕ) (digits : List ℕ) → 10 ≤ n → SpellsNumber digits (n / 10) → SpellsNumber (digits ++ ((48 + n % 10) ∷ [])) n
+more_is_number : (n : ℕ) (digits : List ℕ) → 10 ≤ n → SpellsNumber digits (n / 10)
+    → SpellsNumber (digits ++ ((48 + n % 10) ∷ [])) n
 more_is_number n digits large is = grind (arith, nonempty_push, list_all-append, fold-append)
 
 decimal_is_number : (n : ℕ) → n < 2 ^ 64 → SpellsNumber (decimal n) n
@@ -61,16 +63,29 @@ module _ (law : PackingUndoesUnpacking) where
   raster_read : (width : ℕ) (rows : List (List Colour)) → AreOfWidth width rows
       → rows ≡ raster_rows width (length rows) (flat_map packed_row rows)
   raster_read width [] are = refl
-  raster_read width (row ∷ rows) are = grind (arith, row_len, take-append_seam, drop-append_seam, raster_read width rows are.1)
+  raster_read width (row ∷ rows) are = grind (
+    arith,
+    row_len,
+    take-append_seam,
+    drop-append_seam,
+    raster_read width rows
+        are.1,
+  )
 
   raster_length : (width : ℕ) (rows : List (List Colour)) → AreOfWidth width rows
       → length (flat_map packed_row rows) ≡ raster_len width (length rows)
   raster_length width [] are = omega arith
   raster_length width (row ∷ rows) are = grind (arith, length-append, row_len, raster_length width rows are.1)
 
-  image_written : (image : Image) (rest : List ℕ) → IsWritableImage image → IsImage (image_bytes image ++ rest) image rest
+  image_written : (image : Image) (rest : List ℕ) → IsWritableImage image
+      → IsImage (image_bytes image ++ rest) image rest
   image_written image rest is = grind (arith, common_steps, head_written, raster_length, raster_read)
 
   pub images_written : (images : List Image) → AreWritableImages images → AreImages (pbm_of images) images None
   images_written [] are = inl (refl, refl)
-  images_written (image ∷ images) are = (pbm_of images, image_written image (pbm_of images) are.0, images_written images are.1)
+  images_written (image ∷ images) are = (
+    pbm_of images,
+    image_written image (pbm_of images) are.0,
+    images_written images
+        are.1,
+  )

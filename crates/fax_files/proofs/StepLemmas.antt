@@ -1,5 +1,6 @@
 -- The form of a page is that of its fields, and within the limits.
-use Rattle.std.proofs.Common.{◌≡◌, ◌≢◌, ℕ, ◌-◌, ◌/◌, ◌%◌, ◌^◌, ◌≤◌, min, Bool, true, List, Option, Some, None, Result, Ok}
+use Rattle.std.proofs.Common.{◌≡◌, ◌≢◌, ℕ, ◌-◌, ◌/◌, ◌%◌, ◌^◌, ◌≤◌, min, Bool, true, List, Option, Some, None, Result}
+use Rattle.std.proofs.Common.{Ok}
 use Rattle.std.proofs.Common.{refl, sym, subst, ◌∙◌, arith}
 use Rattle.std.specs.Int.{div_ceil}
 use Rattle.fax_bits.specs.declared.FillOrder.TheVariants.{LsbFirst, MsbFirst}
@@ -35,7 +36,8 @@ module _ (endian : Endian) (file : List ℕ) (fields : List Entry) where
 
   -- a scalar whose first value passes its test
   pub taken : (tag : ℕ) (absent : Option ℕ) (test : ℕ → Bool) (fault : ℕ → FileFault) (n : ℕ)
-      → first_number endian file fields tag absent ≡ Ok n → test n ≡ true → scalar endian file fields tag absent test fault ≡ Ok n
+      → first_number endian file fields tag absent ≡ Ok n → test n ≡ true
+      → scalar endian file fields tag absent test fault ≡ Ok n
   unfolding scalar
   taken tag absent test fault n first passes = rw (first, passes) refl
 
@@ -53,11 +55,16 @@ module _ (endian : Endian) (file : List ℕ) (fields : List Entry) where
   form_within =
       after (IsFormOf endian file fields) _ _ (λ width width_is.
       after (IsFormOf endian file fields) _ _ (λ rows rows_is.
-      after (IsFormOf endian file fields) (scalar endian file fields Tags.BITS_PER_SAMPLE (Some 1) (is_between 1 1) Unsupported) _ (λ bits bits_are.
-      after (IsFormOf endian file fields) (scalar endian file fields Tags.COMPRESSION None (is_between 3 4) Unsupported) _ (λ compression compression_is.
-      after (IsFormOf endian file fields) (scalar endian file fields Tags.PHOTOMETRIC_INTERPRETATION None (is_between 0 1) Unsupported) _ (λ white white_is.
-      after (IsFormOf endian file fields) (scalar endian file fields Tags.FILL_ORDER (Some 1) (is_between 1 2) Unsupported) _ (λ order order_is.
-      after (IsFormOf endian file fields) (scalar endian file fields Tags.SAMPLES_PER_PIXEL (Some 1) (is_between 1 1) Unsupported) _ (λ samples samples_are.
+      after (IsFormOf endian file fields) (scalar endian file fields Tags.BITS_PER_SAMPLE (Some 1) (is_between 1 1)
+      Unsupported) _ (λ bits bits_are.
+      after (IsFormOf endian file fields) (scalar endian file fields Tags.COMPRESSION None (is_between 3 4) Unsupported)
+      _ (λ compression compression_is.
+      after (IsFormOf endian file fields) (scalar endian file fields Tags.PHOTOMETRIC_INTERPRETATION None
+      (is_between 0 1) Unsupported) _ (λ white white_is.
+      after (IsFormOf endian file fields) (scalar endian file fields Tags.FILL_ORDER (Some 1) (is_between 1 2)
+      Unsupported) _ (λ order order_is.
+      after (IsFormOf endian file fields) (scalar endian file fields Tags.SAMPLES_PER_PIXEL (Some 1) (is_between 1 1)
+      Unsupported) _ (λ samples samples_are.
       after (IsFormOf endian file fields) _ _ (λ in_strip in_strip_is.
       after (IsFormOf endian file fields) (if compression == 4 then (Ok 0) else t4_options) _ (λ options options_are.
       let wide = passed Tags.IMAGE_WIDTH None (is_between 1 most_pels) OutOfLimits width width_is in
@@ -93,7 +100,8 @@ module _ (endian : Endian) (file : List ℕ) (fields : List Entry) where
       within)))))))))
 
 -- a form that is handed out after two steps
-same_end : {A B C : Type 0} (a : Result A FileFault) (b : Result B FileFault) (made form : C) → (a >>= λ _. b >>= λ _. Ok made) ≡ Ok form
+same_end : {A B C : Type 0} (a : Result A FileFault) (b : Result B FileFault) (made form : C)
+    → (a >>= λ _. b >>= λ _. Ok made) ≡ Ok form
     → form ≡ made
 same_end a b made form e = grind arith
 
@@ -109,15 +117,18 @@ module _ (endian : Endian) (file : List ℕ) (q : ℕ) where
   page_is = grind arith
 
   -- so it is within the limits
-  pub form_of_fields : (form : PageForm) → page endian file q ≡ Ok form → IsFormOf endian file (entries endian file q) form
+  pub form_of_fields : (form : PageForm) → page endian file q ≡ Ok form
+      → IsFormOf endian file (entries endian file q) form
   form_of_fields form e =
       let fields = entries endian file q in
       let made = bind_ok (form_in endian file fields) after_form form (sym page_is ∙ e) in
       let field : ℕ → Result Entry FileFault = λ tag. strip_field endian file fields tag made.0.strips in
       let within = subst (λ r. IfOk r (IsFormOf endian file fields)) made.1 (form_within endian file fields) in
-      subst (IsFormOf endian file fields) (sym (same_end (field Tags.STRIP_OFFSETS) (field Tags.STRIP_BYTE_COUNTS) made.0 form made.2)) within
+      subst (IsFormOf endian file fields) (sym (same_end (field Tags.STRIP_OFFSETS) (field Tags.STRIP_BYTE_COUNTS)
+      made.0 form made.2)) within
 
 pub strip_is_placed : (endian : Endian) (file : List ℕ) (q s : ℕ) → strip_bytes endian file q s
-    ≡ placed_bytes endian file (field (entries endian file q) Tags.STRIP_OFFSETS) (field (entries endian file q) Tags.STRIP_BYTE_COUNTS) s
+    ≡ placed_bytes endian file (field (entries endian file q) Tags.STRIP_OFFSETS)
+    (field (entries endian file q) Tags.STRIP_BYTE_COUNTS) s
 unfolding strip_bytes
 strip_is_placed endian file q s = grind arith

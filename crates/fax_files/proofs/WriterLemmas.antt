@@ -9,8 +9,10 @@ use Rattle.fax_files.specs.declared.PageForm.{PageForm}
 use Rattle.fax_files.specs.declared.written.Layout.{Layout}
 use Rattle.fax_files.specs.views.Page.{IsPageForm}
 use Rattle.fax_files.specs.Directory.{max_file}
-use Rattle.fax_files.specs.Layout.{to_link, four, offsets_from, one_or_place, directory_place, page_bytes, Written, with_page}
-use Rattle.fax_files.specs.code.Parts.{to_offsets, lengths_of, joined_strips, fields_of, fields_bytes, values_bytes, with_four_at}
+use Rattle.fax_files.specs.Layout.{to_link, four, offsets_from, one_or_place, directory_place, page_bytes, Written}
+use Rattle.fax_files.specs.Layout.{with_page}
+use Rattle.fax_files.specs.code.Parts.{to_offsets, lengths_of, joined_strips, fields_of, fields_bytes, values_bytes}
+use Rattle.fax_files.specs.code.Parts.{with_four_at}
 use Rattle.fax_files.specs.laws.Files.{IsWritable}
 use Rattle.fax_files.specs.views.Writing.{contents}
 use Rattle.fax_files.specs.code.Writing.{IsWriting, IsLayout, laid_out_fields, tail_bytes, page_end}
@@ -26,7 +28,8 @@ offsets_value start place n [] count = grind arith
 offsets_value start place n (strip ∷ []) count = grind arith
 offsets_value start place n (strip ∷ next ∷ strips) count = grind arith
 
-lengths_value : (start end place n : ℕ) (strips : List (List ℕ)) → length strips ≡ n → end ≡ start + length (joined_strips strips)
+lengths_value : (start end place n : ℕ) (strips : List (List ℕ)) → length strips ≡ n
+    → end ≡ start + length (joined_strips strips)
     → (if n == 1 then (end - start) else place) ≡ one_or_place (lengths_of strips) place
 lengths_value start end place n [] count end_is = grind arith
 lengths_value start end place n (strip ∷ []) count end_is = grind (arith, length-append)
@@ -41,7 +44,8 @@ regrouped : (j r f z v : List ℕ) → j ++ (r ++ (f ++ z ++ v)) ≡ j ++ r ++ f
 regrouped j r f z v = simp append_assoc
 
 -- a file, and a page that is added to it
-module _ (bytes : List ℕ) (link total added end : ℕ) (form : PageForm) (strips : List (Vec ℕ Global)) (inside : link + 4 ≤ length bytes)
+module _ (bytes : List ℕ) (link total added end : ℕ) (form : PageForm) (strips : List (Vec ℕ Global))
+    (inside : link + 4 ≤ length bytes)
     (limits : IsPageForm form) (exchanged : form.exchanged ≡ false) (counted : length strips ≡ form.strips) where
   abbrev old : Written
   old = record { bytes = bytes; link = link }
@@ -76,34 +80,42 @@ module _ (bytes : List ℕ) (link total added end : ℕ) (form : PageForm) (stri
       place = laid.directory_is ∙ ap (λ (e : ℕ). e + e % 2) end_is
 
       fields_are : laid_out_fields at form
-          ≡ fields_of (directory_place (length bytes) (contents strips)) total added form (offsets_from (length bytes) (contents strips))
+          ≡ fields_of (directory_place (length bytes) (contents strips)) total added form
+          (offsets_from (length bytes) (contents strips))
           (lengths_of (contents strips))
       fields_are = grind (arith, offsets_value, count, lengths_value, length-offsets_from, length-lengths_of)
 
-      pub page_is : (tail : List ℕ) → tail ≡ tail_bytes end (laid_out_fields at form) form (length bytes) (contents strips)
+      pub page_is : (tail : List ℕ) → tail ≡ tail_bytes end (laid_out_fields at form) form (length bytes)
+          (contents strips)
           → joined_strips (contents strips) ++ tail ≡ page_bytes (length bytes) total added form (contents strips)
       unfolding page_bytes
       page_is tail tail_is =
           let q = directory_place (length bytes) (contents strips) in
           let all = joined_strips (contents strips) in
-          let fields = fields_of q total added form (offsets_from (length bytes) (contents strips)) (lengths_of (contents strips)) in
-          let values = values_bytes form (offsets_from (length bytes) (contents strips)) (lengths_of (contents strips)) in
+          let fields = fields_of q total added form (offsets_from (length bytes) (contents strips))
+          (lengths_of (contents strips)) in
+          let values = values_bytes form (offsets_from (length bytes) (contents strips)) (lengths_of (contents strips))
+          in
           let pad : List ℕ = replicate ((length bytes + length all) % 2) 0 in
-          ap (λ (t : List ℕ). all ++ t) (tail_is ∙ ap (λ fs. tail_bytes end fs form (length bytes) (contents strips)) fields_are
+          ap (λ (t : List ℕ). all ++ t) (tail_is ∙ ap (λ fs. tail_bytes end fs form (length bytes) (contents strips))
+          fields_are
           ∙ ap (λ (e : ℕ). tail_bytes e fields form (length bytes) (contents strips)) end_is)
           ∙ regrouped all pad (fields_bytes fields) (four 0) values
 
       pub place_is : at.directory ≡ directory_place (length bytes) (contents strips)
       place_is = place
 
-      pub added_bytes : (tail now : List ℕ) → tail ≡ tail_bytes end (laid_out_fields at form) form (length bytes) (contents strips)
+      pub added_bytes : (tail now : List ℕ) → tail ≡ tail_bytes end (laid_out_fields at form) form (length bytes)
+          (contents strips)
           → now ≡ bytes ++ (joined_strips (contents strips) ++ tail) → with_four_at now link at.directory ≡ new.bytes
       unfolding with_page page_bytes
       added_bytes tail now tail_is now_is =
           let q = directory_place (length bytes) (contents strips) in
           let all = joined_strips (contents strips) in
-          let fields = fields_of q total added form (offsets_from (length bytes) (contents strips)) (lengths_of (contents strips)) in
-          let values = values_bytes form (offsets_from (length bytes) (contents strips)) (lengths_of (contents strips)) in
+          let fields = fields_of q total added form (offsets_from (length bytes) (contents strips))
+          (lengths_of (contents strips)) in
+          let values = values_bytes form (offsets_from (length bytes) (contents strips)) (lengths_of (contents strips))
+          in
           let pad : List ℕ = replicate ((length bytes + length all) % 2) 0 in
           let tail_same : tail ≡ pad ++ (fields_bytes fields ++ four 0 ++ values) =
           tail_is ∙ ap (λ fs. tail_bytes end fs form (length bytes) (contents strips)) fields_are
@@ -111,8 +123,10 @@ module _ (bytes : List ℕ) (link total added end : ℕ) (form : PageForm) (stri
           ap (λ (l : List ℕ). with_four_at l link at.directory) now_is
           ∙ patched bytes (all ++ tail) link at.directory inside
           ∙ ap (λ (t : List ℕ). with_four_at bytes link at.directory ++ (all ++ t)) tail_same
-          ∙ ap (λ (n : ℕ). with_four_at bytes link n ++ (all ++ (pad ++ (fields_bytes fields ++ four 0 ++ values)))) place
-          ∙ ap (λ (l : List ℕ). with_four_at bytes link q ++ l) (regrouped all pad (fields_bytes fields) (four 0) values)
+          ∙ ap (λ (n : ℕ). with_four_at bytes link n ++ (all ++ (pad ++ (fields_bytes fields ++ four 0 ++ values))))
+          place
+          ∙ ap (λ (l : List ℕ). with_four_at bytes link q ++ l) (regrouped all pad (fields_bytes fields) (four 0)
+          values)
 
       pub new_link : at.directory + to_link ≡ new.link
       unfolding with_page
@@ -123,7 +137,8 @@ module _ (bytes : List ℕ) (link total added end : ℕ) (form : PageForm) (stri
       still_writing now now_is short = grind (arith, size)
 
 -- a page that is written for a place of a file, whatever stands before it
-module _ (start total added : ℕ) (form : PageForm) (strips : List (Vec ℕ Global)) (header : 8 ≤ start) (limits : IsPageForm form)
+module _ (start total added : ℕ) (form : PageForm) (strips : List (Vec ℕ Global)) (header : 8 ≤ start)
+    (limits : IsPageForm form)
     (exchanged : form.exchanged ≡ false) (counted : length strips ≡ form.strips) where
   abbrev front : List ℕ
   front = replicate start 0
@@ -147,7 +162,8 @@ module _ (start total added : ℕ) (form : PageForm) (strips : List (Vec ℕ Glo
   page_size end end_is =
       let there = subst (λ n. end ≡ n + length (joined_strips (contents strips))) (sym front_len) end_is in
       let all = size front 0 total added end form strips room limits exchanged counted there in
-      subst (λ n. n + length (page_bytes n total added form (contents strips)) ≡ page_end (end + end % 2) form.strips) front_len
+      subst (λ n. n + length (page_bytes n total added form (contents strips)) ≡ page_end (end + end % 2) form.strips)
+      front_len
       (omega (arith, all, new_split front 0 total added end form strips room limits exchanged counted))
 
   module _ (end : ℕ) (end_is : end ≡ start + length (joined_strips (contents strips))) (at : Layout)
@@ -158,9 +174,12 @@ module _ (start total added : ℕ) (form : PageForm) (strips : List (Vec ℕ Glo
     laid_there : IsLayout at form.strips (length front) end added total
     laid_there = subst (λ n. IsLayout at form.strips n end added total) (sym front_len) laid
 
-    pub whole_page : (tail bytes : List ℕ) → tail ≡ tail_bytes end (laid_out_fields at form) form start (contents strips)
+    pub whole_page : (tail bytes : List ℕ) → tail ≡ tail_bytes end (laid_out_fields at form) form start
+        (contents strips)
         → bytes ≡ joined_strips (contents strips) ++ tail → bytes ≡ page_bytes start total added form (contents strips)
     whole_page tail bytes tail_is bytes_are =
-        let tail_there = subst (λ n. tail ≡ tail_bytes end (laid_out_fields at form) form n (contents strips)) (sym front_len) tail_is in
-        bytes_are ∙ subst (λ n. joined_strips (contents strips) ++ tail ≡ page_bytes n total added form (contents strips)) front_len
+        let tail_there = subst (λ n. tail ≡ tail_bytes end (laid_out_fields at form) form n (contents strips))
+        (sym front_len) tail_is in
+        bytes_are ∙ subst (λ n. joined_strips (contents strips) ++ tail
+        ≡ page_bytes n total added form (contents strips)) front_len
         (page_is front 0 total added end form strips room limits exchanged counted there at laid_there tail tail_there)

@@ -1,5 +1,6 @@
 -- Parts of a page that are put one after the other.
-use Rattle.std.proofs.Common.{◌≡◌, ℕ, zero, suc, ◌+◌, ◌<◌, ◌≤◌, List, [], ◌∷◌, ◌++◌, length, take, get_or, Vec, refl, sym, ap, ◌∙◌, arith}
+use Rattle.std.proofs.Common.{◌≡◌, ℕ, zero, suc, ◌+◌, ◌<◌, ◌≤◌, List, [], ◌∷◌, ◌++◌, length, take, get_or, Vec, refl}
+use Rattle.std.proofs.Common.{sym, ap, ◌∙◌, arith}
 use Rattle.std.proofs.Common.{append_assoc, append-nil}
 use Rattle.std.proofs.lemmas.List.{length-append}
 use Rattle.std.specs.declared.alloc.Global.{Global}
@@ -8,13 +9,15 @@ use Rattle.fax_files.specs.code.Parts.{longs, lengths_of, joined_strips}
 use Rattle.fax_files.specs.views.Writing.{contents}
 
 -- one more strip
-pub contents_more : (strips : List (Vec ℕ Global)) (i : ℕ) (strip : Vec ℕ Global) → i < length strips → strip ≡ get_or strips i strip
+pub contents_more : (strips : List (Vec ℕ Global)) (i : ℕ) (strip : Vec ℕ Global) → i < length strips
+    → strip ≡ get_or strips i strip
     → contents (take (i + 1) strips) ≡ contents (take i strips) ++ strip.items ∷ []
 contents_more [] i strip lt is = absurd (omega arith)
 contents_more (first ∷ strips) zero strip lt is = ap (λ (v : Vec ℕ Global). v.items ∷ []) (sym is)
 contents_more (first ∷ strips) (suc i) strip lt is = grind (arith, contents_more strips i strip (omega arith) is)
 
-joined-push : (strips : List (List ℕ)) (strip : List ℕ) → joined_strips (strips ++ strip ∷ []) ≡ joined_strips strips ++ strip
+joined-push : (strips : List (List ℕ)) (strip : List ℕ) → joined_strips (strips ++ strip ∷ [])
+    ≡ joined_strips strips ++ strip
 joined-push [] strip = append-nil strip
 joined-push (first ∷ strips) strip = grind (arith, append_assoc, joined-push strips strip)
 
@@ -22,14 +25,21 @@ longs-push : (numbers : List ℕ) (n : ℕ) → longs (numbers ++ n ∷ []) ≡ 
 longs-push [] n = append-nil (four n)
 longs-push (first ∷ numbers) n = grind (arith, longs-push numbers n)
 
-lengths_of-push : (strips : List (List ℕ)) (strip : List ℕ) → lengths_of (strips ++ strip ∷ []) ≡ lengths_of strips ++ length strip ∷ []
+lengths_of-push : (strips : List (List ℕ)) (strip : List ℕ) → lengths_of (strips ++ strip ∷ [])
+    ≡ lengths_of strips ++ length strip ∷ []
 lengths_of-push [] strip = refl
 lengths_of-push (first ∷ strips) strip = ap (λ (l : List ℕ). length first ∷ l) (lengths_of-push strips strip)
 
 offsets_from-push : (start : ℕ) (strips : List (List ℕ)) (strip : List ℕ)
-    → offsets_from start (strips ++ strip ∷ []) ≡ offsets_from start strips ++ (start + length (joined_strips strips)) ∷ []
+    → offsets_from start (strips ++ strip ∷ []) ≡ offsets_from start strips
+    ++ (start + length (joined_strips strips)) ∷ []
 offsets_from-push start [] strip = ap (λ (n : ℕ). n ∷ []) (omega arith)
-offsets_from-push start (first ∷ strips) strip = grind (arith, length-append, offsets_from-push (start + length first) strips strip)
+offsets_from-push start (first ∷ strips) strip = grind (
+  arith,
+  length-append,
+  offsets_from-push (start + length first)
+      strips strip,
+)
 
 -- the strips up to one are no longer than all
 joined-take : (strips : List (Vec ℕ Global)) (i : ℕ)
@@ -39,16 +49,19 @@ joined-take [] (suc i) = omega arith
 joined-take (first ∷ strips) (suc i) = grind (arith, length-append, joined-take strips i)
 
 -- what is put for strip i of these
-module _ (strips : List (Vec ℕ Global)) (i : ℕ) (strip : Vec ℕ Global) (lt : i < length strips) (is : strip ≡ get_or strips i strip) where
+module _ (strips : List (Vec ℕ Global)) (i : ℕ) (strip : Vec ℕ Global) (lt : i < length strips)
+    (is : strip ≡ get_or strips i strip) where
   abbrev before : List (List ℕ)
   before = contents (take i strips)
 
   pub joined_more : joined_strips (contents (take (i + 1) strips)) ≡ joined_strips before ++ strip.items
   joined_more = rw (contents_more strips i strip lt is) (joined-push before strip.items)
 
-  pub lengths_more : longs (lengths_of (contents (take (i + 1) strips))) ≡ longs (lengths_of before) ++ four (length strip.items)
+  pub lengths_more : longs (lengths_of (contents (take (i + 1) strips)))
+      ≡ longs (lengths_of before) ++ four (length strip.items)
   lengths_more =
-      rw (contents_more strips i strip lt is, lengths_of-push before strip.items) (longs-push (lengths_of before) (length strip.items))
+      rw (contents_more strips i strip lt is, lengths_of-push before strip.items)
+      (longs-push (lengths_of before) (length strip.items))
 
   pub offsets_more : (start : ℕ) → longs (offsets_from start (contents (take (i + 1) strips)))
       ≡ longs (offsets_from start before) ++ four (start + length (joined_strips before))
@@ -56,7 +69,8 @@ module _ (strips : List (Vec ℕ Global)) (i : ℕ) (strip : Vec ℕ Global) (lt
       rw (contents_more strips i strip lt is, offsets_from-push start before strip.items)
       (longs-push (offsets_from start before) (start + length (joined_strips before)))
 
-  pub end_of_strip : length (joined_strips (contents (take (i + 1) strips))) ≡ length (joined_strips before) + length strip.items
+  pub end_of_strip : length (joined_strips (contents (take (i + 1) strips)))
+      ≡ length (joined_strips before) + length strip.items
   end_of_strip = ap length joined_more ∙ length-append (joined_strips before) strip.items
 
   pub within : length (joined_strips before) + length strip.items ≤ length (joined_strips (contents strips))
@@ -67,7 +81,8 @@ pub put_after : (now old part more : List ℕ) → now ≡ old ++ part → now +
 put_after now old part more is = ap (λ (l : List ℕ). l ++ more) is ∙ append_assoc old part more
 
 -- what stands after the strips, part by part
-pub tail_put : (t0 t1 t2 t3 t r f z x y a l : List ℕ) → t0 ≡ r → t1 ≡ t0 ++ f ++ z → t2 ≡ t1 ++ x → t3 ≡ t2 ++ y → t ≡ t3 ++ a ++ l
+pub tail_put : (t0 t1 t2 t3 t r f z x y a l : List ℕ) → t0 ≡ r → t1 ≡ t0 ++ f ++ z → t2 ≡ t1 ++ x → t3 ≡ t2 ++ y
+    → t ≡ t3 ++ a ++ l
     → t ≡ r ++ (f ++ z ++ (x ++ y ++ a ++ l))
 tail_put t0 t1 t2 t3 t r f z x y a l e0 e1 e2 e3 e = rw (e, e3, e2, e1, e0) (simp append_assoc)
 

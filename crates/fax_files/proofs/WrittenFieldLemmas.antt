@@ -1,10 +1,12 @@
 -- The fields of a written directory are read as they were written.
-use Rattle.std.proofs.Common.{◌≡◌, ℕ, ◌+◌, ◌*◌, ◌<◌, ◌≤◌, Bool, true, false, cond, List, [], ◌∷◌, ◌++◌, length, Ok, refl, ap, arith}
+use Rattle.std.proofs.Common.{◌≡◌, ℕ, ◌+◌, ◌*◌, ◌<◌, ◌≤◌, Bool, true, false, cond, List, [], ◌∷◌, ◌++◌, length, Ok}
+use Rattle.std.proofs.Common.{refl, ap, arith}
 use Rattle.std.proofs.lemmas.List.{length-append}
 use Rattle.std.proofs.lemmas.Bool.{le-leb, lt-ltb, ltb-true, eqb-true, and_parts}
 use Rattle.std.specs.List.{list_all}
 use Rattle.std.specs.Prelude.{◌&&◌, flat_map, Option, Some, nat_lt, find, ◌==◌}
-use Rattle.fax_files.specs.Directory.{Entry, FileFault, is_inside, entries_at, field, scalar, values_place, value_at, has_integers}
+use Rattle.fax_files.specs.Directory.{Entry, FileFault, is_inside, entries_at, field, scalar, values_place, value_at}
+use Rattle.fax_files.specs.Directory.{has_integers}
 use Rattle.fax_files.specs.code.Steps.{first_number, first_value, good_rational}
 use Rattle.fax_files.proofs.StepLemmas.{taken}
 use Rattle.fax_files.specs.code.Entries.{entry_at}
@@ -30,7 +32,8 @@ AllFit (written ∷ fields) = Fits written × AllFit fields
 -- the same by computing
 abbrev pub fits : WrittenField → Bool
 fits written =
-    nat_lt written.tag 65536 && (nat_lt written.kind 65536 && (nat_lt written.count 4294967296 && (length written.value == 4)))
+    nat_lt written.tag 65536 && (nat_lt written.kind 65536 && (nat_lt written.count 4294967296 &&
+    (length written.value == 4)))
 
 pub all_fit : (fields : List WrittenField) → list_all fits fields ≡ true → AllFit fields
 all_fit [] e = tt
@@ -39,7 +42,13 @@ all_fit (written ∷ fields) e =
     let tag = and_parts _ _ both.0 in
     let kind = and_parts _ _ tag.1 in
     let count = and_parts _ _ kind.1 in (
-      record { tag = ltb-true _ _ tag.0; kind = ltb-true _ _ kind.0; count = ltb-true _ _ count.0; value = eqb-true _ _ count.1 },
+      record {
+        tag = ltb-true _ _ tag.0;
+        kind = ltb-true _ _ kind.0;
+        count = ltb-true _ _ count.0;
+        value =
+            eqb-true _ _ count.1;
+      },
       all_fit
           fields both.1,
     )
@@ -63,7 +72,8 @@ unfolding field_bytes
 length-field_bytes written fits = grind arith
 
 -- fields take twelve bytes each
-pub length-fields : (fields : List WrittenField) → AllFit fields → length (flat_map field_bytes fields) ≡ 12 * length fields
+pub length-fields : (fields : List WrittenField) → AllFit fields
+    → length (flat_map field_bytes fields) ≡ 12 * length fields
 length-fields [] fit = refl
 length-fields (written ∷ fields) fit = grind (arith, length-append, length-field_bytes, length-fields fields)
 
@@ -75,7 +85,8 @@ entry_there file p written fits h =
     let tags = at_left (two written.tag ++ two written.kind) (four written.count) numbers in
     let tag = number_there 2 (at_left (two written.tag) (two written.kind) tags) fits.tag in
     let kind = number_there 2 (at_right (two written.tag) (two written.kind) tags) fits.kind in
-    let count = number_there 4 (at_right (two written.tag ++ two written.kind) (four written.count) numbers) fits.count in
+    let count = number_there 4 (at_right (two written.tag ++ two written.kind) (four written.count) numbers) fits.count
+    in
     rw (tag, kind, count) refl
 
 value_there : (file : List ℕ) (p : ℕ) (written : WrittenField) → HasBytesAt file p (field_bytes written)
@@ -84,7 +95,8 @@ unfolding field_bytes
 value_there file p written h = at_right (two written.tag ++ two written.kind ++ four written.count) written.value h
 
 -- what is read of fields that stand one after the other
-pub entries_there : (file : List ℕ) (p : ℕ) (fields : List WrittenField) → AllFit fields → HasBytesAt file p (flat_map field_bytes fields)
+pub entries_there : (file : List ℕ) (p : ℕ) (fields : List WrittenField) → AllFit fields
+    → HasBytesAt file p (flat_map field_bytes fields)
     → (entries_at Little file p (length fields) ≡ read_fields p fields) × HasValues file p fields
 unfolding entries_at
 entries_there file p [] fit h = (refl, tt)
@@ -96,16 +108,18 @@ entries_there file p (written ∷ fields) fit h =
     (rw (entry_there file p written fit.0 here, rest.0) refl, (value_there file p written here, rest.1))
 
 -- the first field of a tag, where it is read and where its value stands
-pub record FieldThere (file : List ℕ) (place tag : ℕ) (fields : List WrittenField) (written : WrittenField) : Type 0 where
-  pub at_entry : ℕ
-  pub entry_is : field (read_fields place fields) tag ≡ Some (read_field at_entry written)
-  pub value_is : HasBytesAt file (at_entry + 8) written.value
+pub record FieldThere (file : List ℕ) (place tag : ℕ) (fields : List WrittenField) (written : WrittenField) : Type 0
+  where
+    pub at_entry : ℕ
+    pub entry_is : field (read_fields place fields) tag ≡ Some (read_field at_entry written)
+    pub value_is : HasBytesAt file (at_entry + 8) written.value
 
 -- the first field of a tag
 abbrev pub written_field : List WrittenField → ℕ → Option WrittenField
 written_field fields tag = find (λ written. written.tag == tag) fields
 
-pub field_there : (file : List ℕ) (place tag : ℕ) (fields : List WrittenField) (written : WrittenField) → HasValues file place fields
+pub field_there : (file : List ℕ) (place tag : ℕ) (fields : List WrittenField) (written : WrittenField)
+    → HasValues file place fields
     → written_field fields tag ≡ Some written → FieldThere file place tag fields written
 field_there file place tag [] written values found = absurd cc
 field_there file place tag (first ∷ fields) written values found =
@@ -137,7 +151,8 @@ short_there file p tag n lt h =
     rw (inside, zero_on, number_there 2 short lt) refl
 
 -- a rational that a field points to
-pub rational_there : (file : List ℕ) (p tag place x y : ℕ) → place < 4294967296 → 1 ≤ x → x < 4294967296 → 1 ≤ y → y < 4294967296
+pub rational_there : (file : List ℕ) (p tag place x y : ℕ) → place < 4294967296 → 1 ≤ x → x < 4294967296 → 1 ≤ y
+    → y < 4294967296
     → HasBytesAt file p (four place) → HasBytesAt file place (four x ++ four y)
     → good_rational Little file (record { tag = tag; kind = Tags.RATIONAL; count = 1; place = p }) ≡ Some (x, y)
 unfolding values_place
@@ -151,7 +166,8 @@ rational_there file p tag place x y lt some_x x_lt some_y y_lt h there =
     rw (at, inside, top, bottom, top_above, bottom_above) refl
 
 -- So a field is read by its tag alone, wherever it stands.
-module _ (file : List ℕ) (place tag n : ℕ) (fields : List WrittenField) (values : HasValues file place fields) (absent : Option ℕ)
+module _ (file : List ℕ) (place tag n : ℕ) (fields : List WrittenField) (values : HasValues file place fields)
+    (absent : Option ℕ)
     (test : ℕ → Bool) (fault : ℕ → FileFault) (passes : test n ≡ true) where
   pub long_read : written_field fields tag ≡ Some (long_field tag 1 n) → n < 4294967296
       → scalar Little file (read_fields place fields) tag absent test fault ≡ Ok n
@@ -167,12 +183,14 @@ module _ (file : List ℕ) (place tag n : ℕ) (fields : List WrittenField) (val
       taken Little file (read_fields place fields) tag absent test fault n
       (rw (first_number, there.entry_is) (short_there file (there.at_entry + 8) tag n lt there.value_is)) passes
 
-pub rational_back : (file : List ℕ) (place tag at_value : ℕ) (value : ℕ × ℕ) (fields : List WrittenField) → HasValues file place fields
+pub rational_back : (file : List ℕ) (place tag at_value : ℕ) (value : ℕ × ℕ) (fields : List WrittenField)
+    → HasValues file place fields
     → written_field fields tag ≡ Some (rational_field tag at_value) → at_value < 4294967296 → IsGoodRational value
     → HasBytesAt file at_value (rational_bytes value)
     → rational_of Little file (read_fields place fields) tag ≡ Some value
 unfolding rational_of
 rational_back file place tag at_value value fields values found lt good stands =
     let there = field_there file place tag fields (rational_field tag at_value) values found in
-    rw (rational_of, there.entry_is) (rational_there file (there.at_entry + 8) tag at_value value.0 value.1 lt good.some_top good.top
+    rw (rational_of, there.entry_is) (rational_there file (there.at_entry + 8) tag at_value value.0 value.1 lt
+    good.some_top good.top
     good.some_bottom good.bottom there.value_is stands)

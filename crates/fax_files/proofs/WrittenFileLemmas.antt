@@ -1,5 +1,6 @@
 -- A written file is read as the pages that were written.
-use Rattle.std.proofs.Common.{rules, ◌≡◌, ℕ, ◌+◌, ◌%◌, ◌<◌, ◌≤◌, ◌≢◌, ◌⊎◌, inl, inr, true, false, List, [], ◌∷◌, ◌++◌, length, take, drop}
+use Rattle.std.proofs.Common.{rules, ◌≡◌, ℕ, ◌+◌, ◌%◌, ◌<◌, ◌≤◌, ◌≢◌, ◌⊎◌, inl, inr, true, false, List, [], ◌∷◌, ◌++◌}
+use Rattle.std.proofs.Common.{length, take, drop}
 use Rattle.std.proofs.Common.{None, Result, Ok, Err, refl, sym, ap, ◌∙◌, arith, ◌*◌}
 use Rattle.std.proofs.lemmas.List.{length-append, length-replicate}
 use Rattle.std.proofs.lemmas.Bool.{le-leb, ne_eqb}
@@ -8,22 +9,28 @@ use Rattle.std.specs.List.{All, AllZip, list_any}
 use Rattle.std.proofs.lemmas.List.Folds.{list_any_none}
 use Rattle.std.specs.Prelude.{◌==◌, replicate, codes, bytes_eq, nat_le, if◌then◌else◌}
 use Rattle.fax_files.specs.declared.FileFault.TheVariants as file_fault
-use Rattle.fax_files.specs.Directory.{is_inside, number_at, is_directory, next_offset, Endian, Little, Big, FileFault, header, IsChainFrom}
-use Rattle.fax_files.specs.Layout.{to_link, two, four, offsets_from, directory_place, page_bytes, Written, with_page, with_pages}
+use Rattle.fax_files.specs.Directory.{is_inside, number_at, is_directory, next_offset, Endian, Little, Big, FileFault}
+use Rattle.fax_files.specs.Directory.{header, IsChainFrom}
+use Rattle.fax_files.specs.Layout.{to_link, two, four, offsets_from, directory_place, page_bytes, Written, with_page}
+use Rattle.fax_files.specs.Layout.{with_pages}
 use Rattle.fax_files.specs.Layout.{WrittenPage, file_of, array_bytes}
 use Rattle.fax_files.specs.code.Parts.{to_x, to_offsets, lengths_of, fields_bytes, values_bytes, joined_strips}
 use Rattle.fax_files.specs.views.Writing.{empty_file}
 use Rattle.fax_files.specs.laws.Files.{IsWritable, AreWritable, IsReadAt, AppendedPagesAreRead, WrittenFilesAreRead}
-use Rattle.fax_files.proofs.PlaceLemmas.{HasBytesAt, at_place, at_left, at_right, at_inside, at_drop, at_start, at_slice, length-slice}
-use Rattle.fax_files.proofs.PlaceLemmas.{slice_there, at_end, at_grown, at_patch, at_before_patch, at_after_patch, length-patched}
+use Rattle.fax_files.proofs.PlaceLemmas.{HasBytesAt, at_place, at_left, at_right, at_inside, at_drop, at_start}
+use Rattle.fax_files.proofs.PlaceLemmas.{at_slice, length-slice}
+use Rattle.fax_files.proofs.PlaceLemmas.{slice_there, at_end, at_grown, at_patch, at_before_patch, at_after_patch}
+use Rattle.fax_files.proofs.PlaceLemmas.{length-patched}
 use Rattle.fax_files.proofs.PlaceLemmas.{number_there}
 use Rattle.fax_files.proofs.WrittenStripLemmas.{length-offsets_from, length-lengths_of, length-longs}
-use Rattle.fax_files.proofs.WrittenPageLemmas.{page_fields, IsPageAt, length-page_fields, page_back, directory_whole, next_there}
+use Rattle.fax_files.proofs.WrittenPageLemmas.{page_fields, IsPageAt, length-page_fields, page_back, directory_whole}
+use Rattle.fax_files.proofs.WrittenPageLemmas.{next_there}
 
 -- II is little-endian, MM is big-endian
 abbrev endian_of : List ℕ → Result Endian FileFault
 endian_of bytes =
-    if bytes_eq bytes (codes "II") then (Ok Little) else (if bytes_eq bytes (codes "MM") then (Ok Big) else (Err file_fault.ByteOrder))
+    if bytes_eq bytes (codes "II") then (Ok Little) else (if bytes_eq bytes (codes "MM") then (Ok Big) else
+    (Err file_fault.ByteOrder))
 
 -- a file whose last link is still 0
 abbrev pub HasOpenLink : Written → Type 0
@@ -53,7 +60,8 @@ record Appended (old new : Written) (total k : ℕ) (written : WrittenPage) : Ty
   kept : (p : ℕ) (bytes : List ℕ) → (p + length bytes ≤ old.link) ⊎ (old.link + 4 ≤ p) → HasBytesAt old.bytes p bytes
       → HasBytesAt new.bytes p bytes
 
-stays : (old : Written) (total k : ℕ) (written : WrittenPage) (p : ℕ) (bytes : List ℕ) → (p + length bytes ≤ old.link) ⊎ (old.link + 4 ≤ p)
+stays : (old : Written) (total k : ℕ) (written : WrittenPage) (p : ℕ) (bytes : List ℕ)
+    → (p + length bytes ≤ old.link) ⊎ (old.link + 4 ≤ p)
     → HasBytesAt old.bytes p bytes → HasBytesAt (with_written old total k written).bytes p bytes
 unfolding with_page
 stays old total k written p bytes (inl before) h = grind (arith, at_grown, at_before_patch)
@@ -64,7 +72,8 @@ linked : (old : Written) (total k : ℕ) (written : WrittenPage) → HasOpenLink
 unfolding with_page
 linked old total k written open' = grind (arith, at_grown, at_patch, at_inside)
 
-link_of : (old : Written) (total k : ℕ) (written : WrittenPage) → (with_written old total k written).link ≡ place_of old written + to_link
+link_of : (old : Written) (total k : ℕ) (written : WrittenPage)
+    → (with_written old total k written).link ≡ place_of old written + to_link
 unfolding with_page
 link_of old total k written = refl
 
@@ -96,21 +105,34 @@ is_appended old total k written open' w =
         strips = at_left strips pad (at_left (strips ++ pad) fields with_fields);
       };
       new_link = link_of old total k written;
-      is_open = at_place (zero_place ∙ sym (link_of old total k written)) (at_right (strips ++ pad ++ fields) (four 0) with_zero);
+      is_open = at_place (zero_place ∙ sym (link_of old total k written))
+          (at_right (strips ++ pad ++ fields) (four 0) with_zero);
       old_link = linked old total k written open';
       kept = stays old total k written;
     }
 
 -- how long a file with one more page is
-length-array : (numbers : List ℕ) → length (array_bytes numbers) ≡ (if nat_le (length numbers) 1 then 0 else 4 * length numbers)
+length-array : (numbers : List ℕ) → length (array_bytes numbers)
+    ≡ (if nat_le (length numbers) 1 then 0 else 4 * length numbers)
 length-array numbers = grind (arith, length-longs)
 
-pub length-with_page : (old : Written) (total k : ℕ) (written : WrittenPage) → old.link + 4 ≤ length old.bytes → IsWritable written
+pub length-with_page : (old : Written) (total k : ℕ) (written : WrittenPage) → old.link + 4 ≤ length old.bytes
+    → IsWritable written
     → length (with_written old total k written).bytes
-    ≡ place_of old written + to_offsets + 2 * (if nat_le (length written.strips) 1 then 0 else 4 * length written.strips)
+    ≡ place_of old written + to_offsets + 2 * (if nat_le (length written.strips) 1 then 0 else 4 * length
+    written.strips)
 unfolding with_page page_bytes
 length-with_page old total k written inside w =
-    grind (arith, length-replicate, length-array, length-offsets_from, length-lengths_of, length-append, length-patched, length-page_fields)
+    grind (
+      arith,
+      length-replicate,
+      length-array,
+      length-offsets_from,
+      length-lengths_of,
+      length-append,
+      length-patched,
+      length-page_fields,
+    )
 
 -- the law of one page appended
 pub appended_pages_are_read : AppendedPagesAreRead
@@ -138,34 +160,46 @@ appended_pages_are_read old total k written open' w short =
 
 -- a page after other pages is the last one that is appended
 pub with_pages-push : (old : Written) (total k : ℕ) (pages : List WrittenPage) (written : WrittenPage)
-    → with_pages old total k (pages ++ written ∷ []) ≡ with_written (with_pages old total k pages) total (k + length pages) written
+    → with_pages old total k (pages ++ written ∷ []) ≡ with_written (with_pages old total k pages) total
+    (k + length pages) written
 unfolding with_pages
 with_pages-push old total k [] written = ap (λ (n : ℕ). with_written old total n written) (omega arith)
-with_pages-push old total k (first ∷ pages) written = grind (arith, with_pages-push (with_written old total k first) total (k + 1) pages written)
+with_pages-push old total k (first ∷ pages) written = grind (
+  arith,
+  with_pages-push (with_written old total k first)
+      total (k + 1) pages written,
+)
 
 -- where the directories of pages that are appended stand
 abbrev pub offsets_of : Written → ℕ → ℕ → List WrittenPage → List ℕ
 offsets_of old total k [] = []
-offsets_of old total k (written ∷ pages) = place_of old written ∷ offsets_of (with_written old total k written) total (k + 1) pages
+offsets_of old total k (written ∷ pages) = place_of old written
+    ∷ offsets_of (with_written old total k written) total (k + 1) pages
 
 -- the file with them
 abbrev with_all : Written → ℕ → ℕ → List WrittenPage → List ℕ
 with_all old total k pages = (with_pages old total k pages).bytes
 
 -- what stood in a file stays, but for its link
-stays_through : (old : Written) (total k : ℕ) (pages : List WrittenPage) → HasOpenLink old → AreWritable pages → (p : ℕ) (bytes : List ℕ)
-    → (p + length bytes ≤ old.link) ⊎ (old.link + 4 ≤ p) → HasBytesAt old.bytes p bytes → HasBytesAt (with_all old total k pages) p bytes
+stays_through : (old : Written) (total k : ℕ) (pages : List WrittenPage) → HasOpenLink old → AreWritable pages
+    → (p : ℕ) (bytes : List ℕ)
+    → (p + length bytes ≤ old.link) ⊎ (old.link + 4 ≤ p) → HasBytesAt old.bytes p bytes
+    → HasBytesAt (with_all old total k pages) p bytes
 unfolding with_pages
 stays_through old total k [] open' w p bytes apart h = h
 stays_through old total k (written ∷ pages) open' w p bytes apart h =
     let one = is_appended old total k written open' w.0 in
-    let before : p + length bytes ≤ (with_written old total k written).link = omega (arith, one.new_link, at_inside bytes h) in
-    stays_through (with_written old total k written) total (k + 1) pages one.is_open w.1 p bytes (inl before) (one.kept p bytes apart h)
+    let before : p + length bytes ≤ (with_written old total k written).link =
+    omega (arith, one.new_link, at_inside bytes h) in
+    stays_through (with_written old total k written) total (k + 1) pages one.is_open w.1 p bytes (inl before)
+    (one.kept p bytes apart h)
 
 -- so does what was written of a page, whose link is after all but its values
-page_stays : (old : Written) (total k : ℕ) (written : WrittenPage) (pages : List WrittenPage) → HasOpenLink old → IsWritable written
+page_stays : (old : Written) (total k : ℕ) (written : WrittenPage) (pages : List WrittenPage) → HasOpenLink old
+    → IsWritable written
     → AreWritable pages
-    → IsPageAt (with_all (with_written old total k written) total (k + 1) pages) (place_of old written) (length old.bytes) total k written
+    → IsPageAt (with_all (with_written old total k written) total (k + 1) pages) (place_of old written)
+    (length old.bytes) total k written
 page_stays old total k written pages open' w rest =
     let one = is_appended old total k written open' w in
     let new = with_written old total k written in
@@ -176,7 +210,8 @@ page_stays old total k written pages open' w rest =
     record {
       fields = keep q fields (inl (omega (arith, one.new_link, fields_len))) one.page_is.fields;
       values = keep (q + to_x) _ (inr (omega (arith, one.new_link))) one.page_is.values;
-      strips = keep (length old.bytes) (joined_strips written.strips) (inl (omega (arith, one.new_link))) one.page_is.strips;
+      strips = keep (length old.bytes) (joined_strips written.strips) (inl (omega (arith, one.new_link)))
+          one.page_is.strips;
     }
 
 -- the file is read as these pages from its link on, after these directories
@@ -196,7 +231,8 @@ chain_through old total k (written ∷ pages) open' w small before below =
     let here = page_stays old total k written pages open' w.0 w.1 in
     let after = at_inside _ here.values in
     let link =
-    stays_through new total (k + 1) pages one.is_open w.1 old.link (four q) (inl (omega (arith, one.new_link, inside))) one.old_link in
+    stays_through new total (k + 1) pages one.is_open w.1 old.link (four q) (inl (omega (arith, one.new_link, inside)))
+    one.old_link in
     let due : number_at Little 4 file old.link ≡ q = number_there 4 link (omega (arith, after, small)) in
     let new_place : list_any (λ o. q == o) before ≡ false =
     list_any_none (λ o. q == o) before (All-weaker (λ o. o < length old.bytes) (λ o. (q == o) ≡ false)
@@ -207,7 +243,8 @@ chain_through old total k (written ∷ pages) open' w small before below =
     next_there file q (length old.bytes) total k written here ∙ ap (number_at Little 4 file) (sym one.new_link) in
     let longer : q < length new.bytes = omega (arith, at_inside (four 0) one.is_open, one.new_link) in
     let all_below : All (λ o. o < length new.bytes) (q ∷ before) =
-    All-cons (λ o. o < length new.bytes) q before longer (All-weaker (λ o. o < length old.bytes) (λ o. o < length new.bytes)
+    All-cons (λ o. o < length new.bytes) q before longer (All-weaker (λ o. o < length old.bytes)
+    (λ o. o < length new.bytes)
     (λ o lt. omega (arith, lt, longer)) before below) in
     let rest = chain_through new total (k + 1) pages one.is_open w.1 small (q ∷ before) all_below in
     rw (due, next) (refl, some, rw (new_place, whole) refl, rest)
@@ -228,12 +265,14 @@ pages_through old total k (written ∷ pages) open' w small =
     )
 
 -- a file that begins with II and 42 and has its first directory somewhere has a good header
-header_there : (file : List ℕ) → 8 ≤ length file → HasBytesAt file 0 (codes "II" ++ two 42) → (number_at Little 4 file 4 ≡ 0 → ⊥)
+header_there : (file : List ℕ) → 8 ≤ length file → HasBytesAt file 0 (codes "II" ++ two 42)
+    → (number_at Little 4 file 4 ≡ 0 → ⊥)
     → header file ≡ Ok (record { endian = Little; first = number_at Little 4 file 4 })
 unfolding header
 header_there file long h some =
     let whole : is_inside file 0 8 ≡ true = le-leb _ _ long in
-    let letters : endian_of (take 2 file) ≡ Ok Little = ap (λ (l : List ℕ). endian_of (take 2 l)) (at_drop (codes "II" ++ two 42) h) in
+    let letters : endian_of (take 2 file) ≡ Ok Little = ap (λ (l : List ℕ). endian_of (take 2 l))
+    (at_drop (codes "II" ++ two 42) h) in
     let magic : number_at Little 2 file 2 ≡ 42 = number_there 2 (at_right (codes "II") (two 42) h) (omega arith) in
     let first : (number_at Little 4 file 4 == 0) ≡ false = ne_eqb _ _ some in
     rw (whole, letters, magic, first) refl
@@ -270,6 +309,7 @@ written_files_are_read (written ∷ pages) some many w short =
       offsets = offsets_of empty_file total 0 (written ∷ pages);
       head_is = header_there file first.1 start first.0;
       little = refl;
-      chain = chain_through empty_file total 0 (written ∷ pages) open' w small [] (All-nil (λ o. o < length empty_file.bytes));
+      chain = chain_through empty_file total 0 (written ∷ pages) open' w small []
+          (All-nil (λ o. o < length empty_file.bytes));
       read = pages_through empty_file total 0 (written ∷ pages) open' w small;
     }

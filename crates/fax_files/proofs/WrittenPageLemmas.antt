@@ -1,5 +1,6 @@
 -- A page that stands written in a file is read as it was written.
-use Rattle.std.proofs.Common.{rules, ◌≡◌, ◌≢◌, ℕ, ◌+◌, ◌-◌, ◌*◌, ◌/◌, ◌%◌, ◌^◌, ◌<◌, ◌≤◌, Option, None, Bool, true, false, List, [], ◌∷◌}
+use Rattle.std.proofs.Common.{rules, ◌≡◌, ◌≢◌, ℕ, ◌+◌, ◌-◌, ◌*◌, ◌/◌, ◌%◌, ◌^◌, ◌<◌, ◌≤◌, Option, None, Bool, true}
+use Rattle.std.proofs.Common.{false, List, [], ◌∷◌}
 use Rattle.std.proofs.Common.{◌++◌, length, get_or, Some, Result, Ok, refl, sym, ap, ◌∙◌, arith}
 use Rattle.std.proofs.lemmas.List.{length-append}
 use Rattle.std.proofs.lemmas.Bool.{le-leb, lt-ltb}
@@ -16,27 +17,33 @@ use Rattle.fax_files.specs.declared.Endian.TheVariants.{Little}
 use Rattle.fax_files.specs.declared.PageForm.{PageForm}
 use Rattle.fax_files.specs.Page.{fill_order_of, form_in, is_between, most_pels, most_rows, page, strip_bytes}
 use Rattle.fax_files.specs.code.Steps.{resolution_in}
-use Rattle.fax_files.specs.Layout.{to_link, two, WrittenField, field_bytes, compression_of, options_field, offsets_from, array_bytes}
+use Rattle.fax_files.specs.Layout.{to_link, two, WrittenField, field_bytes, compression_of, options_field, offsets_from}
+use Rattle.fax_files.specs.Layout.{array_bytes}
 use Rattle.fax_files.specs.Layout.{WrittenPage}
-use Rattle.fax_files.specs.code.Parts.{field_count, to_x, to_y, to_offsets, long_field, short_field, lengths_of, rational_bytes, fields_of}
+use Rattle.fax_files.specs.code.Parts.{field_count, to_x, to_y, to_offsets, long_field, short_field, lengths_of}
+use Rattle.fax_files.specs.code.Parts.{rational_bytes, fields_of}
 use Rattle.fax_files.specs.code.Parts.{fields_bytes, values_bytes, joined_strips}
 use Rattle.fax_files.specs.laws.Files.{IsWritable, IsReadAt}
 use Rattle.fax_files.proofs.PlaceLemmas.{HasBytesAt, at_place, at_left, at_right, at_inside, number_there}
-use Rattle.fax_files.proofs.WrittenFieldLemmas.{AllFit, length-fields, read_fields, HasValues, written_field, entries_there}
+use Rattle.fax_files.proofs.WrittenFieldLemmas.{AllFit, length-fields, read_fields, HasValues, written_field}
+use Rattle.fax_files.proofs.WrittenFieldLemmas.{entries_there}
 use Rattle.fax_files.proofs.WrittenFieldLemmas.{long_read, short_read, rational_back}
-use Rattle.fax_files.proofs.WrittenStripLemmas.{ArrayThere, array_back, array_checked, array_is_longs, length-longs, length-offsets_from}
+use Rattle.fax_files.proofs.WrittenStripLemmas.{ArrayThere, array_back, array_checked, array_is_longs, length-longs}
+use Rattle.fax_files.proofs.WrittenStripLemmas.{length-offsets_from}
 use Rattle.fax_files.proofs.WrittenStripLemmas.{length-lengths_of, strip_there}
 use Rattle.fax_files.proofs.StepLemmas.{after_form, page_is, strip_is_placed}
 use Rattle.fax_files.specs.declared.tags.TheConstants as Tags
 
 -- the fields of page k of `total`, of which the strips begin at `start` and the directory stands at q
 abbrev pub page_fields : ℕ → ℕ → ℕ → ℕ → WrittenPage → List WrittenField
-page_fields q start total k written = fields_of q total k written.form (offsets_from start written.strips) (lengths_of written.strips)
+page_fields q start total k written = fields_of q total k written.form (offsets_from start written.strips)
+    (lengths_of written.strips)
 
 -- what stands in a file of a page that was written: all of it but the offset of the next directory
 pub record IsPageAt (file : List ℕ) (q start total k : ℕ) (written : WrittenPage) : Type 0 where
   pub fields : HasBytesAt file q (fields_bytes (page_fields q start total k written))
-  pub values : HasBytesAt file (q + to_x) (values_bytes written.form (offsets_from start written.strips) (lengths_of written.strips))
+  pub values : HasBytesAt file (q + to_x) (values_bytes written.form (offsets_from start written.strips)
+      (lengths_of written.strips))
   pub strips : HasBytesAt file start (joined_strips written.strips)
 
 -- the last two fields
@@ -54,7 +61,8 @@ options_number Mr false = 1
 options_number Mmr aligned = 0
 
 -- T4Options among fields, of which the one for options is the only one with its tag
-options_from : (coding : Coding) (aligned : Bool) (file : List ℕ) (place : ℕ) (fields : List WrittenField) → HasValues file place fields
+options_from : (coding : Coding) (aligned : Bool) (file : List ℕ) (place : ℕ) (fields : List WrittenField)
+    → HasValues file place fields
     → written_field fields Tags.T4_OPTIONS ≡ written_field (options_field coding aligned ∷ []) Tags.T4_OPTIONS
     → (if compression_of coding == 4 then (Ok 0)
     else (scalar Little file (read_fields place fields) Tags.T4_OPTIONS (Some 0) (λ _. true) BadField))
@@ -74,7 +82,8 @@ coding_back : (coding : Coding) (aligned : Bool)
     → (if compression_of coding == 4 then Mmr else (if options_number coding aligned % 2 == 1 then Mr else Mh)) ≡ coding
 coding_back coding aligned = grind arith
 
-aligned_back : (coding : Coding) (aligned : Bool) → (aligned ≡ true → coding ≢ Mmr) → (options_number coding aligned / 4 % 2 == 1) ≡ aligned
+aligned_back : (coding : Coding) (aligned : Bool) → (aligned ≡ true → coding ≢ Mmr)
+    → (options_number coding aligned / 4 % 2 == 1) ≡ aligned
 aligned_back coding aligned has_eols = grind arith
 
 -- which it is
@@ -103,14 +112,20 @@ order_known order = grind arith
 order_back : (order : FillOrder) → (if fill_order_of order == 2 then LsbFirst else MsbFirst) ≡ order
 order_back order = grind arith
 
-pub page_fits : (q start total k : ℕ) (written : WrittenPage) → IsWritable written → AllFit (page_fields q start total k written)
+pub page_fits : (q start total k : ℕ) (written : WrittenPage) → IsWritable written
+    → AllFit (page_fields q start total k written)
 page_fits q start total k written w = grind (arith, length-offsets_from, length-lengths_of)
 
 pub length-page_fields : (q start total k : ℕ) (written : WrittenPage) → IsWritable written
     → length (fields_bytes (page_fields q start total k written)) ≡ to_link
 length-page_fields q start total k written w =
     let fields = page_fields q start total k written in
-    omega (arith, length-append (two field_count) (flat_map field_bytes fields), length-fields fields (page_fits q start total k written w))
+    omega (
+      arith,
+      length-append (two field_count) (flat_map field_bytes fields),
+      length-fields fields
+          (page_fits q start total k written w),
+    )
 
 -- the number of entries
 count_there : (file : List ℕ) (q start total k : ℕ) (written : WrittenPage) → IsPageAt file q start total k written
@@ -152,144 +167,157 @@ pub record Standing (file : List ℕ) (q start total k : ℕ) (written : Written
   pub writable : IsWritable written
   pub here : IsPageAt file q start total k written
 
-module _ (file : List ℕ) (q start total k : ℕ) (written : WrittenPage) (known : Standing file q start total k written) where
-  -- its fields as they were written, and its entries as they are read
-  abbrev fields : List WrittenField
-  fields = page_fields q start total k written
+module _ (file : List ℕ) (q start total k : ℕ) (written : WrittenPage) (known : Standing file q start total k written)
+  where
+    -- its fields as they were written, and its entries as they are read
+    abbrev fields : List WrittenField
+    fields = page_fields q start total k written
 
-  abbrev entries_read : List Entry
-  entries_read = read_fields (q + 2) fields
+    abbrev entries_read : List Entry
+    entries_read = read_fields (q + 2) fields
 
-  what_is_read : (entries Little file q ≡ entries_read) × HasValues file (q + 2) fields
-  what_is_read =
-      let after = at_right (two field_count) (flat_map field_bytes fields) known.here.fields in
-      let read = entries_there file (q + 2) fields (page_fits q start total k written known.writable) after in
-      (rw (count_there file q start total k written known.here) read.0, read.1)
+    what_is_read : (entries Little file q ≡ entries_read) × HasValues file (q + 2) fields
+    what_is_read =
+        let after = at_right (two field_count) (flat_map field_bytes fields) known.here.fields in
+        let read = entries_there file (q + 2) fields (page_fits q start total k written known.writable) after in
+        (rw (count_there file q start total k written known.here) read.0, read.1)
 
-  values : HasValues file (q + 2) fields
-  values = what_is_read.1
+    values : HasValues file (q + 2) fields
+    values = what_is_read.1
 
-  abbrev long : (tag n : ℕ) (absent : Option ℕ) (test : ℕ → Bool) (fault : ℕ → FileFault) → test n ≡ true
-      → written_field fields tag ≡ Some (long_field tag 1 n) → n < 4294967296
-      → scalar Little file entries_read tag absent test fault ≡ Ok n
-  long tag n absent test fault passes = long_read file (q + 2) tag n fields values absent test fault passes
+    abbrev long : (tag n : ℕ) (absent : Option ℕ) (test : ℕ → Bool) (fault : ℕ → FileFault) → test n ≡ true
+        → written_field fields tag ≡ Some (long_field tag 1 n) → n < 4294967296
+        → scalar Little file entries_read tag absent test fault ≡ Ok n
+    long tag n absent test fault passes = long_read file (q + 2) tag n fields values absent test fault passes
 
-  abbrev short : (tag n : ℕ) (absent : Option ℕ) (test : ℕ → Bool) (fault : ℕ → FileFault) → test n ≡ true
-      → written_field fields tag ≡ Some (short_field tag n) → n < 65536
-      → scalar Little file entries_read tag absent test fault ≡ Ok n
-  short tag n absent test fault passes = short_read file (q + 2) tag n fields values absent test fault passes
+    abbrev short : (tag n : ℕ) (absent : Option ℕ) (test : ℕ → Bool) (fault : ℕ → FileFault) → test n ≡ true
+        → written_field fields tag ≡ Some (short_field tag n) → n < 65536
+        → scalar Little file entries_read tag absent test fault ≡ Ok n
+    short tag n absent test fault passes = short_read file (q + 2) tag n fields values absent test fault passes
 
-  between : (low high n : ℕ) → low ≤ n → n ≤ high → is_between low high n ≡ true
-  between low high n above below = grind arith
+    between : (low high n : ℕ) → low ≤ n → n ≤ high → is_between low high n ≡ true
+    between low high n above below = grind arith
 
-  parts : ValuesThere file q written.form (offsets_from start written.strips) (lengths_of written.strips)
-  parts = values_there file q written.form (offsets_from start written.strips) (lengths_of written.strips) known.here.values
+    parts : ValuesThere file q written.form (offsets_from start written.strips) (lengths_of written.strips)
+    parts = values_there file q written.form (offsets_from start written.strips) (lengths_of written.strips)
+        known.here.values
 
-  resolution_there : resolution_in Little file entries_read ≡ record { x = written.form.x; y = written.form.y; unit = written.form.unit }
-  resolution_there =
-      let w = known.writable in
-      let inside = at_inside (rational_bytes written.form.y) parts.y in
-      let x = rational_back file (q + 2) Tags.X_RESOLUTION (q + to_x) written.form.x fields values refl (omega (arith, inside, known.small))
-      w.limits.x parts.x in
-      let y = rational_back file (q + 2) Tags.Y_RESOLUTION (q + to_y) written.form.y fields values refl (omega (arith, inside, known.small))
-      w.limits.y parts.y in
-      let unit = short Tags.RESOLUTION_UNIT written.form.unit (Some 2) (is_between 1 3) Unsupported
-      (between 1 3 written.form.unit w.limits.some_unit w.limits.unit)
-      (unit_found written.form.coding written.form.aligned total k written.form) (omega (arith, w.limits.unit)) in
-      rw (x, y, unit) refl
+    resolution_there : resolution_in Little file entries_read ≡ record
+        { x = written.form.x; y = written.form.y; unit = written.form.unit }
+    resolution_there =
+        let w = known.writable in
+        let inside = at_inside (rational_bytes written.form.y) parts.y in
+        let x = rational_back file (q + 2) Tags.X_RESOLUTION (q + to_x) written.form.x fields values refl
+        (omega (arith, inside, known.small))
+        w.limits.x parts.x in
+        let y = rational_back file (q + 2) Tags.Y_RESOLUTION (q + to_y) written.form.y fields values refl
+        (omega (arith, inside, known.small))
+        w.limits.y parts.y in
+        let unit = short Tags.RESOLUTION_UNIT written.form.unit (Some 2) (is_between 1 3) Unsupported
+        (between 1 3 written.form.unit w.limits.some_unit w.limits.unit)
+        (unit_found written.form.coding written.form.aligned total k written.form) (omega (arith, w.limits.unit)) in
+        rw (x, y, unit) refl
 
-  offsets_there : ArrayThere file entries_read Tags.STRIP_OFFSETS (offsets_from start written.strips)
-  offsets_there =
-      let some = some_strips written known.writable in
-      array_back file (q + 2) Tags.STRIP_OFFSETS (q + to_offsets) (offsets_from start written.strips) fields values refl
-      (omega (arith, some, length-offsets_from start written.strips)) known.small (λ _. parts.offsets_there)
+    offsets_there : ArrayThere file entries_read Tags.STRIP_OFFSETS (offsets_from start written.strips)
+    offsets_there =
+        let some = some_strips written known.writable in
+        array_back file (q + 2) Tags.STRIP_OFFSETS (q + to_offsets) (offsets_from start written.strips) fields values
+        refl
+        (omega (arith, some, length-offsets_from start written.strips)) known.small (λ _. parts.offsets_there)
 
-  lengths_there : ArrayThere file entries_read Tags.STRIP_BYTE_COUNTS (lengths_of written.strips)
-  lengths_there =
-      let offsets = offsets_from start written.strips in
-      let lengths = lengths_of written.strips in
-      let offsets_len = length-offsets_from start written.strips in
-      let lengths_len = length-lengths_of written.strips in
-      let some = some_strips written known.writable in
-      let place : 2 ≤ length lengths → q + to_offsets + length (array_bytes offsets) ≡ q + to_offsets + 4 * length lengths =
-      λ many. omega (
-        arith,
-        many,
-        ap length (array_is_longs offsets (omega (arith, many, offsets_len, lengths_len))),
-        length-longs offsets,
-        offsets_len,
-        lengths_len,
-      ) in
-      array_back file (q + 2) Tags.STRIP_BYTE_COUNTS (q + to_offsets + 4 * length lengths) lengths fields values refl
-      (omega (arith, some, lengths_len)) known.small (λ many. at_place (place many) parts.lengths_there)
+    lengths_there : ArrayThere file entries_read Tags.STRIP_BYTE_COUNTS (lengths_of written.strips)
+    lengths_there =
+        let offsets = offsets_from start written.strips in
+        let lengths = lengths_of written.strips in
+        let offsets_len = length-offsets_from start written.strips in
+        let lengths_len = length-lengths_of written.strips in
+        let some = some_strips written known.writable in
+        let place : 2 ≤ length lengths → q + to_offsets + length (array_bytes offsets)
+        ≡ q + to_offsets + 4 * length lengths =
+        λ many. omega (
+          arith,
+          many,
+          ap length (array_is_longs offsets (omega (arith, many, offsets_len, lengths_len))),
+          length-longs offsets,
+          offsets_len,
+          lengths_len,
+        ) in
+        array_back file (q + 2) Tags.STRIP_BYTE_COUNTS (q + to_offsets + 4 * length lengths) lengths fields values refl
+        (omega (arith, some, lengths_len)) known.small (λ many. at_place (place many) parts.lengths_there)
 
-  -- so the page has the form that was written
-  fields_there : form_in Little file entries_read ≡ Ok written.form
-  unfolding form_in
-  fields_there =
-      let form = written.form in
-      let limits = known.writable.limits in
-      let width = long Tags.IMAGE_WIDTH form.width None (is_between 1 most_pels) OutOfLimits
-      (between 1 most_pels form.width limits.some_width limits.width) refl (omega (arith, limits.width)) in
-      let rows = long Tags.IMAGE_LENGTH form.rows None (is_between 1 most_rows) OutOfLimits
-      (between 1 most_rows form.rows limits.some_rows limits.rows) refl (omega (arith, limits.rows)) in
-      let bits = short Tags.BITS_PER_SAMPLE 1 (Some 1) (is_between 1 1) Unsupported refl refl (omega arith) in
-      let compression = short Tags.COMPRESSION (compression_of form.coding) None (is_between 3 4) Unsupported (compression_known form.coding)
-      refl (compression_small form.coding) in
-      let white = short Tags.PHOTOMETRIC_INTERPRETATION 0 None (is_between 0 1) Unsupported refl refl (omega arith) in
-      let order = short Tags.FILL_ORDER (fill_order_of form.order) (Some 1) (is_between 1 2) Unsupported (order_known form.order) refl
-      (order_small form.order) in
-      let samples = short Tags.SAMPLES_PER_PIXEL 1 (Some 1) (is_between 1 1) Unsupported refl refl (omega arith) in
-      let in_strip = long Tags.ROWS_PER_STRIP form.rows_per_strip (Some (2 ^ 32 - 1)) (nat_lt 0) BadField
-      (lt-ltb _ _ limits.some_rows_per_strip) refl (omega (arith, limits.rows_per_strip, limits.rows)) in
-      let options = options_from form.coding form.aligned file (q + 2) fields values
-      (options_found form.coding form.aligned total k form) in
-      let least : min form.rows_per_strip form.rows ≡ form.rows_per_strip = omega (arith, limits.rows_per_strip) in
-      rw (
-        width,
-        rows,
-        bits,
-        compression,
-        white,
-        order,
-        samples,
-        in_strip,
-        options,
-        resolution_there,
-        coding_back form.coding form.aligned,
-        aligned_back form.coding form.aligned limits.aligned,
-        order_back form.order,
-        least,
-        sym limits.strips,
-        sym known.writable.exchanged,
-      ) refl
+    -- so the page has the form that was written
+    fields_there : form_in Little file entries_read ≡ Ok written.form
+    unfolding form_in
+    fields_there =
+        let form = written.form in
+        let limits = known.writable.limits in
+        let width = long Tags.IMAGE_WIDTH form.width None (is_between 1 most_pels) OutOfLimits
+        (between 1 most_pels form.width limits.some_width limits.width) refl (omega (arith, limits.width)) in
+        let rows = long Tags.IMAGE_LENGTH form.rows None (is_between 1 most_rows) OutOfLimits
+        (between 1 most_rows form.rows limits.some_rows limits.rows) refl (omega (arith, limits.rows)) in
+        let bits = short Tags.BITS_PER_SAMPLE 1 (Some 1) (is_between 1 1) Unsupported refl refl (omega arith) in
+        let compression = short Tags.COMPRESSION (compression_of form.coding) None (is_between 3 4) Unsupported
+        (compression_known form.coding)
+        refl (compression_small form.coding) in
+        let white = short Tags.PHOTOMETRIC_INTERPRETATION 0 None (is_between 0 1) Unsupported refl refl (omega arith) in
+        let order = short Tags.FILL_ORDER (fill_order_of form.order) (Some 1) (is_between 1 2) Unsupported
+        (order_known form.order) refl
+        (order_small form.order) in
+        let samples = short Tags.SAMPLES_PER_PIXEL 1 (Some 1) (is_between 1 1) Unsupported refl refl (omega arith) in
+        let in_strip = long Tags.ROWS_PER_STRIP form.rows_per_strip (Some (2 ^ 32 - 1)) (nat_lt 0) BadField
+        (lt-ltb _ _ limits.some_rows_per_strip) refl (omega (arith, limits.rows_per_strip, limits.rows)) in
+        let options = options_from form.coding form.aligned file (q + 2) fields values
+        (options_found form.coding form.aligned total k form) in
+        let least : min form.rows_per_strip form.rows ≡ form.rows_per_strip = omega (arith, limits.rows_per_strip) in
+        rw (
+          width,
+          rows,
+          bits,
+          compression,
+          white,
+          order,
+          samples,
+          in_strip,
+          options,
+          resolution_there,
+          coding_back form.coding form.aligned,
+          aligned_back form.coding form.aligned limits.aligned,
+          order_back form.order,
+          least,
+          sym limits.strips,
+          sym known.writable.exchanged,
+        ) refl
 
-  form_there : page Little file q ≡ Ok written.form
-  form_there =
-      let w = known.writable in
-      let strips = written.form.strips in
-      let offsets = array_checked file entries_read Tags.STRIP_OFFSETS strips _ offsets_there
-      (sym w.strips ∙ sym (length-offsets_from start written.strips)) in
-      let lengths = array_checked file entries_read Tags.STRIP_BYTE_COUNTS strips _ lengths_there
-      (sym w.strips ∙ sym (length-lengths_of written.strips)) in
-      page_is Little file q ∙ rw (after_form, what_is_read.0, fields_there) (checked_on _ _ offsets ∙ checked_on _ _ lengths)
+    form_there : page Little file q ≡ Ok written.form
+    form_there =
+        let w = known.writable in
+        let strips = written.form.strips in
+        let offsets = array_checked file entries_read Tags.STRIP_OFFSETS strips _ offsets_there
+        (sym w.strips ∙ sym (length-offsets_from start written.strips)) in
+        let lengths = array_checked file entries_read Tags.STRIP_BYTE_COUNTS strips _ lengths_there
+        (sym w.strips ∙ sym (length-lengths_of written.strips)) in
+        page_is Little file q ∙ rw (after_form, what_is_read.0, fields_there)
+        (checked_on _ _ offsets ∙ checked_on _ _ lengths)
 
-  -- and each strip the bytes that were written
-  strip_back : (s : ℕ) → s < written.form.strips → strip_bytes Little file q s ≡ Some (get_or written.strips s [])
-  strip_back s lt =
-      strip_is_placed Little file q s ∙ rw what_is_read.0
-      (strip_there file start entries_read written.strips s (omega (arith, lt, known.writable.strips)) known.small known.here.strips
-      offsets_there lengths_there)
+    -- and each strip the bytes that were written
+    strip_back : (s : ℕ) → s < written.form.strips → strip_bytes Little file q s ≡ Some (get_or written.strips s [])
+    strip_back s lt =
+        strip_is_placed Little file q s ∙ rw what_is_read.0
+        (strip_there file start entries_read written.strips s (omega (arith, lt, known.writable.strips)) known.small
+        known.here.strips
+        offsets_there lengths_there)
 
-  -- a page that stands in a file is read as it was written
-  pub page_back : IsReadAt file q written
-  page_back = record { form = form_there; strips = strip_back }
+    -- a page that stands in a file is read as it was written
+    pub page_back : IsReadAt file q written
+    page_back = record { form = form_there; strips = strip_back }
 
 -- its directory is whole
-pub directory_whole : (file : List ℕ) (q start total k : ℕ) (written : WrittenPage) → IsPageAt file q start total k written
+pub directory_whole : (file : List ℕ) (q start total k : ℕ) (written : WrittenPage)
+    → IsPageAt file q start total k written
     → is_directory Little file q ≡ true
 directory_whole file q start total k written here =
-    let after = at_inside (values_bytes written.form (offsets_from start written.strips) (lengths_of written.strips)) here.values in
+    let after = at_inside (values_bytes written.form (offsets_from start written.strips) (lengths_of written.strips))
+    here.values in
     let count : is_inside file q 2 ≡ true = le-leb _ _ (omega (arith, after)) in
     let all : is_inside file q to_x ≡ true = le-leb _ _ (omega (arith, after)) in
     rw (count_there file q start total k written here, count, all) refl

@@ -1,6 +1,7 @@
 -- The strips of a written page are found by their offsets and byte counts.
 use Rattle.std.proofs.lemmas.Grind.{common_steps}
-use Rattle.std.proofs.Common.{◌≡◌, ℕ, zero, suc, ◌+◌, ◌*◌, ◌<◌, ◌≤◌, true, false, List, [], ◌∷◌, length, get_or, Some, refl, ap, arith}
+use Rattle.std.proofs.Common.{◌≡◌, ℕ, zero, suc, ◌+◌, ◌*◌, ◌<◌, ◌≤◌, true, false, List, [], ◌∷◌, length, get_or, Some}
+use Rattle.std.proofs.Common.{refl, ap, arith}
 use Rattle.std.proofs.lemmas.List.{length-append}
 use Rattle.std.proofs.lemmas.Bool.{lt-leb}
 use Rattle.std.specs.Prelude.{nat_le, IsOk}
@@ -19,7 +20,8 @@ longs_entry tag count place = record { tag = tag; kind = Tags.LONG; count = coun
 
 -- numbers stand where an entry has its values, in the entry or after the directory
 array_there : (file : List ℕ) (p tag place : ℕ) (numbers : List ℕ) → 1 ≤ length numbers → length file < 4294967296
-    → HasBytesAt file p (four (one_or_place numbers place)) → (2 ≤ length numbers → HasBytesAt file place (array_bytes numbers))
+    → HasBytesAt file p (four (one_or_place numbers place)) → (2 ≤ length numbers
+    → HasBytesAt file place (array_bytes numbers))
     → HasBytesAt file (values_place Little file (longs_entry tag (length numbers) p)) (longs numbers)
 unfolding values_place
 array_there file p tag place [] some small h there = absurd (omega arith)
@@ -52,12 +54,15 @@ pub record ArrayThere (file : List ℕ) (fields : List Entry) (tag : ℕ) (numbe
   pub stands : HasBytesAt file (values_place Little file (longs_entry tag (length numbers) at_entry)) (longs numbers)
 
 -- so does the entry of numbers that were written
-pub array_back : (file : List ℕ) (place tag at_value : ℕ) (numbers : List ℕ) (fields : List WrittenField) → HasValues file place fields
+pub array_back : (file : List ℕ) (place tag at_value : ℕ) (numbers : List ℕ) (fields : List WrittenField)
+    → HasValues file place fields
     → written_field fields tag ≡ Some (long_field tag (length numbers) (one_or_place numbers at_value))
-    → 1 ≤ length numbers → length file < 4294967296 → (2 ≤ length numbers → HasBytesAt file at_value (array_bytes numbers))
+    → 1 ≤ length numbers → length file < 4294967296 → (2 ≤ length numbers
+    → HasBytesAt file at_value (array_bytes numbers))
     → ArrayThere file (read_fields place fields) tag numbers
 array_back file place tag at_value numbers fields values found some small after =
-    let there = field_there file place tag fields (long_field tag (length numbers) (one_or_place numbers at_value)) values found in
+    let there = field_there file place tag fields (long_field tag (length numbers) (one_or_place numbers at_value))
+    values found in
     record {
       at_entry = there.at_entry + 8;
       entry_is = there.entry_is;
@@ -71,13 +76,15 @@ longs_inside : (file : List ℕ) (p tag : ℕ) (numbers : List ℕ)
 unfolding has_integers
 longs_inside file p tag numbers h = grind (arith, common_steps, length-longs)
 
-pub array_checked : (file : List ℕ) (fields : List Entry) (tag n : ℕ) (numbers : List ℕ) → ArrayThere file fields tag numbers
+pub array_checked : (file : List ℕ) (fields : List Entry) (tag n : ℕ) (numbers : List ℕ)
+    → ArrayThere file fields tag numbers
     → n ≡ length numbers
     → IsOk (strip_field Little file fields tag n)
 array_checked file fields tag n numbers array count = grind (arith, longs_inside)
 
 -- and each of them is read
-long_value : (file : List ℕ) (p tag : ℕ) (numbers : List ℕ) (i : ℕ) → i < length numbers → get_or numbers i 0 < 4294967296
+long_value : (file : List ℕ) (p tag : ℕ) (numbers : List ℕ) (i : ℕ) → i < length numbers
+    → get_or numbers i 0 < 4294967296
     → HasBytesAt file (values_place Little file (longs_entry tag (length numbers) p)) (longs numbers)
     → value_at Little file (longs_entry tag (length numbers) p) i ≡ get_or numbers i 0
 unfolding value_at
@@ -92,7 +99,8 @@ length-lengths_of [] = refl
 length-lengths_of (strip ∷ strips) = ap suc (length-lengths_of strips)
 
 -- each strip stands at its offset
-strip_at : (file : List ℕ) (start : ℕ) (strips : List (List ℕ)) (s : ℕ) → s < length strips → HasBytesAt file start (joined_strips strips)
+strip_at : (file : List ℕ) (start : ℕ) (strips : List (List ℕ)) (s : ℕ) → s < length strips
+    → HasBytesAt file start (joined_strips strips)
     → HasBytesAt file (get_or (offsets_from start strips) s 0) (get_or strips s [])
 strip_at file start [] s lt h = absurd (omega arith)
 strip_at file start (strip ∷ strips) zero lt h = at_left strip (joined_strips strips) h
@@ -108,15 +116,18 @@ strip_length (strip ∷ strips) (suc s) = strip_length strips s
 -- a strip is found by the entries of the offsets and of the byte counts
 pub strip_there : (file : List ℕ) (start : ℕ) (fields : List Entry) (strips : List (List ℕ)) (s : ℕ) → s < length strips
     → length file < 4294967296
-    → HasBytesAt file start (joined_strips strips) → ArrayThere file fields Tags.STRIP_OFFSETS (offsets_from start strips)
+    → HasBytesAt file start (joined_strips strips) → ArrayThere file fields Tags.STRIP_OFFSETS
+    (offsets_from start strips)
     → ArrayThere file fields Tags.STRIP_BYTE_COUNTS (lengths_of strips)
-    → placed_bytes Little file (field fields Tags.STRIP_OFFSETS) (field fields Tags.STRIP_BYTE_COUNTS) s ≡ Some (get_or strips s [])
+    → placed_bytes Little file (field fields Tags.STRIP_OFFSETS) (field fields Tags.STRIP_BYTE_COUNTS) s
+    ≡ Some (get_or strips s [])
 strip_there file start fields strips s lt small stand offsets lengths =
     let here = strip_at file start strips s lt stand in
     let inside = at_inside (get_or strips s []) here in
     let len = strip_length strips s in
     let offset = long_value file offsets.at_entry Tags.STRIP_OFFSETS (offsets_from start strips) s
     (omega (arith, lt, length-offsets_from start strips)) (omega (arith, inside, small)) offsets.stands in
-    let count = long_value file lengths.at_entry Tags.STRIP_BYTE_COUNTS (lengths_of strips) s (omega (arith, lt, length-lengths_of strips))
+    let count = long_value file lengths.at_entry Tags.STRIP_BYTE_COUNTS (lengths_of strips) s
+    (omega (arith, lt, length-lengths_of strips))
     (omega (arith, inside, small, len)) lengths.stands in
     rw (offsets.entry_is, lengths.entry_is, offset, count, len) (bytes_there (get_or strips s []) here)

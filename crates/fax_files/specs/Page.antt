@@ -69,7 +69,8 @@ form_in endian file fields = do
   _ ← scalar endian file fields Tags.BITS_PER_SAMPLE (Some 1) (is_between 1 1) Unsupported
   compression ← scalar endian file fields Tags.COMPRESSION None (is_between 3 4) Unsupported
   -- the value of a white pel: where it is 1, black is coded as white, and white as black
-  white ← scalar endian file fields Tags.PHOTOMETRIC_INTERPRETATION None (is_between 0 1) Unsupported
+  white ← scalar endian file fields Tags.PHOTOMETRIC_INTERPRETATION None (is_between 0 1)
+      Unsupported
   order ← scalar endian file fields Tags.FILL_ORDER (Some 1) (is_between 1 2) Unsupported
   _ ← scalar endian file fields Tags.SAMPLES_PER_PIXEL (Some 1) (is_between 1 1) Unsupported
   -- the rows of each strip but the last: more than the page's rows means all of these (ours)

@@ -15,7 +15,8 @@ pub start_is : (coding : Coding) (i : ℕ) (b : List Bool) (dimension : Dimensio
 start_is coding i b dimension codes eol = grind arith
 
 -- and a fault
-pub fault_is : (coding : Coding) (i : ℕ) (b : List Bool) (fault : StripFault) → IsStartFault coding i b fault → IsStart coding i b (Err fault)
+pub fault_is : (coding : Coding) (i : ℕ) (b : List Bool) (fault : StripFault) → IsStartFault coding i b fault
+    → IsStart coding i b (Err fault)
 fault_is coding i b fault none = grind arith
 
 abbrev begun : Dimension × List Bool → Result (Dimension × List Bool) StripFault
@@ -30,18 +31,29 @@ pub started : (coding : Coding) (i : ℕ) (b : List Bool) (dimension : Dimension
 started coding i b dimension codes same = grind arith
 
 -- and a fault
-pub start_fault : (coding : Coding) (i : ℕ) (b : List Bool) (fault : StripFault) → IsStart coding i b (Err fault) → IsStartFault coding i b fault
+pub start_fault : (coding : Coding) (i : ℕ) (b : List Bool) (fault : StripFault) → IsStart coding i b (Err fault)
+    → IsStartFault coding i b fault
 start_fault coding i b fault same = grind arith
 
 -- codes that stop
-pub stop_is : (dimension : Dimension) (width : ℕ) (reference : List Colour) (b : List Bool) (cause : RowFault) (fault : StripFault)
-    → IsStop b cause fault → IsRowFaultIn dimension width reference b cause → IsStopInCodes dimension width reference b fault
+pub stop_is : (dimension : Dimension) (width : ℕ) (reference : List Colour) (b : List Bool) (cause : RowFault)
+    (fault : StripFault)
+    → IsStop b cause fault → IsRowFaultIn dimension width reference b cause
+    → IsStopInCodes dimension width reference b fault
 stop_is dimension width reference b cause fault h in_codes = grind arith
 
 -- the cause in codes
-pub cause_in_codes : (form : StripForm) (i : ℕ) (reference : List Colour) (b : List Bool) (dimension : Dimension) (codes : List Bool)
+pub cause_in_codes : (form : StripForm) (i : ℕ) (reference : List Colour) (b : List Bool) (dimension : Dimension)
+    (codes : List Bool)
     (cause : RowFault) (fault : StripFault)
-    → IsStarted form.coding i b dimension codes → IsStop codes cause fault → IsRowFaultIn dimension form.width reference codes cause
+    → IsStarted form.coding i b dimension codes → IsStop codes cause fault
+    → IsRowFaultIn dimension form.width reference codes cause
     → IsCause form i reference b fault
 cause_in_codes form i reference b dimension codes cause fault start stop in_codes =
-    inr (dimension, codes, start_is form.coding i b dimension codes start, stop_is dimension form.width reference codes cause fault stop in_codes)
+    inr (
+      dimension,
+      codes,
+      start_is form.coding i b dimension codes start,
+      stop_is dimension form.width reference codes
+          cause fault stop in_codes,
+    )

@@ -17,7 +17,8 @@ use Rattle.fax_page.proofs.FollowingLaws.{cause_stays, eol_stays}
 use Rattle.fax_page.proofs.StartLemmas.{eleven_ahead, eleven_alone}
 
 -- an end mark stays
-return_eol_stays : (coding : Coding) (b rest more : List Bool) → IsReturnEol coding b rest → IsReturnEol coding (b ++ more) (rest ++ more)
+return_eol_stays : (coding : Coding) (b rest more : List Bool) → IsReturnEol coding b rest
+    → IsReturnEol coding (b ++ more) (rest ++ more)
 return_eol_stays Mh b rest more eol = eol_stays more b rest eol
 return_eol_stays Mr b rest more eol = eol_stays more b (true ∷ rest) eol
 return_eol_stays Mmr b rest more eol = eol
@@ -35,7 +36,8 @@ mark_stays Mmr b more mark =
     (mark.0 ++ more, ap (λ c. c ++ more) mark.1 ∙ append_assoc (end_bits Mmr) mark.0 more)
 
 -- it is in the way of the next row
-mark_is_cause : (form : StripForm) (i : ℕ) (reference : List Colour) (b : List Bool) (coding : Coding) → form.coding ≡ coding
+mark_is_cause : (form : StripForm) (i : ℕ) (reference : List Colour) (b : List Bool) (coding : Coding)
+    → form.coding ≡ coding
     → HasEndMark coding b → IsCause form i reference b EndMarker
 mark_is_cause form i reference b Mh is mark =
     let first = mark.1.0 in
@@ -46,12 +48,19 @@ mark_is_cause form i reference b Mr is mark =
     let first = mark.1.0 in
     let next = mark.1.2.1 in
     let marker = eleven_ahead first next.0 next.1 (true ∷ mark.1.2.0, next.2) in
-    inr (OneDimensional, first, rw is (inr (inr (inr (OneDimensional, first, mark.1.1, refl)))), inl (marker.0, marker.1, refl))
+    inr (
+      OneDimensional,
+      first,
+      rw is (inr (inr (inr (OneDimensional, first, mark.1.1, refl)))),
+      inl
+          (marker.0, marker.1, refl),
+    )
 mark_is_cause form i reference b Mmr is mark =
     inr (TwoDimensional, b, rw is refl, inl (true ∷ end_of_line ++ mark.0, mark.1, refl))
 
 -- and zeros alone are, or are where the data end
-zeros_are_cause : (form : StripForm) (i : ℕ) (reference : List Colour) (b : List Bool) (coding : Coding) → form.coding ≡ coding → IsAllZeros b
+zeros_are_cause : (form : StripForm) (i : ℕ) (reference : List Colour) (b : List Bool) (coding : Coding)
+    → form.coding ≡ coding → IsAllZeros b
     → IsCause form i reference b DataEnds ⊎ IsCause form i reference b EndMarker
 zeros_are_cause form i reference b Mh is all = inl (inl (rw is (inl (all, refl))))
 zeros_are_cause form i reference b Mr is all = inl (inl (rw is (inl (all, refl))))
@@ -65,8 +74,10 @@ zeros_are_cause form i reference b Mmr is all =
     ]
 
 module _ (reads : (form : StripForm) (i : ℕ) (reference : List Colour) → ReadsLinesOneWay form i reference) where
-  fault_stays : (form : StripForm) (i row : ℕ) (reference : List Colour) (left more : List Bool) (fault : StripFault) → fault ≢ DataEnds
-      → fault ≢ EndMarker → IsCause form i reference left fault → EndsSo form.coding row (left ++ more) (Some fault) (Fault fault)
+  fault_stays : (form : StripForm) (i row : ℕ) (reference : List Colour) (left more : List Bool) (fault : StripFault)
+      → fault ≢ DataEnds
+      → fault ≢ EndMarker → IsCause form i reference left fault
+      → EndsSo form.coding row (left ++ more) (Some fault) (Fault fault)
   fault_stays form i row reference left more fault no_end no_marker cause =
       let b = left ++ more in
       let now = cause_stays more form i reference left fault no_end cause in

@@ -1,6 +1,8 @@
 -- What stands after the last row of a strip.
-use Rattle.std.proofs.Common.{◌≡◌, ◌≢◌, ℕ, zero, suc, ◌+◌, ◌<◌, ◌⊎◌, ◌↔◌, List, [], ◌∷◌, ◌++◌, length, replicate, get_or, Bool, true, false, ◌-◌}
-use Rattle.std.proofs.Common.{IsTrue, Option, Some, None, MatchOption, not, is_some, refl, ap, sym, ◌∙◌, subst, arith, inl, inr}
+use Rattle.std.proofs.Common.{◌≡◌, ◌≢◌, ℕ, zero, suc, ◌+◌, ◌<◌, ◌⊎◌, ◌↔◌, List, [], ◌∷◌, ◌++◌, length, replicate}
+use Rattle.std.proofs.Common.{get_or, Bool, true, false, ◌-◌}
+use Rattle.std.proofs.Common.{IsTrue, Option, Some, None, MatchOption, not, is_some, refl, ap, sym, ◌∙◌, subst, arith}
+use Rattle.std.proofs.Common.{inl, inr}
 use Rattle.std.specs.List.{Contains}
 use Rattle.std.proofs.lemmas.List.Elements.{Contains-append_right}
 use Rattle.fax_bits.specs.Bits.{IsAllZeros, code_bits, BeginsWith}
@@ -38,7 +40,8 @@ pub eol_taken : (b rest : List Bool) → HasEol false b rest → IsEndOfLine b r
 eol_taken b rest h = grind arith
 
 -- an EOL of a return to control is taken in one way
-pub same_return_eol : (coding : Coding) (b rest remaining : List Bool) → IsReturnEol coding b rest → IsReturnEol coding b remaining
+pub same_return_eol : (coding : Coding) (b rest remaining : List Bool) → IsReturnEol coding b rest
+    → IsReturnEol coding b remaining
     → rest ≡ remaining
 same_return_eol Mh b rest remaining first second = same_eol b rest remaining first second
 same_return_eol Mr b rest remaining first second =
@@ -62,7 +65,8 @@ module _ (coding : Coding) (b : List Bool) where
           subst (λ c. AreReturnEols coding n c after) (same_return_eol coding ahead found.0 rest found.1 eol) found.2;
     }
 
-    pub one_missing : i < 6 → ((after : List Bool) → IsReturnEol coding ahead after → ⊥) → (rest : List Bool) → Stand rest 6 → ⊥
+    pub one_missing : i < 6 → ((after : List Bool) → IsReturnEol coding ahead after → ⊥) → (rest : List Bool)
+        → Stand rest 6 → ⊥
     one_missing due none rest eols =
         let count : 6 ≡ i + suc (5 - i) = omega arith in
         let found = taken.back (suc (5 - i)) rest (subst (Stand rest) count eols) in
@@ -109,7 +113,8 @@ not_mmr coding (inl is) other = cc
 not_mmr coding (inr is) other = cc
 
 -- the notes by them: in MH and MR
-pub notes_of_eols : (coding : Coding) (left : List Bool) (ended more other : Bool) → IsMhOrMr coding → IsEndFound coding left ended more
+pub notes_of_eols : (coding : Coding) (left : List Bool) (ended more other : Bool) → IsMhOrMr coding
+    → IsEndFound coding left ended more
     → AreNotesAfter coding left other (record {
       no_end_of_block = false;
       return_to_control = ended;
@@ -120,7 +125,8 @@ pub notes_of_eols : (coding : Coding) (left : List Bool) (ended more other : Boo
 notes_of_eols coding left ended more other either found = grind arith
 
 -- and in MMR
-pub notes_of_block : (coding : Coding) (left : List Bool) (ended more other : Bool) → coding ≡ Mmr → IsEndFound coding left ended more
+pub notes_of_block : (coding : Coding) (left : List Bool) (ended more other : Bool) → coding ≡ Mmr
+    → IsEndFound coding left ended more
     → AreNotesAfter coding left other (record {
       no_end_of_block = not ended;
       return_to_control = false;
@@ -131,7 +137,8 @@ pub notes_of_block : (coding : Coding) (left : List Bool) (ended more other : Bo
 notes_of_block coding left ended more other is_mmr found = grind arith
 
 -- a return to control is the end mark of MH and MR
-pub eols_end : (coding : Coding) (b : List Bool) (found : Option Source) → IsMhOrMr coding → IsAfterMark (AreReturnEols coding 6 b) found
+pub eols_end : (coding : Coding) (b : List Bool) (found : Option Source) → IsMhOrMr coding
+    → IsAfterMark (AreReturnEols coding 6 b) found
     → IsAfterMark (IsEndMark coding b) found
 eols_end Mh b found either after = after
 eols_end Mr b found either after = after
@@ -142,17 +149,20 @@ pub block_bits : code_bits 24 4097 ≡ end_bits Mmr
 unfolding code_bits
 block_bits = refl
 
-pub block_end : (coding : Coding) (b rest : List Bool) → coding ≡ Mmr → b ≡ code_bits 24 4097 ++ rest → IsEndMark coding b rest
+pub block_end : (coding : Coding) (b rest : List Bool) → coding ≡ Mmr → b ≡ code_bits 24 4097 ++ rest
+    → IsEndMark coding b rest
 block_end coding b rest is taken = grind (arith, block_bits)
 
-pub no_block_end : (coding : Coding) (b rest : List Bool) → coding ≡ Mmr → (BeginsWith b (code_bits 24 4097) → ⊥) → IsEndMark coding b rest
+pub no_block_end : (coding : Coding) (b rest : List Bool) → coding ≡ Mmr → (BeginsWith b (code_bits 24 4097) → ⊥)
+    → IsEndMark coding b rest
     → ⊥
 no_block_end coding b rest is none mark =
     let block = subst (λ c. IsEndMark c b rest) is mark in
     none (rest, block ∙ ap (λ front. front ++ rest) (sym block_bits))
 
 -- an EOL and a bit after it, as the program takes them
-pub no_return_eol : (coding : Coding) (b rest : List Bool) (fault : StripFault) → HasNoEol false b fault → IsReturnEol coding b rest → ⊥
+pub no_return_eol : (coding : Coding) (b rest : List Bool) (fault : StripFault) → HasNoEol false b fault
+    → IsReturnEol coding b rest → ⊥
 no_return_eol Mh b rest fault none eol = no_eol b rest fault none eol
 no_return_eol Mr b rest fault none eol = no_eol b (true ∷ rest) fault none eol
 no_return_eol Mmr b rest fault none eol = eol
@@ -161,9 +171,14 @@ one_bit : code_bits 1 1 ≡ true ∷ []
 unfolding code_bits
 one_bit = refl
 
-pub tag_taken : (coding : Coding) (b after : List Bool) (result : Bool) (rest : List Bool) → coding ≡ Mr → HasEol false b after
+pub tag_taken : (coding : Coding) (b after : List Bool) (result : Bool) (rest : List Bool) → coding ≡ Mr
+    → HasEol false b after
     → IsTaken (code_bits 1 1) after result rest → TakesReturnEol coding b result rest
 tag_taken coding b after true rest is eol taken = grind (arith, one_bit)
 tag_taken coding b after false rest is eol taken = λ more return_eol.
     let found = subst (λ c. IsReturnEol c b more) is return_eol in
-    taken.1 (more, same_eol b after (true ∷ more) (eol_taken b after eol) found ∙ ap (λ front. front ++ more) (sym one_bit))
+    taken.1 (
+      more,
+      same_eol b after (true ∷ more) (eol_taken b after eol) found
+          ∙ ap (λ front. front ++ more) (sym one_bit),
+    )

@@ -1,5 +1,6 @@
 -- Fill before an EOL.
-use Rattle.std.proofs.Common.{◌≡◌, ℕ, zero, suc, ◌+◌, ◌<◌, ◌^◌, List, ◌∷◌, ◌++◌, length, replicate, Bool, true, false, nat_eq, sym, ap}
+use Rattle.std.proofs.Common.{◌≡◌, ℕ, zero, suc, ◌+◌, ◌<◌, ◌^◌, List, ◌∷◌, ◌++◌, length, replicate, Bool, true, false}
+use Rattle.std.proofs.Common.{nat_eq, sym, ap}
 use Rattle.std.proofs.Common.{◌∙◌, arith, append_assoc}
 use Rattle.std.proofs.Math.Nat.{pow-le-pow_right}
 use Rattle.std.proofs.lemmas.Nat.Bits.{bit_at_above}
@@ -36,8 +37,10 @@ end_of_line_back n tail codes more =
     (n + 11, omega arith, parts ∙ zeros)
 
 -- bits that a number spells are put after fill
-pub put_after_fill : (old new : Sink) (aligned : Bool) (place fill len number : ℕ) (start : List Bool) → place ≡ length old.bits
+pub put_after_fill : (old new : Sink) (aligned : Bool) (place fill len number : ℕ) (start : List Bool)
+    → place ≡ length old.bits
     → fill ≡ fill_zeros aligned place → number < 2 ^ len → code_bits len number ≡ start
     → Appends old (code_bits (len + fill) number) new
     → Appends old (replicate (fill_zeros aligned (length old.bits)) false ++ start) new
-put_after_fill old new aligned place fill len number start here is fits spells put = grind (arith, code_bits-after_zeros)
+put_after_fill old new aligned place fill len number start here is fits spells put =
+    grind (arith, code_bits-after_zeros)

@@ -1,5 +1,6 @@
 -- The codes of a row begin with fewer than eleven zeros and a 1.
-use Rattle.std.proofs.Common.{◌≡◌, ℕ, zero, suc, ◌<◌, List, [], ◌∷◌, ◌++◌, length, get_or, map, Bool, true, false, refl, ap, sym, subst}
+use Rattle.std.proofs.Common.{◌≡◌, ℕ, zero, suc, ◌<◌, List, [], ◌∷◌, ◌++◌, length, get_or, map, Bool, true, false, refl}
+use Rattle.std.proofs.Common.{ap, sym, subst}
 use Rattle.std.proofs.Common.{arith, Some}
 use Rattle.std.specs.Prelude.{◌&&◌}
 use Rattle.fax_bits.specs.declared.codes.CodeEntry.{CodeEntry}
@@ -23,7 +24,8 @@ has_one (suc n) [] = false
 has_one (suc n) (true ∷ b) = true
 has_one (suc n) (false ∷ b) = has_one n b
 
-ahead_of : (n : ℕ) (b more : List Bool) → has_one n b ≡ true → (zeros : ℕ) × (zeros < n) × HasZerosAhead (b ++ more) zeros
+ahead_of : (n : ℕ) (b more : List Bool) → has_one n b ≡ true
+    → (zeros : ℕ) × (zeros < n) × HasZerosAhead (b ++ more) zeros
 ahead_of zero b more h = cc
 ahead_of (suc n) [] more h = cc
 ahead_of (suc n) (true ∷ b) more h = (0, omega arith, (b ++ more, refl))
@@ -39,7 +41,8 @@ all_have_one (entry ∷ table) = has_one 11 (bits_of entry) && all_have_one tabl
 both : (a b : Bool) → (a && b) ≡ true → (a ≡ true) × (b ≡ true)
 both a b h = grind arith
 
-one_at : {M : Type 0} (table : List (CodeEntry M)) (i : ℕ) (entry : CodeEntry M) → all_have_one table ≡ true → i < length table
+one_at : {M : Type 0} (table : List (CodeEntry M)) (i : ℕ) (entry : CodeEntry M) → all_have_one table ≡ true
+    → i < length table
     → get_or table i entry ≡ entry → has_one 11 (bits_of entry) ≡ true
 one_at [] i entry all within is = absurd (omega arith)
 one_at (first ∷ table) zero entry all within is = grind arith
@@ -55,7 +58,8 @@ unfolding code_bits modes
 all_have_one-modes = refl
 
 -- bits of which a code is taken
-taken_begins : {M : Type 0} (table : List (CodeEntry M)) (b : List Bool) (meaning : M) (rest : List Bool) → all_have_one table ≡ true
+taken_begins : {M : Type 0} (table : List (CodeEntry M)) (b : List Bool) (meaning : M) (rest : List Bool)
+    → all_have_one table ≡ true
     → Takes table b meaning rest → BeginsBelowEleven b
 taken_begins table b meaning rest all taken =
     subst BeginsBelowEleven (sym taken.spelled)
@@ -64,10 +68,13 @@ taken_begins table b meaning rest all taken =
 run_begins : (make_up : List ℕ) (last : ℕ) (b rest : List Bool)
     → Spells (run_table White) b (map MakeUp make_up ++ Terminating last ∷ []) rest
     → BeginsBelowEleven b
-run_begins [] last b rest spelled = taken_begins (run_table White) b (Terminating last) spelled.0 all_have_one-white spelled.1
-run_begins (n ∷ make_up) last b rest spelled = taken_begins (run_table White) b (MakeUp n) spelled.0 all_have_one-white spelled.1
+run_begins [] last b rest spelled = taken_begins (run_table White) b (Terminating last) spelled.0 all_have_one-white
+    spelled.1
+run_begins (n ∷ make_up) last b rest spelled = taken_begins (run_table White) b (MakeUp n) spelled.0 all_have_one-white
+    spelled.1
 
-runs_begin : (width : ℕ) (runs : List ℕ) (b rest : List Bool) → 0 < width → AreRuns width White 0 b runs rest → BeginsBelowEleven b
+runs_begin : (width : ℕ) (runs : List ℕ) (b rest : List Bool) → 0 < width → AreRuns width White 0 b runs rest
+    → BeginsBelowEleven b
 runs_begin width [] b rest some coded = absurd (omega (arith, coded.0, some))
 runs_begin width (n ∷ runs) b rest some coded = run_begins coded.2.make_up coded.2.last b coded.1 coded.2.spelled
 
@@ -78,13 +85,15 @@ steps_begin reference b (next ∷ positions) last rest steps ends =
     taken_begins modes b steps.2.mode steps.2.after all_have_one-modes steps.2.taken
 
 -- the codes of a row of at least one pel
-pub row_begins : (dimension : Dimension) (width : ℕ) (reference : List Colour) (b : List Bool) (row : List Colour) (rest : List Bool)
+pub row_begins : (dimension : Dimension) (width : ℕ) (reference : List Colour) (b : List Bool) (row : List Colour)
+    (rest : List Bool)
     → 0 < width
     → IsRowIn dimension width reference b row rest → BeginsBelowEleven b
 row_begins dimension width reference b row rest some is = grind (arith, runs_begin, steps_begin)
 
 -- a row whose codes are read after what stands before them
-unfoldable pub line_begun : (form : StripForm) (i : ℕ) (reference row : List Colour) (b codes rest : List Bool) (dimension : Dimension)
+unfoldable pub line_begun : (form : StripForm) (i : ℕ) (reference row : List Colour) (b codes rest : List Bool)
+    (dimension : Dimension)
     → 0 < form.width → IsStarted form.coding i b dimension codes → IsRowIn dimension form.width reference codes row rest
     → IsLine form i reference b row rest
 line_begun form i reference row b codes rest dimension some start read = record {

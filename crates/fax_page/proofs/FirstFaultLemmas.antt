@@ -22,7 +22,8 @@ pub marker_there : (b after : List Bool) → b ≡ code_bits 11 0 ++ after → I
 marker_there b after is = inl (after, is ∙ ap (λ front. front ++ after) eleven, refl)
 
 -- they do not, and there is a 1
-pub few_ahead : (b : List Bool) (zeros : ℕ) → (BeginsWith b (code_bits 11 0) → ⊥) → HasZerosAhead b zeros → BeginsBelowEleven b
+pub few_ahead : (b : List Bool) (zeros : ℕ) → (BeginsWith b (code_bits 11 0) → ⊥) → HasZerosAhead b zeros
+    → BeginsBelowEleven b
 few_ahead b zeros none ahead =
     elim (cases_lt zeros 11) [
       | inl few ↦ (zeros, few, ahead)

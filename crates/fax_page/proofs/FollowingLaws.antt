@@ -1,5 +1,6 @@
 -- What is read of bits stays, whatever follows them.
-use Rattle.std.proofs.Common.{◌≡◌, ◌≢◌, ℕ, ◌+◌, List, [], ◌∷◌, ◌++◌, length, replicate, Bool, true, false, refl, ap, sym, ◌∙◌}
+use Rattle.std.proofs.Common.{◌≡◌, ◌≢◌, ℕ, ◌+◌, List, [], ◌∷◌, ◌++◌, length, replicate, Bool, true, false, refl, ap}
+use Rattle.std.proofs.Common.{sym, ◌∙◌}
 use Rattle.std.proofs.Common.{subst, arith, append_assoc, inl, inr, Some, None}
 use Rattle.std.specs.Prelude.{◌⊎◌}
 use Rattle.fax_bits.specs.declared.codes.CodeEntry.{CodeEntry}
@@ -22,7 +23,8 @@ use Rattle.fax_page.specs.declared.Coding.TheVariants.{Mh, Mr, Mmr}
 use Rattle.fax_page.specs.declared.StripForm.{StripForm}
 use Rattle.fax_page.specs.declared.StripFault.{StripFault}
 use Rattle.fax_page.specs.declared.StripFault.TheVariants.{DataEnds}
-use Rattle.fax_page.specs.Lines.{tag_bit, BeginsBelowEleven, IsEndOfLine, IsRowIn, IsLine, IsCause, IsRowFaultIn, IsStopInCodes, strip_fault}
+use Rattle.fax_page.specs.Lines.{tag_bit, BeginsBelowEleven, IsEndOfLine, IsRowIn, IsLine, IsCause, IsRowFaultIn}
+use Rattle.fax_page.specs.Lines.{IsStopInCodes, strip_fault}
 use Rattle.fax_page.specs.Strip.{AreLines}
 use Rattle.fax_page.specs.code.Starts.{IsStarted, IsStartFault}
 use Rattle.fax_page.specs.laws.Following.{ReadsInPieces, StaysWhateverFollows}
@@ -45,7 +47,8 @@ module _ (more : List Bool) where
   abbrev with_more : List Bool → List Bool
   with_more b = b ++ more
 
-  taken_stays : {M : Type 0} (table : List (CodeEntry M)) (b : List Bool) (meaning : M) (rest : List Bool) → Takes table b meaning rest
+  taken_stays : {M : Type 0} (table : List (CodeEntry M)) (b : List Bool) (meaning : M) (rest : List Bool)
+      → Takes table b meaning rest
       → Takes table (b ++ more) meaning (rest ++ more)
   taken_stays table b meaning rest taken = record {
     entry = taken.entry;
@@ -54,13 +57,19 @@ module _ (more : List Bool) where
     spelled = ap with_more taken.spelled ∙ append_assoc (bits_of taken.entry) rest more;
   }
 
-  spelled_stays : {M : Type 0} (table : List (CodeEntry M)) (meanings : List M) (b rest : List Bool) → Spells table b meanings rest
+  spelled_stays : {M : Type 0} (table : List (CodeEntry M)) (meanings : List M) (b rest : List Bool)
+      → Spells table b meanings rest
       → Spells table (b ++ more) meanings (rest ++ more)
   spelled_stays table [] b rest spelled = ap with_more spelled
-  spelled_stays table (meaning ∷ meanings) b rest spelled =
-      (spelled.0 ++ more, taken_stays table b meaning spelled.0 spelled.1, spelled_stays table meanings spelled.0 rest spelled.2)
+  spelled_stays table (meaning ∷ meanings) b rest spelled = (
+    spelled.0 ++ more,
+    taken_stays table b meaning spelled.0 spelled.1,
+    spelled_stays table meanings spelled.0 rest
+        spelled.2,
+  )
 
-  run_stays : (colour : Colour) (b : List Bool) (n : ℕ) (rest : List Bool) → IsRun colour b n rest → IsRun colour (b ++ more) n (rest ++ more)
+  run_stays : (colour : Colour) (b : List Bool) (n : ℕ) (rest : List Bool) → IsRun colour b n rest
+      → IsRun colour (b ++ more) n (rest ++ more)
   run_stays colour b n rest run = record {
     make_up = run.make_up;
     last = run.last;
@@ -68,7 +77,8 @@ module _ (more : List Bool) where
     length = run.length;
   }
 
-  runs_stay : (width : ℕ) (colour : Colour) (from : ℕ) (runs : List ℕ) (b rest : List Bool) → AreRuns width colour from b runs rest
+  runs_stay : (width : ℕ) (colour : Colour) (from : ℕ) (runs : List ℕ) (b rest : List Bool)
+      → AreRuns width colour from b runs rest
       → AreRuns width colour from (b ++ more) runs (rest ++ more)
   runs_stay width colour from [] b rest coded = (coded.0, ap with_more coded.1)
   runs_stay width colour from (n ∷ runs) b rest coded = (
@@ -78,7 +88,8 @@ module _ (more : List Bool) where
     runs_stay width (other colour) (from + n) runs coded.1 rest coded.3,
   )
 
-  step_stays : (mode : ModeCode) (reference : List Colour) (old : Position) (b : List Bool) (new : Position) (rest : List Bool)
+  step_stays : (mode : ModeCode) (reference : List Colour) (old : Position) (b : List Bool) (new : Position)
+      (rest : List Bool)
       → IsStepBy mode reference old b new rest → IsStepBy mode reference old (b ++ more) new (rest ++ more)
   step_stays Pass reference old b new rest step = (step.0, ap with_more step.1)
   step_stays (Vertical d) reference old b new rest step = (step.0, ap with_more step.1)
@@ -93,7 +104,8 @@ module _ (more : List Bool) where
   }
   step_stays Extension reference old b new rest step = absurd step
 
-  steps_stay : (reference : List Colour) (old : Position) (positions : List Position) (b : List Bool) (new : Position) (rest : List Bool)
+  steps_stay : (reference : List Colour) (old : Position) (positions : List Position) (b : List Bool) (new : Position)
+      (rest : List Bool)
       → AreSteps reference old b positions new rest → AreSteps reference old (b ++ more) positions new (rest ++ more)
   steps_stay reference old [] b new rest steps = (steps.0, ap with_more steps.1)
   steps_stay reference old (next ∷ positions) b new rest steps =
@@ -109,7 +121,8 @@ module _ (more : List Bool) where
         steps_stay reference next positions steps.1 new rest steps.3,
       )
 
-  row_stays : (dimension : Dimension) (width : ℕ) (reference : List Colour) (b : List Bool) (row : List Colour) (rest : List Bool)
+  row_stays : (dimension : Dimension) (width : ℕ) (reference : List Colour) (b : List Bool) (row : List Colour)
+      (rest : List Bool)
       → IsRowIn dimension width reference b row rest → IsRowIn dimension width reference (b ++ more) row (rest ++ more)
   row_stays OneDimensional width reference b row rest is =
       record { runs = is.runs; coded = runs_stay width White 0 is.runs b rest is.coded; pels = is.pels }
@@ -132,7 +145,8 @@ module _ (more : List Bool) where
   eol_stays b rest eol =
       (eol.0, eol.1, ap with_more eol.2 ∙ append_assoc (replicate eol.0 false) (true ∷ rest) more)
 
-  start_stays : (coding : Coding) (i : ℕ) (b : List Bool) (dimension : Dimension) (rest : List Bool) → IsStarted coding i b dimension rest
+  start_stays : (coding : Coding) (i : ℕ) (b : List Bool) (dimension : Dimension) (rest : List Bool)
+      → IsStarted coding i b dimension rest
       → IsStarted coding i (b ++ more) dimension (rest ++ more)
   start_stays Mh i b dimension rest start = (
     start.0,
@@ -144,7 +158,8 @@ module _ (more : List Bool) where
   start_stays Mr i b dimension rest start = eol_stays b (tag_bit dimension ∷ rest) start
   start_stays Mmr i b dimension rest start = (start.0, ap with_more start.1)
 
-  start_fault_stays : (coding : Coding) (i : ℕ) (b : List Bool) (fault : StripFault) → fault ≢ DataEnds → IsStartFault coding i b fault
+  start_fault_stays : (coding : Coding) (i : ℕ) (b : List Bool) (fault : StripFault) → fault ≢ DataEnds
+      → IsStartFault coding i b fault
       → IsStartFault coding i (b ++ more) fault
   start_fault_stays Mh i b fault other_fault (inl all) = absurd (other_fault all.1)
   start_fault_stays Mh i b fault other_fault (inr missing) = inr (missing.0, below_stays b missing.1, missing.2)
@@ -154,7 +169,8 @@ module _ (more : List Bool) where
   start_fault_stays Mmr i b fault other_fault none = absurd none
 
   -- bits that are no code, nor a front of one
-  no_code_stays : {M : Type 0} (table : List (CodeEntry M)) (b : List Bool) → HasNoCode table b → (IsCutShort table b → ⊥)
+  no_code_stays : {M : Type 0} (table : List (CodeEntry M)) (b : List Bool) → HasNoCode table b
+      → (IsCutShort table b → ⊥)
       → HasNoCode table (b ++ more)
   no_code_stays table b none whole = λ entry listed begins.
       elim (front_or_front b (bits_of entry) more begins.0 begins.1) [
@@ -162,7 +178,8 @@ module _ (more : List Bool) where
         | inr short ↦ whole (entry, listed, short)
       ]
 
-  whole_stays : {M : Type 0} (table : List (CodeEntry M)) (b : List Bool) → (IsCutShort table b → ⊥) → IsCutShort table (b ++ more) → ⊥
+  whole_stays : {M : Type 0} (table : List (CodeEntry M)) (b : List Bool) → (IsCutShort table b → ⊥)
+      → IsCutShort table (b ++ more) → ⊥
   whole_stays table b whole cut =
       whole (cut.0, cut.1, first_missing more b cut.2.0 cut.2.1 (bits_of cut.0) cut.2.2)
     where
@@ -172,7 +189,8 @@ module _ (more : List Bool) where
       first_missing (first ∷ more) b bit rest code is =
           (first, more ++ bit ∷ rest, sym (append_assoc b (first ∷ more) (bit ∷ rest)) ∙ is)
 
-  code_fault_stays : {M : Type 0} (table : List (CodeEntry M)) (b : List Bool) (fault : RowFault) → fault ≢ in_row.DataEnds
+  code_fault_stays : {M : Type 0} (table : List (CodeEntry M)) (b : List Bool) (fault : RowFault)
+      → fault ≢ in_row.DataEnds
       → IsCodeFault table b fault → IsCodeFault table (b ++ more) fault
   code_fault_stays table b fault other_fault (code_fault.DataEnds, none, is) = absurd (other_fault is)
   code_fault_stays table b fault other_fault (code_fault.BadCode, none, is) =
@@ -187,11 +205,17 @@ module _ (more : List Bool) where
     within = stop.within;
     at_code = elim stop.at_code [
       | inl code ↦ inl (code_fault_stays (run_table colour) stop.left fault other_fault code)
-      | inr taken ↦ inr (taken.0, taken.1 ++ more, taken_stays (run_table colour) stop.left taken.0 taken.1 taken.2, taken.3)
+      | inr taken ↦ inr (
+        taken.0,
+        taken.1 ++ more,
+        taken_stays (run_table colour) stop.left taken.0 taken.1 taken.2,
+        taken.3,
+      )
     ];
   }
 
-  stops_stay : (width : ℕ) (colour : Colour) (from : ℕ) (b : List Bool) (runs : List ℕ) (fault : RowFault) → fault ≢ in_row.DataEnds
+  stops_stay : (width : ℕ) (colour : Colour) (from : ℕ) (b : List Bool) (runs : List ℕ) (fault : RowFault)
+      → fault ≢ in_row.DataEnds
       → StopsAtRun width colour from b runs fault → StopsAtRun width colour from (b ++ more) runs fault
   stops_stay width colour from b [] fault other_fault stops =
       (stops.0, run_fault_stays colour width from b fault other_fault stops.1)
@@ -203,7 +227,8 @@ module _ (more : List Bool) where
   )
 
   mode_fault_stays : (mode : ModeCode) (reference : List Colour) (at : Position) (b : List Bool) (fault : RowFault)
-      → fault ≢ in_row.DataEnds → IsModeFault mode reference at b fault → IsModeFault mode reference at (b ++ more) fault
+      → fault ≢ in_row.DataEnds → IsModeFault mode reference at b fault
+      → IsModeFault mode reference at (b ++ more) fault
   mode_fault_stays Pass reference at b fault other_fault stop = stop
   mode_fault_stays (Vertical d) reference at b fault other_fault stop = stop
   mode_fault_stays Horizontal reference at b fault other_fault (inl first) =
@@ -217,7 +242,8 @@ module _ (more : List Bool) where
   )
   mode_fault_stays Extension reference at b fault other_fault stop = stop
 
-  step_fault_stays : (reference : List Colour) (at : Position) (b : List Bool) (fault : RowFault) → fault ≢ in_row.DataEnds
+  step_fault_stays : (reference : List Colour) (at : Position) (b : List Bool) (fault : RowFault)
+      → fault ≢ in_row.DataEnds
       → IsStepFault reference at b fault → IsStepFault reference at (b ++ more) fault
   step_fault_stays reference at b fault other_fault (inl code) = inl (code_fault_stays modes b fault other_fault code)
   step_fault_stays reference at b fault other_fault (inr taken) = inr (
@@ -241,7 +267,8 @@ module _ (more : List Bool) where
     at_step = step_fault_stays reference stop.last stop.left fault other_fault stop.at_step;
   }
 
-  stop_stays : (dimension : Dimension) (width : ℕ) (reference : List Colour) (b : List Bool) (fault : StripFault) → fault ≢ DataEnds
+  stop_stays : (dimension : Dimension) (width : ℕ) (reference : List Colour) (b : List Bool) (fault : StripFault)
+      → fault ≢ DataEnds
       → IsStopInCodes dimension width reference b fault → IsStopInCodes dimension width reference (b ++ more) fault
   stop_stays dimension width reference b fault other_fault (inl marker) = inl
       (marker.0 ++ more, ap with_more marker.1 ∙ append_assoc (replicate 11 false) marker.0 more, marker.2)
@@ -253,19 +280,22 @@ module _ (more : List Bool) where
     stop.3,
   ))
 
-  line_stays : (form : StripForm) (i : ℕ) (reference : List Colour) (b : List Bool) (row : List Colour) (rest : List Bool)
+  line_stays : (form : StripForm) (i : ℕ) (reference : List Colour) (b : List Bool) (row : List Colour)
+      (rest : List Bool)
       → IsLine form i reference b row rest → IsLine form i reference (b ++ more) row (rest ++ more)
   line_stays form i reference b row rest line = record {
     dimension = line.dimension;
     codes = line.codes ++ more;
     start =
         start_is form.coding i (b ++ more) line.dimension (line.codes ++ more)
-        (start_stays form.coding i b line.dimension line.codes (started form.coding i b line.dimension line.codes line.start));
+        (start_stays form.coding i b line.dimension line.codes (started form.coding i b line.dimension line.codes
+        line.start));
     first_code = below_stays line.codes line.first_code;
     coded = row_stays line.dimension form.width reference line.codes row rest line.coded;
   }
 
-  pub cause_stays : (form : StripForm) (i : ℕ) (reference : List Colour) (b : List Bool) (fault : StripFault) → fault ≢ DataEnds
+  pub cause_stays : (form : StripForm) (i : ℕ) (reference : List Colour) (b : List Bool) (fault : StripFault)
+      → fault ≢ DataEnds
       → IsCause form i reference b fault → IsCause form i reference (b ++ more) fault
   cause_stays form i reference b fault other_fault (inl stop) = inl
       (fault_is form.coding i (b ++ more) fault
@@ -278,7 +308,8 @@ module _ (more : List Bool) where
     stop_stays stop.0 form.width reference stop.1 fault other_fault stop.3,
   )
 
-pub stays_whatever_follows : (form : StripForm) (i : ℕ) (reference : List Colour) → StaysWhateverFollows form i reference
+pub stays_whatever_follows : (form : StripForm) (i : ℕ) (reference : List Colour)
+    → StaysWhateverFollows form i reference
 stays_whatever_follows form i reference = record {
   row = λ b more. line_stays more form i reference b;
   fault = λ b more. cause_stays more form i reference b;

@@ -14,11 +14,14 @@ use Rattle.fax_page.proofs.StartLaws.{one_start}
 -- the codes after one start are those after another
 pub in_codes : (form : StripForm) (i : ℕ) (reference : List Colour) (b : List Bool) (cause : RowFault)
     → IsLineStop form i reference b (Codes cause) → (dimension : Dimension) (codes : List Bool)
-    → IsStarted form.coding i b dimension codes → (fault : StripFault) → IsStop codes cause fault → IsCause form i reference b fault
-in_codes form i reference b cause (first, others, begun, stops) dimension codes again fault stop = grind (arith, one_start, cause_in_codes)
+    → IsStarted form.coding i b dimension codes → (fault : StripFault) → IsStop codes cause fault
+    → IsCause form i reference b fault
+in_codes form i reference b cause (first, others, begun, stops) dimension codes again fault stop =
+    grind (arith, one_start, cause_in_codes)
 
 -- a source that is made anew has the bits of the one that stood there
-pub bits_again : (order : FillOrder) (bytes : List ℕ) (place : ℕ) (first again there : Source) → first ≡ source_of order bytes 0
+pub bits_again : (order : FillOrder) (bytes : List ℕ) (place : ℕ) (first again there : Source)
+    → first ≡ source_of order bytes 0
     → again ≡ record { left = drop place first.left; place = first.place + place } → there ≡ source_of order bytes place
     → there.left ≡ again.left
 bits_again order bytes place first again there begins skips stands = grind arith

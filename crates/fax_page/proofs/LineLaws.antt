@@ -8,12 +8,14 @@ use Rattle.fax_page.specs.declared.Dimension.{Dimension}
 use Rattle.fax_page.specs.declared.Dimension.TheVariants.{OneDimensional, TwoDimensional}
 use Rattle.fax_page.specs.declared.StripForm.{StripForm}
 use Rattle.fax_page.specs.declared.StripFault.{StripFault}
-use Rattle.fax_page.specs.Lines.{BeginsBelowEleven, IsStart, IsRowIn, IsRowFaultIn, IsStopInCodes, strip_fault, IsLine, IsCause}
+use Rattle.fax_page.specs.Lines.{BeginsBelowEleven, IsStart, IsRowIn, IsRowFaultIn, IsStopInCodes, strip_fault, IsLine}
+use Rattle.fax_page.specs.Lines.{IsCause}
 use Rattle.fax_page.specs.code.Starts.{IsFirstCodeFault}
 use Rattle.fax_page.specs.laws.Strips.{ReadsLinesOneWay}
 use Rattle.fax_page.proofs.RestLemmas.{rest_among}
 use Rattle.fax_page.proofs.BegunLemmas.{start_is, fault_is, started, start_fault}
-use Rattle.fax_page.proofs.StartLaws.{one_start, start_or_fault, start_has_no_fault, one_start_fault, first_code_or_fault}
+use Rattle.fax_page.proofs.StartLaws.{one_start, start_or_fault, start_has_no_fault, one_start_fault}
+use Rattle.fax_page.proofs.StartLaws.{first_code_or_fault}
 use Rattle.fax_page.proofs.StartLaws.{first_code_has_no_fault, one_first_code_fault}
 
 -- what holds of the codes after one start holds of those after another
@@ -23,11 +25,13 @@ same_codes : (form : StripForm) (i : ℕ) (b : List Bool) (dimension another : D
 same_codes form i b dimension another codes others first second P holds = grind (arith, one_start, started)
 
 -- no first code is a stop in the codes
-no_first_code : (dimension : Dimension) (width : ℕ) (reference : List Colour) (b : List Bool) (fault : StripFault) → IsFirstCodeFault b fault
+no_first_code : (dimension : Dimension) (width : ℕ) (reference : List Colour) (b : List Bool) (fault : StripFault)
+    → IsFirstCodeFault b fault
     → IsStopInCodes dimension width reference b fault
 no_first_code dimension width reference b fault h = grind arith
 
-module _ (rows : (width : ℕ) → ReadsRowsOneWay width) (rows_over : (reference : List Colour) → ReadsRowsOverOneWay reference)
+module _ (rows : (width : ℕ) → ReadsRowsOneWay width) (rows_over : (reference : List Colour)
+    → ReadsRowsOverOneWay reference)
     (widths : RowsHaveTheirWidth) where
   -- the codes of a row, by how it is coded
   rows_in : (dimension : Dimension) (width : ℕ) (reference : List Colour)
@@ -35,7 +39,8 @@ module _ (rows : (width : ℕ) → ReadsRowsOneWay width) (rows_over : (referenc
   rows_in OneDimensional width reference = rows width
   rows_in TwoDimensional width reference = rows_over reference
 
-  row_wide : (dimension : Dimension) (width : ℕ) (reference : List Colour) (b : List Bool) (row : List Colour) (rest : List Bool)
+  row_wide : (dimension : Dimension) (width : ℕ) (reference : List Colour) (b : List Bool) (row : List Colour)
+      (rest : List Bool)
       → length reference ≡ width → IsRowIn dimension width reference b row rest → length row ≡ width
   row_wide dimension width reference b row rest wide is = grind arith
 
@@ -75,7 +80,8 @@ module _ (rows : (width : ℕ) → ReadsRowsOneWay width) (rows_over : (referenc
       ]
 
   -- a row has no stop in its codes
-  row_has_no_stop : (dimension : Dimension) (width : ℕ) (reference : List Colour) (b : List Bool) (row : List Colour) (rest : List Bool)
+  row_has_no_stop : (dimension : Dimension) (width : ℕ) (reference : List Colour) (b : List Bool) (row : List Colour)
+      (rest : List Bool)
       (fault : StripFault) → BeginsBelowEleven b → IsRowIn dimension width reference b row rest
       → IsStopInCodes dimension width reference b fault → ⊥
   row_has_no_stop dimension width reference b row rest fault first coded (inl marker) =
@@ -85,7 +91,8 @@ module _ (rows : (width : ℕ) → ReadsRowsOneWay width) (rows_over : (referenc
   row_has_no_stop dimension width reference b row rest fault first coded (inr (inr stop)) =
       (rows_in dimension width reference).answer_has_no_fault b row rest stop.1 coded stop.2
 
-  line_has_no_cause : (form : StripForm) (i : ℕ) (reference : List Colour) (b : List Bool) (row : List Colour) (rest : List Bool)
+  line_has_no_cause : (form : StripForm) (i : ℕ) (reference : List Colour) (b : List Bool) (row : List Colour)
+      (rest : List Bool)
       (fault : StripFault) → IsLine form i reference b row rest → IsCause form i reference b fault → ⊥
   line_has_no_cause form i reference b row rest fault line (inl stop) =
       start_has_no_fault form.coding i b line.dimension line.codes fault
@@ -97,7 +104,8 @@ module _ (rows : (width : ℕ) → ReadsRowsOneWay width) (rows_over : (referenc
 
   -- codes stop with one fault
   one_stop : (dimension : Dimension) (width : ℕ) (reference : List Colour) (b : List Bool) (fault another : StripFault)
-      → IsStopInCodes dimension width reference b fault → IsStopInCodes dimension width reference b another → fault ≡ another
+      → IsStopInCodes dimension width reference b fault → IsStopInCodes dimension width reference b another
+      → fault ≡ another
   one_stop dimension width reference b fault another (inl marker) (inl other) =
       one_first_code_fault b fault another (inl marker) (inl other)
   one_stop dimension width reference b fault another (inl marker) (inr (inl short)) =
@@ -115,12 +123,14 @@ module _ (rows : (width : ℕ) → ReadsRowsOneWay width) (rows_over : (referenc
   one_stop dimension width reference b fault another (inr (inr stop)) (inr (inl short)) =
       absurd (first_code_has_no_fault b another stop.0 (inr short))
   one_stop dimension width reference b fault another (inr (inr stop)) (inr (inr other)) =
-      stop.3 ∙ ap strip_fault ((rows_in dimension width reference).one_fault b stop.1 other.1 stop.2 other.2) ∙ sym other.3
+      stop.3 ∙ ap strip_fault ((rows_in dimension width reference).one_fault b stop.1 other.1 stop.2 other.2)
+      ∙ sym other.3
 
   one_cause : (form : StripForm) (i : ℕ) (reference : List Colour) (b : List Bool) (fault another : StripFault)
       → IsCause form i reference b fault → IsCause form i reference b another → fault ≡ another
   one_cause form i reference b fault another (inl stop) (inl other) =
-      one_start_fault form.coding i b fault another (start_fault form.coding i b fault stop) (start_fault form.coding i b another other)
+      one_start_fault form.coding i b fault another (start_fault form.coding i b fault stop)
+      (start_fault form.coding i b another other)
   one_cause form i reference b fault another (inl stop) (inr other) =
       absurd (start_has_no_fault form.coding i b other.0 other.1 fault (started form.coding i b other.0 other.1 other.2)
       (start_fault form.coding i b fault stop))

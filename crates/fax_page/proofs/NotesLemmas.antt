@@ -1,5 +1,6 @@
 -- A strip that is read for its notes, row by row.
-use Rattle.std.proofs.Common.{◌≡◌, ℕ, ◌+◌, ◌<◌, ◌↔◌, List, [], ◌∷◌, ◌++◌, length, Bool, true, false, IsTrue, refl, ap, sym, ◌∙◌, subst}
+use Rattle.std.proofs.Common.{◌≡◌, ℕ, ◌+◌, ◌<◌, ◌↔◌, List, [], ◌∷◌, ◌++◌, length, Bool, true, false, IsTrue, refl, ap}
+use Rattle.std.proofs.Common.{sym, ◌∙◌, subst}
 use Rattle.std.proofs.Common.{arith, append_assoc, append-nil, length-append, inl, inr, Option, Some, None}
 use Rattle.fax_bits.specs.declared.Colour.{Colour}
 use Rattle.fax_bits.specs.Bits.{BeginsWith}
@@ -19,7 +20,8 @@ use Rattle.fax_page.specs.Uncounted.{EndsSo, uncounted}
 use Rattle.fax_page.specs.declared.notes.UncountedNotes.{UncountedNotes}
 use Rattle.fax_page.specs.laws.Strips.{ReadsLinesOneWay}
 use Rattle.fax_page.specs.code.Notes.{IsChosen}
-use Rattle.fax_page.specs.code.Notes.{AreCodesRead, IsChoiceNoted, AreCodesNoted, IsCodesFault, IsLineNoted, IsLineFault, AreRowsRead, AreNotesAfter}
+use Rattle.fax_page.specs.code.Notes.{AreCodesRead, IsChoiceNoted, AreCodesNoted, IsCodesFault, IsLineNoted}
+use Rattle.fax_page.specs.code.Notes.{IsLineFault, AreRowsRead, AreNotesAfter}
 use Rattle.fax_page.specs.code.Notes.{AreFoundAfter}
 use Rattle.fax_page.specs.code.Starts.{IsStarted}
 use Rattle.fax_page.proofs.BegunLemmas.{started, cause_in_codes}
@@ -29,11 +31,14 @@ use Rattle.fax_page.proofs.StartLaws.{one_start}
 -- what follows the codes that T.4 chooses is what follows the row
 module _ (one : OneDimensionalBitsAreOneRow) (two : TwoDimensionalBitsAreOneRow) where
   -- codes that were read, and whether those that T.4 chooses begin where they do
-  pub codes_read : (form : StripForm) (reference row : List Colour) (codes rest put : List Bool) (dimension : Dimension) (chosen : Bool)
-      → HasWidth row → length row ≡ form.width → length reference ≡ form.width → IsRowIn dimension form.width reference codes row rest
+  pub codes_read : (form : StripForm) (reference row : List Colour) (codes rest put : List Bool) (dimension : Dimension)
+      (chosen : Bool)
+      → HasWidth row → length row ≡ form.width → length reference ≡ form.width
+      → IsRowIn dimension form.width reference codes row rest
       → put ≡ row_bits dimension reference row → IsTrue chosen ↔ BeginsWith codes put
       → AreCodesRead form dimension reference codes row rest chosen
-  codes_read form reference row codes rest put dimension chosen fits is_width reference_width read put_is begins = grind arith
+  codes_read form reference row codes rest put dimension chosen fits is_width reference_width read put_is begins =
+      grind arith
 
 module _ (reads : (form : StripForm) (i : ℕ) (reference : List Colour) → ReadsLinesOneWay form i reference) where
   -- a row is chosen by one reading of it where it is by another, and the same rest follows
@@ -41,14 +46,16 @@ module _ (reads : (form : StripForm) (i : ℕ) (reference : List Colour) → Rea
       (line : IsLine form i reference b row rest)
       (other : IsLine form i reference b row remaining) : Type 0 where
     same_after : rest ≡ remaining
-    chosen : IsChosen line.dimension reference line.codes row rest → IsChosen other.dimension reference other.codes row remaining
+    chosen : IsChosen line.dimension reference line.codes row rest
+        → IsChosen other.dimension reference other.codes row remaining
 
   same_line : (form : StripForm) (i : ℕ) (reference row : List Colour) (b rest remaining : List Bool)
       (line : IsLine form i reference b row rest)
       (other : IsLine form i reference b row remaining) → IsSameLine form i reference row b rest remaining line other
   same_line form i reference row b rest remaining line other =
       let start = one_start form.coding i b line.dimension other.dimension line.codes other.codes
-      (started form.coding i b line.dimension line.codes line.start) (started form.coding i b other.dimension other.codes other.start) in
+      (started form.coding i b line.dimension line.codes line.start)
+      (started form.coding i b other.dimension other.codes other.start) in
       let after = ((reads form i reference).line.one_answer b row row rest remaining line other).1 in
       record {
         same_after = after;
@@ -65,7 +72,8 @@ module _ (reads : (form : StripForm) (i : ℕ) (reference : List Colour) → Rea
     before = so_far.before ++ row ∷ [];
     count = omega (arith, so_far.count, length-append so_far.before (row ∷ []));
     lines = λ more end after lines.
-        subst (λ rows. AreLines form 0 (white_row form.width) b rows end after) (sym (append_assoc so_far.before (row ∷ []) more))
+        subst (λ rows. AreLines form 0 (white_row form.width) b rows end after)
+        (sym (append_assoc so_far.before (row ∷ []) more))
         (so_far.lines (row ∷ more) end after (rest, due, noted.line, lines));
     found = λ is more. onto more (elim (noted.noted.found is) [
       | inl before ↦ so_far.found before (row ∷ more)
@@ -88,14 +96,16 @@ module _ (reads : (form : StripForm) (i : ℕ) (reference : List Colour) → Rea
       onto : (more : List (List Colour)) → HasOtherChoice form 0 (white_row form.width) b (so_far.before ++ row ∷ more)
           → HasOtherChoice form 0 (white_row form.width) b ((so_far.before ++ row ∷ []) ++ more)
       onto more has =
-          subst (λ rows. HasOtherChoice form 0 (white_row form.width) b rows) (sym (append_assoc so_far.before (row ∷ []) more)) has
+          subst (λ rows. HasOtherChoice form 0 (white_row form.width) b rows)
+          (sym (append_assoc so_far.before (row ∷ []) more)) has
 
       marks : (now : Bool) → (now ≡ false → IsChosen noted.line.dimension reference noted.line.codes row rest)
           → (IsChosen noted.line.dimension reference noted.line.codes row rest → ⊥) → now ≡ true
       marks now none other_choice = grind arith
 
 -- no row was read
-pub none_read : (form : StripForm) (b left : List Bool) (reference : List Colour) → reference ≡ white_row form.width → left ≡ b
+pub none_read : (form : StripForm) (b left : List Bool) (reference : List Colour) → reference ≡ white_row form.width
+    → left ≡ b
     → AreRowsRead form b 0 reference left false
 none_read form b left reference white all = rw (white, all) (record {
   before = [];
@@ -111,9 +121,11 @@ pub codes_seen : (chosen : Type 0) (other : Bool) → chosen → IsChoiceNoted c
 codes_seen chosen other is = record { kept = λ h. h; found = λ h. inl h; none = λ h. is }
 
 -- a row whose codes were read after what stands before them
-pub line_noted : (form : StripForm) (i : ℕ) (reference row : List Colour) (b codes rest : List Bool) (dimension : Dimension)
+pub line_noted : (form : StripForm) (i : ℕ) (reference row : List Colour) (b codes rest : List Bool)
+    (dimension : Dimension)
     (other now : Bool) → 0 < form.width → IsStarted form.coding i b dimension codes
-    → AreCodesNoted form dimension reference codes row rest other now → IsLineNoted form i reference b row rest other now
+    → AreCodesNoted form dimension reference codes row rest other now
+    → IsLineNoted form i reference b row rest other now
 unfolding line_begun
 line_noted form i reference row b codes rest dimension other now some start read = record {
   line = line_begun form i reference row b codes rest dimension some start read.coded;
@@ -121,12 +133,15 @@ line_noted form i reference row b codes rest dimension other now some start read
 }
 
 -- and one whose codes cannot be read
-pub codes_fault : (form : StripForm) (i : ℕ) (reference : List Colour) (b codes : List Bool) (dimension : Dimension) (fault : NotesFault)
-    → IsStarted form.coding i b dimension codes → IsCodesFault form i dimension reference codes fault → IsLineFault form i reference b fault
+pub codes_fault : (form : StripForm) (i : ℕ) (reference : List Colour) (b codes : List Bool) (dimension : Dimension)
+    (fault : NotesFault)
+    → IsStarted form.coding i b dimension codes → IsCodesFault form i dimension reference codes fault
+    → IsLineFault form i reference b fault
 codes_fault form i reference b codes dimension fault start is = grind (arith, cause_in_codes)
 
 -- the rows so far, and an end after them
-stopped : (form : StripForm) (b left : List Bool) (i : ℕ) (reference : List Colour) (other : Bool) (end : Option StripFault)
+stopped : (form : StripForm) (b left : List Bool) (i : ℕ) (reference : List Colour) (other : Bool)
+    (end : Option StripFault)
     (so_far : AreRowsRead form b i reference left other) → EndsAt form i reference left end
     → AreLines form 0 (white_row form.width) b so_far.before end left
 stopped form b left i reference other end so_far stop =
@@ -134,7 +149,8 @@ stopped form b left i reference other end so_far stop =
     (so_far.lines [] end left (no_rows form i reference left end stop))
 
 -- a row that cannot be read
-fault_met : (form : StripForm) (b left : List Bool) (i : ℕ) (reference : List Colour) (other : Bool) (fault : StripFault) (row : ℕ)
+fault_met : (form : StripForm) (b left : List Bool) (i : ℕ) (reference : List Colour) (other : Bool)
+    (fault : StripFault) (row : ℕ)
     → i < form.rows → AreRowsRead form b i reference left other → row ≡ i → IsCause form i reference left fault
     → (rows : List (List Colour)) × (length rows ≡ row) × IsStrip form b rows (Some fault)
 fault_met form b left i reference other fault row due so_far here cause = (
@@ -144,8 +160,10 @@ fault_met form b left i reference other fault row due so_far here cause = (
 )
 
 -- or memory was refused
-pub no_notes : (form : StripForm) (b left : List Bool) (i : ℕ) (reference : List Colour) (other : Bool) (fault : NotesFault)
-    → i < form.rows → AreRowsRead form b i reference left other → IsLineFault form i reference left fault → IsNotesFault form b fault
+pub no_notes : (form : StripForm) (b left : List Bool) (i : ℕ) (reference : List Colour) (other : Bool)
+    (fault : NotesFault)
+    → i < form.rows → AreRowsRead form b i reference left other → IsLineFault form i reference left fault
+    → IsNotesFault form b fault
 no_notes form b left i reference other Memory due so_far fault = tt
 no_notes form b left i reference other (Strip row fault) due so_far (here, cause) =
     fault_met form b left i reference other fault row due so_far here cause
@@ -168,20 +186,24 @@ noted_after form b left rows other notes lines ends found none = record {
 
 -- whether some row so far is coded otherwise
 other_there : (form : StripForm) (b left : List Bool) (i : ℕ) (reference : List Colour) (other : Bool)
-    (so_far : AreRowsRead form b i reference left other) → other ≡ true → HasOtherChoice form 0 (white_row form.width) b so_far.before
+    (so_far : AreRowsRead form b i reference left other) → other ≡ true
+    → HasOtherChoice form 0 (white_row form.width) b so_far.before
 other_there form b left i reference other so_far is =
     subst (λ rows. HasOtherChoice form 0 (white_row form.width) b rows) (append-nil so_far.before) (so_far.found is [])
 
 other_found : (form : StripForm) (b left : List Bool) (i : ℕ) (reference : List Colour) (other : Bool)
-    (so_far : AreRowsRead form b i reference left other) → HasOtherChoice form 0 (white_row form.width) b so_far.before → other ≡ true
+    (so_far : AreRowsRead form b i reference left other) → HasOtherChoice form 0 (white_row form.width) b so_far.before
+    → other ≡ true
 other_found form b left i reference other so_far has =
-    elim (so_far.back [] (subst (λ rows. HasOtherChoice form 0 (white_row form.width) b rows) (sym (append-nil so_far.before)) has)) [
+    elim (so_far.back [] (subst (λ rows. HasOtherChoice form 0 (white_row form.width) b rows)
+    (sym (append-nil so_far.before)) has)) [
       | inl is ↦ is
       | inr none ↦ absurd none
     ]
 
 -- all rows were read
-pub all_noted : (form : StripForm) (b left : List Bool) (i : ℕ) (reference : List Colour) (other : Bool) (notes : StripNotes)
+pub all_noted : (form : StripForm) (b left : List Bool) (i : ℕ) (reference : List Colour) (other : Bool)
+    (notes : StripNotes)
     → i ≡ form.rows → AreRowsRead form b i reference left other → AreNotesAfter form.coding left other notes
     → (rows : List (List Colour)) × IsNotedAs form b rows notes
 all_noted form b left i reference other notes all so_far ends = (
@@ -191,7 +213,8 @@ all_noted form b left i reference other notes all so_far ends = (
 )
 
 -- other choices are the same in a strip of other rows
-other_choice_of : (form : StripForm) (from to i : ℕ) (reference : List Colour) (b : List Bool) (rows : List (List Colour))
+other_choice_of : (form : StripForm) (from to i : ℕ) (reference : List Colour) (b : List Bool)
+    (rows : List (List Colour))
     → HasOtherChoice (of_rows form from) i reference b rows → HasOtherChoice (of_rows form to) i reference b rows
 other_choice_of form from to i reference b [] has = has
 other_choice_of form from to i reference b (row ∷ rows) has = (
@@ -204,9 +227,12 @@ other_choice_of form from to i reference b (row ∷ rows) has = (
 )
 
 -- rows that nobody counted were read, and none is after them
-pub uncounted_noted : (form : StripForm) (b left : List Bool) (i : ℕ) (reference : List Colour) (other : Bool) (stop : Option StripFault)
-    (found : UncountedNotes) → AreRowsRead (uncounted form) b i reference left other → EndsAt (uncounted form) i reference left stop
-    → AreFoundAfter form.coding left i stop other found → (rows : List (List Colour)) × IsNotedUncounted form b rows found
+pub uncounted_noted : (form : StripForm) (b left : List Bool) (i : ℕ) (reference : List Colour) (other : Bool)
+    (stop : Option StripFault)
+    (found : UncountedNotes) → AreRowsRead (uncounted form) b i reference left other
+    → EndsAt (uncounted form) i reference left stop
+    → AreFoundAfter form.coding left i stop other found → (rows : List (List Colour))
+    × IsNotedUncounted form b rows found
 uncounted_noted form b left i reference other stop found so_far stops ends =
     let rows = so_far.before in
     let white = white_row form.width in
@@ -221,16 +247,20 @@ uncounted_noted form b left i reference other stop found so_far stops ends =
       };
       noted =
           noted_after (of_rows form found.rows) b left rows other found.notes
-          (all_lines form most_rows found.rows 0 white b rows stop left (omega (arith, so_far.count, ends.rows_are)) lines) ends.notes
-          (λ is. other_choice_of form most_rows found.rows 0 white b rows (other_there (uncounted form) b left i reference other so_far is))
+          (all_lines form most_rows found.rows 0 white b rows stop left (omega (arith, so_far.count, ends.rows_are))
+          lines) ends.notes
+          (λ is. other_choice_of form most_rows found.rows 0 white b rows
+          (other_there (uncounted form) b left i reference other so_far is))
           (λ has. other_found (uncounted form) b left i reference other so_far
           (other_choice_of form found.rows most_rows 0 white b rows has));
     } in
     (rows, of_count)
 
-pub uncounted_stopped : (form : StripForm) (b left : List Bool) (i : ℕ) (reference : List Colour) (other : Bool) (fault : StripFault) (row : ℕ)
+pub uncounted_stopped : (form : StripForm) (b left : List Bool) (i : ℕ) (reference : List Colour) (other : Bool)
+    (fault : StripFault) (row : ℕ)
     (found : UncountedNotes) → i < most_rows → AreRowsRead (uncounted form) b i reference left other
     → IsLineFault (uncounted form) i reference left (Strip row fault)
-    → AreFoundAfter form.coding left i (Some fault) other found → (rows : List (List Colour)) × IsNotedUncounted form b rows found
+    → AreFoundAfter form.coding left i (Some fault) other found
+    → (rows : List (List Colour)) × IsNotedUncounted form b rows found
 uncounted_stopped form b left i reference other fault row found due so_far stop ends =
     uncounted_noted form b left i reference other (Some fault) found so_far (due, stop.1) ends

@@ -11,19 +11,22 @@ begins_on : (start : StripState) → HasReadFrom start [] start
 begins_on start = record { same_form = refl; same_bytes = refl; followed = λ more end left lines. lines }
 
 -- one row more
-row_read_on : (start : StripState) (rows : List (List Colour)) (old new : StripState) → HasReadFrom start rows old → ReadsRow old new
+row_read_on : (start : StripState) (rows : List (List Colour)) (old new : StripState) → HasReadFrom start rows old
+    → ReadsRow old new
     → HasReadFrom start (rows ++ new.reference ∷ []) new
 row_read_on start rows old new so_far reads = grind (arith, append_assoc)
 
 -- the rows so far, and an end after them
-stopped_on : (start : StripState) (rows : List (List Colour)) (state : StripState) (end : Option StripFault) → HasReadFrom start rows state
+stopped_on : (start : StripState) (rows : List (List Colour)) (state : StripState) (end : Option StripFault)
+    → HasReadFrom start rows state
     → EndsAt start.form state.row state.reference (bits_left state) end
     → AreLines start.form start.row start.reference (bits_left start) rows end (bits_left state)
 stopped_on start rows state end so_far stop =
     rw append-nil at
     (so_far.followed [] end (bits_left state) (no_rows start.form state.row state.reference (bits_left state) end stop))
 
-ended_before : (start : StripState) (rows : List (List Colour)) (old new : StripState) → HasReadFrom start rows old → IsAtEnd old new
+ended_before : (start : StripState) (rows : List (List Colour)) (old new : StripState) → HasReadFrom start rows old
+    → IsAtEnd old new
     → AreLines start.form start.row start.reference (bits_left start) rows None (bits_left old)
 ended_before start rows old new so_far at_end = grind (arith, stopped_on)
 
@@ -32,7 +35,8 @@ fault_before : (start : StripState) (rows : List (List Colour)) (old new : Strip
     → AreLines start.form start.row start.reference (bits_left start) rows (Some fault) (bits_left old)
 fault_before start rows old new fault so_far meets = grind (arith, stopped_on)
 
-ended_on : (start : StripState) (rows : List (List Colour)) (old new : StripState) → HasReadFrom start rows old → IsAtEnd old new
+ended_on : (start : StripState) (rows : List (List Colour)) (old new : StripState) → HasReadFrom start rows old
+    → IsAtEnd old new
     → AreLines start.form start.row start.reference (bits_left start) rows None (bits_left new)
 ended_on start rows old new so_far at_end = rw at_end.unchanged (ended_before start rows old new so_far at_end)
 
@@ -59,4 +63,11 @@ read_row_by_row = record {
 
 -- from any place on
 pub read_on : ReadsOn
-read_on = record { begins = begins_on; goes_on = row_read_on; ends = ended_on; stops = fault_met_on; stays = stays_there }
+read_on = record {
+  begins = begins_on;
+  goes_on = row_read_on;
+  ends = ended_on;
+  stops = fault_met_on;
+  stays =
+      stays_there;
+}

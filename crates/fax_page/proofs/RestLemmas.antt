@@ -1,5 +1,6 @@
 -- After a row of a strip stands a rest of the bits that it began in.
-use Rattle.std.proofs.Common.{◌≡◌, ℕ, ◌+◌, ◌*◌, ◌≤◌, List, [], ◌∷◌, ◌++◌, length, take, drop, replicate, Bool, true, false, refl, ap, sym}
+use Rattle.std.proofs.Common.{◌≡◌, ℕ, ◌+◌, ◌*◌, ◌≤◌, List, [], ◌∷◌, ◌++◌, length, take, drop, replicate, Bool, true}
+use Rattle.std.proofs.Common.{false, refl, ap, sym}
 use Rattle.std.proofs.Common.{◌∙◌, arith, append_assoc, length-append, length-drop}
 use Rattle.std.proofs.Math.Seq.{drop-append_seam}
 use Rattle.std.proofs.lemmas.List.{take-append-drop}
@@ -35,27 +36,32 @@ onwards b middle rest first second = record {
   parts = first.parts ∙ ap (λ c. first.front ++ c) second.parts ∙ sym (append_assoc first.front second.front rest);
 }
 
-taken_rest : {M : Type 0} (table : List (CodeEntry M)) (b : List Bool) (meaning : M) (rest : List Bool) → Takes table b meaning rest
+taken_rest : {M : Type 0} (table : List (CodeEntry M)) (b : List Bool) (meaning : M) (rest : List Bool)
+    → Takes table b meaning rest
     → EndsWith b rest
 taken_rest table b meaning rest taken = record { front = bits_of taken.entry; parts = taken.spelled }
 
-spelled_rest : {M : Type 0} (table : List (CodeEntry M)) (meanings : List M) (b rest : List Bool) → Spells table b meanings rest
+spelled_rest : {M : Type 0} (table : List (CodeEntry M)) (meanings : List M) (b rest : List Bool)
+    → Spells table b meanings rest
     → EndsWith b rest
 spelled_rest table [] b rest spelled = same b rest spelled
 spelled_rest table (meaning ∷ meanings) b rest spelled =
-    onwards b spelled.0 rest (taken_rest table b meaning spelled.0 spelled.1) (spelled_rest table meanings spelled.0 rest spelled.2)
+    onwards b spelled.0 rest (taken_rest table b meaning spelled.0 spelled.1)
+    (spelled_rest table meanings spelled.0 rest spelled.2)
 
 run_rest : (colour : Colour) (b : List Bool) (n : ℕ) (rest : List Bool) → IsRun colour b n rest → EndsWith b rest
 run_rest colour b n rest run = grind (arith, spelled_rest)
 
-runs_rest : (width : ℕ) (colour : Colour) (from : ℕ) (runs : List ℕ) (b rest : List Bool) → AreRuns width colour from b runs rest
+runs_rest : (width : ℕ) (colour : Colour) (from : ℕ) (runs : List ℕ) (b rest : List Bool)
+    → AreRuns width colour from b runs rest
     → EndsWith b rest
 runs_rest width colour from [] b rest coded = same b rest coded.1
 runs_rest width colour from (n ∷ runs) b rest coded =
     onwards b coded.1 rest (run_rest colour b n coded.1 coded.2)
     (runs_rest width (other colour) (from + n) runs coded.1 rest coded.3)
 
-step_rest : (mode : ModeCode) (reference : List Colour) (old : Position) (b : List Bool) (new : Position) (rest : List Bool)
+step_rest : (mode : ModeCode) (reference : List Colour) (old : Position) (b : List Bool) (new : Position)
+    (rest : List Bool)
     → IsStepBy mode reference old b new rest → EndsWith b rest
 step_rest Pass reference old b new rest step = same b rest step.1
 step_rest (Vertical d) reference old b new rest step = same b rest step.1
@@ -64,7 +70,8 @@ step_rest Horizontal reference old b new rest step =
     (run_rest (other old.colour) step.middle step.second rest step.second_run)
 step_rest Extension reference old b new rest step = absurd step
 
-steps_rest : (reference : List Colour) (old : Position) (positions : List Position) (b : List Bool) (new : Position) (rest : List Bool)
+steps_rest : (reference : List Colour) (old : Position) (positions : List Position) (b : List Bool) (new : Position)
+    (rest : List Bool)
     → AreSteps reference old b positions new rest → EndsWith b rest
 steps_rest reference old [] b new rest steps = same b rest steps.1
 steps_rest reference old (next ∷ more) b new rest steps =
@@ -73,7 +80,8 @@ steps_rest reference old (next ∷ more) b new rest steps =
     (onwards step.after steps.1 rest (step_rest step.mode reference old step.after next steps.1 step.step)
     (steps_rest reference next more steps.1 new rest steps.3))
 
-row_rest : (dimension : Dimension) (width : ℕ) (reference : List Colour) (b : List Bool) (row : List Colour) (rest : List Bool)
+row_rest : (dimension : Dimension) (width : ℕ) (reference : List Colour) (b : List Bool) (row : List Colour)
+    (rest : List Bool)
     → IsRowIn dimension width reference b row rest → EndsWith b rest
 row_rest dimension width reference b row rest is = grind (arith, runs_rest, steps_rest)
 
@@ -83,7 +91,8 @@ eol_rest b rest eol = record {
   parts = eol.2 ∙ sym (append_assoc (replicate eol.0 false) (true ∷ []) rest);
 }
 
-start_rest : (coding : Coding) (i : ℕ) (b : List Bool) (dimension : Dimension) (rest : List Bool) → IsStarted coding i b dimension rest
+start_rest : (coding : Coding) (i : ℕ) (b : List Bool) (dimension : Dimension) (rest : List Bool)
+    → IsStarted coding i b dimension rest
     → EndsWith b rest
 start_rest Mh i b dimension rest start = grind (arith, eol_rest)
 start_rest Mr i b dimension rest start =
@@ -99,16 +108,22 @@ line_rest form i reference b row rest line =
     (row_rest line.dimension form.width reference line.codes row rest line.coded)
 
 -- so many bits stand before the rest of a row that begins among them
-pub rest_among : (form : StripForm) (i : ℕ) (reference : List Colour) (b : List Bool) (n : ℕ) (row : List Colour) (rest : List Bool)
+pub rest_among : (form : StripForm) (i : ℕ) (reference : List Colour) (b : List Bool) (n : ℕ) (row : List Colour)
+    (rest : List Bool)
     → IsLine form i reference (drop n b) row rest → (after : ℕ) × (after ≤ length b) × (drop after b ≡ rest)
 rest_among form i reference b n row rest line =
     let from = onwards b (drop n b) rest (record { front = take n b; parts = sym (take-append-drop n b) })
     (line_rest form i reference (drop n b) row rest line) in
-    let count : length b ≡ length from.front + length rest = ap length from.parts ∙ length-append from.front rest in
-    (length from.front, omega (arith, count), ap (drop (length from.front)) from.parts ∙ drop-append_seam from.front rest)
+    let count : length b ≡ length from.front + length rest = ap length from.parts ∙ length-append from.front rest in (
+      length from.front,
+      omega (arith, count),
+      ap (drop (length from.front)) from.parts
+          ∙ drop-append_seam from.front rest,
+    )
 
 -- the cause why there is no row at a place of a source
-pub cause_there : (form : StripForm) (i : ℕ) (reference : List Colour) (bytes : List ℕ) (place : ℕ) (old : Source) (fault : StripFault)
+pub cause_there : (form : StripForm) (i : ℕ) (reference : List Colour) (bytes : List ℕ) (place : ℕ) (old : Source)
+    (fault : StripFault)
     → old ≡ source_of form.order bytes place → IsCause form i reference old.left fault
     → IsCause form i reference (drop place (bits form.order bytes)) fault
 cause_there form i reference bytes place old fault here cause = grind arith

@@ -1,6 +1,7 @@
 -- What stands before a row, and where its first code is due, is read in one way.
 use Rattle.std.proofs.lemmas.Grind.{common_steps}
-use Rattle.std.proofs.Common.{◌≡◌, ℕ, zero, suc, ◌<◌, ◌≤◌, List, [], ◌∷◌, ◌++◌, length, replicate, Bool, true, false, refl, ap, sym, ◌∙◌}
+use Rattle.std.proofs.Common.{◌≡◌, ℕ, zero, suc, ◌<◌, ◌≤◌, List, [], ◌∷◌, ◌++◌, length, replicate, Bool, true, false}
+use Rattle.std.proofs.Common.{refl, ap, sym, ◌∙◌}
 use Rattle.std.proofs.Common.{arith, inl, inr}
 use Rattle.std.specs.Prelude.{◌⊎◌}
 use Rattle.std.proofs.lemmas.Bool.{cases_lt}
@@ -18,7 +19,8 @@ use Rattle.fax_page.specs.code.Starts.{IsStarted, IsStartFault, IsFirstCodeFault
 use Rattle.fax_page.proofs.StartLemmas.{eleven_ahead, eleven_alone}
 
 -- a 1 after zeros stands at one place
-same_ahead : (n m : ℕ) (b c : List Bool) → replicate n false ++ true ∷ b ≡ replicate m false ++ true ∷ c → (n ≡ m) × (b ≡ c)
+same_ahead : (n m : ℕ) (b c : List Bool) → replicate n false ++ true ∷ b ≡ replicate m false ++ true ∷ c
+    → (n ≡ m) × (b ≡ c)
 same_ahead zero zero b c h = (refl, cc)
 same_ahead zero (suc m) b c h = cc
 same_ahead (suc n) zero b c h = cc
@@ -73,13 +75,15 @@ below_is_not_zeros b below all = no_one below.0 all.0 below.2.0 (sym below.2.1 �
 pub same_eol : (b rest remaining : List Bool) → IsEndOfLine b rest → IsEndOfLine b remaining → rest ≡ remaining
 same_eol b rest remaining first second = (same_ahead first.0 second.0 rest remaining (sym first.2 ∙ second.2)).1
 
-same_tag : (dimension another : Dimension) (rest remaining : List Bool) → tag_bit dimension ∷ rest ≡ tag_bit another ∷ remaining
+same_tag : (dimension another : Dimension) (rest remaining : List Bool)
+    → tag_bit dimension ∷ rest ≡ tag_bit another ∷ remaining
     → (dimension ≡ another) × (rest ≡ remaining)
 same_tag dimension another rest remaining h = grind arith
 
 -- a row begins in one way
 pub one_start : (coding : Coding) (i : ℕ) (b : List Bool) (dimension another : Dimension) (rest remaining : List Bool)
-    → IsStarted coding i b dimension rest → IsStarted coding i b another remaining → (dimension ≡ another) × (rest ≡ remaining)
+    → IsStarted coding i b dimension rest → IsStarted coding i b another remaining
+    → (dimension ≡ another) × (rest ≡ remaining)
 one_start Mh i b dimension another rest remaining first second =
     (first.0 ∙ sym second.0, same first.1 second.1)
   where
@@ -90,7 +94,8 @@ one_start Mh i b dimension another rest remaining first second =
     same (inr none) (inl eol) = absurd (eol_is_not_below b remaining eol none.1)
     same (inr none) (inr other) = sym none.2 ∙ other.2
 one_start Mr i b dimension another rest remaining first second =
-    same_tag dimension another rest remaining (same_eol b (tag_bit dimension ∷ rest) (tag_bit another ∷ remaining) first second)
+    same_tag dimension another rest remaining (same_eol b (tag_bit dimension ∷ rest) (tag_bit another ∷ remaining) first
+    second)
 one_start Mmr i b dimension another rest remaining first second = (first.0 ∙ sym second.0, sym first.1 ∙ second.1)
 
 abbrev StartOrFault : Coding → ℕ → List Bool → Type 0
@@ -118,7 +123,8 @@ start_or_fault Mr i b = start_in_mr i b (eol_or_none b)
 start_or_fault Mmr i b = inl (TwoDimensional, b, (refl, refl))
 
 -- never both
-pub start_has_no_fault : (coding : Coding) (i : ℕ) (b : List Bool) (dimension : Dimension) (rest : List Bool) (fault : StripFault)
+pub start_has_no_fault : (coding : Coding) (i : ℕ) (b : List Bool) (dimension : Dimension) (rest : List Bool)
+    (fault : StripFault)
     → IsStarted coding i b dimension rest → IsStartFault coding i b fault → ⊥
 start_has_no_fault Mh i b dimension rest fault start stop = apart start.1 stop
   where
@@ -149,9 +155,11 @@ one_start_fault Mr i b fault another (inl all) (inr (inl cut)) = all.1 ∙ sym c
 one_start_fault Mr i b fault another (inl all) (inr (inr missing)) = absurd (below_is_not_zeros b missing.0 all.0)
 one_start_fault Mr i b fault another (inr (inl cut)) (inl all) = cut.1 ∙ sym all.1
 one_start_fault Mr i b fault another (inr (inl cut)) (inr (inl other)) = cut.1 ∙ sym other.1
-one_start_fault Mr i b fault another (inr (inl cut)) (inr (inr missing)) = absurd (eol_is_not_below b [] cut.0 missing.0)
+one_start_fault Mr i b fault another (inr (inl cut)) (inr (inr missing)) =
+    absurd (eol_is_not_below b [] cut.0 missing.0)
 one_start_fault Mr i b fault another (inr (inr missing)) (inl all) = absurd (below_is_not_zeros b missing.0 all.0)
-one_start_fault Mr i b fault another (inr (inr missing)) (inr (inl cut)) = absurd (eol_is_not_below b [] cut.0 missing.0)
+one_start_fault Mr i b fault another (inr (inr missing)) (inr (inl cut)) =
+    absurd (eol_is_not_below b [] cut.0 missing.0)
 one_start_fault Mr i b fault another (inr (inr missing)) (inr (inr other)) = missing.1 ∙ sym other.1
 one_start_fault Mmr i b fault another stop other = absurd stop
 
@@ -181,10 +189,12 @@ first_code_has_no_fault b fault below (inl marker) =
 first_code_has_no_fault b fault below (inr short) = below_is_not_zeros b below (short.0, short.2)
 
 -- eleven zeros are not fewer
-marker_is_not_short : (after : List Bool) (zeros : ℕ) → zeros < 11 → replicate 11 false ++ after ≡ replicate zeros false → ⊥
+marker_is_not_short : (after : List Bool) (zeros : ℕ) → zeros < 11 → replicate 11 false ++ after ≡ replicate zeros false
+    → ⊥
 marker_is_not_short after zeros few h = grind (arith, common_steps)
 
 -- and one fault
-pub one_first_code_fault : (b : List Bool) (fault another : StripFault) → IsFirstCodeFault b fault → IsFirstCodeFault b another
+pub one_first_code_fault : (b : List Bool) (fault another : StripFault) → IsFirstCodeFault b fault
+    → IsFirstCodeFault b another
     → fault ≡ another
 one_first_code_fault b fault another h h' = grind (arith, marker_is_not_short)

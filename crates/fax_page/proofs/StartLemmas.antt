@@ -1,6 +1,7 @@
 -- Zeros before a row.
 use Rattle.std.proofs.lemmas.Grind.{common_steps}
-use Rattle.std.proofs.Common.{◌≡◌, ℕ, ◌+◌, ◌-◌, ◌≤◌, List, ◌∷◌, ◌++◌, length, drop, replicate, Bool, true, false, ap, ◌∙◌, arith}
+use Rattle.std.proofs.Common.{◌≡◌, ℕ, ◌+◌, ◌-◌, ◌≤◌, List, ◌∷◌, ◌++◌, length, drop, replicate, Bool, true, false, ap}
+use Rattle.std.proofs.Common.{◌∙◌, arith}
 use Rattle.std.proofs.Common.{append_assoc}
 use Rattle.std.proofs.Math.Seq.{drop-append-add}
 use Rattle.std.proofs.lemmas.List.{replicate-append-replicate, length-replicate}
@@ -22,11 +23,13 @@ eleven_ahead b zeros enough ahead = (
 )
 
 -- eleven zeros or more, and nothing else
-pub eleven_alone : (b : List Bool) → 11 ≤ length b → IsAllZeros b → (after : List Bool) × (b ≡ replicate 11 false ++ after)
+pub eleven_alone : (b : List Bool) → 11 ≤ length b → IsAllZeros b
+    → (after : List Bool) × (b ≡ replicate 11 false ++ after)
 eleven_alone b enough all =
     let zeros : length b ≡ all.0 = ap length all.1 ∙ length-replicate all.0 false in
     (replicate (all.0 - 11) false, all.1 ∙ replicate-split 11 all.0 (omega arith))
 
 -- an EOL, after whose 1 the rest stands
-pub eol_before : (b rest : List Bool) (zeros : ℕ) → 11 ≤ zeros → HasZerosAhead b zeros → rest ≡ drop (zeros + 1) b → IsEndOfLine b rest
+pub eol_before : (b rest : List Bool) (zeros : ℕ) → 11 ≤ zeros → HasZerosAhead b zeros → rest ≡ drop (zeros + 1) b
+    → IsEndOfLine b rest
 eol_before b rest zeros enough ahead rest_is = grind (arith, common_steps, drop-append-add)

@@ -1,5 +1,6 @@
 -- Rows that nobody counted are read in one way, where rows are.
-use Rattle.std.proofs.Common.{◌≡◌, ℕ, zero, suc, ◌+◌, ◌<◌, ◌≤◌, List, [], ◌∷◌, ◌++◌, length, replicate, Bool, true, false, refl, ap, sym, ◌∙◌}
+use Rattle.std.proofs.Common.{◌≡◌, ℕ, zero, suc, ◌+◌, ◌<◌, ◌≤◌, List, [], ◌∷◌, ◌++◌, length, replicate, Bool, true}
+use Rattle.std.proofs.Common.{false, refl, ap, sym, ◌∙◌}
 use Rattle.std.proofs.Common.{subst, arith, inl, inr, Option, Some, None}
 use Rattle.std.specs.Prelude.{◌⊎◌}
 use Rattle.std.proofs.lemmas.Bool.{cases_lt}
@@ -10,11 +11,13 @@ use Rattle.fax_page.specs.declared.Dimension.TheVariants.{TwoDimensional}
 use Rattle.fax_page.specs.declared.StripFault.TheVariants.{DataEnds, EndMarker}
 use Rattle.fax_page.specs.Lines.{Coding, Mh, Mr, Mmr, StripFault, StripForm, IsCause, IsEndOfLine, IsLine, white_row}
 use Rattle.fax_page.specs.Strip.{AreLines, AreReturnEols, HasEndMark, IsReturnEol, end_bits, end_of_line, most_rows}
-use Rattle.fax_page.specs.Uncounted.{DataEnd, EndsSo, Fault, HasDataEnd, IsUncounted, Marked, RowsEnd, TooMany, uncounted}
+use Rattle.fax_page.specs.Uncounted.{DataEnd, EndsSo, Fault, HasDataEnd, IsUncounted, Marked, RowsEnd, TooMany}
+use Rattle.fax_page.specs.Uncounted.{uncounted}
 use Rattle.fax_page.specs.laws.Strips.{ReadsLinesOneWay}
 use Rattle.fax_page.specs.laws.Uncounted.{ReadsUncountedOneWay, UncountedRowsAreAStrip, written_end}
 use Rattle.fax_page.proofs.EndLemmas.{same_return_eol}
-use Rattle.fax_page.proofs.StartLaws.{EolOrNone, eol_is_not_below, eol_is_not_zeros, eol_or_none, no_one, zeros_or_one, same_eol}
+use Rattle.fax_page.proofs.StartLaws.{EolOrNone, eol_is_not_below, eol_is_not_zeros, eol_or_none, no_one, zeros_or_one}
+use Rattle.fax_page.proofs.StartLaws.{same_eol}
 use Rattle.fax_page.proofs.StripLaws.{has_lines, one_left, one_reading}
 
 -- it holds or not
@@ -52,7 +55,8 @@ has_eols coding (suc n) b =
         | inr none ↦ inr (λ has.
             none (
               has.0,
-              subst (λ c. AreReturnEols coding n c has.0) (same_return_eol coding b has.1.0 first.0 has.1.1 first.1) has.1.2,
+              subst (λ c. AreReturnEols coding n c has.0) (same_return_eol coding b has.1.0 first.0 has.1.1 first.1)
+                  has.1.2,
             ))
       ]
     ]
@@ -104,13 +108,15 @@ data_end_or_not (suc row) b =
     ]
 
 -- how rows end by what is in the way, where it is neither
-stop_end : (coding : Coding) (row : ℕ) (left : List Bool) (stop : Option StripFault) → (HasEndMark coding left → ⊥) → (HasDataEnd row left → ⊥)
+stop_end : (coding : Coding) (row : ℕ) (left : List Bool) (stop : Option StripFault) → (HasEndMark coding left → ⊥)
+    → (HasDataEnd row left → ⊥)
     → (end : RowsEnd) × EndsSo coding row left stop end
 stop_end coding row left None unmarked more = (TooMany, (unmarked, more, refl))
 stop_end coding row left (Some fault) unmarked more = (Fault fault, (unmarked, more, refl))
 
 -- rows end
-some_end : (coding : Coding) (row : ℕ) (left : List Bool) (stop : Option StripFault) → (end : RowsEnd) × EndsSo coding row left stop end
+some_end : (coding : Coding) (row : ℕ) (left : List Bool) (stop : Option StripFault)
+    → (end : RowsEnd) × EndsSo coding row left stop end
 some_end coding row left stop =
     elim (mark_or_none coding left) [
       | inl mark ↦ (Marked, mark)
@@ -121,7 +127,8 @@ some_end coding row left stop =
     ]
 
 -- and in one way
-one_end : (coding : Coding) (row : ℕ) (left : List Bool) (stop : Option StripFault) (end other : RowsEnd) → EndsSo coding row left stop end
+one_end : (coding : Coding) (row : ℕ) (left : List Bool) (stop : Option StripFault) (end other : RowsEnd)
+    → EndsSo coding row left stop end
     → EndsSo coding row left stop other → end ≡ other
 one_end coding row left stop Marked Marked first second = refl
 one_end coding row left stop Marked DataEnd first second = absurd (mark_is_not_zeros coding left first second.1)
@@ -185,7 +192,8 @@ module _ (form : StripForm) (from to : ℕ) where
   }
 
   -- rows are all rows of a strip of as many, whatever stops them
-  pub all_lines : (i : ℕ) (reference : List Colour) (b : List Bool) (rows : List (List Colour)) (stop : Option StripFault) (left : List Bool)
+  pub all_lines : (i : ℕ) (reference : List Colour) (b : List Bool) (rows : List (List Colour))
+      (stop : Option StripFault) (left : List Bool)
       → i + length rows ≡ to → AreLines (of_rows form from) i reference b rows stop left
       → AreLines (of_rows form to) i reference b rows None left
   all_lines i reference b [] None left count lines = (lines.0, omega (arith, count))
@@ -204,13 +212,20 @@ uncounted_rows_are_a_strip form b rows end is = record {
 }
 
 -- after a written strip and fill no row more is read
-written_cause : (form : StripForm) (i : ℕ) (reference : List Colour) (coding : Coding) (zeros : ℕ) → form.coding ≡ coding
+written_cause : (form : StripForm) (i : ℕ) (reference : List Colour) (coding : Coding) (zeros : ℕ)
+    → form.coding ≡ coding
     → (fault : StripFault) × IsCause form i reference (end_bits coding ++ replicate zeros false) fault
 written_cause form i reference Mh zeros is = (DataEnds, inl (rw is (inl ((zeros, refl), refl))))
 written_cause form i reference Mr zeros is = (DataEnds, inl (rw is (inl ((zeros, refl), refl))))
 written_cause form i reference Mmr zeros is = (
   EndMarker,
-  inr (TwoDimensional, end_bits Mmr ++ replicate zeros false, rw is refl, inl (true ∷ end_of_line ++ replicate zeros false, refl, refl)),
+  inr (
+    TwoDimensional,
+    end_bits Mmr ++ replicate zeros false,
+    rw is refl,
+    inl
+        (true ∷ end_of_line ++ replicate zeros false, refl, refl),
+  ),
 )
 
 pub written_ends_so : (coding : Coding) (row zeros : ℕ) (stop : Option StripFault) → 0 < row
@@ -220,7 +235,8 @@ written_ends_so Mr row zeros stop some = (some, (zeros, refl))
 written_ends_so Mmr row zeros stop some = (replicate zeros false, refl)
 
 -- the rows of a strip, where a strip may have more: what stops them
-pub record HasStop (form : StripForm) (to i : ℕ) (reference : List Colour) (b : List Bool) (rows : List (List Colour)) (left : List Bool)
+pub record HasStop (form : StripForm) (to i : ℕ) (reference : List Colour) (b : List Bool) (rows : List (List Colour))
+    (left : List Bool)
     : Type 0 where
   pub stop : Option StripFault
   pub lines : AreLines (of_rows form to) i reference b rows stop left
@@ -255,7 +271,8 @@ module _ (form : StripForm) (to zeros : ℕ) (few : form.rows ≤ to) where
       }
 
 -- a written strip is read as its rows, though nobody counts them
-pub written_is_uncounted : (form : StripForm) (b : List Bool) (rows : List (List Colour)) (zeros : ℕ) → form.rows ≤ most_rows
+pub written_is_uncounted : (form : StripForm) (b : List Bool) (rows : List (List Colour)) (zeros : ℕ)
+    → form.rows ≤ most_rows
     → 0 < length rows
     → AreLines form 0 (white_row form.width) b rows None (end_bits form.coding ++ replicate zeros false)
     → IsUncounted form b rows (written_end form.coding)

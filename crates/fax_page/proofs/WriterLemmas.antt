@@ -9,7 +9,8 @@ use Rattle.fax_bits.specs.laws.Codes.{PacksOneWay}
 use Rattle.fax_bits.specs.views.Sink.{Sink, Appends, IsPadded}
 use Rattle.fax_page.specs.declared.Dimension.{Dimension}
 use Rattle.fax_page.specs.declared.StripForm.{StripForm}
-use Rattle.fax_page.specs.Strip.{written_dimension, start_bits, row_bits, coded_line, coded_lines, coded_bits, coded_strip}
+use Rattle.fax_page.specs.Strip.{written_dimension, start_bits, row_bits, coded_line, coded_lines, coded_bits}
+use Rattle.fax_page.specs.Strip.{coded_strip}
 use Rattle.fax_page.specs.views.Writer.{WriterState, writer_beginning, PutsRow, FinishesAs}
 use Rattle.fax_page.specs.laws.Writer.{HasPut, last_of}
 
@@ -19,7 +20,8 @@ pub appended : (old middle new : Sink) (first second : List Bool) → Appends ol
 appended old middle new first second put more = grind (arith, append_assoc)
 
 -- a row that is put as it is written at its place in a strip
-pub line_put : (form : StripForm) (k before i : ℕ) (reference row : List Colour) (dimension : Dimension) (old new : Sink)
+pub line_put : (form : StripForm) (k before i : ℕ) (reference row : List Colour) (dimension : Dimension)
+    (old new : Sink)
     → dimension ≡ written_dimension form.coding k i
     → Appends old (start_bits form.coding form.aligned before dimension ++ row_bits dimension reference row) new
     → new.bits ≡ old.bits ++ coded_line form k before i reference row
@@ -27,15 +29,18 @@ unfolding coded_line
 line_put form k before i reference row dimension old new written put = grind arith
 
 -- a strip that is finished: what stands after its last row, and zeros
-pub finished : (order : FillOrder) (start middle padded : Sink) (end : List Bool) (bytes : List ℕ) → PacksOneWay → start.order ≡ order
-    → Appends start end middle → IsPadded middle padded → All (λ byte. byte < 256) bytes → bits padded.order bytes ≡ padded.bits
+pub finished : (order : FillOrder) (start middle padded : Sink) (end : List Bool) (bytes : List ℕ) → PacksOneWay
+    → start.order ≡ order
+    → Appends start end middle → IsPadded middle padded → All (λ byte. byte < 256) bytes
+    → bits padded.order bytes ≡ padded.bits
     → bytes ≡ packed order (start.bits ++ end)
 finished order start middle padded end bytes packs same_order put pad fit holds = grind arith
 
 lines_grow : (form : StripForm) (k before i : ℕ) (reference row : List Colour) (rows : List (List Colour))
     → coded_lines form k before i reference (rows ++ row ∷ [])
     ≡ coded_lines form k before i reference rows
-    ++ coded_line form k (before + length (coded_lines form k before i reference rows)) (i + length rows) (last_of reference rows) row
+    ++ coded_line form k (before + length (coded_lines form k before i reference rows)) (i + length rows)
+    (last_of reference rows) row
 unfolding coded_lines
 lines_grow form k before i reference row [] = grind (arith, append-nil)
 lines_grow form k before i reference row (first ∷ rows) =
@@ -43,7 +48,8 @@ lines_grow form k before i reference row (first ∷ rows) =
     let others = coded_lines form k (before + length line) (i + 1) first rows in
     let last = last_of first rows in
     let there : i + 1 + length rows ≡ i + suc (length rows) = omega arith in
-    let place : before + length line + length others ≡ before + length (line ++ others) = omega (arith, length-append line others) in
+    let place : before + length line + length others ≡ before + length (line ++ others) =
+    omega (arith, length-append line others) in
     rw (
       lines_grow form k (before + length line) (i + 1) first row rows,
       place,

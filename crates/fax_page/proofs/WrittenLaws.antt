@@ -1,5 +1,6 @@
 -- A written strip is read back, where its rows are.
-use Rattle.std.proofs.Common.{◌≡◌, ℕ, zero, suc, ◌+◌, List, [], ◌∷◌, ◌++◌, length, Bool, refl, sym, subst, arith, append_assoc, inl, None}
+use Rattle.std.proofs.Common.{◌≡◌, ℕ, zero, suc, ◌+◌, List, [], ◌∷◌, ◌++◌, length, Bool, refl, sym, subst, arith}
+use Rattle.std.proofs.Common.{append_assoc, inl, None}
 use Rattle.std.specs.Prelude.{All}
 use Rattle.std.proofs.lemmas.List.{length-replicate}
 use Rattle.fax_bits.specs.declared.Colour.{Colour}
@@ -15,7 +16,8 @@ use Rattle.fax_page.specs.code.Starts.{IsStarted}
 use Rattle.fax_page.proofs.BegunLemmas.{start_is}
 use Rattle.fax_page.specs.views.Strip.{IsStripForm}
 use Rattle.fax_page.specs.Strip.{AreLines}
-use Rattle.fax_page.specs.Strip.{written_dimension, row_bits, fill_zeros, start_bits, coded_line, coded_lines, coded_bits, end_bits}
+use Rattle.fax_page.specs.Strip.{written_dimension, row_bits, fill_zeros, start_bits, coded_line, coded_lines}
+use Rattle.fax_page.specs.Strip.{coded_bits, end_bits}
 use Rattle.fax_page.specs.laws.Strips.{AreRowsOf, CodedBitsAreRead}
 use Rattle.fax_page.proofs.FillLemmas.{end_of_line_back}
 use Rattle.fax_page.proofs.FirstCodeLemmas.{row_begins}
@@ -23,7 +25,8 @@ use Rattle.fax_page.proofs.FirstCodeLemmas.{row_begins}
 -- a written row begins as it is to
 start_back : (coding : Coding) (aligned : Bool) (before k i : ℕ) (reference row : List Colour) (more : List Bool)
     → let dimension = written_dimension coding k i in
-    IsStarted coding i ((start_bits coding aligned before dimension ++ row_bits dimension reference row) ++ more) dimension
+    IsStarted coding i ((start_bits coding aligned before dimension ++ row_bits dimension reference row) ++ more)
+    dimension
     (row_bits dimension reference row ++ more)
 start_back Mh aligned before k i reference row more =
     (refl, inl (end_of_line_back (fill_zeros aligned before) [] (one_dimensional_bits row) more))
@@ -32,14 +35,16 @@ start_back Mr aligned before k i reference row more =
     end_of_line_back (fill_zeros aligned before) (tag_bit dimension ∷ []) (row_bits dimension reference row) more
 start_back Mmr aligned before k i reference row more = (refl, refl)
 
-module _ (one_read : OneDimensionalBitsAreRead) (two_read : TwoDimensionalBitsAreRead) (form : StripForm) (limits : IsStripForm form)
+module _ (one_read : OneDimensionalBitsAreRead) (two_read : TwoDimensionalBitsAreRead) (form : StripForm)
+    (limits : IsStripForm form)
     (k : ℕ) where
   row_back : (dimension : Dimension) (reference row : List Colour) (more : List Bool) → length reference ≡ form.width
       → length row ≡ form.width
       → IsRowIn dimension form.width reference (row_bits dimension reference row ++ more) row more
   row_back dimension reference row more reference_width width = grind arith
 
-  line_back : (before i : ℕ) (reference row : List Colour) (more : List Bool) → length reference ≡ form.width → length row ≡ form.width
+  line_back : (before i : ℕ) (reference row : List Colour) (more : List Bool) → length reference ≡ form.width
+      → length row ≡ form.width
       → IsLine form i reference (coded_line form k before i reference row ++ more) row more
   unfolding coded_line
   line_back before i reference row more reference_width width =
@@ -49,12 +54,14 @@ module _ (one_read : OneDimensionalBitsAreRead) (two_read : TwoDimensionalBitsAr
       record {
         dimension = dimension;
         codes = codes;
-        start = start_is form.coding i _ dimension codes (start_back form.coding form.aligned before k i reference row more);
+        start = start_is form.coding i _ dimension codes (start_back form.coding form.aligned before k i reference row
+            more);
         first_code = row_begins dimension form.width reference codes row more limits.some_pels coded;
         coded = coded;
       }
 
-  lines_back : (before i : ℕ) (reference : List Colour) (rows : List (List Colour)) (more : List Bool) → length reference ≡ form.width
+  lines_back : (before i : ℕ) (reference : List Colour) (rows : List (List Colour)) (more : List Bool)
+      → length reference ≡ form.width
       → All (λ row. length row ≡ form.width) rows → i + length rows ≡ form.rows
       → AreLines form i reference (coded_lines form k before i reference rows ++ more) rows None more
   unfolding coded_lines
@@ -69,7 +76,8 @@ module _ (one_read : OneDimensionalBitsAreRead) (two_read : TwoDimensionalBitsAr
         omega (arith, count),
         subst (λ b. IsLine form i reference b row after) (sym (append_assoc line others more))
             (line_back before i reference row after reference_width width),
-        lines_back place (i + 1) row rows more width (λ j d h. widths (suc j) d (omega (arith, h))) (omega (arith, count)),
+        lines_back place (i + 1) row rows more width (λ j d h. widths (suc j) d (omega (arith, h)))
+            (omega (arith, count)),
       )
 
   -- the rows of a written strip, and then its end and whatever follows it
@@ -80,9 +88,13 @@ module _ (one_read : OneDimensionalBitsAreRead) (two_read : TwoDimensionalBitsAr
       let after = end_bits form.coding ++ more in
       subst (λ b. AreLines form 0 (white_row form.width) b rows None after)
       (sym (append_assoc (coded_lines form k 0 0 (white_row form.width) rows) (end_bits form.coding) more))
-      (lines_back 0 0 (white_row form.width) rows after (length-replicate form.width White) fit.widths (omega (arith, fit.count)))
+      (lines_back 0 0 (white_row form.width) rows after (length-replicate form.width White) fit.widths
+      (omega (arith, fit.count)))
 
 -- a written strip is read back, whatever bits follow it
 pub coded_bits_back : OneDimensionalBitsAreRead → TwoDimensionalBitsAreRead → CodedBitsAreRead
 coded_bits_back one_read two_read form k rows more limits fit =
-    record { left = end_bits form.coding ++ more; lines = coded_lines_back one_read two_read form limits k rows more fit }
+    record {
+      left = end_bits form.coding ++ more;
+      lines = coded_lines_back one_read two_read form limits k rows more fit;
+    }

@@ -1,7 +1,8 @@
 -- Changing elements: where the next one stands, and the pels before it.
 use Rattle.fax_rows.proofs.ColourLemmas.{same_is}
 use Rattle.std.proofs.lemmas.Grind.{common_steps}
-use Rattle.std.proofs.Common.{◌≡◌, ℕ, zero, suc, ◌+◌, ◌-◌, ◌<◌, ◌≤◌, List, [], ◌∷◌, ◌++◌, length, take, replicate, Bool, true, false}
+use Rattle.std.proofs.Common.{◌≡◌, ℕ, zero, suc, ◌+◌, ◌-◌, ◌<◌, ◌≤◌, List, [], ◌∷◌, ◌++◌, length, take, replicate, Bool}
+use Rattle.std.proofs.Common.{true, false}
 use Rattle.std.proofs.Common.{refl, ap, sym, ◌∙◌, arith, inl, inr}
 use Rattle.std.specs.Prelude.{◌&&◌, Option, Some, None, unwrap_or}
 use Rattle.std.proofs.lemmas.Bool.{ltb-true, lt-ltb}
@@ -19,7 +20,8 @@ pub record IsFirstPlace (test : ℕ → Bool) (i n place : ℕ) : Type 0 where
 
 -- one more place before the others
 first_place_more : (test : ℕ → Bool) (i n : ℕ) (passes : Bool) → test i ≡ passes
-    → IsFirstPlace test (i + 1) n (first_place test (i + 1) n) → IsFirstPlace test i (suc n) (first_place test i (suc n))
+    → IsFirstPlace test (i + 1) n (first_place test (i + 1) n)
+    → IsFirstPlace test i (suc n) (first_place test i (suc n))
 unfolding first_place
 first_place_more test i n passes is more = grind arith
 
@@ -70,7 +72,8 @@ right_after from k h = grind arith
 -- the pels from a place up to the next changing element have one colour
 pub colour_up_to : {row : List Colour} {from : Option ℕ} {place : ℕ} → IsNextChange row from place
     → (k : ℕ) → first_of from ≤ k → k < place → pel row k ≡ colour_of row from
-colour_up_to {from = from} next k after before = colour_before from next (suc k) (omega arith) (right_after from k after)
+colour_up_to {from = from} next k after before = colour_before from next (suc k) (omega arith)
+    (right_after from k after)
 
 -- and the changing element has the other
 pub colour_at : {row : List Colour} {from : Option ℕ} {place : ℕ} → IsNextChange row from place
@@ -99,7 +102,12 @@ pub pels_up_to : (row : List Colour) (from to : ℕ) (colour : Colour) → from 
 pels_up_to row zero to colour order within each = grind (arith, common_steps, replicate_pels)
 pels_up_to [] (suc from) to colour order within each = absurd (omega arith)
 pels_up_to (first ∷ row) (suc from) zero colour order within each = absurd (omega arith)
-pels_up_to (first ∷ row) (suc from) (suc to) colour order within each = grind (arith, pels_up_to row from to colour (omega arith) (omega arith) (λ k h l. each (suc k) (omega arith) (omega arith)))
+pels_up_to (first ∷ row) (suc from) (suc to) colour order within each =
+    grind (
+      arith,
+      pels_up_to row from to colour (omega arith) (omega arith)
+          (λ k h l. each (suc k) (omega arith) (omega arith)),
+    )
 
 -- the next changing element of another colour lies in the row or is its width, right of the place
 pub next_of_within : (row : List Colour) (from : Option ℕ) (colour : Colour) → b1 row from colour ≤ length row

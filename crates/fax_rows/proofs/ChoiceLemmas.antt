@@ -1,9 +1,11 @@
 -- The step that T.4 chooses is a step to the place that it leads to.
 use Rattle.fax_rows.proofs.ColourLemmas.{other-other}
-use Rattle.std.proofs.Common.{rules, ◌≡◌, ℕ, suc, ◌+◌, ◌-◌, ◌<◌, ◌≤◌, List, ◌++◌, length, take, replicate, Bool, true, false, refl, ap, sym}
+use Rattle.std.proofs.Common.{rules, ◌≡◌, ℕ, suc, ◌+◌, ◌-◌, ◌<◌, ◌≤◌, List, ◌++◌, length, take, replicate, Bool, true}
+use Rattle.std.proofs.Common.{false, refl, ap, sym}
 use Rattle.std.proofs.Common.{◌∙◌, arith, append_assoc}
 use Rattle.std.proofs.lemmas.Grind.{common_steps}
-use Rattle.std.specs.Prelude.{ℤ, pos, negsuc, ◌-ℤ◌, ◌+ℤ◌, ◌<ℤ◌, ◌≤ℤ◌, nat_abs, nat_lt, nat_le, if◌then◌else◌, Option, Some, None}
+use Rattle.std.specs.Prelude.{ℤ, pos, negsuc, ◌-ℤ◌, ◌+ℤ◌, ◌<ℤ◌, ◌≤ℤ◌, nat_abs, nat_lt, nat_le, if◌then◌else◌, Option}
+use Rattle.std.specs.Prelude.{Some, None}
 use Rattle.std.proofs.lemmas.Bool.{ltb-true}
 use Rattle.std.proofs.lemmas.Bool.Decides.{nat_tests}
 use Rattle.std.proofs.lemmas.Int.{ints}
@@ -16,7 +18,8 @@ use Rattle.fax_bits.specs.Written.{run_bits}
 use Rattle.fax_rows.specs.Rows.{other, pel, next_change, is_right_of, b1, b2, Position, IsStepBy, a0_number}
 use Rattle.fax_rows.specs.laws.Rows.{HasWidth}
 use Rattle.fax_rows.specs.code.Choice.{places, colour_of, chosen_mode, run_pair_bits, next_a0}
-use Rattle.fax_rows.proofs.ChangeLemmas.{IsNextChange, next_change_is, colour_up_to, colour_at, next_is_ahead, pels_up_to, first_of}
+use Rattle.fax_rows.proofs.ChangeLemmas.{IsNextChange, next_change_is, colour_up_to, colour_at, next_is_ahead}
+use Rattle.fax_rows.proofs.ChangeLemmas.{pels_up_to, first_of}
 use Rattle.fax_rows.proofs.ChangeLemmas.{next_of_within, next_of_right}
 
 -- the position at a place of a row
@@ -36,7 +39,8 @@ colour_after _ colour = colour
 -- the mode makes a step from a0, with these bits after its code
 pub record IsChosen (reference row : List Colour) (a0 : Option ℕ) (rest : List Bool) (mode : ModeCode) : Type 0 where
   pub written : IsWritten mode
-  pub step : IsStepBy mode reference (here row a0 (colour_of row a0)) (run_pair_bits mode row a0 (places reference row a0) ++ rest)
+  pub step : IsStepBy mode reference (here row a0 (colour_of row a0))
+      (run_pair_bits mode row a0 (places reference row a0) ++ rest)
       (here row (Some (next_a0 mode (places reference row a0))) (colour_after mode (colour_of row a0))) rest
   pub right : passed a0 < passed (Some (next_a0 mode (places reference row a0)))
   pub within : next_a0 mode (places reference row a0) ≤ length row
@@ -47,7 +51,8 @@ pub passed_within : (from : Option ℕ) (width : ℕ) → first_of from < width 
 passed_within from width h = grind arith
 
 -- a place right of the start of a step, or the width, is passed later
-passes : (from : Option ℕ) (place width : ℕ) → first_of from < width → place ≤ width → (place < width → is_right_of from place ≡ true)
+passes : (from : Option ℕ) (place width : ℕ) → first_of from < width → place ≤ width
+    → (place < width → is_right_of from place ≡ true)
     → passed from ≤ place
 passes from place width unfinished within right = grind (arith, common_steps)
 
@@ -91,9 +96,15 @@ module _ (reference row : List Colour) (same_width : length reference ≡ length
   b2_within = omega (arith, b2_is.within)
 
   pub b2_right : passed a0 ≤ b2 reference a0 (colour_of row a0)
-  b2_right = omega (arith, b1_right, next_is_ahead (Some (b1 reference a0 (colour_of row a0))) b2_is (omega (arith, b1_within)))
+  b2_right = omega (
+    arith,
+    b1_right,
+    next_is_ahead (Some (b1 reference a0 (colour_of row a0))) b2_is
+        (omega (arith, b1_within)),
+  )
 
-  pass_chosen : (rest : List Bool) → b2 reference a0 (colour_of row a0) < next_change row a0 → IsChosen reference row a0 rest Pass
+  pass_chosen : (rest : List Bool) → b2 reference a0 (colour_of row a0) < next_change row a0
+      → IsChosen reference row a0 rest Pass
   pass_chosen rest left =
       let ahead = first_passed a0 (b2 reference a0 (colour_of row a0)) b2_right in
       let pels = pels_up_to row (first_of a0) (b2 reference a0 (colour_of row a0)) (colour_of row a0) ahead b2_within
@@ -107,11 +118,13 @@ module _ (reference row : List Colour) (same_width : length reference ≡ length
       }
 
   -- where a1 stands as seen from b1
-  a1_from_b1 : pos (b1 reference a0 (colour_of row a0)) +ℤ (pos (next_change row a0) -ℤ pos (b1 reference a0 (colour_of row a0)))
+  a1_from_b1 : pos (b1 reference a0 (colour_of row a0)) +ℤ (pos (next_change row a0) -ℤ pos
+      (b1 reference a0 (colour_of row a0)))
       ≡ pos (next_change row a0)
   a1_from_b1 = omega (arith, ints)
 
-  vertical_chosen : (rest : List Bool) → nat_abs (pos (next_change row a0) -ℤ pos (b1 reference a0 (colour_of row a0))) ≤ 3
+  vertical_chosen : (rest : List Bool) → nat_abs (pos (next_change row a0) -ℤ pos (b1 reference a0 (colour_of row a0)))
+      ≤ 3
       → IsChosen reference row a0 rest (Vertical (pos (next_change row a0) -ℤ pos (b1 reference a0 (colour_of row a0))))
   vertical_chosen rest near =
       let ahead = first_passed a0 (next_change row a0) a1_right in
@@ -122,7 +135,8 @@ module _ (reference row : List Colour) (same_width : length reference ≡ length
         step = (
           record {
             in_row = record {
-              right_of_a0 = rw a1_from_b1 (number_passes a0 (colour_of row a0) (take (first_of a0) row) (next_change row a0) a1_right);
+              right_of_a0 = rw a1_from_b1 (number_passes a0 (colour_of row a0) (take (first_of a0) row)
+                  (next_change row a0) a1_right);
               within = rw a1_from_b1 (omega (arith, ints, a1_is.within));
             };
             a1 = next_change row a0;
@@ -143,7 +157,8 @@ module _ (reference row : List Colour) (same_width : length reference ≡ length
   a2_ahead = next_is_ahead (Some (next_change row a0)) a2_is a1_is.within
 
   -- the pels from a1 to a2
-  second_run : (k : ℕ) → next_change row a0 ≤ k → k < next_change row (Some (next_change row a0)) → pel row k ≡ other (colour_of row a0)
+  second_run : (k : ℕ) → next_change row a0 ≤ k → k < next_change row (Some (next_change row a0))
+      → pel row k ≡ other (colour_of row a0)
   second_run k h l =
       colour_up_to a2_is k h l
       ∙ colour_at a1_is (omega (arith, a2_is.within))
@@ -161,12 +176,15 @@ module _ (reference row : List Colour) (same_width : length reference ≡ length
       let ahead = first_passed a0 (next_change row a0) a1_right in
       let first_pels = pels_up_to row (first_of a0) (next_change row a0) (colour_of row a0) ahead a1_is.within
       (colour_up_to a1_is) in
-      let second_pels = pels_up_to row (next_change row a0) (next_change row (Some (next_change row a0))) (other (colour_of row a0))
+      let second_pels = pels_up_to row (next_change row a0) (next_change row (Some (next_change row a0)))
+      (other (colour_of row a0))
       a2_ahead a2_is.within second_run in
-      let sums : first_of a0 + (next_change row a0 - first_of a0) + (next_change row (Some (next_change row a0)) - next_change row a0)
+      let sums : first_of a0 + (next_change row a0 - first_of a0) +
+      (next_change row (Some (next_change row a0)) - next_change row a0)
       ≡ next_change row (Some (next_change row a0)) = omega (arith, a2_ahead) in
       let both = sym second_pels
-      ∙ ap (λ pels. pels ++ replicate (next_change row (Some (next_change row a0)) - next_change row a0) (other (colour_of row a0)))
+      ∙ ap (λ pels. pels ++ replicate (next_change row (Some (next_change row a0)) - next_change row a0)
+      (other (colour_of row a0)))
       (sym first_pels)
       ∙ append_assoc (take (first_of a0) row) (replicate (next_change row a0 - first_of a0) (colour_of row a0))
       (replicate (next_change row (Some (next_change row a0)) - next_change row a0) (other (colour_of row a0))) in
@@ -175,7 +193,8 @@ module _ (reference row : List Colour) (same_width : length reference ≡ length
         step = record {
           first = next_change row a0 - first_of a0;
           second = next_change row (Some (next_change row a0)) - next_change row a0;
-          middle = run_bits (other (colour_of row a0)) (next_change row (Some (next_change row a0)) - next_change row a0) ++ rest;
+          middle = run_bits (other (colour_of row a0)) (next_change row (Some (next_change row a0)) - next_change row
+              a0) ++ rest;
           first_run = rw append_assoc (runs_read (colour_of row a0) (next_change row a0 - first_of a0) _
               (omega (arith, a1_is.within, limits.short)));
           second_run = runs_read (other (colour_of row a0)) _ rest (omega (arith, a2_is.within, limits.short));
@@ -193,12 +212,14 @@ module _ (reference row : List Colour) (same_width : length reference ≡ length
       → nat_le (nat_abs (pos (next_change row a0) -ℤ pos (b1 reference a0 (colour_of row a0)))) 3 ≡ near
       → IsChosen reference row a0 rest
       (if pass then Pass
-      else (if near then Vertical (pos (next_change row a0) -ℤ pos (b1 reference a0 (colour_of row a0))) else Horizontal))
+      else (if near then Vertical (pos (next_change row a0) -ℤ pos (b1 reference a0 (colour_of row a0))) else
+      Horizontal))
   by_tests runs_read limits rest true near is close = pass_chosen rest (ltb-true _ _ is)
   by_tests runs_read limits rest false true is close = vertical_chosen rest (grind (arith, nat_tests))
   by_tests runs_read limits rest false false is close = horizontal_chosen runs_read limits rest
 
-  pub chosen : RunBitsAreRead → HasWidth row → (rest : List Bool) → IsChosen reference row a0 rest (chosen_mode (places reference row a0))
+  pub chosen : RunBitsAreRead → HasWidth row → (rest : List Bool)
+      → IsChosen reference row a0 rest (chosen_mode (places reference row a0))
   chosen runs_read limits rest = by_tests runs_read limits rest _ _ refl refl
 
   -- a1 is not left of the first pel of the step
@@ -210,9 +231,11 @@ module _ (reference row : List Colour) (same_width : length reference ≡ length
       → IsPlaceAhead a0 (length row)
       (next_a0
       (if pass then Pass
-      else (if near then Vertical (pos (next_change row a0) -ℤ pos (b1 reference a0 (colour_of row a0))) else Horizontal))
+      else (if near then Vertical (pos (next_change row a0) -ℤ pos (b1 reference a0 (colour_of row a0))) else
+      Horizontal))
       (places reference row a0))
   place_by_tests pass near is = grind (arith, b2_right, b2_within, a1_right, a2_ahead, a2_is)
 
-  pub place_ahead : IsPlaceAhead a0 (length row) (next_a0 (chosen_mode (places reference row a0)) (places reference row a0))
+  pub place_ahead : IsPlaceAhead a0 (length row) (next_a0 (chosen_mode (places reference row a0))
+      (places reference row a0))
   place_ahead = place_by_tests _ _ refl

@@ -1,7 +1,9 @@
 -- A step that is read as T.4 would have chosen it.
 use Rattle.fax_rows.proofs.ColourLemmas.{other-other, other_than, same_as}
-use Rattle.std.proofs.Common.{rules, ◌≡◌, ℕ, ◌+◌, ◌-◌, ◌<◌, ◌≤◌, ℤ, negsuc, ◌-ℤ◌, List, ◌++◌, length, take, replicate, get_or, Bool, true}
-use Rattle.std.proofs.Common.{false, pos, refl, ap, sym, ◌∙◌, subst, arith, inl, inr, take-take, take_at, append_assoc, append-nil}
+use Rattle.std.proofs.Common.{rules, ◌≡◌, ℕ, ◌+◌, ◌-◌, ◌<◌, ◌≤◌, ℤ, negsuc, ◌-ℤ◌, List, ◌++◌, length, take, replicate}
+use Rattle.std.proofs.Common.{get_or, Bool, true}
+use Rattle.std.proofs.Common.{false, pos, refl, ap, sym, ◌∙◌, subst, arith, inl, inr, take-take, take_at, append_assoc}
+use Rattle.std.proofs.Common.{append-nil}
 use Rattle.std.proofs.lemmas.Grind.{common_steps}
 use Rattle.std.specs.Prelude.{◌⊎◌, Option, Some, None, unwrap_or, ◌<ℤ◌, nat_abs, nat_lt, nat_le}
 use Rattle.std.proofs.lemmas.Bool.{and_from, cases_lt, ltb-true, lt-ltb}
@@ -15,7 +17,8 @@ use Rattle.fax_bits.specs.declared.Colour.TheVariants.{White}
 use Rattle.fax_bits.specs.declared.modes.ModeCode.{ModeCode}
 use Rattle.fax_bits.specs.declared.modes.ModeCode.TheVariants.{Pass, Horizontal, Vertical}
 use Rattle.fax_bits.specs.Written.{mode_bits, run_bits}
-use Rattle.fax_rows.specs.Rows.{other, pel, pel_before, is_changing, is_right_of, next_change, Position, first_pel, a0_number}
+use Rattle.fax_rows.specs.Rows.{other, pel, pel_before, is_changing, is_right_of, next_change, Position, first_pel}
+use Rattle.fax_rows.specs.Rows.{a0_number}
 use Rattle.fax_rows.specs.Rows.{coloured_up_to, IsVerticalStep}
 use Rattle.fax_rows.specs.code.Seen.{b1_from, b2_from}
 use Rattle.fax_rows.specs.code.Choice.{Places, places, colour_of, chosen_mode, run_pair_bits, next_a0}
@@ -27,7 +30,8 @@ use Rattle.fax_rows.proofs.TakenModeLemmas.{is_near}
 
 -- ---- pels of one colour from a place on
 
-from_start : (from : Option ℕ) (colour : Colour) → (from ≡ None → White ≡ colour) → is_right_of from 0 ≡ true → White ≡ colour
+from_start : (from : Option ℕ) (colour : Colour) → (from ≡ None → White ≡ colour) → is_right_of from 0 ≡ true
+    → White ≡ colour
 from_start from colour start right = grind arith
 
 module _ (row : List Colour) (from : Option ℕ) (colour : Colour) (to : ℕ) (start : from ≡ None → White ≡ colour)
@@ -35,11 +39,13 @@ module _ (row : List Colour) (from : Option ℕ) (colour : Colour) (to : ℕ) (s
   before_is : (k : ℕ) → k ≤ to → is_right_of from k ≡ true → pel_before row k ≡ colour
   before_is k within right = grind arith
 
-  next_is : to ≤ length row → is_right_of from to ≡ true → (to < length row → pel row to ≡ other colour) → to ≡ next_change row from
+  next_is : to ≤ length row → is_right_of from to ≡ true → (to < length row → pel row to ≡ other colour)
+      → to ≡ next_change row from
   next_is within right turn =
       next_change_at row from to within
       (λ k h. still_left (is_right_of from k) (is_changing row k)
-      (λ l. same_as (pel row k) (pel_before row k) (each k (right_after_first from k l) h ∙ sym (before_is k (omega arith) l))))
+      (λ l. same_as (pel row k) (pel_before row k) (each k (right_after_first from k l) h
+      ∙ sym (before_is k (omega arith) l))))
       (λ h. and_from (is_right_of from to) (is_changing row to) right
       (other_than (pel row to) (pel_before row to) (turn h ∙ ap other (sym (before_is to (omega arith) right)))))
 
@@ -53,7 +59,8 @@ none_after row a over = grind (arith, common_steps, next_change_is)
 
 -- ---- pels that are read, and those after them
 
-module _ (row old tail : List Colour) (first to : ℕ) (len : length old ≡ first) (order : first ≤ to) (within : to ≤ length row)
+module _ (row old tail : List Colour) (first to : ℕ) (len : length old ≡ first) (order : first ≤ to)
+    (within : to ≤ length row)
     (read : old ++ tail ≡ take to row) where
   read_before : old ≡ take first row
   read_before = sym (take_at old tail first len) ∙ ap (take first) read ∙ take-take first to row order
@@ -73,7 +80,8 @@ apart a b h = grind arith
 
 -- ---- a step by the mode that T.4 chooses
 
-module _ (reference row : List Colour) (same : length row ≡ length reference) (old : Position) (start : old.a0 ≡ None → White ≡ old.colour)
+module _ (reference row : List Colour) (same : length row ≡ length reference) (old : Position)
+    (start : old.a0 ≡ None → White ≡ old.colour)
     (len : length old.pels ≡ first_pel old) (unfinished : first_pel old < length reference) where
   -- the pels that are read go on up to a place right of a0
   goes_on_from : (to : ℕ) (tail : List Colour) → first_pel old ≤ to → to ≤ length row → old.pels ++ tail ≡ take to row
@@ -89,12 +97,20 @@ module _ (reference row : List Colour) (same : length row ≡ length reference) 
       → b ≡ (mode_bits mode ++ run_pair_bits mode row old.a0 at) ++ rest → IsStepOf reference row old b new rest
   step_is at mode b new rest goes at_is mode_is place bits = grind (arith, common_steps)
 
-  places_are : (a1 a2 : ℕ) → a1 ≡ next_change row old.a0 → a2 ≡ next_change row (Some a1) → colour_of row old.a0 ≡ old.colour
-      → places reference row old.a0 ≡ record { a1 = a1; a2 = a2; b1 = b1_from reference old; b2 = b2_from reference old }
+  places_are : (a1 a2 : ℕ) → a1 ≡ next_change row old.a0 → a2 ≡ next_change row (Some a1)
+      → colour_of row old.a0 ≡ old.colour
+      → places reference row old.a0 ≡ record {
+        a1 = a1;
+        a2 = a2;
+        b1 = b1_from reference old;
+        b2 =
+            b2_from reference old;
+      }
   places_are a1 a2 first second colour = rw (second, first, colour) refl
 
   pub vertical_is : (d : ℤ) (b : List Bool) (new : Position) (rest : List Bool) → IsVerticalStep reference old d new
-      → b ≡ mode_bits (Vertical d) ++ rest → is_near (Vertical d) ≡ true → first_pel new ≤ b2_from reference old → GoesOnFrom row new
+      → b ≡ mode_bits (Vertical d) ++ rest → is_near (Vertical d) ≡ true → first_pel new ≤ b2_from reference old
+      → GoesOnFrom row new
       → IsStepOf reference row old b new rest
   vertical_is d b new rest step bits near left goes =
       let goes_on = subst (GoesOnFrom row) step.new_is goes in
@@ -108,18 +124,21 @@ module _ (reference row : List Colour) (same : length row ≡ length reference) 
       pel_after row old.pels _ (first_pel old) a1 len order within goes_on.read k h l
       ∙ get_or-replicate (a1 - first_pel old) (k - first_pel old) old.colour White (omega arith) in
       let before = goes_on_from a1 _ order within goes_on.read
-      (λ a is inside. let here = ap first_of is in let less = ltb-true a a1 (subst (λ o. is_right_of o a1 ≡ true) is right) in
+      (λ a is inside. let here = ap first_of is in let less = ltb-true a a1
+      (subst (λ o. is_right_of o a1 ≡ true) is right) in
       each a (omega arith) less) in
       let inside : first_pel old < length row = omega (arith, same, unfinished) in
       let first = next_is row old.a0 old.colour a1 start each within right (goes_on.coloured a1 refl) in
       let at = places_are a1 _ first refl (old_colour before inside) in
       let not_pass : nat_lt (b2_from reference old) a1 ≡ false = grind (arith, nat_tests) in
       let difference : pos a1 -ℤ pos (b1_from reference old) ≡ d = omega (arith, ints, step.a1_is) in
-      step_is _ (Vertical d) b new rest before at (rw (not_pass, difference, near) refl) (ap (λ (p : Position). p.a0) step.new_is)
+      step_is _ (Vertical d) b new rest before at (rw (not_pass, difference, near) refl)
+      (ap (λ (p : Position). p.a0) step.new_is)
       (bits ∙ ap (λ c. c ++ rest) (sym (append-nil (mode_bits (Vertical d)))))
 
   pub pass_is : (b : List Bool) (new : Position) (rest : List Bool) → new ≡ coloured_up_to old (b2_from reference old)
-      → b ≡ mode_bits Pass ++ rest → first_pel old ≤ b2_from reference old → first_pel new < length reference → GoesOnFrom row new
+      → b ≡ mode_bits Pass ++ rest → first_pel old ≤ b2_from reference old → first_pel new < length reference
+      → GoesOnFrom row new
       → IsStepOf reference row old b new rest
   pass_is b new rest new_is bits order ends goes =
       let goes_on = subst (GoesOnFrom row) new_is goes in
@@ -157,12 +176,14 @@ module _ (reference row : List Colour) (same : length row ≡ length reference) 
       → to ≡ next_change row (Some a1)
   second_ends a1 to order within some each there =
       elim (cases_lt a1 (length row)) [
-        | inl inside ↦ next_is row (Some a1) (other old.colour) to (λ h. absurd (cc h)) each within (lt-ltb a1 to (some inside))
+        | inl inside ↦ next_is row (Some a1) (other old.colour) to (λ h. absurd (cc h)) each within
+            (lt-ltb a1 to (some inside))
             (λ h. there h ∙ sym (other-other old.colour))
         | inr over ↦ omega (arith, none_after row a1 over)
       ]
 
-  pub horizontal_is : {b middle : List Bool} {new : Position} {rest : List Bool} → IsChosenPair reference old middle new rest
+  pub horizontal_is : {b middle : List Bool} {new : Position} {rest : List Bool}
+      → IsChosenPair reference old middle new rest
       → b ≡ mode_bits Horizontal ++ middle → GoesOnFrom row new → IsStepOf reference row old b new rest
   horizontal_is {b = b} {new = new} {rest = rest} pair bits goes =
       let goes_on = subst (GoesOnFrom row) pair.new_is goes in
@@ -181,12 +202,14 @@ module _ (reference row : List Colour) (same : length row ≡ length reference) 
       let each_other : (k : ℕ) → a1 ≤ k → k < to → pel row k ≡ other old.colour = λ k h l.
       after k (omega arith) l ∙ run_second first second (k - first_pel old) (omega arith) (omega arith) in
       let before = goes_on_from to tail order within read
-      (λ a is inside. let here = ap first_of is in let less = ltb-true a a1 (subst (λ o. is_right_of o a1 ≡ true) is pair.right) in
+      (λ a is inside. let here = ap first_of is in let less = ltb-true a a1
+      (subst (λ o. is_right_of o a1 ≡ true) is pair.right) in
       each a (omega arith) less) in
       let colour = old_colour before (omega (arith, same, unfinished)) in
       let a1_is = next_is row old.a0 old.colour a1 start each (omega arith) pair.right
       (λ h. each_other a1 (omega arith) (let some = pair.some (omega (arith, same)) in omega arith)) in
-      let a2_is = second_ends a1 to (omega arith) within (λ h. let some = pair.some (omega (arith, same)) in omega arith) each_other
+      let a2_is = second_ends a1 to (omega arith) within (λ h. let some = pair.some (omega (arith, same)) in
+      omega arith) each_other
       (goes_on.coloured to refl) in
       let at = places_are a1 to a1_is a2_is colour in
       let not_pass : nat_lt (b2_from reference old) a1 ≡ false = let left = pair.left in grind (arith, nat_tests) in

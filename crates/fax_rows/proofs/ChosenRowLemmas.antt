@@ -1,5 +1,6 @@
 -- A row that is read by steps that T.4 would have chosen has the bits that are written.
-use Rattle.std.proofs.Common.{◌≡◌, ℕ, ◌<◌, ◌≤◌, List, [], ◌++◌, length, Bool, refl, ap, sym, ◌∙◌, append_assoc, append-nil, arith}
+use Rattle.std.proofs.Common.{◌≡◌, ℕ, ◌<◌, ◌≤◌, List, [], ◌++◌, length, Bool, refl, ap, sym, ◌∙◌, append_assoc}
+use Rattle.std.proofs.Common.{append-nil, arith}
 use Rattle.std.specs.Prelude.{Option, None}
 use Rattle.fax_bits.specs.declared.Colour.{Colour}
 use Rattle.fax_bits.specs.declared.FillOrder.TheVariants.{MsbFirst}
@@ -26,10 +27,13 @@ abbrev pub IsChosenSoFar : List Colour → List Bool → Position → List Bool 
 IsChosenSoFar reference b at rest =
     (row : List Colour) → length row ≡ length reference → GoesOnFrom row at → IsWrittenUpTo reference row b at.a0 rest
 
-pub chosen_begins : (reference : List Colour) (b : List Bool) (at : Position) → at.a0 ≡ None → IsChosenSoFar reference b at b
-chosen_begins reference b at start row len goes = rw start record { front = []; bits = refl; put = place_begins reference row (alone []) }
+pub chosen_begins : (reference : List Colour) (b : List Bool) (at : Position) → at.a0 ≡ None
+    → IsChosenSoFar reference b at b
+chosen_begins reference b at start row len goes = rw start record
+    { front = []; bits = refl; put = place_begins reference row (alone []) }
 
-pub chosen_goes_on : (reference : List Colour) (b : List Bool) (old : Position) (mid : List Bool) (new : Position) (rest : List Bool)
+pub chosen_goes_on : (reference : List Colour) (b : List Bool) (old : Position) (mid : List Bool) (new : Position)
+    (rest : List Bool)
     → IsChosenSoFar reference b old mid → IsChosenStep reference old mid new rest → first_pel old < length reference
     → IsChosenSoFar reference b new rest
 chosen_goes_on reference b old mid new rest so_far chosen unfinished row len goes =
@@ -40,12 +44,15 @@ chosen_goes_on reference b old mid new rest so_far chosen unfinished row len goe
     rw step.place record {
       front = before.front ++ more;
       bits = before.bits ∙ ap (λ c. before.front ++ c) step.bits ∙ sym (append_assoc before.front more rest);
-      put = place_goes_on reference row (sym len) (alone []) (alone before.front) (alone (before.front ++ more)) old.a0 [] before.put
+      put = place_goes_on reference row (sym len) (alone []) (alone before.front) (alone (before.front ++ more)) old.a0
+          [] before.put
           inside _ [] refl (record { done = more; appended = refl; parts = sym (append-nil more) });
     }
 
-pub chosen_ends : (reference row : List Colour) (b : List Bool) (at : Position) (rest : List Bool) → IsChosenSoFar reference b at rest
-    → length row ≡ length reference → GoesOnFrom row at → length row ≤ first_pel at → b ≡ two_dimensional_bits reference row ++ rest
+pub chosen_ends : (reference row : List Colour) (b : List Bool) (at : Position) (rest : List Bool)
+    → IsChosenSoFar reference b at rest
+    → length row ≡ length reference → GoesOnFrom row at → length row ≤ first_pel at
+    → b ≡ two_dimensional_bits reference row ++ rest
 chosen_ends reference row b at rest so_far len goes over =
     let all = so_far row len goes in
     let put = place_ends reference row (alone []) (alone all.front) (alone all.front) at.a0 [] all.put over

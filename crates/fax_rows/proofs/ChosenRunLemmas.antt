@@ -29,7 +29,8 @@ unfolding alternating_bits
 runs_begin b = record { runs = []; bits = refl; sum_is = refl; colour_is = refl; some = λ i h l. absurd (omega arith) }
 
 alternating-push : (colour : Colour) (runs : List ℕ) (n : ℕ)
-    → alternating_bits colour (runs ++ n ∷ []) ≡ alternating_bits colour runs ++ run_bits (colour_after_runs colour runs) n
+    → alternating_bits colour (runs ++ n ∷ []) ≡ alternating_bits colour runs
+    ++ run_bits (colour_after_runs colour runs) n
 unfolding alternating_bits
 alternating-push colour [] n = append-nil (run_bits colour n)
 alternating-push colour (m ∷ runs) n = grind (arith, common_steps, alternating-push (other colour) runs n)
@@ -44,30 +45,37 @@ first_alone (n ∷ m ∷ runs) none colour some =
     absurd (omega (arith, some 1 (omega arith) (omega arith), sum-cons n (m ∷ runs), sum-cons m runs))
 
 -- each run but the first has pels still
-some_push : (runs : List ℕ) (n : ℕ) → ((i : ℕ) → 0 < i → i < length runs → 0 < get_or runs i 0) → (0 < n) ⊎ (length runs ≡ 0)
+some_push : (runs : List ℕ) (n : ℕ) → ((i : ℕ) → 0 < i → i < length runs → 0 < get_or runs i 0)
+    → (0 < n) ⊎ (length runs ≡ 0)
     → (i : ℕ) → 0 < i → i < length (runs ++ n ∷ []) → 0 < get_or (runs ++ n ∷ []) i 0
 some_push runs n some fits i h l = grind (arith, common_steps)
 
-pub runs_go_on : (b : List Bool) (total place : ℕ) (colour : Colour) (mid rest : List Bool) → AreWrittenRuns b total colour mid
-    → total ≤ place → mid ≡ run_bits colour (place - total) ++ rest → (0 < place - total) ⊎ ((total ≡ 0) × (colour ≡ White))
+pub runs_go_on : (b : List Bool) (total place : ℕ) (colour : Colour) (mid rest : List Bool)
+    → AreWrittenRuns b total colour mid
+    → total ≤ place → mid ≡ run_bits colour (place - total) ++ rest
+    → (0 < place - total) ⊎ ((total ≡ 0) × (colour ≡ White))
     → AreWrittenRuns b place (other colour) rest
 runs_go_on b total place colour mid rest so_far right run fits =
     let n = place - total in
     record {
       runs = so_far.runs ++ n ∷ [];
-      bits = so_far.bits ∙ ap (λ c. alternating_bits White so_far.runs ++ c) (run ∙ ap (λ c. run_bits c n ++ rest) so_far.colour_is)
-          ∙ sym (append_assoc (alternating_bits White so_far.runs) (run_bits (colour_after_runs White so_far.runs) n) rest)
+      bits = so_far.bits ∙ ap (λ c. alternating_bits White so_far.runs ++ c)
+          (run ∙ ap (λ c. run_bits c n ++ rest) so_far.colour_is)
+          ∙ sym (append_assoc (alternating_bits White so_far.runs) (run_bits (colour_after_runs White so_far.runs) n)
+          rest)
           ∙ ap (λ c. c ++ rest) (sym (alternating-push White so_far.runs n));
       sum_is = omega (arith, sum-push so_far.runs n, so_far.sum_is);
       colour_is = ap other so_far.colour_is ∙ sym (colour_after_runs-push White so_far.runs n);
       some = some_push so_far.runs n so_far.some (elim fits [
         | inl pels ↦ inl pels
-        | inr none ↦ inr (first_alone so_far.runs (sym so_far.sum_is ∙ none.0) (sym so_far.colour_is ∙ none.1) so_far.some)
+        | inr none ↦ inr (first_alone so_far.runs (sym so_far.sum_is ∙ none.0) (sym so_far.colour_is ∙ none.1)
+            so_far.some)
       ]);
     }
 
 -- these are the longest runs of the row that is read
-pub runs_end : OneDimensionalBitsAreOneRow → (width : ℕ) (b : List Bool) (total : ℕ) (colour : Colour) (row : List Colour)
+pub runs_end : OneDimensionalBitsAreOneRow → (width : ℕ) (b : List Bool) (total : ℕ) (colour : Colour)
+    (row : List Colour)
     (rest : List Bool) → AreWrittenRuns b total colour rest → total ≡ width → 0 < width → width < 2 ^ 16
     → IsOneDimensionalRow width b row rest → b ≡ one_dimensional_bits row ++ rest
 runs_end one width b total colour row rest written done some short read =
@@ -75,7 +83,9 @@ runs_end one width b total colour row rest written done some short read =
     let len : length own ≡ width = length-pels_of White written.runs ∙ sym written.sum_is ∙ done in
     let longest : runs_of own ≡ written.runs =
     longest_are_back written.runs width some (record { whole = sym written.sum_is ∙ done; some = written.some }) in
-    let bits : b ≡ one_dimensional_bits own ++ rest = written.bits ∙ ap (λ runs. alternating_bits White runs ++ rest) (sym longest) in
+    let bits : b ≡ one_dimensional_bits own ++ rest = written.bits
+    ∙ ap (λ runs. alternating_bits White runs ++ rest) (sym longest) in
     let same = (one own row rest rest (record { some = omega (arith, len); short = omega (arith, len) })
-    (subst (λ c. IsOneDimensionalRow (length own) c row rest) bits (subst (λ n. IsOneDimensionalRow n b row rest) (sym len) read))).0 in
+    (subst (λ c. IsOneDimensionalRow (length own) c row rest) bits
+    (subst (λ n. IsOneDimensionalRow n b row rest) (sym len) read))).0 in
     bits ∙ ap (λ pels. one_dimensional_bits pels ++ rest) same

@@ -24,7 +24,8 @@ use Rattle.fax_rows.proofs.TakenModeLemmas.{mode_taken}
 use Rattle.fax_rows.proofs.TurnLemmas.{length-pels_by}
 
 -- what holds of a value that is there, by what else holds of it
-pub map_ok : {A E : Type 0} {P Q : A → Type 0} (found : Result A E) → IfOk found P → ((x : A) → P x → Q x) → IfOk found Q
+pub map_ok : {A E : Type 0} {P Q : A → Type 0} (found : Result A E) → IfOk found P → ((x : A) → P x → Q x)
+    → IfOk found Q
 map_ok found p f = grind arith
 
 pub map_three : {A E : Type 0} {P Q R S : A → Type 0} (found : Result A E) → IfOk found P → IfOk found Q → IfOk found R
@@ -48,20 +49,24 @@ module _ {reference : PlacedRow} {places : List ℕ} {at : PlacedReached} (here 
       → IsChosenStep (placed_pels reference) (placed_position reference.width places at) b new rest
   vertical_chosen {b = b} {d = d} {new = new} {rest = rest} takes step left row len goes =
       let mode = mode_taken takes in
-      vertical_is (placed_pels reference) row len (placed_position reference.width places at) start read inside d b new rest step mode.bits
+      vertical_is (placed_pels reference) row len (placed_position reference.width places at) start read inside d b new
+      rest step mode.bits
       mode.near left goes
 
   -- where the distance is said in two ways
-  pub vertical_chosen_as : {b : List Bool} {d read : ℤ} {new : Position} {rest : List Bool} → Takes modes b (Vertical d) rest
+  pub vertical_chosen_as : {b : List Bool} {d read : ℤ} {new : Position} {rest : List Bool}
+      → Takes modes b (Vertical d) rest
       → IsVerticalStep (placed_pels reference) (placed_position reference.width places at) read new
       → first_pel new ≤ b2_from (placed_pels reference) (placed_position reference.width places at) → read ≡ d
       → IsChosenStep (placed_pels reference) (placed_position reference.width places at) b new rest
   vertical_chosen_as {new = new} takes step left same =
       vertical_chosen takes
-      (subst (λ e. IsVerticalStep (placed_pels reference) (placed_position reference.width places at) e new) same step) left
+      (subst (λ e. IsVerticalStep (placed_pels reference) (placed_position reference.width places at) e new) same step)
+      left
 
   -- a1 that is not right of b1 is not right of b2
-  pub left_of_b2 : (d : ℤ) (new : Position) → IsVerticalStep (placed_pels reference) (placed_position reference.width places at) d new
+  pub left_of_b2 : (d : ℤ) (new : Position) → IsVerticalStep (placed_pels reference)
+      (placed_position reference.width places at) d new
       → d ≤ℤ pos 0 → first_pel new ≤ b2_from (placed_pels reference) (placed_position reference.width places at)
   left_of_b2 d new step left =
       let b1 = here.so_far.b1 here.unfinished in
@@ -83,7 +88,8 @@ module _ {reference : PlacedRow} {places : List ℕ} {at : PlacedReached} (here 
   pass_chosen {b = b} {new = new} {rest = rest} takes new_is ends row len goes =
       let b1 = here.so_far.b1 here.unfinished in
       let second = b2_is reference b1 in
-      pass_is (placed_pels reference) row len (placed_position reference.width places at) start read inside b new rest new_is
+      pass_is (placed_pels reference) row len (placed_position reference.width places at) start read inside b new rest
+      new_is
       ((mode_taken takes).bits)
       (let order = b2_order here in omega arith) ends goes
 

@@ -12,7 +12,8 @@ use Rattle.fax_rows.proofs.RunLaws.{sum-cons}
 -- the bits are runs of these lengths in alternating colours, and the rest follows them
 abbrev pub AreCodedRuns : Colour → List Bool → List ℕ → List Bool → Type 0
 AreCodedRuns colour b [] rest = b ≡ rest
-AreCodedRuns colour b (n ∷ runs) rest = (middle : List Bool) × IsRun colour b n middle × AreCodedRuns (other colour) middle runs rest
+AreCodedRuns colour b (n ∷ runs) rest = (middle : List Bool) × IsRun colour b n middle
+    × AreCodedRuns (other colour) middle runs rest
 
 -- the colour of the run after these runs
 abbrev pub colour_after_runs : Colour → List ℕ → Colour
@@ -33,8 +34,14 @@ runs_from width colour from b (n ∷ runs) rest coded whole below = (
 )
 
 -- runs that stay below the width, and then a run with a fault
-pub stop_from : (width : ℕ) (colour : Colour) (from place : ℕ) (b : List Bool) (runs : List ℕ) (left : List Bool) (fault : RowFault)
+pub stop_from : (width : ℕ) (colour : Colour) (from place : ℕ) (b : List Bool) (runs : List ℕ) (left : List Bool)
+    (fault : RowFault)
     → AreCodedRuns colour b runs left → place ≡ from + sum runs → place < width
     → IsRunFault (colour_after_runs colour runs) width place left fault → StopsAtRun width colour from b runs fault
 stop_from width colour from place b [] left fault coded placed unfinished at_run = grind (arith, common_steps)
-stop_from width colour from place b (n ∷ runs) left fault coded placed unfinished at_run = grind (arith, stop_from width (other colour) (from + n) place coded.0 runs left fault coded.2 (omega (arith, placed, sum-cons n runs)) unfinished at_run)
+stop_from width colour from place b (n ∷ runs) left fault coded placed unfinished at_run =
+    grind (
+      arith,
+      stop_from width (other colour) (from + n) place coded.0 runs left fault coded.2
+          (omega (arith, placed, sum-cons n runs)) unfinished at_run,
+    )

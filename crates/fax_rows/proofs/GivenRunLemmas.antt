@@ -1,6 +1,7 @@
 -- Rows that are made of their longest runs.
 use Rattle.std.proofs.lemmas.Grind.{common_steps}
-use Rattle.std.proofs.Common.{◌≡◌, ℕ, zero, suc, ◌+◌, ◌<◌, ◌≤◌, List, [], ◌∷◌, ◌++◌, length, take, get_or, replicate, refl, ap, sym}
+use Rattle.std.proofs.Common.{◌≡◌, ℕ, zero, suc, ◌+◌, ◌<◌, ◌≤◌, List, [], ◌∷◌, ◌++◌, length, take, get_or, replicate}
+use Rattle.std.proofs.Common.{refl, ap, sym}
 use Rattle.std.proofs.Common.{◌∙◌, arith}
 use Rattle.std.specs.Prelude.{sum}
 use Rattle.std.proofs.lemmas.List.{ext_get_or}
@@ -28,13 +29,21 @@ pub put_none : (places : List ℕ) → 0 < length places → get_or places 0 0 �
 put_none places some first = grind (arith, turned-first)
 
 -- one run more
-pub put_run : (runs : List ℕ) (total n : ℕ) (old new : List ℕ) → ArePutRuns runs total old → IsTurnedFrom old new (total + n)
+pub put_run : (runs : List ℕ) (total n : ℕ) (old new : List ℕ) → ArePutRuns runs total old
+    → IsTurnedFrom old new (total + n)
     → ArePutRuns (runs ++ n ∷ []) (total + n) new
-put_run runs total n old new put turn = grind (arith, common_steps, pels_of-push, colour_after_runs-push, length-pels_of)
+put_run runs total n old new put turn = grind (
+  arith,
+  common_steps,
+  pels_of-push,
+  colour_after_runs-push,
+  length-pels_of,
+)
 
 -- the next of the runs
 pub put_next_run : (runs : List ℕ) (i total n : ℕ) (old new : List ℕ) → i < length runs → n ≡ get_or runs i 0
-    → ArePutRuns (take i runs) total old → IsTurnedFrom old new (total + n) → ArePutRuns (take (i + 1) runs) (total + n) new
+    → ArePutRuns (take i runs) total old → IsTurnedFrom old new (total + n)
+    → ArePutRuns (take (i + 1) runs) (total + n) new
 put_next_run runs i total n old new inside is put turn = grind (arith, common_steps, put_run)
 
 -- runs in front are no longer than all together
@@ -42,10 +51,12 @@ pub part_within : (runs : List ℕ) (i : ℕ) → sum (take i runs) ≤ sum runs
 part_within runs i = sum_by-take-le (λ n. n) runs i
 
 -- all runs of a row
-pub put_all_runs : {runs : List ℕ} {total : ℕ} {places : List ℕ} {width : ℕ} → ArePutRuns runs total places → sum runs ≡ width
+pub put_all_runs : {runs : List ℕ} {total : ℕ} {places : List ℕ} {width : ℕ} → ArePutRuns runs total places
+    → sum runs ≡ width
     → pels_by width places ≡ pels_of White runs
 put_all_runs {runs = runs} {places = places} {width = width} put whole =
-    ext_get_or White (pels_by width places) (pels_of White runs) (length-pels_by width places ∙ sym whole ∙ sym (length-pels_of White runs))
+    ext_get_or White (pels_by width places) (pels_of White runs)
+    (length-pels_by width places ∙ sym whole ∙ sym (length-pels_of White runs))
     (λ k h. let inside : k < width = omega (arith, length-pels_by width places) in
     pel-pels_by width places k inside ∙ put.pels k (omega (arith, put.sum_is)))
 
@@ -63,11 +74,22 @@ runs_follow : (colour : Colour) (n : ℕ) (runs : List ℕ) → ((i : ℕ) → i
 unfolding runs_after
 runs_follow colour n [] some = refl
 runs_follow colour n (zero ∷ runs) some = absurd (omega (arith, some 0 (omega arith)))
-runs_follow White n (suc m ∷ runs) some = grind (arith, longer, runs_follow Black (1 + m) runs (λ i h. some (suc i) (omega arith)))
-runs_follow Black n (suc m ∷ runs) some = grind (arith, longer, runs_follow White (1 + m) runs (λ i h. some (suc i) (omega arith)))
+runs_follow White n (suc m ∷ runs) some = grind (
+  arith,
+  longer,
+  runs_follow Black (1 + m) runs
+      (λ i h. some (suc i) (omega arith)),
+)
+runs_follow Black n (suc m ∷ runs) some = grind (
+  arith,
+  longer,
+  runs_follow White (1 + m) runs
+      (λ i h. some (suc i) (omega arith)),
+)
 
 -- the row of such runs has them as its longest ones
-pub longest_are_back : (runs : List ℕ) (width : ℕ) → 0 < width → AreLongest runs width → runs_of (pels_of White runs) ≡ runs
+pub longest_are_back : (runs : List ℕ) (width : ℕ) → 0 < width → AreLongest runs width
+    → runs_of (pels_of White runs) ≡ runs
 longest_are_back [] width some longest = absurd (omega (arith, longest.whole))
 longest_are_back (n ∷ runs) width some longest =
     longer White 0 n (pels_of Black runs)
@@ -102,6 +124,7 @@ first_may_be_0 Black n (White ∷ pels) (suc i) some h = none_is_0 White 1 pels 
 -- the runs of a row are such
 pub runs_are_longest : (row : List Colour) → AreLongest (runs_of row) (length row)
 runs_are_longest row = record {
-  whole = sym (length-pels_of White (runs_of row)) ∙ ap (λ (xs : List Colour). length xs) (pels_of-runs_after White 0 row);
+  whole = sym (length-pels_of White (runs_of row)) ∙ ap (λ (xs : List Colour). length xs)
+      (pels_of-runs_after White 0 row);
   some = first_may_be_0 White 0 row;
 }

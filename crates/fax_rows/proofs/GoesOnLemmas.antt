@@ -1,6 +1,7 @@
 -- Steps after steps, and the bits that they leave.
 use Rattle.std.proofs.lemmas.Grind.{common_steps}
-use Rattle.std.proofs.Common.{◌≡◌, ℕ, ◌+◌, ◌-◌, List, [], ◌∷◌, ◌++◌, length, drop, Bool, refl, ap, sym, ◌∙◌, append_assoc, arith}
+use Rattle.std.proofs.Common.{◌≡◌, ℕ, ◌+◌, ◌-◌, List, [], ◌∷◌, ◌++◌, length, drop, Bool, refl, ap, sym, ◌∙◌}
+use Rattle.std.proofs.Common.{append_assoc, arith}
 use Rattle.std.specs.Prelude.{Option, Some, None}
 use Rattle.fax_bits.specs.declared.codes.CodeEntry.{CodeEntry}
 use Rattle.fax_bits.specs.declared.Colour.{Colour}
@@ -30,8 +31,10 @@ more_steps reference first b [] old mid after new rest steps more = grind arith
 more_steps reference first b (next ∷ before) old mid after new rest steps more =
     (steps.0, steps.1, steps.2, more_steps reference next steps.1 before old mid after new rest steps.3 more)
 
-pub goes_further : {reference : List Colour} {first : Position} {b : List Bool} {old : Position} {mid : List Bool} {new : Position}
-    {rest : List Bool} → GoesOn reference first b old mid → GoesOn reference old mid new rest → GoesOn reference first b new rest
+pub goes_further : {reference : List Colour} {first : Position} {b : List Bool} {old : Position} {mid : List Bool}
+    {new : Position}
+    {rest : List Bool} → GoesOn reference first b old mid → GoesOn reference old mid new rest
+    → GoesOn reference first b new rest
 goes_further some more = grind (arith, more_steps)
 
 more_chosen : (reference : List Colour) (first : Position) (b : List Bool) (before : List Position) (old : Position)
@@ -42,16 +45,23 @@ more_chosen reference first b [] old mid after new rest steps more = grind arith
 more_chosen reference first b (next ∷ before) old mid after new rest steps more =
     (steps.0, steps.1, steps.2, more_chosen reference next steps.1 before old mid after new rest steps.3 more)
 
-pub chosen_further : {reference : List Colour} {first : Position} {b : List Bool} {old : Position} {mid : List Bool} {new : Position}
+pub chosen_further : {reference : List Colour} {first : Position} {b : List Bool} {old : Position} {mid : List Bool}
+    {new : Position}
     {rest : List Bool} → GoesOnAsChosen reference first b old mid → GoesOnAsChosen reference old mid new rest
     → GoesOnAsChosen reference first b new rest
 chosen_further some more = grind (arith, more_chosen)
 
-chosen_on : (reference : List Colour) (b : List Bool) (old : Position) (mid : List Bool) (positions : List Position) (new : Position)
+chosen_on : (reference : List Colour) (b : List Bool) (old : Position) (mid : List Bool) (positions : List Position)
+    (new : Position)
     (rest : List Bool) → IsChosenSoFar reference b old mid → AreChosenSteps reference old mid positions new rest
     → IsChosenSoFar reference b new rest
 chosen_on reference b old mid [] new rest so_far more = grind arith
-chosen_on reference b old mid (next ∷ positions) new rest so_far more = grind (arith, chosen_on reference b next more.1 positions new rest (row_goes_on reference b old mid next more.1 so_far more.2 more.0) more.3)
+chosen_on reference b old mid (next ∷ positions) new rest so_far more =
+    grind (
+      arith,
+      chosen_on reference b next more.1 positions new rest
+          (row_goes_on reference b old mid next more.1 so_far more.2 more.0) more.3,
+    )
 
 -- steps that T.4 would have chosen, from the row's beginning
 pub chosen_so_far : (reference : List Colour) (b : List Bool) (at : Position) (rest : List Bool)
@@ -67,7 +77,8 @@ pub leaves_more : {b mid rest : List Bool} → Leaves b mid → Leaves mid rest 
 leaves_more {b} {mid} {rest} some more =
     (some.0 ++ more.0, some.1 ∙ ap (λ c. some.0 ++ c) more.1 ∙ sym (append_assoc some.0 more.0 rest))
 
-code_leaves : {M : Type 0} {table : List (CodeEntry M)} {b : List Bool} {m : M} {rest : List Bool} → Takes table b m rest → Leaves b rest
+code_leaves : {M : Type 0} {table : List (CodeEntry M)} {b : List Bool} {m : M} {rest : List Bool}
+    → Takes table b m rest → Leaves b rest
 code_leaves taken = (bits_of taken.entry, taken.spelled)
 
 step_leaves : (reference : List Colour) (old : Position) (b : List Bool) (new : Position) (rest : List Bool)
@@ -80,17 +91,20 @@ step_leaves reference old b new rest step = leaves_more (code_leaves step.taken)
     by Horizontal is = leaves_more (run_after is.first_run) (run_after is.second_run)
     by Extension is = absurd is
 
-steps_leave : (reference : List Colour) (old : Position) (b : List Bool) (positions : List Position) (new : Position) (rest : List Bool)
+steps_leave : (reference : List Colour) (old : Position) (b : List Bool) (positions : List Position) (new : Position)
+    (rest : List Bool)
     → AreSteps reference old b positions new rest → Leaves b rest
 steps_leave reference old b [] new rest steps = ([], steps.1)
 steps_leave reference old b (next ∷ positions) new rest steps =
-    leaves_more (step_leaves reference old b next steps.1 steps.2) (steps_leave reference next steps.1 positions new rest steps.3)
+    leaves_more (step_leaves reference old b next steps.1 steps.2)
+    (steps_leave reference next steps.1 positions new rest steps.3)
 
 pub goes_on_leaves : {reference : List Colour} {old : Position} {b : List Bool} {new : Position} {rest : List Bool}
     → GoesOn reference old b new rest → Leaves b rest
 goes_on_leaves {reference} {old} {b} {new} {rest} goes = steps_leave reference old b goes.positions new rest goes.steps
 
-pub due_leaves : (colour : Colour) (b : List Bool) (due : Due) (rest : List Bool) → IsDue colour b due rest → Leaves b rest
+pub due_leaves : (colour : Colour) (b : List Bool) (due : Due) (rest : List Bool) → IsDue colour b due rest
+    → Leaves b rest
 due_leaves colour b Mode rest is = ([], is)
 due_leaves colour b (Runs first) rest is = leaves_more (code_leaves is.1) (runs is.0 first is.2)
   where

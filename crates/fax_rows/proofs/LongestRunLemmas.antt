@@ -1,5 +1,6 @@
 -- The longest runs that are still to come, by the place where they begin and those where each ends.
-use Rattle.std.proofs.Common.{◌≡◌, ℕ, zero, suc, ◌+◌, ◌-◌, ◌%◌, ◌<◌, ◌≤◌, List, [], ◌∷◌, length, take, drop, get_or, map, refl, ap, sym, ◌∙◌}
+use Rattle.std.proofs.Common.{◌≡◌, ℕ, zero, suc, ◌+◌, ◌-◌, ◌%◌, ◌<◌, ◌≤◌, List, [], ◌∷◌, length, take, drop, get_or}
+use Rattle.std.proofs.Common.{map, refl, ap, sym, ◌∙◌}
 use Rattle.std.proofs.Common.{arith, length-drop}
 use Rattle.std.proofs.Math.Seq.{take-length}
 use lib.Lanes.{zip2, Each1}
@@ -28,9 +29,14 @@ skip_bounds [] n within all = absurd (omega arith)
 skip_bounds (from ∷ ends) zero within all = all
 skip_bounds (from ∷ []) (suc n) within all = absurd (omega arith)
 skip_bounds (from ∷ next ∷ ends) (suc n) within all =
-    skip_bounds (next ∷ ends) n (omega arith) (record { some = omega arith; ahead = ahead_of_next from next ends all.ahead })
+    skip_bounds (next ∷ ends) n (omega arith) (record {
+      some = omega arith;
+      ahead =
+          ahead_of_next from next ends all.ahead;
+    })
 
-pub skip_runs : (places : List ℕ) (n : ℕ) → n < length places → runs_between (drop n places) ≡ drop n (runs_between places)
+pub skip_runs : (places : List ℕ) (n : ℕ) → n < length places
+    → runs_between (drop n places) ≡ drop n (runs_between places)
 skip_runs [] n within = absurd (omega arith)
 skip_runs (from ∷ ends) zero within = refl
 skip_runs (from ∷ []) (suc n) within = absurd (omega arith)
@@ -61,8 +67,11 @@ module _ (P : ℕ → Type 0) (sub : ℕ → ℕ → ℕ) (fits : (a b : ℕ) �
       → Each1 P (zip2 sub (take n ends) (take n (from ∷ ends)))
   gaps_fit zero from ends within all = tt
   gaps_fit (suc n) from [] within all = absurd (omega arith)
-  gaps_fit (suc n) from (next ∷ ends) within all =
-      (fits next from (all.right 0 (omega arith)) (all.left 0 (omega arith)), gaps_fit n next ends (omega arith) (ahead_of_next from next ends all))
+  gaps_fit (suc n) from (next ∷ ends) within all = (
+    fits next from (all.right 0 (omega arith)) (all.left 0 (omega arith)),
+    gaps_fit n next ends (omega arith)
+        (ahead_of_next from next ends all),
+  )
 
   pub runs_fit : (n : ℕ) (places : List ℕ) → n < length places → AreBounds places
       → Each1 P (zip2 sub (take n (drop 1 places)) (take n places))

@@ -1,13 +1,15 @@
 -- The ones of a word, byte by byte and one by one.
 use Rattle.std.proofs.lemmas.Grind.{common_steps}
-use Rattle.std.proofs.Common.{◌≡◌, ℕ, zero, suc, ◌+◌, ◌-◌, ◌*◌, ◌/◌, ◌%◌, ◌^◌, ◌<◌, ◌≤◌, List, [], ◌∷◌, ◌++◌, if◌then◌else◌, get_or, nat_eq}
+use Rattle.std.proofs.Common.{◌≡◌, ℕ, zero, suc, ◌+◌, ◌-◌, ◌*◌, ◌/◌, ◌%◌, ◌^◌, ◌<◌, ◌≤◌, List, [], ◌∷◌, ◌++◌}
+use Rattle.std.proofs.Common.{if◌then◌else◌, get_or, nat_eq}
 use Rattle.std.proofs.Common.{◌≢◌, true, false, ap, sym, ◌∙◌, arith}
 use Rattle.std.specs.Int.{bit_at, to_be_bytes, w64}
 use Rattle.std.specs.Int.RustNames.{bit_xor}
 use Rattle.std.proofs.Math.Nat.{pow-succ'}
 use Rattle.std.proofs.lemmas.List.{append_assoc, append-nil}
 use Rattle.std.proofs.lemmas.Nat.{leading_top, one_shl, pow_pos, xor_block, xor_lt}
-use Rattle.std.proofs.lemmas.Nat.Bits.{bit_at-zero, bit_at_xor, bit_at-pow_same, bit_at-pow_other, bit_at_above, bit_at_cat_high}
+use Rattle.std.proofs.lemmas.Nat.Bits.{bit_at-zero, bit_at_xor, bit_at-pow_same, bit_at-pow_other, bit_at_above}
+use Rattle.std.proofs.lemmas.Nat.Bits.{bit_at_cat_high}
 use lib.Count.{count_leading_zeros}
 use Rattle.fax_rows.specs.code.PackedWord.{word_bit}
 use Rattle.fax_rows.specs.code.Ones.{ones_among}
@@ -39,7 +41,8 @@ byte_goes_on old places new from word q byte few byte_is put so_far =
     let next : 8 * q + 8 ≡ 8 * (q + 1) = omega arith in
     put ∙ ap (λ ps. ps ++ ones_among (from + 8 * q) 7 byte 8) so_far
     ∙ append_assoc old (ones_among from 63 word (8 * q)) (ones_among (from + 8 * q) 7 byte 8)
-    ∙ ap (λ b. old ++ (ones_among from 63 word (8 * q) ++ ones_among (from + 8 * q) 7 b 8)) (byte_is ∙ be_byte word q few)
+    ∙ ap (λ b. old ++ (ones_among from 63 word (8 * q) ++ ones_among (from + 8 * q) 7 b 8))
+    (byte_is ∙ be_byte word q few)
     ∙ ap (λ ps. old ++ ps) (ones_of_part from word q 8 few (omega arith) ∙ ap (ones_among from 63 word) next)
 
 -- bits among which there is no one
@@ -49,7 +52,8 @@ no_ones from word r zero none = let same : r + 0 ≡ r = omega arith in ap (ones
 no_ones from word r (suc n) none =
     let next : r + suc n ≡ suc (r + n) = omega arith in
     ap (ones_among from 63 word) next
-    ∙ ap (λ one. ones_among from 63 word (r + n) ++ (if one then (from + (r + n)) ∷ [] else [])) (none (r + n) (omega arith) (omega arith))
+    ∙ ap (λ one. ones_among from 63 word (r + n) ++ (if one then (from + (r + n)) ∷ [] else []))
+    (none (r + n) (omega arith) (omega arith))
     ∙ append-nil (ones_among from 63 word (r + n))
     ∙ no_ones from word r n (λ i h l. none i h (omega arith))
 
@@ -122,7 +126,8 @@ module _ (word left r : ℕ) (so_far : AreLeft word left r) where
 
   pub none_left : (from : ℕ) → left ≡ 0 → ones_among from 63 word 64 ≡ ones_among from 63 word r
   none_left from is =
-      none_up_to from 64 so_far.within (omega arith) (λ i h. ap (λ n. word_bit n i) is ∙ ap (λ b. nat_eq b 1) (bit_at-zero (63 - i)))
+      none_up_to from 64 so_far.within (omega arith) (λ i h. ap (λ n. word_bit n i) is
+      ∙ ap (λ b. nat_eq b 1) (bit_at-zero (63 - i)))
 
   pub ahead : (at : ℕ) → IsHighest left at → r ≤ at
   ahead at top = grind arith

@@ -1,6 +1,7 @@
 -- The table of the ones in a byte.
 use Rattle.std.proofs.lemmas.Grind.{common_steps}
-use Rattle.std.proofs.Common.{◌≡◌, ℕ, zero, suc, ◌+◌, ◌*◌, ◌^◌, ◌<◌, ◌≤◌, List, [], ◌∷◌, ◌++◌, map, length, take, drop, replicate}
+use Rattle.std.proofs.Common.{◌≡◌, ℕ, zero, suc, ◌+◌, ◌*◌, ◌^◌, ◌<◌, ◌≤◌, List, [], ◌∷◌, ◌++◌, map, length, take, drop}
+use Rattle.std.proofs.Common.{replicate}
 use Rattle.std.proofs.Common.{get_or, Bool, true, false, nat_eq, refl, ap, sym, ◌∙◌, subst, arith, w8, w32}
 use Rattle.std.specs.Prelude.{◌&&◌, nat_le}
 use Rattle.std.proofs.lemmas.Bool.{and_parts, eqb-true, leb-true}
@@ -72,7 +73,8 @@ has_ones byte within =
     let eight = eight_of byte in
     let none : 0 + byte ≡ byte = omega arith in
     let here = subst (λ n. fits n count eight ≡ true) none (fits_at 0 COUNTS PLACES byte table_fits within) in
-    let first = and_parts (nat_le count 8) (nat_eq (length eight) 8 && same (take count eight) (ones_among 0 7 byte 8)) here in
+    let first = and_parts (nat_le count 8) (nat_eq (length eight) 8 && same (take count eight) (ones_among 0 7 byte 8))
+    here in
     let second = and_parts (nat_eq (length eight) 8) (same (take count eight) (ones_among 0 7 byte 8)) first.1 in
     record {
       few = leb-true count 8 first.0;
@@ -106,7 +108,8 @@ pub byte_put : (places eight : List ℕ) (end count from byte : ℕ) → end + 8
     ≡ take end places ++ ones_among from 7 byte 8
 byte_put places eight end count from byte room small has =
     ap (take (end + count)) (put_chunk_is end places lanes (omega (arith, room, long)))
-    ∙ ap (λ n. take (n + count) (take end places ++ (lanes ++ rest))) (sym (length-take-le end places (omega (arith, room))))
+    ∙ ap (λ n. take (n + count) (take end places ++ (lanes ++ rest)))
+    (sym (length-take-le end places (omega (arith, room))))
     ∙ take-append-add (take end places) (lanes ++ rest) count
     ∙ ap (λ xs. take end places ++ xs) (take-append-le count lanes rest (omega (arith, has.few, long)) ∙ shown)
   where
@@ -117,7 +120,8 @@ byte_put places eight end count from byte room small has =
     rest = drop (length lanes) (drop end places)
 
     lanes_are : lanes ≡ map (λ y. added y from) eight
-    lanes_are = ap (λ xs. zip2 added xs (replicate 8 from)) (map_widened eight) ∙ zip2_splat added eight 8 from has.eight_are
+    lanes_are = ap (λ xs. zip2 added xs (replicate 8 from)) (map_widened eight)
+        ∙ zip2_splat added eight 8 from has.eight_are
 
     long : length lanes ≡ 8
     long = ap length lanes_are ∙ length-map eight (λ y. added y from) ∙ has.eight_are

@@ -46,18 +46,23 @@ right_of_white at n some = grind (arith, common_steps)
 b1_at_end : (reference : PlacedRow) (a0 : Option ℕ) → reference.end ≡ 1 → IsB1At reference a0 White 1
 b1_at_end reference a0 white = grind arith
 
-b1_is_width : (reference : PlacedRow) (a0 : Option ℕ) → reference.end ≡ 1 → b1 (placed_pels reference) a0 White ≡ reference.width
+b1_is_width : (reference : PlacedRow) (a0 : Option ℕ) → reference.end ≡ 1
+    → b1 (placed_pels reference) a0 White ≡ reference.width
 b1_is_width reference a0 white =
     sym (b1_is reference (b1_at_end reference a0 white))
-    ∙ subst (λ n. get_or reference.places.now (n + 0) 0 ≡ reference.width) white (reference.placed.after 0 (omega arith))
+    ∙ subst (λ n. get_or reference.places.now (n + 0) 0 ≡ reference.width) white
+    (reference.placed.after 0 (omega arith))
 
-b2_is_width : (reference : PlacedRow) (a0 : Option ℕ) → reference.end ≡ 1 → b2 (placed_pels reference) a0 White ≡ reference.width
+b2_is_width : (reference : PlacedRow) (a0 : Option ℕ) → reference.end ≡ 1
+    → b2 (placed_pels reference) a0 White ≡ reference.width
 b2_is_width reference a0 white =
     sym (b2_is reference (b1_at_end reference a0 white))
-    ∙ subst (λ n. get_or reference.places.now (n + 1) 0 ≡ reference.width) white (reference.placed.after 1 (omega arith))
+    ∙ subst (λ n. get_or reference.places.now (n + 1) 0 ≡ reference.width) white
+    (reference.placed.after 1 (omega arith))
 
 -- the step to b1 ends the row
-pub end_reached : (reference : PlacedRow) (old new : List ℕ) (at : ReachedOverWhite) (next : PlacedReached) → reference.end ≡ 1
+pub end_reached : (reference : PlacedRow) (old new : List ℕ) (at : ReachedOverWhite) (next : PlacedReached)
+    → reference.end ≡ 1
     → IsVerticalStep (placed_pels reference) (placed_position reference.width old (placed_over_white at)) (pos 0)
     (placed_position reference.width new next)
     → reached_pel next.reached ≡ reference.width
@@ -68,19 +73,22 @@ end_reached reference old new at next white step =
 -- two runs are read on after n pels
 module _ {reference : PlacedRow} {places : List ℕ} {a0 : Option ℕ} {n at_end : ℕ} (white : reference.end ≡ 1)
     (here : IsReadInside reference places (white_at a0 at_end)) (from : unwrap_or a0 0 ≡ n) where
-  two_runs_on : {choice : Bool} {b rest : List Bool} (runs : TwoRuns) {between new : List ℕ} {middle_end end : ℕ} → 0 < runs.second
+  two_runs_on : {choice : Bool} {b rest : List Bool} (runs : TwoRuns) {between new : List ℕ} {middle_end end : ℕ}
+      → 0 < runs.second
       → is_right_of a0 (n + runs.first) ≡ true → (IsTrue choice → n + runs.first + 3 < reference.width)
       → TurnsAt places between at_end middle_end (n + runs.first)
       → TurnsAt between new middle_end end (n + runs.first + runs.second)
       → AreReadRuns true White reference.width n b runs rest
-      → IsPairReadOn choice reference places new (white_at a0 at_end) (white_at (Some (n + runs.first + runs.second)) end) b rest
+      → IsPairReadOn choice reference places new (white_at a0 at_end)
+      (white_at (Some (n + runs.first + runs.second)) end) b rest
   two_runs_on runs some right far turns again read =
       let turns_there = rw (← from) at turns in
       let again_there = rw (← from) at again in
       let within = rw (← from) at read.within in
       record {
         step =
-            rw (← from) (horizontal_placed here runs.first runs.second 1 read.found.first_run read.found.second_run within
+            rw (← from) (horizontal_placed here runs.first runs.second 1 read.found.first_run read.found.second_run
+            within
             turns_there again_there);
         chosen = λ asked. record {
           first = runs.first;
@@ -98,7 +106,8 @@ module _ {reference : PlacedRow} {places : List ℕ} {a0 : Option ℕ} {n at_end
             (λ h. b1_at_end reference _ white));
       }
 
-pub two_runs_read : {choice : Bool} {reference : PlacedRow} {places between new : List ℕ} {at : ReachedOverWhite} {b rest : List Bool}
+pub two_runs_read : {choice : Bool} {reference : PlacedRow} {places between new : List ℕ} {at : ReachedOverWhite}
+    {b rest : List Bool}
     {middle_end end : ℕ} (runs : TwoRuns) → reference.end ≡ 1 → IsReadInside reference places (placed_over_white at)
     → HavePels at.first_pel runs → (IsTrue choice → at.first_pel + runs.first + 3 < reference.width)
     → TurnsAt places between at.end middle_end (at.first_pel + runs.first)
@@ -108,4 +117,5 @@ pub two_runs_read : {choice : Bool} {reference : PlacedRow} {places between new 
     (placed_over_white (record { first_pel = at.first_pel + runs.first + runs.second; end = end })) b rest
 two_runs_read {at = at} {end = end} runs white here pels far turns again read =
     rw (placed_inside (at.first_pel + runs.first + runs.second) end (omega (arith, pels.second)))
-    (two_runs_on white here (reached_over_white at) runs pels.second (right_of_white at runs.first pels.first) far turns again read)
+    (two_runs_on white here (reached_over_white at) runs pels.second (right_of_white at runs.first pels.first) far turns
+    again read)

@@ -1,7 +1,8 @@
 -- Packing and unpacking of rows undo one another.
 use Rattle.fax_bits.specs.laws.Codes.{PacksOneWay, AreBitsByPlace}
 use Rattle.std.proofs.lemmas.Grind.{common_steps}
-use Rattle.std.proofs.Common.{◌≡◌, ℕ, ◌+◌, ◌*◌, List, [], ◌∷◌, map, length, take, get_or, Bool, true, false, refl, ap, arith}
+use Rattle.std.proofs.Common.{◌≡◌, ℕ, ◌+◌, ◌*◌, List, [], ◌∷◌, map, length, take, get_or, Bool, true, false, refl, ap}
+use Rattle.std.proofs.Common.{arith}
 use Rattle.std.proofs.lemmas.List.{take-map}
 use Rattle.fax_bits.specs.declared.FillOrder.TheVariants.{MsbFirst}
 use Rattle.fax_bits.specs.declared.Colour.{Colour}
@@ -12,7 +13,8 @@ use Rattle.fax_rows.proofs.PackedLemmas.{get_or-padded, unpacked_at}
 
 -- by the laws of the bits of bytes
 module _ (places : AreBitsByPlace) (one_way : PacksOneWay) where
-  sizes : (row : List Colour) → 8 * length (packed_row row) ≡ length row + (one_way.padded MsbFirst (map is_black row)).0
+  sizes : (row : List Colour) → 8 * length (packed_row row) ≡ length row +
+      (one_way.padded MsbFirst (map is_black row)).0
   unfolding packed_row
   sizes row = grind (arith, common_steps)
 
@@ -24,7 +26,8 @@ module _ (places : AreBitsByPlace) (one_way : PacksOneWay) where
   bits_of_pels row = grind (arith, sizes)
 
   -- bit i of a packed row
-  bit-packed_row : (row : List Colour) (i : ℕ) → get_or (bits MsbFirst (packed_row row)) i false ≡ get_or (map is_black row) i false
+  bit-packed_row : (row : List Colour) (i : ℕ) → get_or (bits MsbFirst (packed_row row)) i false
+      ≡ get_or (map is_black row) i false
   bit-packed_row row i = grind (arith, bits_of_pels, get_or-padded)
 
   read_back : IsReadBack
@@ -35,11 +38,13 @@ module _ (places : AreBitsByPlace) (one_way : PacksOneWay) where
   black_of_bits (true ∷ b) = ap (λ more. true ∷ more) (black_of_bits b)
   black_of_bits (false ∷ b) = ap (λ more. false ∷ more) (black_of_bits b)
 
-  bits_of_unpacked : (width : ℕ) (bytes : List ℕ) → map is_black (unpacked_row width bytes) ≡ take width (bits MsbFirst bytes)
+  bits_of_unpacked : (width : ℕ) (bytes : List ℕ) → map is_black (unpacked_row width bytes)
+      ≡ take width (bits MsbFirst bytes)
   unfolding unpacked_row
   bits_of_unpacked width bytes = grind (arith, take-map, black_of_bits)
 
-  length-unpacked_row : (width : ℕ) (bytes : List ℕ) → length bytes ≡ packed_len width → length (unpacked_row width bytes) ≡ width
+  length-unpacked_row : (width : ℕ) (bytes : List ℕ) → length bytes ≡ packed_len width
+      → length (unpacked_row width bytes) ≡ width
   unfolding unpacked_row
   length-unpacked_row width bytes whole = grind (arith, common_steps)
 

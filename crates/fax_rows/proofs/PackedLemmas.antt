@@ -3,9 +3,11 @@ use Rattle.std.proofs.lemmas.List.{get_or_default}
 use Rattle.fax_bits.specs.laws.Codes.{PacksOneWay, AreBitsByPlace}
 use Rattle.fax_rows.specs.code.PackedWord.{IsPackedByte}
 use Rattle.std.proofs.lemmas.Grind.{common_steps}
-use Rattle.std.proofs.Common.{◌≡◌, ℕ, zero, suc, ◌+◌, ◌-◌, ◌*◌, ◌/◌, ◌%◌, ◌<◌, ◌≤◌, List, [], ◌∷◌, ◌++◌, map, length, take, replicate}
+use Rattle.std.proofs.Common.{◌≡◌, ℕ, zero, suc, ◌+◌, ◌-◌, ◌*◌, ◌/◌, ◌%◌, ◌<◌, ◌≤◌, List, [], ◌∷◌, ◌++◌, map, length}
+use Rattle.std.proofs.Common.{take, replicate}
 use Rattle.std.proofs.Common.{get_or, Bool, false, refl, ap, sym, ◌∙◌, arith}
-use Rattle.std.proofs.lemmas.List.{length-append, length-replicate, length-map, get_or-map, get_or-take, ext_get_or, length-take-le}
+use Rattle.std.proofs.lemmas.List.{length-append, length-replicate, length-map, get_or-map, get_or-take, ext_get_or}
+use Rattle.std.proofs.lemmas.List.{length-take-le}
 use Rattle.fax_bits.specs.declared.FillOrder.TheVariants.{MsbFirst}
 use Rattle.fax_bits.specs.declared.Colour.{Colour}
 use Rattle.fax_bits.specs.declared.Colour.TheVariants.{White}
@@ -19,7 +21,8 @@ use Rattle.fax_rows.specs.Coded.{packed_len, is_black, colour_of_bit, packed_row
 -- by the law of the bits of bytes
 module _ (law : AreBitsByPlace) where
   -- a row whose pels are the bits of bytes
-  pub unpacked_at : (row : List Colour) (bytes : List ℕ) (width : ℕ) → length row ≡ width → length bytes ≡ packed_len width
+  pub unpacked_at : (row : List Colour) (bytes : List ℕ) (width : ℕ) → length row ≡ width
+      → length bytes ≡ packed_len width
       → ((k : ℕ) → k < width → get_or row k White ≡ colour_of_bit (get_or (bits MsbFirst bytes) k false))
       → row ≡ unpacked_row width bytes
   unfolding unpacked_row
@@ -40,12 +43,14 @@ pub unpacked_none : (b : List Bool) (places : List ℕ) → places ≡ 0 ∷ [] 
 unpacked_none b places is = grind (arith, common_steps, turned-first)
 
 -- pels more of the colour
-pub unpacked_run : (b : List Bool) (places : List ℕ) (i j : ℕ) (colour : Colour) → IsUnpackedTo b places i colour → i ≤ j
+pub unpacked_run : (b : List Bool) (places : List ℕ) (i j : ℕ) (colour : Colour) → IsUnpackedTo b places i colour
+    → i ≤ j
     → ((k : ℕ) → i ≤ k → k < j → colour_of_bit (get_or b k false) ≡ colour) → IsUnpackedTo b places j colour
 unpacked_run b places i j colour so_far further same = grind (arith, common_steps)
 
 -- and one of the other colour, where it turns
-pub unpacked_turned : (b : List Bool) (old new : List ℕ) (i : ℕ) (colour pel : Colour) → IsUnpackedTo b old i colour → pel ≡ other colour
+pub unpacked_turned : (b : List Bool) (old new : List ℕ) (i : ℕ) (colour pel : Colour) → IsUnpackedTo b old i colour
+    → pel ≡ other colour
     → pel ≡ colour_of_bit (get_or b i false) → IsTurnedFrom old new i → IsUnpackedTo b new (i + 1) pel
 unpacked_turned b old new i colour pel so_far turns is turn = grind arith
 
@@ -57,7 +62,8 @@ get_or-padded (x ∷ b) n zero = refl
 get_or-padded (x ∷ b) n (suc i) = get_or-padded b n i
 
 -- the bytes of a row, by the laws of the bits of bytes
-pub packed_at : AreBitsByPlace → PacksOneWay → (row : List Colour) (bytes : List ℕ) → length bytes ≡ packed_len (length row)
+pub packed_at : AreBitsByPlace → PacksOneWay → (row : List Colour) (bytes : List ℕ)
+    → length bytes ≡ packed_len (length row)
     → ((k : ℕ) → get_or bytes k 0 < 256)
     → ((k : ℕ) → k < length bytes → IsPackedByte row (8 * k) (get_or bytes k 0)) → bytes ≡ packed_row row
 unfolding packed_row
@@ -67,9 +73,18 @@ packed_at places one_way row bytes len fit each =
     let wide = length-map row is_black in
     one_way.only MsbFirst black bytes zeros (omega (arith, len)) (λ k d h. rw (get_or_default bytes k d 0 h) (fit k))
     (ext_get_or false (bits MsbFirst bytes) (black ++ replicate zeros false)
-    (omega (arith, places.count MsbFirst bytes, len, wide, length-append black (replicate zeros false), length-replicate zeros false))
+    (omega (
+      arith,
+      places.count MsbFirst bytes,
+      len,
+      wide,
+      length-append black (replicate zeros false),
+      length-replicate
+          zeros false,
+    ))
     (λ i h.
     let inside : i < 8 * length bytes = omega (arith, places.count MsbFirst bytes) in
     let place : 8 * (i / 8) + i % 8 ≡ i = omega arith in
-    places.of_bytes MsbFirst bytes i inside ∙ each (i / 8) (omega arith) (i % 8) (omega arith) ∙ ap (λ n. get_or black n false) place
+    places.of_bytes MsbFirst bytes i inside ∙ each (i / 8) (omega arith) (i % 8) (omega arith)
+    ∙ ap (λ n. get_or black n false) place
     ∙ sym (get_or-padded black zeros i)))

@@ -6,7 +6,8 @@ use Rattle.std.specs.Int.{bit_at, to_be_bytes, w64}
 use Rattle.std.specs.Int.RustNames.{bit_xor}
 use Rattle.std.proofs.lemmas.Bool.{cases_lt}
 use Rattle.std.proofs.lemmas.Nat.{shr-shr, shr_split}
-use Rattle.std.proofs.lemmas.Nat.Bits.{bit_at-zero, bit_at_xor, bit_at_ones, bit_at_ones_above, bit_at_cat_low, ones_shr}
+use Rattle.std.proofs.lemmas.Nat.Bits.{bit_at-zero, bit_at_xor, bit_at_ones, bit_at_ones_above, bit_at_cat_low}
+use Rattle.std.proofs.lemmas.Nat.Bits.{ones_shr}
 use Rattle.fax_bits.specs.declared.Colour.{Colour}
 use Rattle.fax_bits.specs.declared.Colour.TheVariants.{White, Black}
 use Rattle.fax_rows.specs.Rows.{other}
@@ -26,7 +27,8 @@ abbrev pub turned_word : ℕ → ℕ → ℕ
 turned_word word s = bit_xor word ((2 ^ 64 - 1) / 2 ^ s)
 
 ones-bits : (word s i : ℕ) → s ≤ 64 → bit_at (turned_word word s) i ≡ (bit_at word i + bit_at (2 ^ (64 - s) - 1) i) % 2
-ones-bits word s i within = ap (λ ones. bit_at (bit_xor word ones) i) (ones_shr 64 s within) ∙ bit_at_xor word (2 ^ (64 - s) - 1) i
+ones-bits word s i within = ap (λ ones. bit_at (bit_xor word ones) i) (ones_shr 64 s within)
+    ∙ bit_at_xor word (2 ^ (64 - s) - 1) i
 
 turned_left : (word s i : ℕ) → s < 64 → i < s → word_bit (turned_word word s) i ≡ word_bit word i
 turned_left word s i within before = grind (arith, common_steps, ones-bits, bit_at_ones_above)
@@ -65,7 +67,8 @@ module _ (row : PlacedRow) where
 
   -- the next place turns the pels from there on
   pub word_turned : (from word k s : ℕ) → IsWordTo row from word k → get_or row.places.now k 0 < row.width
-      → get_or row.places.now k 0 < from + 64 → (from ≤ get_or row.places.now k 0 → s ≡ get_or row.places.now k 0 - from)
+      → get_or row.places.now k 0 < from + 64 → (from ≤ get_or row.places.now k 0
+      → s ≡ get_or row.places.now k 0 - from)
       → IsWordTo row from (turned_word word s) (k + 1)
   word_turned from word k s so_far wide near shift = record {
     some = omega arith;
@@ -95,32 +98,39 @@ module _ (row : PlacedRow) where
       order = not_later row.placed.ascending (k - 1) k (omega arith) inside
 
   -- all pels of a word within the row
-  pub word_done : {from word k : ℕ} → IsWordTo row from word k → HasPassed row.places.now row.end (from + 64) k → from + 64 ≤ row.width
+  pub word_done : {from word k : ℕ} → IsWordTo row from word k → HasPassed row.places.now row.end (from + 64) k
+      → from + 64 ≤ row.width
       → IsPackedWord (placed_pels row) from word
   word_done so_far passed wide i h = pel_of_word so_far i h (omega arith) (λ l. omega (arith, passed.right l))
 
   -- and of one in which the row ends, where white pels stand after it
-  pub white_done : {from word k : ℕ} → IsWordTo row from word k → HasPassed row.places.now row.end row.width k → alternate Black k ≡ White
+  pub white_done : {from word k : ℕ} → IsWordTo row from word k → HasPassed row.places.now row.end row.width k
+      → alternate Black k ≡ White
       → IsPackedWord (placed_pels row) from word
   white_done {from = from} so_far passed white i h = grind (arith, pel_of_word, none_after)
 
   -- or black ones, which are turned
   pub black_done : {from word k : ℕ} (s : ℕ) → IsWordTo row from word k → HasPassed row.places.now row.end row.width k
-      → alternate Black k ≡ Black → from + s ≡ row.width → s < 64 → IsPackedWord (placed_pels row) from (turned_word word s)
+      → alternate Black k ≡ Black → from + s ≡ row.width → s < 64
+      → IsPackedWord (placed_pels row) from (turned_word word s)
   black_done {from = from} {word = word} s so_far passed black ends short i h =
       elim (cases_lt (from + i) row.width) [
-        | inl less ↦ turned_left word s i short (omega arith) ∙ pel_of_word so_far i h less (λ l. omega (arith, passed.right l))
+        | inl less ↦ turned_left word s i short (omega arith) ∙ pel_of_word so_far i h less
+            (λ l. omega (arith, passed.right l))
         | inr more ↦
-            turned_right word s i short (omega arith) h ∙ ap not (so_far.after i h (omega (arith, passed.left)) ∙ ap is_black black)
+            turned_right word s i short (omega arith) h ∙ ap not (so_far.after i h (omega (arith, passed.left))
+            ∙ ap is_black black)
             ∙ sym (none_after row.placed (from + i) more)
       ]
 
 -- a byte of a word
-pub byte_bit : (word j r : ℕ) → j < 8 → r < 8 → bit_at (word / 2 ^ (8 * (7 - j)) % 256) (7 - r) ≡ bit_at word (63 - (8 * j + r))
+pub byte_bit : (word j r : ℕ) → j < 8 → r < 8 → bit_at (word / 2 ^ (8 * (7 - j)) % 256) (7 - r)
+    ≡ bit_at word (63 - (8 * j + r))
 byte_bit word j r few in_byte =
     let high = word / 2 ^ (8 * (7 - j)) in
     let place : 8 * (7 - j) + (7 - r) ≡ 63 - (8 * j + r) = omega arith in
-    sym (bit_at_cat_low (high / 2 ^ 8) 8 (high % 2 ^ 8) (7 - r) (omega arith)) ∙ ap (λ n. bit_at n (7 - r)) (shr_split high 8)
+    sym (bit_at_cat_low (high / 2 ^ 8) 8 (high % 2 ^ 8) (7 - r) (omega arith))
+    ∙ ap (λ n. bit_at n (7 - r)) (shr_split high 8)
     ∙ ap (λ n. n % 2) (shr-shr word (8 * (7 - j)) (7 - r)) ∙ ap (bit_at word) place
 
 -- the bytes of a word, the highest first
@@ -128,7 +138,8 @@ pub be_byte : (n i : ℕ) → i < 8 → get_or (to_be_bytes w64 n) i 0 ≡ n / 2
 be_byte n i h = grind arith
 
 -- they are those of its pels
-pub byte_of_word : (row : List Colour) (from word j place : ℕ) → IsPackedWord row from word → j < 8 → from + 8 * j ≡ place
+pub byte_of_word : (row : List Colour) (from word j place : ℕ) → IsPackedWord row from word → j < 8
+    → from + 8 * j ≡ place
     → IsPackedByte row place (get_or (to_be_bytes w64 word) j 0)
 byte_of_word row from word j place packed few is i h =
     let at : from + (8 * j + i) ≡ place + i = omega arith in

@@ -28,14 +28,16 @@ module _ {places : List ℕ} {end width : ℕ} (all : ArePlaces places end width
   pub bit_after : (i k : ℕ) → i < width → ArePlacesUpTo places end i k
       → get_or (map is_black (row_of places end width)) i false ≡ is_black (alternate Black k)
   bit_after i k within at =
-      get_or-map is_black (row_of places end width) i White false (omega (arith, length-pels_by width (take end places)))
+      get_or-map is_black (row_of places end width) i White false
+      (omega (arith, length-pels_by width (take end places)))
       ∙ ap is_black (pel_after all.ascending width i k within at)
 
   pub passed-lt : (i k : ℕ) → HasPassed places end i k → k < length places
   passed-lt i k passed = omega (arith, passed.within, all.room, end_within all)
 
   -- a place further right is passed too where none stands between
-  pub still_passed : (at next k : ℕ) → HasPassed places end at k → at ≤ next → next ≤ get_or places k 0 → HasPassed places end next k
+  pub still_passed : (at next k : ℕ) → HasPassed places end at k → at ≤ next → next ≤ get_or places k 0
+      → HasPassed places end next k
   still_passed at next k passed order before = grind (arith, common_steps)
 
   pub place_at_most : (at k : ℕ) → HasPassed places end at k → get_or places k 0 ≤ width
@@ -47,8 +49,10 @@ module _ {places : List ℕ} {end width : ℕ} (all : ArePlaces places end width
   whole_byte at from k passed order whole i h = grind (arith, plain_bit, bit_after)
 
 -- a list of which the first elements have what they are to have, after a write to the part that follows
-pub part_written : (P : ℕ → ℕ → Type 0) (out part : List ℕ) (a k : ℕ) → a ≤ length out → ((i : ℕ) → i < a → P i (get_or out i 0))
-    → ((i : ℕ) → i < length part → P (a + i) (get_or part i 0)) → (i : ℕ) → i < a + length part → P i (get_or (put_mid a k out part) i 0)
+pub part_written : (P : ℕ → ℕ → Type 0) (out part : List ℕ) (a k : ℕ) → a ≤ length out
+    → ((i : ℕ) → i < a → P i (get_or out i 0))
+    → ((i : ℕ) → i < length part → P (a + i) (get_or part i 0)) → (i : ℕ) → i < a + length part
+    → P i (get_or (put_mid a k out part) i 0)
 part_written P out part a k within before written i h =
     elim (cases_lt i a) [
       | inl less ↦

@@ -8,7 +8,8 @@ use Rattle.fax_bits.specs.declared.Colour.{Colour}
 use Rattle.fax_bits.specs.declared.Colour.TheVariants.{White}
 
 -- the pels up to the last painted one
-pub painted_front : (old new : List Colour) (from n : ℕ) (colour : Colour) → from + n ≤ length old → length new ≡ length old
+pub painted_front : (old new : List Colour) (from n : ℕ) (colour : Colour) → from + n ≤ length old
+    → length new ≡ length old
     → ((k : ℕ) → k < from → get_or new k White ≡ get_or old k White)
     → ((k : ℕ) → from ≤ k → k < from + n → get_or new k White ≡ colour)
     → take (from + n) new ≡ take from old ++ replicate n colour

@@ -1,5 +1,6 @@
 -- Changing elements, place by place.
-use Rattle.std.proofs.Common.{◌≡◌, ℕ, zero, suc, ◌+◌, ◌<◌, ◌≤◌, Bool, true, false, cond, List, length, Option, ap, sym, ◌∙◌, arith}
+use Rattle.std.proofs.Common.{◌≡◌, ℕ, zero, suc, ◌+◌, ◌<◌, ◌≤◌, Bool, true, false, cond, List, length, Option, ap, sym}
+use Rattle.std.proofs.Common.{◌∙◌, arith}
 use Rattle.std.proofs.Common.{inl, inr}
 use Rattle.std.specs.Prelude.{◌⊎◌, ◌&&◌, not}
 use Rattle.std.proofs.lemmas.Bool.{true≢false}
@@ -20,7 +21,8 @@ first_place_at test i (suc n) r low high left at =
     first_place_by (test i) i (first_place test (i + 1) n) r
     (λ pass. here pass (eq-or-lt_of_le low))
     (λ fail. let less = right fail (eq-or-lt_of_le low) in
-    first_place_at test (i + 1) n r (omega arith) (omega arith) (λ k l h. left k (omega arith) h) (λ h. at (omega arith)))
+    first_place_at test (i + 1) n r (omega arith) (omega arith) (λ k l h. left k (omega arith) h)
+    (λ h. at (omega arith)))
   where
     here : test i ≡ true → (i ≡ r) ⊎ (i < r) → i ≡ r
     here pass (inl same) = same
@@ -46,6 +48,7 @@ pub next_of_at : (row : List Colour) (from : Option ℕ) (colour : Colour) (r : 
     → r ≡ b1 row from colour
 unfolding b1
 next_of_at row from colour r within left at =
-    sym (first_place_at (λ i. is_right_of from i && (is_changing row i && not (same_colour (pel row i) colour))) 0 (length row) r
+    sym (first_place_at (λ i. is_right_of from i && (is_changing row i && not (same_colour (pel row i) colour))) 0
+    (length row) r
     (omega arith) (omega arith)
     (λ k l h. left k h) (λ h. at (omega arith)))

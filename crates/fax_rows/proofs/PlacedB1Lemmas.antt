@@ -1,7 +1,8 @@
 -- b1 and b2 by an index into the reference row's places of change.
 use Rattle.fax_rows.proofs.ColourLemmas.{other_than, same_as}
 use Rattle.std.proofs.lemmas.Grind.{common_steps}
-use Rattle.std.proofs.Common.{◌≡◌, ℕ, zero, suc, ◌+◌, ◌-◌, ◌<◌, ◌≤◌, List, length, take, get_or, true, false, not, refl, ap, sym, ◌∙◌}
+use Rattle.std.proofs.Common.{◌≡◌, ℕ, zero, suc, ◌+◌, ◌-◌, ◌<◌, ◌≤◌, List, length, take, get_or, true, false, not, refl}
+use Rattle.std.proofs.Common.{ap, sym, ◌∙◌}
 use Rattle.std.proofs.Common.{subst, arith, inl, inr}
 use Rattle.std.specs.Prelude.{◌⊎◌, ◌&&◌, Option, Some, None, unwrap_or}
 use Rattle.std.proofs.lemmas.Bool.{and_from, cases_lt, true≢false}
@@ -13,7 +14,8 @@ use Rattle.fax_rows.specs.code.PlacedRow.{placed_pels, IsBeforeB1, IsB1At}
 use Rattle.fax_rows.specs.code.Turns.{alternate, ArePlacesUpTo, IsFrom}
 use Rattle.fax_rows.proofs.ChangeLemmas.{still_left, next_change_is}
 use Rattle.fax_rows.proofs.PlaceLemmas.{next_of_at}
-use Rattle.fax_rows.proofs.TurnLemmas.{length-pels_by, alternate-suc, below_later, not_later, pel_after, changing_at, unchanging}
+use Rattle.fax_rows.proofs.TurnLemmas.{length-pels_by, alternate-suc, below_later, not_later, pel_after, changing_at}
+use Rattle.fax_rows.proofs.TurnLemmas.{unchanging}
 use Rattle.fax_rows.proofs.PlacedRowLemmas.{next_here, end_within}
 
 -- a place further right is right of a place too
@@ -35,7 +37,8 @@ module _ (row : PlacedRow) where
   rank_from i (suc n) k some sum left =
       elim (cases_lt i (get_or row.places.now k 0)) [
         | inl less ↦ (k, record { some = some; within = omega arith; left = left; right = λ h. less })
-        | inr more ↦ rank_from i n (suc k) (omega arith) (omega arith) (subst (λ m. get_or row.places.now m 0 ≤ i) same more)
+        | inr more ↦ rank_from i n (suc k) (omega arith) (omega arith)
+            (subst (λ m. get_or row.places.now m 0 ≤ i) same more)
       ]
     where
       same : k ≡ suc k - 1
@@ -47,7 +50,8 @@ module _ (row : PlacedRow) where
       (omega (arith, row.placed.ascending.first))
 
   -- a changing element is a place after the first
-  place_of_change : (i j : ℕ) → ArePlacesUpTo row.places.now row.end i j → i < row.width → is_changing (placed_pels row) i ≡ true
+  place_of_change : (i j : ℕ) → ArePlacesUpTo row.places.now row.end i j → i < row.width
+      → is_changing (placed_pels row) i ≡ true
       → (1 < j) × (get_or row.places.now (j - 1) 0 ≡ i)
   place_of_change i j at inside changes = grind (arith, common_steps, unchanging)
 
@@ -72,10 +76,12 @@ module _ (row : PlacedRow) where
       passed : j - 1 ≤ b - 2 → is_right_of a0 (get_or row.places.now (b - 2) 0) ≡ true
       passed left =
           further_right a0 i (get_or row.places.now (b - 2) 0)
-          (let order = not_later row.placed.ascending (j - 1) (b - 2) left (omega (arith, at.within)) in omega arith) right
+          (let order = not_later row.placed.ascending (j - 1) (b - 2) left (omega (arith, at.within)) in omega arith)
+          right
 
   -- no change of the other colour stands between a0 and that place
-  none_left : (a0 : Option ℕ) (colour : Colour) (b i : ℕ) → IsB1At row a0 colour b → i < get_or row.places.now b 0 → i < row.width
+  none_left : (a0 : Option ℕ) (colour : Colour) (b i : ℕ) → IsB1At row a0 colour b → i < get_or row.places.now b 0
+      → i < row.width
       → is_right_of a0 i ≡ true → is_changing (placed_pels row) i ≡ true
       → not (same_colour (pel (placed_pels row) i) colour) ≡ false
   none_left a0 colour b i at before inside right changes =
@@ -132,9 +138,11 @@ module _ (row : PlacedRow) where
           let inside = inside_end b at.some at.within (omega (arith, len)) in
           and_from (is_right_of a0 (get_or row.places.now b 0)) _ (at.ahead inside)
           (and_from (is_changing (placed_pels row) (get_or row.places.now b 0)) _
-          (changing_at row.placed.ascending row.width (get_or row.places.now b 0) b at.some inside refl (omega (arith, len)))
+          (changing_at row.placed.ascending row.width (get_or row.places.now b 0) b at.some inside refl
+          (omega (arith, len)))
           (other_than (pel (placed_pels row) (get_or row.places.now b 0)) colour
-          (pel_after row.placed.ascending row.width (get_or row.places.now b 0) (suc b) (omega (arith, len)) (after inside)
+          (pel_after row.placed.ascending row.width (get_or row.places.now b 0) (suc b) (omega (arith, len))
+          (after inside)
           ∙ alternate-suc Black b ∙ ap other at.colour_is)))
         where
           same : suc b - 1 ≡ b
@@ -151,7 +159,15 @@ module _ (row : PlacedRow) where
   -- and b2 is the one after it
   pub after_b1 : (b : ℕ) → 0 < b → b ≤ row.end + 1
       → get_or row.places.now (b + 1) 0 ≡ next_change (placed_pels row) (Some (get_or row.places.now b 0))
-  after_b1 b some within = grind (arith, common_steps, cases_lt, next_here, over_end, next_change_is, length-placed_pels)
+  after_b1 b some within = grind (
+    arith,
+    common_steps,
+    cases_lt,
+    next_here,
+    over_end,
+    next_change_is,
+    length-placed_pels,
+  )
 
   pub b2_is : {a0 : Option ℕ} {colour : Colour} {b : ℕ} → IsB1At row a0 colour b
       → get_or row.places.now (b + 1) 0 ≡ b2 (placed_pels row) a0 colour
@@ -184,17 +200,20 @@ module _ (row : PlacedRow) where
   b2_at_most b some within = grind (arith, common_steps, over_end)
 
   -- after a pass the next place but one is that of b1
-  pub b1_passed : {a0 : Option ℕ} {colour : Colour} {b : ℕ} → IsB1At row a0 colour b → get_or row.places.now (b + 1) 0 < row.width
+  pub b1_passed : {a0 : Option ℕ} {colour : Colour} {b : ℕ} → IsB1At row a0 colour b
+      → get_or row.places.now (b + 1) 0 < row.width
       → IsB1At row (Some (get_or row.places.now (b + 1) 0)) colour (b + 2)
   b1_passed at inside = grind (arith, common_steps, over_end)
 
   -- where the search for b1 begins as the colour turns at a place that is not left of b1
-  pub right_start : (a0 : Option ℕ) (colour : Colour) (b a1 : ℕ) → IsB1At row a0 colour b → get_or row.places.now b 0 ≤ a1 → a1 < row.width
+  pub right_start : (a0 : Option ℕ) (colour : Colour) (b a1 : ℕ) → IsB1At row a0 colour b
+      → get_or row.places.now b 0 ≤ a1 → a1 < row.width
       → IsBeforeB1 row a1 (other colour) (b + 1)
   right_start a0 colour b a1 at left inside = grind (arith, alternate-suc)
 
   -- from just under b1 the next place is that of b1
-  pub b1_next : {a0 : Option ℕ} {colour : Colour} {b : ℕ} → IsB1At row a0 colour b → get_or row.places.now b 0 < row.width
+  pub b1_next : {a0 : Option ℕ} {colour : Colour} {b : ℕ} → IsB1At row a0 colour b
+      → get_or row.places.now b 0 < row.width
       → IsB1At row (Some (get_or row.places.now b 0)) (other colour) (b + 1)
   b1_next {a0 = a0} {colour = colour} {b = b} at inside =
       search_ends (get_or row.places.now b 0) (b + 1) right (other colour)
@@ -219,10 +238,12 @@ module _ (row : PlacedRow) where
   b1_here a0 k b colour at which is = grind arith
 
   -- b1 and b2 as `next_of` and `b1_b2` answer them
-  pub b1_right : {a0 : Option ℕ} {colour : Colour} {b : ℕ} → IsB1At row a0 colour b → get_or row.places.now b 0 < row.width
+  pub b1_right : {a0 : Option ℕ} {colour : Colour} {b : ℕ} → IsB1At row a0 colour b
+      → get_or row.places.now b 0 < row.width
       → is_right_of a0 (get_or row.places.now b 0) ≡ true
   b1_right {b = b} at inside = at.ahead (inside_end b at.some at.within inside)
 
-  pub b2_right : {a0 : Option ℕ} {colour : Colour} {b : ℕ} → IsB1At row a0 colour b → get_or row.places.now (b + 1) 0 < row.width
+  pub b2_right : {a0 : Option ℕ} {colour : Colour} {b : ℕ} → IsB1At row a0 colour b
+      → get_or row.places.now (b + 1) 0 < row.width
       → is_right_of a0 (get_or row.places.now (b + 1) 0) ≡ true
   b2_right at inside = grind arith

@@ -1,7 +1,8 @@
 -- A row whose colours are exchanged: it begins with one change at 0 more, or with one less.
 use Rattle.fax_rows.proofs.ColourLemmas.{other-other}
 use Rattle.std.proofs.lemmas.Grind.{common_steps}
-use Rattle.std.proofs.Common.{◌≡◌, ℕ, zero, suc, ◌+◌, ◌-◌, ◌<◌, ◌≤◌, List, [], ◌∷◌, length, take, drop, get_or, map, true}
+use Rattle.std.proofs.Common.{◌≡◌, ℕ, zero, suc, ◌+◌, ◌-◌, ◌<◌, ◌≤◌, List, [], ◌∷◌, length, take, drop, get_or, map}
+use Rattle.std.proofs.Common.{true}
 use Rattle.std.proofs.Common.{refl, sym, ap, ◌∙◌, subst, arith, inl, inr}
 use Rattle.std.proofs.Math.Nat.{eq-or-lt_of_le}
 use Rattle.std.specs.Prelude.{nat_le}
@@ -55,7 +56,8 @@ longer_by_0 few more n within room first each =
     at k h = grind (arith, common_steps)
 
 -- the places of a row that begins black, and those after the first of them
-module _ (old new : List ℕ) (end width : ℕ) (all : ArePlaces old end width) (black : get_or old 1 0 ≡ 0) (len : length new ≡ length old)
+module _ (old new : List ℕ) (end width : ℕ) (all : ArePlaces old end width) (black : get_or old 1 0 ≡ 0)
+    (len : length new ≡ length old)
     (each : (k : ℕ) → suc k < length old → get_or new k 0 ≡ get_or old (suc k) 0) where
   pub some_change : 1 < end
   some_change = grind (arith, common_steps)
@@ -71,10 +73,12 @@ module _ (old new : List ℕ) (end width : ℕ) (all : ArePlaces old end width) 
       first = each 0 (omega (arith, all.room)) ∙ black;
       steps = λ i h l.
           let here : get_or new i 0 ≡ get_or old (suc i) 0 = each i (omega (arith, all.ascending.within)) in
-          let there : get_or new (i + 1) 0 ≡ get_or old (suc (i + 1)) 0 = each (i + 1) (omega (arith, all.ascending.within)) in
+          let there : get_or new (i + 1) 0 ≡ get_or old (suc (i + 1)) 0 =
+          each (i + 1) (omega (arith, all.ascending.within)) in
           let same : suc i + 1 ≡ suc (i + 1) = omega arith in
           let up : get_or old (suc i) 0 < get_or old (suc (i + 1)) 0 =
-          subst (λ m. get_or old (suc i) 0 < get_or old m 0) same (all.ascending.steps (suc i) (omega arith) (omega arith)) in
+          subst (λ m. get_or old (suc i) 0 < get_or old m 0) same
+          (all.ascending.steps (suc i) (omega arith) (omega arith)) in
           omega arith;
     };
     below = λ i h l.
@@ -91,14 +95,21 @@ module _ (old new : List ℕ) (end width : ℕ) (all : ArePlaces old end width) 
   turned_white =
       let started = some_change in
       let same : end - 1 + 1 ≡ end = omega arith in
-      let first : get_or (take (end - 1) new) 0 0 ≡ 0 = get_or-take (end - 1) new 0 0 (omega arith) ∙ each 0 (omega (arith, all.room)) ∙ black in
+      let first : get_or (take (end - 1) new) 0 0 ≡ 0 = get_or-take (end - 1) new 0 0 (omega arith)
+      ∙ each 0 (omega (arith, all.room)) ∙ black in
       take_first (take end old) (take (end - 1) new) (drop 1 (take (end - 1) new))
-      (ap (λ n. take n old) (sym same) ∙ longer_by_0 new old (end - 1) (omega (arith, all.ascending.within)) (omega (arith, all.ascending.within))
+      (ap (λ n. take n old) (sym same) ∙ longer_by_0 new old (end - 1) (omega (arith, all.ascending.within))
+      (omega (arith, all.ascending.within))
       all.ascending.first (λ k h. sym (each k (omega (arith, all.ascending.within)))))
-      (begins_with_0 (take (end - 1) new) (omega (arith, length-take-le (end - 1) new (omega (arith, all.ascending.within)))) first)
+      (begins_with_0 (take (end - 1) new) (omega (
+        arith,
+        length-take-le (end - 1) new
+            (omega (arith, all.ascending.within)),
+      )) first)
 
 -- the places of a row that begins white, and a 0 before them
-module _ (old new : List ℕ) (end width : ℕ) (all : ArePlaces old end width) (white : 0 < get_or old 1 0) (len : length new ≡ length old)
+module _ (old new : List ℕ) (end width : ℕ) (all : ArePlaces old end width) (white : 0 < get_or old 1 0)
+    (len : length new ≡ length old)
     (first : get_or new 0 0 ≡ 0) (each : (k : ℕ) → suc k < length old → get_or new (suc k) 0 ≡ get_or old k 0) where
   -- each place is at least as large as there are changes before it, and one more
   above : (i : ℕ) → 0 < i → i < end → i ≤ get_or old i 0
@@ -110,7 +121,12 @@ module _ (old new : List ℕ) (end width : ℕ) (all : ArePlaces old end width) 
   few_changes =
       elim (eq-or-lt_of_le all.ascending.started) [
         | inl one ↦ let some = all.some in omega arith
-        | inr more ↦ omega (arith, above (end - 1) (omega arith) (omega arith), all.below (end - 1) (omega arith) (omega arith))
+        | inr more ↦ omega (
+          arith,
+          above (end - 1) (omega arith) (omega arith),
+          all.below (end - 1) (omega arith)
+              (omega arith),
+        )
       ]
 
   steps_up : (i : ℕ) → 0 < i → i + 1 < end + 1 → get_or new i 0 < get_or new (i + 1) 0
@@ -128,10 +144,12 @@ module _ (old new : List ℕ) (end width : ℕ) (all : ArePlaces old end width) 
       put_first (take end old) (take (end + 1) new) (drop 1 (take end old))
       (longer_by_0 old new end all.ascending.within (omega (arith, few_changes, all.room, len)) first
       (λ k h. each k (omega (arith, few_changes, all.room))))
-      (begins_with_0 (take end old) (omega (arith, length-take-le end old all.ascending.within, all.ascending.started)) start)
+      (begins_with_0 (take end old) (omega (arith, length-take-le end old all.ascending.within, all.ascending.started))
+      start)
 
 -- a row whose places are turned from its first pel on
-pub exchanged : (width : ℕ) (old new : List ℕ) → IsTurnedFrom old new 0 → pels_by width new ≡ map other (pels_by width old)
+pub exchanged : (width : ℕ) (old new : List ℕ) → IsTurnedFrom old new 0
+    → pels_by width new ≡ map other (pels_by width old)
 exchanged width old new turn =
     ext_get_or White (pels_by width new) (map other (pels_by width old))
     (length-pels_by width new ∙ sym (length-map (pels_by width old) other ∙ length-pels_by width old))

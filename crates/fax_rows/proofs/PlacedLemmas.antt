@@ -12,7 +12,8 @@ use Rattle.fax_rows.proofs.PutLemmas.{put_begins, put_goes_on, put_pending}
 use Rattle.fax_rows.proofs.WrittenLemmas.{step_bits-end, step_bits-more}
 
 -- the steps before a0 are put, but for the pending bits, and those that are left are enough to end the row
-pub record IsPutToPlace (reference row : List Colour) (old : Sink) (a0 : Option ℕ) (pending : List Bool) (new : Sink) : Type 0 where
+pub record IsPutToPlace (reference row : List Colour) (old : Sink) (a0 : Option ℕ) (pending : List Bool) (new : Sink) :
+    Type 0 where
   pub limit : ℕ
   pub enough : length row + 1 ≤ passed a0 + limit
   pub within : first_of a0 ≤ length row
@@ -35,34 +36,39 @@ module _ (reference row : List Colour) (old mid new : Sink) (a0 : Option ℕ) (p
   place_ends more = put_pending old mid new _ pending _ placed.so_far none more
 
 -- a step is left inside the row
-record IsStepLeft (reference row : List Colour) (old : Sink) (a0 : Option ℕ) (pending : List Bool) (new : Sink) : Type 0 where
-  limit : ℕ
-  enough : length row ≤ passed a0 + limit
-  so_far : AppendsAllBut old (two_dimensional_bits reference row) (pending ++ step_bits (suc limit) reference row a0) new
+record IsStepLeft (reference row : List Colour) (old : Sink) (a0 : Option ℕ) (pending : List Bool) (new : Sink) : Type 0
+  where
+    limit : ℕ
+    enough : length row ≤ passed a0 + limit
+    so_far : AppendsAllBut old (two_dimensional_bits reference row) (pending ++ step_bits (suc limit) reference row a0)
+        new
 
 step_left : (reference row : List Colour) (old : Sink) (a0 : Option ℕ) (pending : List Bool) (new : Sink) (limit : ℕ)
     → first_of a0 < length row → length row + 1 ≤ passed a0 + limit
     → AppendsAllBut old (two_dimensional_bits reference row) (pending ++ step_bits limit reference row a0) new
     → IsStepLeft reference row old a0 pending new
-step_left reference row old a0 pending new zero inside enough so_far = absurd (omega (arith, passed_within a0 (length row) inside))
+step_left reference row old a0 pending new zero inside enough so_far =
+    absurd (omega (arith, passed_within a0 (length row) inside))
 step_left reference row old a0 pending new (suc limit) inside enough so_far = grind (arith, common_steps)
 
 module _ (reference row : List Colour) (same_width : length reference ≡ length row) (old mid new : Sink) (a0 : Option ℕ)
-    (pending : List Bool) (placed : IsPutToPlace reference row old a0 pending mid) (inside : first_of a0 < length row) where
-  left : IsStepLeft reference row old a0 pending mid
-  left = step_left reference row old a0 pending mid placed.limit inside placed.enough placed.so_far
+    (pending : List Bool) (placed : IsPutToPlace reference row old a0 pending mid) (inside : first_of a0 < length row)
+  where
+    left : IsStepLeft reference row old a0 pending mid
+    left = step_left reference row old a0 pending mid placed.limit inside placed.enough placed.so_far
 
-  pub place_goes_on : (place : ℕ) (pending' : List Bool) → place ≡ place_from reference row a0
-      → AppendsAllBut mid (pending ++ bits_from reference row a0) pending' new
-      → IsPutToPlace reference row old (Some place) pending' new
-  place_goes_on place pending' is more = grind (arith, place_ahead, left, put_goes_on, step_bits-more)
+    pub place_goes_on : (place : ℕ) (pending' : List Bool) → place ≡ place_from reference row a0
+        → AppendsAllBut mid (pending ++ bits_from reference row a0) pending' new
+        → IsPutToPlace reference row old (Some place) pending' new
+    place_goes_on place pending' is more = grind (arith, place_ahead, left, put_goes_on, step_bits-more)
 
-  pub place_stops : AppendsPrefix mid (pending ++ bits_from reference row a0) new
-      → AppendsPrefix old (two_dimensional_bits reference row) new
-  place_stops more = grind (arith, common_steps, left, step_bits-more)
+    pub place_stops : AppendsPrefix mid (pending ++ bits_from reference row a0) new
+        → AppendsPrefix old (two_dimensional_bits reference row) new
+    place_stops more = grind (arith, common_steps, left, step_bits-more)
 
 -- each step passes a place
-pub step_smaller : (reference row : List Colour) → length reference ≡ length row → (a0 : Option ℕ) → first_of a0 < length row
+pub step_smaller : (reference row : List Colour) → length reference ≡ length row → (a0 : Option ℕ)
+    → first_of a0 < length row
     → (place : ℕ) → place ≡ place_from reference row a0 → (next : Option ℕ) → next ≡ Some place
     → length row + 1 - passed next < length row + 1 - passed a0
 step_smaller reference row same_width a0 inside place is next next_is = grind (arith, place_ahead)

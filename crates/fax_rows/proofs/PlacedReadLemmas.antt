@@ -12,7 +12,8 @@ use Rattle.fax_bits.specs.Codes.{IsRun}
 use Rattle.fax_rows.specs.Rows.{other}
 use Rattle.fax_rows.specs.code.Put.{ArePut, HasRoom}
 use Rattle.fax_rows.specs.code.Turns.{turned, pels_by, IsAscending, IsTurnedFrom, TurnsAt}
-use Rattle.fax_rows.proofs.TurnLemmas.{length-pels_by, pel-pels_by, turned-push_left, turned-push_right, at_least, below_later}
+use Rattle.fax_rows.proofs.TurnLemmas.{length-pels_by, pel-pels_by, turned-push_left, turned-push_right, at_least}
+use Rattle.fax_rows.proofs.TurnLemmas.{below_later}
 use Rattle.fax_rows.proofs.RowLemmas.{IsRowSoFar, row_goes_on}
 
 -- a place that is put
@@ -29,23 +30,27 @@ turned_back places end place some within is = grind (arith, common_steps, turned
 same_pels_by : (width : ℕ) (some others : List ℕ) → ((i : ℕ) → i < width → turned Black some i ≡ turned Black others i)
     → pels_by width some ≡ pels_by width others
 same_pels_by width some others each =
-    ext_get_or White (pels_by width some) (pels_by width others) (length-pels_by width some ∙ sym (length-pels_by width others))
+    ext_get_or White (pels_by width some) (pels_by width others)
+    (length-pels_by width some ∙ sym (length-pels_by width others))
     (λ k h. let inside : k < width = omega (arith, length-pels_by width some) in
     pel-pels_by width some k inside ∙ each k inside ∙ sym (pel-pels_by width others k inside))
 
 -- a change at the width is none of the row
-pub without_last : (width : ℕ) (places : List ℕ) (end : ℕ) → 0 < end → end ≤ length places → get_or places (end - 1) 0 ≡ width
+pub without_last : (width : ℕ) (places : List ℕ) (end : ℕ) → 0 < end → end ≤ length places
+    → get_or places (end - 1) 0 ≡ width
     → pels_by width (take (end - 1) places) ≡ pels_by width (take end places)
 without_last width places end some within is =
     same_pels_by width (take (end - 1) places) (take end places)
     (λ i h. (turned_back places end width some within is).left i h)
 
 -- there is room for one place more
-pub places_within : (places : List ℕ) (end total : ℕ) → IsAscending places end → get_or places (end - 1) 0 ≤ total → end ≤ total + 2
+pub places_within : (places : List ℕ) (end total : ℕ) → IsAscending places end → get_or places (end - 1) 0 ≤ total
+    → end ≤ total + 2
 places_within places end total up last = omega (arith, up.started, at_least up (end - 1) (omega (arith, up.started)))
 
 -- before the first pel
-pub none_put : {width : ℕ} {places : List ℕ} (total : ℕ) → HasRoom width places → total ≤ width → ArePut width places 1 total
+pub none_put : {width : ℕ} {places : List ℕ} (total : ℕ) → HasRoom width places → total ≤ width
+    → ArePut width places 1 total
 none_put total room within = grind (arith, common_steps)
 
 -- there is room for two places more
@@ -53,7 +58,8 @@ pub more_room : {width : ℕ} {places : List ℕ} {end total : ℕ} → ArePut w
 more_room put = omega (arith, put.room, put.within, places_within _ _ _ put.ascending put.last)
 
 -- a place more is put
-pub put_on : {width : ℕ} {old new : List ℕ} {end next total place : ℕ} → ArePut width old end total → TurnsAt old new end next place
+pub put_on : {width : ℕ} {old new : List ℕ} {end next total place : ℕ} → ArePut width old end total
+    → TurnsAt old new end next place
     → place ≤ width → ArePut width new next place
 put_on put turns within = grind (arith, common_steps)
 
@@ -83,7 +89,8 @@ ends_within places end width up below = grind (arith, at_least)
 
 -- one run more
 pub run_turned : {width : ℕ} {b : List Bool} {total n : ℕ} {colour : Colour} {old new : List ℕ} {mid rest : List Bool}
-    → IsRowSoFar width b total colour (pels_by width old) mid → total < width → total + n ≤ width → IsRun colour mid n rest
+    → IsRowSoFar width b total colour (pels_by width old) mid → total < width → total + n ≤ width
+    → IsRun colour mid n rest
     → ((i : ℕ) → total ≤ i → turned Black old i ≡ colour) → IsTurnedFrom old new (total + n)
     → IsRowSoFar width b (total + n) (other colour) (pels_by width new) rest
 run_turned so_far unfinished within run after turn = grind (arith, row_goes_on, pel-pels_by)

@@ -1,6 +1,7 @@
 -- What a row of places of change shows: its pels, its changing elements, and the next of them.
 use Rattle.std.proofs.lemmas.Grind.{common_steps}
-use Rattle.std.proofs.Common.{◌≡◌, ℕ, zero, suc, ◌+◌, ◌-◌, ◌<◌, ◌≤◌, List, [], ◌∷◌, length, take, drop, get_or, replicate, true}
+use Rattle.std.proofs.Common.{◌≡◌, ℕ, zero, suc, ◌+◌, ◌-◌, ◌<◌, ◌≤◌, List, [], ◌∷◌, length, take, drop, get_or}
+use Rattle.std.proofs.Common.{replicate, true}
 use Rattle.std.proofs.Common.{false, refl, ap, sym, ◌∙◌, subst, arith, inl, inr, drop-cons}
 use Rattle.std.specs.Prelude.{◌⊎◌, Option, Some, None}
 use Rattle.std.specs.List.{filter, range_with_len}
@@ -14,7 +15,8 @@ use Rattle.fax_rows.specs.Rows.{pel, is_changing, is_right_of, next_change}
 use Rattle.fax_rows.specs.code.Turns.{turned, pels_by, alternate, ArePlaces, ArePlacesUpTo, IsFrom}
 use Rattle.fax_rows.proofs.ChangeLemmas.{still_left}
 use Rattle.fax_rows.proofs.PlaceLemmas.{next_change_at}
-use Rattle.fax_rows.proofs.TurnLemmas.{length-pels_by, pel-pels_by, at_least, below_later, pel_after, changing_at, unchanging}
+use Rattle.fax_rows.proofs.TurnLemmas.{length-pels_by, pel-pels_by, at_least, below_later, pel_after, changing_at}
+use Rattle.fax_rows.proofs.TurnLemmas.{unchanging}
 
 -- after the first place alone all is white
 pub turned-first : (i : ℕ) → turned Black (0 ∷ []) i ≡ White
@@ -32,7 +34,8 @@ white_row width =
     ∙ sym (get_or-replicate width k White White (omega (arith, length-pels_by width (0 ∷ [])))))
 
 -- a first place alone is a white row
-pub white_by : (width : ℕ) (places : List ℕ) → 0 < length places → pels_by width (take 1 (set places 0 0)) ≡ replicate width White
+pub white_by : (width : ℕ) (places : List ℕ) → 0 < length places
+    → pels_by width (take 1 (set places 0 0)) ≡ replicate width White
 white_by width [] some = absurd (omega arith)
 white_by width (p ∷ places) some = white_row width
 
@@ -56,10 +59,16 @@ module _ {places : List ℕ} {end width : ℕ} (all : ArePlaces places end width
       elim (eq-or-lt_of_le all.ascending.started) [
         | inl one ↦ omega arith
         | inr more ↦
-            omega (arith, at_least all.ascending (end - 1) (omega arith), all.below (end - 1) (omega arith) (omega arith))
+            omega (
+              arith,
+              at_least all.ascending (end - 1) (omega arith),
+              all.below (end - 1) (omega arith)
+                  (omega arith),
+            )
       ]
 
-  pub place_or_width : (k : ℕ) → 0 < k → k ≤ end → ((k < end) × (get_or places k 0 < width)) ⊎ ((k ≡ end) × (get_or places k 0 ≡ width))
+  pub place_or_width : (k : ℕ) → 0 < k → k ≤ end → ((k < end) × (get_or places k 0 < width))
+      ⊎ ((k ≡ end) × (get_or places k 0 ≡ width))
   place_or_width k some within = grind (arith, common_steps, at_end)
 
   place_within : (k : ℕ) → 0 < k → k ≤ end → get_or places k 0 ≤ width
@@ -82,15 +91,18 @@ module _ {places : List ℕ} {end width : ℕ} (all : ArePlaces places end width
       (inl at) inside
   none_between (Some a) k at i before inside right = grind (arith, unchanging)
 
-  right_of : (from : Option ℕ) (k : ℕ) → IsFrom places end from k → k < end → is_right_of from (get_or places k 0) ≡ true
+  right_of : (from : Option ℕ) (k : ℕ) → IsFrom places end from k → k < end
+      → is_right_of from (get_or places k 0) ≡ true
   right_of from k at h = grind arith
 
-  pub next_here : (from : Option ℕ) (k : ℕ) → IsFrom places end from k → IsNext (pels_by width (take end places)) from (get_or places k 0)
+  pub next_here : (from : Option ℕ) (k : ℕ) → IsFrom places end from k
+      → IsNext (pels_by width (take end places)) from (get_or places k 0)
   next_here from k at = record {
     place = next_change_at (pels_by width (take end places)) from (get_or places k 0) (omega (arith, len, within))
         (λ i h. still_left (is_right_of from i) (is_changing (pels_by width (take end places)) i)
         (none_between from k at i h (omega (arith, within))))
-        (λ h. and_from (is_right_of from (get_or places k 0)) (is_changing (pels_by width (take end places)) (get_or places k 0)) (right h)
+        (λ h. and_from (is_right_of from (get_or places k 0)) (is_changing (pels_by width (take end places))
+        (get_or places k 0)) (right h)
         (changing_at all.ascending width (get_or places k 0) k bounds.0 (less h) refl (omega (arith, len))));
     within = omega (arith, len, within);
     right = right;
@@ -118,11 +130,13 @@ module _ {places : List ℕ} {end width : ℕ} (all : ArePlaces places end width
       → filter (is_changing (pels_by width (take end places))) (range_with_len a n) ≡ drop k (take end places)
 
   -- no change stands at a
-  goes_on : (a n k : ℕ) → AreChangesFrom (a + 1) n k → a < width → (k < end → a < get_or places k 0) → AreChangesFrom a (suc n) k
+  goes_on : (a n k : ℕ) → AreChangesFrom (a + 1) n k → a < width → (k < end → a < get_or places k 0)
+      → AreChangesFrom a (suc n) k
   goes_on a n k more inside before some within next last = grind (arith, unchanging)
 
   -- a change stands there
-  stops : (a n k : ℕ) → AreChangesFrom (a + 1) n (suc k) → a < width → k < end → get_or places k 0 ≡ a → AreChangesFrom a (suc n) k
+  stops : (a n k : ℕ) → AreChangesFrom (a + 1) n (suc k) → a < width → k < end → get_or places k 0 ≡ a
+      → AreChangesFrom a (suc n) k
   stops a n k more inside short is some within next last =
       let in_front : k < length (take end places) = omega (arith, length-take-le end places all.ascending.within) in
       rw (changing_at all.ascending width a k some short is inside)
@@ -143,11 +157,14 @@ module _ {places : List ℕ} {end width : ℕ} (all : ArePlaces places end width
   filter_from a zero k sum some within next last = grind (arith, common_steps)
   filter_from a (suc n) k sum some within next last =
       elim (cases_lt k end) [
-        | inr more ↦ goes_on a n k (filter_from (a + 1) n k (omega arith)) (omega arith) (λ h. absurd (omega arith)) some within next last
+        | inr more ↦ goes_on a n k (filter_from (a + 1) n k (omega arith)) (omega arith) (λ h. absurd (omega arith))
+            some within next last
         | inl short ↦
             elim (eq-or-lt_of_le (next short)) [
-              | inl same ↦ stops a n k (filter_from (a + 1) n (suc k) (omega arith)) (omega arith) short (sym same) some within next last
-              | inr before ↦ goes_on a n k (filter_from (a + 1) n k (omega arith)) (omega arith) (λ h. before) some within next last
+              | inl same ↦ stops a n k (filter_from (a + 1) n (suc k) (omega arith)) (omega arith) short (sym same) some
+                  within next last
+              | inr before ↦ goes_on a n k (filter_from (a + 1) n k (omega arith)) (omega arith) (λ h. before) some
+                  within next last
             ]
       ]
 
@@ -161,10 +178,12 @@ module _ {places : List ℕ} {end width : ℕ} (all : ArePlaces places end width
   width_is is = subst (λ r. width ≡ length r) is (sym (length-pels_by width (take end places)))
 
   -- a row without a change is white
-  pub all_white : {row : List Colour} → pels_by width (take end places) ≡ row → end ≡ 1 → row ≡ replicate (length row) White
+  pub all_white : {row : List Colour} → pels_by width (take end places) ≡ row → end ≡ 1
+      → row ≡ replicate (length row) White
   all_white is alone = grind (arith, common_steps, white_row)
 
   -- the colour of the pel at a place, by how many places it lies after
-  pub pel_here : {row : List Colour} → pels_by width (take end places) ≡ row → (i k : ℕ) → i < length row → ArePlacesUpTo places end i k
+  pub pel_here : {row : List Colour} → pels_by width (take end places) ≡ row → (i k : ℕ) → i < length row
+      → ArePlacesUpTo places end i k
       → pel row i ≡ alternate Black k
   pel_here is i k inside at = grind (arith, pel_after, width_is)

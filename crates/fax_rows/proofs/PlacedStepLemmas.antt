@@ -1,5 +1,6 @@
 -- Steps of two-dimensional coding over places of change.
-use Rattle.std.proofs.Common.{rules, ◌≡◌, ℕ, ◌+◌, ◌-◌, ℤ, negsuc, ◌+ℤ◌, ◌≤ℤ◌, ◌<◌, ◌≤◌, List, [], ◌++◌, length, take, get_or, replicate}
+use Rattle.std.proofs.Common.{rules, ◌≡◌, ℕ, ◌+◌, ◌-◌, ℤ, negsuc, ◌+ℤ◌, ◌≤ℤ◌, ◌<◌, ◌≤◌, List, [], ◌++◌, length, take}
+use Rattle.std.proofs.Common.{get_or, replicate}
 use Rattle.std.proofs.Common.{Bool, true, refl, ap, sym, ◌∙◌, arith, pos}
 use Rattle.std.proofs.lemmas.Grind.{common_steps}
 use Rattle.std.specs.Prelude.{Option, Some, None, unwrap_or, ◌<ℤ◌, nat_abs}
@@ -25,7 +26,8 @@ use Rattle.fax_rows.proofs.PaintLemmas.{painted_front}
 use Rattle.fax_rows.proofs.TurnLemmas.{length-pels_by, pel-pels_by}
 use Rattle.fax_rows.proofs.PlacedRowLemmas.{end_within, turned-first}
 use Rattle.fax_rows.proofs.PlacedReadLemmas.{more_room}
-use Rattle.fax_rows.proofs.PlacedB1Lemmas.{b1_is, b1_within, b1_at_most, b1_ahead, b2_at_most, b2_is, length-placed_pels}
+use Rattle.fax_rows.proofs.PlacedB1Lemmas.{b1_is, b1_within, b1_at_most, b1_ahead, b2_at_most, b2_is}
+use Rattle.fax_rows.proofs.PlacedB1Lemmas.{length-placed_pels}
 
 -- the pels up to `to` where those from `from` on have one colour
 pub front_to : (width from to : ℕ) (old new : List ℕ) (colour : Colour) → from ≤ to → to ≤ width
@@ -41,8 +43,10 @@ front_to width from to old new colour order within same after =
 
 -- the position at a pel up to which the row has a0's colour
 pub coloured : (width : ℕ) (old new : List ℕ) (at : Reached) (to : ℕ) → reached_pel at ≤ to → to ≤ width
-    → ((i : ℕ) → i < to → turned Black new i ≡ turned Black old i) → ((i : ℕ) → reached_pel at ≤ i → turned Black old i ≡ at.colour)
-    → position_of (record { a0 = Some to; colour = at.colour }) (pels_by width new) ≡ coloured_up_to (position_of at (pels_by width old)) to
+    → ((i : ℕ) → i < to → turned Black new i ≡ turned Black old i)
+    → ((i : ℕ) → reached_pel at ≤ i → turned Black old i ≡ at.colour)
+    → position_of (record { a0 = Some to; colour = at.colour }) (pels_by width new)
+    ≡ coloured_up_to (position_of at (pels_by width old)) to
 coloured width old new at to order within same after = grind (arith, front_to)
 
 -- a0 is no less than just before the first pel
@@ -70,9 +74,14 @@ module _ {reference : PlacedRow} {places : List ℕ} {at : PlacedReached} (here 
   b2_within : get_or reference.places.now (at.b1 + 1) 0 ≤ reference.width
   b2_within = let b1 = here.so_far.b1 here.unfinished in b2_at_most reference at.b1 b1.some b1.within
 
-  pub pass_step : position_of (record { a0 = Some (get_or reference.places.now (at.b1 + 1) 0); colour = at.reached.colour })
+  pub pass_step : position_of (record {
+    a0 = Some (get_or reference.places.now (at.b1 + 1) 0);
+    colour =
+        at.reached.colour;
+  })
       (pels_by reference.width (take at.end places))
-      ≡ coloured_up_to (placed_position reference.width places at) (b2 (placed_pels reference) at.reached.a0 at.reached.colour)
+      ≡ coloured_up_to (placed_position reference.width places at)
+      (b2 (placed_pels reference) at.reached.a0 at.reached.colour)
   pass_step = grind (arith, common_steps, coloured, b2_order, b2_within, b2_is)
 
   pub pass_so_far : IsReadTo reference places
@@ -94,10 +103,17 @@ module _ {reference : PlacedRow} {places : List ℕ} {at : PlacedReached} (here 
       omega (arith, b1.within, reference.placed.room, within)
 
   -- a place is put where the colour turns
-  pub turned_so_far : {new : List ℕ} {next_end a1 next_b1 : ℕ} {colour : Colour} → reached_pel at.reached ≤ a1 → a1 ≤ reference.width
+  pub turned_so_far : {new : List ℕ} {next_end a1 next_b1 : ℕ} {colour : Colour} → reached_pel at.reached ≤ a1
+      → a1 ≤ reference.width
       → TurnsAt places new at.end next_end a1
-      → (a1 < reference.width → IsB1At reference (Some a1) (other at.reached.colour) next_b1) → colour ≡ other at.reached.colour
-      → IsReadTo reference new (record { reached = record { a0 = Some a1; colour = colour }; end = next_end; b1 = next_b1 })
+      → (a1 < reference.width → IsB1At reference (Some a1) (other at.reached.colour) next_b1)
+      → colour ≡ other at.reached.colour
+      → IsReadTo reference new (record {
+        reached = record { a0 = Some a1; colour = colour };
+        end = next_end;
+        b1 =
+            next_b1;
+      })
   turned_so_far order within turns b1 is = grind (arith, common_steps)
 
   -- and up to it the pels have a0's colour
@@ -109,14 +125,21 @@ module _ {reference : PlacedRow} {places : List ℕ} {at : PlacedReached} (here 
 
   -- what is read is put
   pub read_put : ArePut reference.width places at.end (reached_pel at.reached)
-  read_put = record { room = here.so_far.room; ascending = here.so_far.ascending; last = here.so_far.last; within = here.so_far.within }
+  read_put = record {
+    room = here.so_far.room;
+    ascending = here.so_far.ascending;
+    last = here.so_far.last;
+    within =
+        here.so_far.within;
+  }
 
   -- there is room for a place
   pub room_left : at.end + 1 < length places
   room_left = more_room read_put
 
   -- a step in vertical mode to a1, which is z as a signed number
-  module _ (d z : ℤ) (z_is : z ≡ pos (get_or reference.places.now at.b1 0) +ℤ d) (least : negsuc 0 ≤ℤ a0_number (position_of at.reached []))
+  module _ (d z : ℤ) (z_is : z ≡ pos (get_or reference.places.now at.b1 0) +ℤ d)
+      (least : negsuc 0 ≤ℤ a0_number (position_of at.reached []))
       (right : a0_number (position_of at.reached []) <ℤ z) (inside : z ≤ℤ pos reference.width) where
     pub a1_is : pos (nat_abs z) ≡ z
     a1_is = abs-same z z (omega (arith, ints)) refl
@@ -176,7 +199,12 @@ module _ {reference : PlacedRow} {places : List ℕ} {at : PlacedReached} (here 
   pair_placed first second {between} {new} {middle_end} {next_end} next_b1 within turns again = ap position pels
     where
       position : List Colour → Position
-      position pels = record { a0 = Some (reached_pel at.reached + first + second); colour = at.reached.colour; pels = pels }
+      position pels = record {
+        a0 = Some (reached_pel at.reached + first + second);
+        colour = at.reached.colour;
+        pels =
+            pels;
+      }
 
       one : reached_pel at.reached + first - reached_pel at.reached ≡ first
       one = omega arith
@@ -189,18 +217,23 @@ module _ {reference : PlacedRow} {places : List ℕ} {at : PlacedReached} (here 
           (take at.end places)) ++ replicate first at.reached.colour ++ replicate second
           (other at.reached.colour)
       pels =
-          front_to reference.width (reached_pel at.reached + first) (reached_pel at.reached + first + second) (take middle_end between)
+          front_to reference.width (reached_pel at.reached + first) (reached_pel at.reached + first + second)
+          (take middle_end between)
           (take next_end new)
           (other at.reached.colour) (omega arith) within again.turned.left
           (λ i h. turns.turned.right i h ∙ ap other (here.so_far.after i (omega arith)))
-          ∙ ap (λ n. take (reached_pel at.reached + first) (pels_by reference.width (take middle_end between)) ++ replicate n
+          ∙ ap (λ n. take (reached_pel at.reached + first) (pels_by reference.width (take middle_end between))
+          ++ replicate n
           (other at.reached.colour)) two
           ∙ ap (λ xs. xs ++ replicate second (other at.reached.colour))
-          (front_to reference.width (reached_pel at.reached) (reached_pel at.reached + first) (take at.end places) (take middle_end between)
+          (front_to reference.width (reached_pel at.reached) (reached_pel at.reached + first) (take at.end places)
+          (take middle_end between)
           at.reached.colour (omega arith) (omega arith) turns.turned.left here.so_far.after
-          ∙ ap (λ n. take (reached_pel at.reached) (pels_by reference.width (take at.end places)) ++ replicate n at.reached.colour) one)
+          ∙ ap (λ n. take (reached_pel at.reached) (pels_by reference.width (take at.end places))
+          ++ replicate n at.reached.colour) one)
 
-  pub horizontal_placed : {b mid rest : List Bool} (first second : ℕ) {between new : List ℕ} {middle_end next_end : ℕ} (next_b1 : ℕ)
+  pub horizontal_placed : {b mid rest : List Bool} (first second : ℕ) {between new : List ℕ} {middle_end next_end : ℕ}
+      (next_b1 : ℕ)
       → IsRun at.reached.colour b first mid → IsRun (other at.reached.colour) mid second rest
       → reached_pel at.reached + first + second ≤ reference.width
       → TurnsAt places between at.end middle_end (reached_pel at.reached + first)
@@ -212,7 +245,8 @@ module _ {reference : PlacedRow} {places : List ℕ} {at : PlacedReached} (here 
         end = next_end;
         b1 = next_b1;
       })) rest
-  horizontal_placed first second next_b1 run another within turns again = search (rules, length-placed_pels, pair_placed)
+  horizontal_placed first second next_b1 run another within turns again =
+      search (rules, length-placed_pels, pair_placed)
 
   pub horizontal_so_far : (first second : ℕ) {between new : List ℕ} {middle_end next_end next_b1 : ℕ}
       → reached_pel at.reached + first + second ≤ reference.width
@@ -235,7 +269,8 @@ pub nothing_read : {reference : PlacedRow} {places : List ℕ} → HasRoom refer
 nothing_read room = grind (arith, common_steps, turned-first)
 
 -- the row is read to its end
-pub steps_done : (reference : List Colour) (b : List Bool) (at : Reached) (row : List Colour) (rest : List Bool) (width : ℕ)
+pub steps_done : (reference : List Colour) (b : List Bool) (at : Reached) (row : List Colour) (rest : List Bool)
+    (width : ℕ)
     → GoesOn reference beginning b (position_of at row) rest → 0 < width → reached_pel at ≡ width → length row ≡ width
     → length reference ≡ width
     → IsTwoDimensionalRow reference b row rest
@@ -244,5 +279,6 @@ steps_done reference b at row rest width so_far some done len same = grind (arit
 -- a step that is no part of the row
 pub fault_here : (reference : List Colour) (b : List Bool) (at : Reached) (row : List Colour) (mid : List Bool)
     → GoesOn reference beginning b (position_of at row) mid → reached_pel at < length reference
-    → (fault : RowFault) → IsStepFault reference (position_of at row) mid fault → IsTwoDimensionalFault reference b fault
+    → (fault : RowFault) → IsStepFault reference (position_of at row) mid fault
+    → IsTwoDimensionalFault reference b fault
 fault_here reference b at row mid so_far less fault step = grind (arith, common_steps)

@@ -13,7 +13,8 @@ pub put_begins : (sink : Sink) (all : List Bool) → AppendsAllBut sink all all 
 put_begins sink all = grind (arith, common_steps)
 
 -- bits are put in two parts, some of them pending before, between and after
-module _ (old mid new : Sink) (front first second pending : List Bool) (one : AppendsAllBut old (front ++ first) pending mid) where
+module _ (old mid new : Sink) (front first second pending : List Bool)
+    (one : AppendsAllBut old (front ++ first) pending mid) where
   pub pair_put : (left : List Bool) → AppendsAllBut mid (pending ++ second) left new
       → AppendsAllBut old (front ++ (first ++ second)) left new
   pair_put left two = grind (arith, common_steps)
@@ -24,22 +25,26 @@ module _ (old mid new : Sink) (front first second pending : List Bool) (one : Ap
 
 -- some of the missing bits are pending, and more are put after them: the first of the others
 pub put_goes_on : (old mid new : Sink) (all pending left first missing pending' : List Bool)
-    → AppendsAllBut old all (pending ++ left) mid → left ≡ first ++ missing → AppendsAllBut mid (pending ++ first) pending' new
+    → AppendsAllBut old all (pending ++ left) mid → left ≡ first ++ missing
+    → AppendsAllBut mid (pending ++ first) pending' new
     → AppendsAllBut old all (pending' ++ missing) new
 put_goes_on old mid new all pending left first missing pending' so_far is more = grind (arith, common_steps)
 
 -- where a growth was refused, the first bits are put
-pub put_stops : (old mid new : Sink) (all pending left first missing : List Bool) → AppendsAllBut old all (pending ++ left) mid
+pub put_stops : (old mid new : Sink) (all pending left first missing : List Bool)
+    → AppendsAllBut old all (pending ++ left) mid
     → left ≡ first ++ missing → AppendsPrefix mid (pending ++ first) new → AppendsPrefix old all new
 put_stops old mid new all pending left first missing so_far is more = grind (arith, common_steps)
 
 -- none but the pending bits are missing, and they are put too
-pub put_pending : (old mid new : Sink) (all pending left : List Bool) → AppendsAllBut old all (pending ++ left) mid → left ≡ []
+pub put_pending : (old mid new : Sink) (all pending left : List Bool) → AppendsAllBut old all (pending ++ left) mid
+    → left ≡ []
     → Appends mid pending new → Appends old all new
 put_pending old mid new all pending left so_far none more = grind (arith, common_steps)
 
 -- and where a growth was refused for them
-pub pending_stops : {old mid new : Sink} {all left : List Bool} → AppendsAllBut old all left mid → new ≡ mid → AppendsPrefix old all new
+pub pending_stops : {old mid new : Sink} {all left : List Bool} → AppendsAllBut old all left mid → new ≡ mid
+    → AppendsPrefix old all new
 pending_stops so_far same = grind (arith, common_steps)
 
 -- a fact holds also where it is asked for after an error alone
@@ -56,7 +61,8 @@ row_bits_go_on colour n left runs is = ap (alternating_bits colour) is
 pub row_pair_goes_on : (white black : ℕ) (left middle runs : List ℕ) → left ≡ white ∷ middle → middle ≡ black ∷ runs
     → alternating_bits White left ≡ (run_bits White white ++ run_bits Black black) ++ alternating_bits White runs
 row_pair_goes_on white black left middle runs is is' =
-    row_bits_go_on White white left middle is ∙ ap (λ b. run_bits White white ++ b) (row_bits_go_on Black black middle runs is')
+    row_bits_go_on White white left middle is ∙ ap (λ b. run_bits White white ++ b)
+    (row_bits_go_on Black black middle runs is')
     ∙ sym (append_assoc (run_bits White white) (run_bits Black black) (alternating_bits White runs))
 
 -- and where none is left

@@ -32,7 +32,18 @@ pel_put : (one : Bool) (old places : List ℕ) (from before word r : ℕ) → r 
     → one ≡ turns_bit (word_bit word r) (bit_before before word r) → HasPut old places from before word r
     → HasPut old (places ++ (if one then (from + r) ∷ [] else [])) from before word (suc r)
 pel_put one old places from before word r inside is put =
-    grind (arith, equal_bits, bit_before, append-nil, unpacked_run, ascending_on, length-append, get_or_push, turned-push_left, turned-push_right)
+    grind (
+      arith,
+      equal_bits,
+      bit_before,
+      append-nil,
+      unpacked_run,
+      ascending_on,
+      length-append,
+      get_or_push,
+      turned-push_left,
+      turned-push_right,
+    )
 
 -- the places of the changes among the first r pels are those of these pels
 pels_put : (old : List ℕ) (from before word r : ℕ) → word < 2 ^ 64 → r ≤ 64 → HasPut old old from before word 0
@@ -43,11 +54,13 @@ pels_put old from before word (suc r) fits within put =
     let one = nat_eq (bit_at changes (63 - r)) 1 in
     subst (λ ps. HasPut old ps from before word (suc r))
     (append_assoc old (ones_among from 63 changes r) (if one then (from + r) ∷ [] else []))
-    (pel_put one old (old ++ ones_among from 63 changes r) from before word r (omega arith) (change_bit before word r fits (omega arith))
+    (pel_put one old (old ++ ones_among from 63 changes r) from before word r (omega arith)
+    (change_bit before word r fits (omega arith))
     (pels_put old from before word r fits (omega arith) put))
 
 -- the places of a row before a word
-none_put : (places : List ℕ) (end from before word : ℕ) → IsAscending places end → (1 < end → get_or places (end - 1) 0 < from)
+none_put : (places : List ℕ) (end from before word : ℕ) → IsAscending places end
+    → (1 < end → get_or places (end - 1) 0 < from)
     → HasPut (take end places) (take end places) from before word 0
 none_put places end from before word up left = grind (arith, common_steps)
 
@@ -57,7 +70,8 @@ pub record IsWordPut (old new : List ℕ) (end next from before word : ℕ) : Ty
   pub left : 1 < next → get_or new (next - 1) 0 < from + 64
   pub put : HasPut (take end old) (take next new) from before word 64
 
-pub word_put : (old new : List ℕ) (end next from before word : ℕ) → word < 2 ^ 64 → next ≤ length new → IsAscending old end
+pub word_put : (old new : List ℕ) (end next from before word : ℕ) → word < 2 ^ 64 → next ≤ length new
+    → IsAscending old end
     → (1 < end → get_or old (end - 1) 0 < from)
     → take next new ≡ take end old ++ ones_among from 63 (changes_of before word) 64
     → IsWordPut old new end next from before word

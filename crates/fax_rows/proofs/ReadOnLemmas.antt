@@ -16,16 +16,19 @@ use Rattle.fax_rows.proofs.PlacedB1Lemmas.{length-placed_pels}
 use Rattle.fax_rows.proofs.UnderLemmas.{step_goes_on, vertical_goes_on, chosen_goes_on}
 
 -- what T.4 chooses, whether that is asked for or not
-pub asked_or_not : {choice : Bool} {reference : PlacedRow} {old new : List ℕ} {at next : PlacedReached} {b rest : List Bool}
+pub asked_or_not : {choice : Bool} {reference : PlacedRow} {old new : List ℕ} {at next : PlacedReached}
+    {b rest : List Bool}
     → IsReadOn true reference old new at next b rest → IsReadOn choice reference old new at next b rest
 asked_or_not read = record { steps = read.steps; chosen = λ asked. read.chosen refl; so_far = read.so_far }
 
 module _ {choice : Bool} {reference : PlacedRow} {places new : List ℕ} {at next : PlacedReached}
     (here : IsReadInside reference places at) where
-  pub vertical_read : {b : List Bool} {d distance : ℤ} {rest : List Bool} → Takes modes b (Vertical d) rest → distance ≡ d
+  pub vertical_read : {b : List Bool} {d distance : ℤ} {rest : List Bool} → Takes modes b (Vertical d) rest
+      → distance ≡ d
       → IsVerticalStep (placed_pels reference) (placed_position reference.width places at) distance
       (placed_position reference.width new next) → IsReadTo reference new next
-      → (IsTrue choice → reached_pel next.reached ≤ b2_from (placed_pels reference) (placed_position reference.width places at))
+      → (IsTrue choice → reached_pel next.reached ≤ b2_from (placed_pels reference)
+      (placed_position reference.width places at))
       → IsReadOn choice reference places new at next b rest
   vertical_read taken same step so_far left = search (rules, vertical_goes_on, chosen_goes_on, vertical_chosen_as)
 
@@ -37,7 +40,8 @@ module _ {choice : Bool} {reference : PlacedRow} {places new : List ℕ} {at nex
   pass_read taken step so_far inside = search (rules, step_goes_on, chosen_goes_on, pass_chosen, length-placed_pels)
 
   pub pair_read : {b middle rest : List Bool} → Takes modes b Horizontal middle
-      → IsPairReadOn choice reference places new at next middle rest → IsReadOn choice reference places new at next b rest
+      → IsPairReadOn choice reference places new at next middle rest
+      → IsReadOn choice reference places new at next b rest
   pair_read {b} {middle} {rest} taken read = record {
     steps = step_goes_on here b _ rest (record { mode = Horizontal; after = middle; taken = taken; step = read.step });
     chosen = λ asked. chosen_goes_on here b _ rest (pair_chosen here taken (read.chosen asked));

@@ -1,6 +1,7 @@
 -- A row in one-dimensional coding is read in one way, where the run tables are.
 use Rattle.std.proofs.lemmas.Grind.{common_steps}
-use Rattle.std.proofs.Common.{◌≡◌, ℕ, zero, suc, ◌+◌, ◌<◌, ◌≤◌, List, [], ◌∷◌, length, Bool, refl, ap, sym, ◌∙◌, subst, arith, inl, inr}
+use Rattle.std.proofs.Common.{◌≡◌, ℕ, zero, suc, ◌+◌, ◌<◌, ◌≤◌, List, [], ◌∷◌, length, Bool, refl, ap, sym, ◌∙◌, subst}
+use Rattle.std.proofs.Common.{arith, inl, inr}
 use Rattle.std.specs.Prelude.{sum, ◌⊎◌}
 use Rattle.std.proofs.Math.Nat.{eq-or-lt_of_le}
 use Rattle.fax_bits.specs.declared.Colour.{Colour}
@@ -36,7 +37,8 @@ AreRunsOrFault colour width from b =
     ⊎ ((fault : RowFault) × (runs : List ℕ) × StopsAtRun width colour from b runs fault)
 
 module _ (reads : (colour : Colour) → ReadsRunsOneWay colour) where
-  same_runs : (colour : Colour) (width from place : ℕ) (b c : List Bool) (runs more : List ℕ) (rest remaining : List Bool) → b ≡ c
+  same_runs : (colour : Colour) (width from place : ℕ) (b c : List Bool) (runs more : List ℕ)
+      (rest remaining : List Bool) → b ≡ c
       → from ≡ place → AreRuns width colour from b runs rest → AreRuns width colour place c more remaining
       → (runs ≡ more) × (rest ≡ remaining)
   same_runs colour width from place b c [] [] rest remaining at here first second = (refl, sym first.1 ∙ at ∙ second.1)
@@ -60,7 +62,8 @@ module _ (reads : (colour : Colour) → ReadsRunsOneWay colour) where
       ended_or_not (other colour) width (from + n) (place + m) first.1 second.1 runs more rest fault run.1
       (omega (arith, run.0)) first.3 second.3
 
-  same_fault : (colour : Colour) (width from place : ℕ) (b c : List Bool) (runs more : List ℕ) (fault another : RowFault)
+  same_fault : (colour : Colour) (width from place : ℕ) (b c : List Bool) (runs more : List ℕ)
+      (fault another : RowFault)
       → b ≡ c → from ≡ place
       → StopsAtRun width colour from b runs fault → StopsAtRun width colour place c more another → fault ≡ another
   same_fault colour width from place b c [] [] fault another at here first second =
@@ -96,12 +99,14 @@ module _ (reads : (colour : Colour) → ReadsRunsOneWay colour) where
           → AreRunsOrFault (other colour) width (from + n) rest → AreRunsOrFault colour width from b
       runs_after colour width from b n rest run unfinished (inl ended) =
           inl (n ∷ ended.0, ended.1, (unfinished, rest, run, ended.2))
-      runs_after colour width from b n rest run unfinished (inr fault) = inr (fault.0, n ∷ fault.1, (unfinished, rest, run, fault.2))
+      runs_after colour width from b n rest run unfinished (inr fault) =
+          inr (fault.0, n ∷ fault.1, (unfinished, rest, run, fault.2))
 
   pub row_reads_one_way : (width : ℕ) → ReadsRowsOneWay width
   row_reads_one_way width = record {
     one_answer = λ b row another rest remaining first second.
-        let same = same_runs White width 0 0 b b first.runs second.runs rest remaining refl refl first.coded second.coded in
+        let same = same_runs White width 0 0 b b first.runs second.runs rest remaining refl refl first.coded
+        second.coded in
         (first.pels ∙ ap (pels_of White) same.0 ∙ sym second.pels, same.1);
     answer_or_fault = λ b.
         elim (find_runs (suc (length b)) White width 0 b (omega arith) (omega arith)) [

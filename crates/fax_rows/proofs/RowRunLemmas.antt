@@ -1,6 +1,7 @@
 -- The longest runs of a row, pel by pel.
 use Rattle.std.proofs.lemmas.Grind.{common_steps}
-use Rattle.std.proofs.Common.{◌≡◌, ◌≢◌, ℕ, zero, suc, ◌+◌, ◌-◌, ◌<◌, ◌≤◌, List, [], ◌∷◌, ◌++◌, length, take, drop, get_or, Bool}
+use Rattle.std.proofs.Common.{◌≡◌, ◌≢◌, ℕ, zero, suc, ◌+◌, ◌-◌, ◌<◌, ◌≤◌, List, [], ◌∷◌, ◌++◌, length, take, drop}
+use Rattle.std.proofs.Common.{get_or, Bool}
 use Rattle.std.proofs.Common.{refl, ap, sym, ◌∙◌, subst, arith, inl, inr, get_or-drop, length-drop}
 use Rattle.std.proofs.lemmas.List.{take_more, length-take-le}
 use Rattle.fax_bits.specs.declared.Colour.{Colour}
@@ -30,12 +31,14 @@ unfolding runs_after
 runs_after-other colour first n pels other = grind arith
 
 -- the pel at place i is of the run's colour
-pub goes_on : (colour first : Colour) (n i : ℕ) (pels : List Colour) → i < length pels → get_or pels i White ≡ first → first ≡ colour
+pub goes_on : (colour first : Colour) (n i : ℕ) (pels : List Colour) → i < length pels → get_or pels i White ≡ first
+    → first ≡ colour
     → runs_after colour n (drop i pels) ≡ runs_after colour (n + 1) (drop (i + 1) pels)
 goes_on colour first n i pels within at same = grind (arith, common_steps, runs_after-same)
 
 -- it is of the other colour, so that a run ends before it
-pub turns : (colour first : Colour) (n i : ℕ) (pels : List Colour) → i < length pels → get_or pels i White ≡ first → first ≢ colour
+pub turns : (colour first : Colour) (n i : ℕ) (pels : List Colour) → i < length pels → get_or pels i White ≡ first
+    → first ≢ colour
     → runs_after colour n (drop i pels) ≡ n ∷ runs_after first 1 (drop (i + 1) pels)
 turns colour first n i pels within at other = grind (arith, common_steps, runs_after-other)
 
@@ -44,7 +47,8 @@ gaps_to : ℕ → List ℕ → ℕ → List ℕ
 gaps_to from [] width = (width - from) ∷ []
 gaps_to from (place ∷ places) width = (place - from) ∷ gaps_to place places width
 
-gaps_to-gaps : (from : ℕ) (changes : List ℕ) (width : ℕ) → gaps from (changes ++ width ∷ []) ≡ gaps_to from changes width
+gaps_to-gaps : (from : ℕ) (changes : List ℕ) (width : ℕ) → gaps from (changes ++ width ∷ [])
+    ≡ gaps_to from changes width
 unfolding gaps_to
 gaps_to-gaps from [] width = refl
 gaps_to-gaps from (next ∷ changes) width = ap (λ runs. (next - from) ∷ runs) (gaps_to-gaps next changes width)
@@ -52,7 +56,8 @@ gaps_to-gaps from (next ∷ changes) width = ap (λ runs. (next - from) ∷ runs
 -- the gaps between the changing elements after place i
 abbrev GapsFrom : List Colour → ℕ → ℕ → ℕ → Type 0
 GapsFrom row n i from =
-    gaps_to from (filter (is_changing row) (range_with_len i n)) (length row) ≡ runs_after (pel_before row i) (i - from) (drop i row)
+    gaps_to from (filter (is_changing row) (range_with_len i n)) (length row)
+    ≡ runs_after (pel_before row i) (i - from) (drop i row)
 
 -- one place more
 gaps_more : (row : List Colour) (n i from : ℕ) (b : Bool) → is_changing row i ≡ b → i < length row → from ≤ i
@@ -70,7 +75,8 @@ gaps_from row (suc n) i from order all =
 
 -- the gaps between the changing elements of a row, and up to its width, are its runs
 pub gaps_are_runs : (row : List Colour) (changes : List ℕ) (width : ℕ)
-    → changes ≡ filter (is_changing row) (range_with_len 0 (length row)) → width ≡ length row → gaps 0 (changes ++ width ∷ []) ≡ runs_of row
+    → changes ≡ filter (is_changing row) (range_with_len 0 (length row)) → width ≡ length row
+    → gaps 0 (changes ++ width ∷ []) ≡ runs_of row
 gaps_are_runs row changes width is wide = grind (arith, gaps_to-gaps, gaps_from)
 
 -- as many as there are ends
@@ -84,7 +90,8 @@ ascend_on : (next : ℕ) (changes : List ℕ)
     → (i : ℕ) → i < length changes → get_or (next ∷ changes) i 0 ≤ get_or changes i 0
 ascend_on next changes up i h = grind (arith, common_steps)
 
-below_all : (next : ℕ) (changes : List ℕ) → ((i : ℕ) → i < length changes → get_or (next ∷ changes) i 0 ≤ get_or changes i 0)
+below_all : (next : ℕ) (changes : List ℕ) → ((i : ℕ) → i < length changes
+    → get_or (next ∷ changes) i 0 ≤ get_or changes i 0)
     → (i : ℕ) → i < length changes → next ≤ get_or changes i 0
 below_all next changes up zero h = up 0 h
 below_all next changes up (suc i) h = grind (arith, below_all next changes up i (omega arith))

@@ -1,5 +1,6 @@
 -- Runs, code by code.
-use Rattle.std.proofs.Common.{◌≡◌, ℕ, ◌+◌, List, [], ◌∷◌, ◌++◌, map, Bool, refl, ap, sym, ◌∙◌, subst, arith, append_assoc}
+use Rattle.std.proofs.Common.{◌≡◌, ℕ, ◌+◌, List, [], ◌∷◌, ◌++◌, map, Bool, refl, ap, sym, ◌∙◌, subst, arith}
+use Rattle.std.proofs.Common.{append_assoc}
 use Rattle.std.specs.Prelude.{sum}
 use Rattle.std.proofs.lemmas.Grind.{common_steps}
 use Rattle.std.proofs.lemmas.List.{map-append}
@@ -20,7 +21,12 @@ pub record IsPartialRun (colour : Colour) (b : List Bool) (n : ℕ) (rest : List
 Spells-push : {M : Type 0} (table : List (CodeEntry M)) (b : List Bool) (ms : List M) (m : M) (mid rest : List Bool)
     → Spells table b ms mid → Takes table mid m rest → Spells table b (ms ++ m ∷ []) rest
 Spells-push table b [] m mid rest spelled taken = (rest, subst (λ x. Takes table x m rest) (sym spelled) taken, refl)
-Spells-push table b (n ∷ ms) m mid rest spelled taken = (spelled.0, spelled.1, Spells-push table spelled.0 ms m mid rest spelled.2 taken)
+Spells-push table b (n ∷ ms) m mid rest spelled taken = (
+  spelled.0,
+  spelled.1,
+  Spells-push table spelled.0 ms m mid rest
+      spelled.2 taken,
+)
 
 pub sum-push : (ms : List ℕ) (m : ℕ) → sum (ms ++ m ∷ []) ≡ sum ms + m
 sum-push ms m = grind (arith, common_steps)
@@ -29,7 +35,8 @@ pub one_more : (colour : Colour) (b : List Bool) (n m : ℕ) (mid rest : List Bo
     → IsPartialRun colour b n mid → Takes (run_table colour) mid (MakeUp m) rest → IsPartialRun colour b (n + m) rest
 one_more colour b n m mid rest part taken = record {
   make_up = part.make_up ++ m ∷ [];
-  spelled = rw map-append (Spells-push (run_table colour) b (map MakeUp part.make_up) (MakeUp m) mid rest part.spelled taken);
+  spelled = rw map-append (Spells-push (run_table colour) b (map MakeUp part.make_up) (MakeUp m) mid rest part.spelled
+      taken);
   sum_is = omega (arith, part.sum_is, sum-push part.make_up m);
 }
 
@@ -39,12 +46,14 @@ run_done colour b n m mid rest part taken = grind (arith, Spells-push)
 
 -- make-up codes of the longest run so far: with a run after them that is written, they are one that is written
 abbrev pub AreLongestMakeUp : Colour → List Bool → ℕ → List Bool → Type 0
-AreLongestMakeUp colour b n rest = (m : ℕ) (after : List Bool) → rest ≡ run_bits colour m ++ after → b ≡ run_bits colour (n + m) ++ after
+AreLongestMakeUp colour b n rest = (m : ℕ) (after : List Bool) → rest ≡ run_bits colour m ++ after
+    → b ≡ run_bits colour (n + m) ++ after
 
 -- with a terminating code after them, the make-up codes so far are a run that is written
 abbrev pub AreChosen : Colour → List Bool → ℕ → List Bool → Type 0
 AreChosen colour b n rest =
-    (m : ℕ) (after : List Bool) → Takes (run_table colour) rest (Terminating m) after → b ≡ run_bits colour (n + m) ++ after
+    (m : ℕ) (after : List Bool) → Takes (run_table colour) rest (Terminating m) after
+    → b ≡ run_bits colour (n + m) ++ after
 
 module _ (law : ChosenCodesAreWritten) (colour : Colour) (b : List Bool) where
   pub none_longest : AreLongestMakeUp colour b 0 b
@@ -54,18 +63,21 @@ module _ (law : ChosenCodesAreWritten) (colour : Colour) (b : List Bool) where
   none_chosen = λ m after taken. none_longest m after (law.short colour b m after taken)
 
   -- after the longest ones any make-up code may be the last
-  pub one_chosen : (n m : ℕ) (mid rest : List Bool) → AreLongestMakeUp colour b n mid → Takes (run_table colour) mid (MakeUp m) rest
+  pub one_chosen : (n m : ℕ) (mid rest : List Bool) → AreLongestMakeUp colour b n mid
+      → Takes (run_table colour) mid (MakeUp m) rest
       → AreChosen colour b (n + m) rest
   one_chosen n m mid rest are first = λ k after last.
       let sum_is : n + (m + k) ≡ n + m + k = omega arith in
-      subst (λ j. b ≡ run_bits colour j ++ after) sum_is (are (m + k) after (law.long colour mid m k rest after first last))
+      subst (λ j. b ≡ run_bits colour j ++ after) sum_is (are (m + k) after
+      (law.long colour mid m k rest after first last))
 
   pub one_longest : (n m : ℕ) (mid rest : List Bool) → AreLongestMakeUp colour b n mid → m ≡ 2560
       → Takes (run_table colour) mid (MakeUp m) rest → AreLongestMakeUp colour b (n + m) rest
   one_longest n m mid rest are most first = λ k after written.
       let sum_is : n + (2560 + k) ≡ n + m + k = omega (arith, most) in
       let taken = subst (λ j. Takes (run_table colour) mid (MakeUp j) rest) most first in
-      subst (λ j. b ≡ run_bits colour j ++ after) sum_is (are (2560 + k) after (law.longest colour mid k rest after taken written))
+      subst (λ j. b ≡ run_bits colour j ++ after) sum_is (are (2560 + k) after
+      (law.longest colour mid k rest after taken written))
 
 -- codes stand before what is left after them
 pub spells_after : {M : Type 0} (table : List (CodeEntry M)) (b : List Bool) (ms : List M) (rest : List Bool)
@@ -79,4 +91,5 @@ spells_after table b (m ∷ ms) rest spelled =
 pub run_after : {colour : Colour} {b : List Bool} {n : ℕ} {rest : List Bool} → IsRun colour b n rest
     → (front : List Bool) × (b ≡ front ++ rest)
 run_after {colour =
-    colour} {b = b} {rest = rest} run = spells_after (run_table colour) b (map MakeUp run.make_up ++ Terminating run.last ∷ []) rest run.spelled
+    colour} {b = b} {rest = rest} run = spells_after (run_table colour) b
+    (map MakeUp run.make_up ++ Terminating run.last ∷ []) rest run.spelled

@@ -1,5 +1,6 @@
 -- The a1s of vertical modes in lanes.
-use Rattle.std.proofs.Common.{rules, ◌≡◌, ℕ, zero, suc, ◌+◌, ◌-◌, ◌^◌, ◌<◌, ◌≤◌, List, [], ◌∷◌, ◌++◌, length, map, take, drop, get_or, Bool}
+use Rattle.std.proofs.Common.{rules, ◌≡◌, ℕ, zero, suc, ◌+◌, ◌-◌, ◌^◌, ◌<◌, ◌≤◌, List, [], ◌∷◌, ◌++◌, length, map, take}
+use Rattle.std.proofs.Common.{drop, get_or, Bool}
 use Rattle.std.proofs.Common.{cond, refl, ap, ◌∙◌, subst, arith, w8, w32, ltb, bit_and}
 use Rattle.std.proofs.lemmas.Grind.{common_steps}
 use Rattle.std.specs.Int.{bit_at}
@@ -97,7 +98,8 @@ module _ (others raises : List ℕ) (b count from : ℕ) (some : 0 < b) (room : 
       ∙ ap (added (get_or others (b + i) 0)) (get_or-map widened raises i 0 0 (omega (arith, h, long)))
       ∙ added_is (get_or others (b + i) 0) (get_or raises i 0) (omega (arith, limit_at i h, near i h))
 
-  raised_is : (i : ℕ) → i < count → get_or (raised_lanes others raises b) i 0 ≡ get_or others (b + i) 0 + get_or raises i 0
+  raised_is : (i : ℕ) → i < count → get_or (raised_lanes others raises b) i 0
+      ≡ get_or others (b + i) 0 + get_or raises i 0
   raised_is i h = raised_of i (omega (arith, h, few))
 
   splat_is : (c n i : ℕ) → c + 4 ≤ length others → n < 8 → i < 4 → get_or others (c + i) 0 < 2 ^ 16
@@ -124,48 +126,59 @@ module _ (others raises : List ℕ) (b count from : ℕ) (some : 0 < b) (room : 
       by zero h = omega (arith, first_before (raised_lanes others raises b) from length-raised_lanes, near_from)
       by (suc i) h = grind (arith, common_steps, raised_of, limit_at)
 
-  module _ (left_set : (i : ℕ) → i < count → bit_at (mask_l (zip2 ltb (splat_lanes others (b - 1) 2) (raised_lanes others raises b))) i ≡ 1)
-      (right_set : (i : ℕ) → i < count → bit_at (mask_l (zip2 ltb (raised_lanes others raises b) (splat_lanes others (b + 1) 3))) i ≡ 1)
+  module _ (left_set : (i : ℕ) → i < count → bit_at (mask_l (zip2 ltb (splat_lanes others (b - 1) 2)
+      (raised_lanes others raises b))) i ≡ 1)
+      (right_set : (i : ℕ) → i < count → bit_at (mask_l (zip2 ltb (raised_lanes others raises b)
+      (splat_lanes others (b + 1) 3))) i ≡ 1)
       (before_set : (i : ℕ) → i < count
-      → bit_at (mask_l (zip2 ltb (before (raised_lanes others raises b) from) (raised_lanes others raises b))) i ≡ 1) where
-    abbrev pub lanes : List ℕ
-    lanes = zip2 less (raised_lanes others raises b) (3 ∷ 3 ∷ 3 ∷ 3 ∷ [])
+      → bit_at (mask_l (zip2 ltb (before (raised_lanes others raises b) from) (raised_lanes others raises b))) i ≡ 1)
+    where
+      abbrev pub lanes : List ℕ
+      lanes = zip2 less (raised_lanes others raises b) (3 ∷ 3 ∷ 3 ∷ 3 ∷ [])
 
-    left_of : (i : ℕ) → i < count → get_or others (b - 1 + i) 0 + 2 < get_or (raised_lanes others raises b) i 0
-    left_of i h = grind (arith, splat_is, lane_less, length-left_lanes, length-raised_lanes)
+      left_of : (i : ℕ) → i < count → get_or others (b - 1 + i) 0 + 2 < get_or (raised_lanes others raises b) i 0
+      left_of i h = grind (arith, splat_is, lane_less, length-left_lanes, length-raised_lanes)
 
-    pub lane_is : (i : ℕ) → i < count → get_or lanes i 0 + 3 ≡ get_or (raised_lanes others raises b) i 0
-    lane_is i h = grind (arith, left_of)
+      pub lane_is : (i : ℕ) → i < count → get_or lanes i 0 + 3 ≡ get_or (raised_lanes others raises b) i 0
+      lane_is i h = grind (arith, left_of)
 
-    pub lane_raised : (i : ℕ) → i < count → get_or lanes i 0 + 3 ≡ get_or others (b + i) 0 + get_or raises i 0
-    lane_raised i h = lane_is i h ∙ raised_is i h
+      pub lane_raised : (i : ℕ) → i < count → get_or lanes i 0 + 3 ≡ get_or others (b + i) 0 + get_or raises i 0
+      lane_raised i h = lane_is i h ∙ raised_is i h
 
-    pub lane_left : (i : ℕ) → i < count → get_or others (b - 1 + i) 0 ≤ get_or lanes i 0
-    lane_left i h = omega (arith, lane_is i h, left_of i h)
+      pub lane_left : (i : ℕ) → i < count → get_or others (b - 1 + i) 0 ≤ get_or lanes i 0
+      lane_left i h = omega (arith, lane_is i h, left_of i h)
 
-    pub lane_right : (i : ℕ) → i < count → get_or lanes i 0 < get_or others (b + 1 + i) 0
-    lane_right i h =
-        let e : b - 1 + (i + 2) ≡ b + 1 + i = omega (arith, some) in
-        let limit = subst (λ m. get_or others m 0 < 2 ^ 16) e (small (i + 2) (omega (arith, h, few))) in
-        omega (
-          arith,
-          lane_is i h,
-          splat_is (b + 1) 3 i (omega (arith, room)) (omega arith) (omega (arith, h, few)) limit,
-          lane_less (raised_lanes others raises b) (splat_lanes others (b + 1) 3) i (omega (arith, length-raised_lanes, h, few))
-              (omega (arith, length-right_lanes, h, few)) (right_set i h),
-        )
+      pub lane_right : (i : ℕ) → i < count → get_or lanes i 0 < get_or others (b + 1 + i) 0
+      lane_right i h =
+          let e : b - 1 + (i + 2) ≡ b + 1 + i = omega (arith, some) in
+          let limit = subst (λ m. get_or others m 0 < 2 ^ 16) e (small (i + 2) (omega (arith, h, few))) in
+          omega (
+            arith,
+            lane_is i h,
+            splat_is (b + 1) 3 i (omega (arith, room)) (omega arith) (omega (arith, h, few)) limit,
+            lane_less (raised_lanes others raises b) (splat_lanes others (b + 1) 3) i
+                (omega (arith, length-raised_lanes, h, few))
+                (omega (arith, length-right_lanes, h, few)) (right_set i h),
+          )
 
-    length-before : length (before (raised_lanes others raises b) from) ≡ 4
-    length-before = refl
+      length-before : length (before (raised_lanes others raises b) from) ≡ 4
+      length-before = refl
 
-    before_of : (i : ℕ) → i < count
-        → get_or (before (raised_lanes others raises b) from) i 0 < get_or (raised_lanes others raises b) i 0
-    before_of i h =
-        lane_less (before (raised_lanes others raises b) from) (raised_lanes others raises b) i (omega (arith, length-before, h, few))
-        (omega (arith, length-raised_lanes, h, few)) (before_set i h)
+      before_of : (i : ℕ) → i < count
+          → get_or (before (raised_lanes others raises b) from) i 0 < get_or (raised_lanes others raises b) i 0
+      before_of i h =
+          lane_less (before (raised_lanes others raises b) from) (raised_lanes others raises b) i
+          (omega (arith, length-before, h, few))
+          (omega (arith, length-raised_lanes, h, few)) (before_set i h)
 
-    pub lane_first : 0 < count → from < get_or lanes 0 0 + 3
-    lane_first h = omega (arith, lane_is 0 h, before_of 0 h, first_before (raised_lanes others raises b) from length-raised_lanes)
+      pub lane_first : 0 < count → from < get_or lanes 0 0 + 3
+      lane_first h = omega (
+        arith,
+        lane_is 0 h,
+        before_of 0 h,
+        first_before (raised_lanes others raises b) from
+            length-raised_lanes,
+      )
 
-    pub lane_ascending : (i : ℕ) → i + 1 < count → get_or lanes i 0 < get_or lanes (i + 1) 0
-    lane_ascending i h = grind (arith, lane_is, before_of)
+      pub lane_ascending : (i : ℕ) → i + 1 < count → get_or lanes i 0 < get_or lanes (i + 1) 0
+      lane_ascending i h = grind (arith, lane_is, before_of)

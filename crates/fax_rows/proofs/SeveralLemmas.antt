@@ -1,7 +1,9 @@
--- Steps in vertical mode, one after another, each to a place that is right of the one before, and between the changes before and
+-- Steps in vertical mode, one after another, each to a place that is right of the one before, and between the changes
+-- before and
 -- after its b1.
 use Rattle.std.proofs.lemmas.Grind.{common_steps}
-use Rattle.std.proofs.Common.{◌≡◌, ℕ, zero, suc, ◌+◌, ◌-◌, ◌<◌, ◌≤◌, List, [], ◌∷◌, length, map, take, get_or, Bool, pos, refl, ap}
+use Rattle.std.proofs.Common.{◌≡◌, ℕ, zero, suc, ◌+◌, ◌-◌, ◌<◌, ◌≤◌, List, [], ◌∷◌, length, map, take, get_or, Bool}
+use Rattle.std.proofs.Common.{pos, refl, ap}
 use Rattle.std.proofs.Common.{sym, ◌∙◌, subst, arith, true}
 use Rattle.std.specs.Prelude.{◌<ℤ◌, Option, Some}
 use Rattle.std.proofs.lemmas.Bool.{lt-ltb}
@@ -45,7 +47,8 @@ right_number at0 colour a1 h = grind arith
 
 module _ (reference : PlacedRow) (places : List ℕ) where
   -- a step to a place that stands there already
-  module _ (at : PlacedReached) (here : IsReadInside reference places at) (inside : at.b1 < reference.end) (raised : ℕ) (more : List ℕ)
+  module _ (at : PlacedReached) (here : IsReadInside reference places at) (inside : at.b1 < reference.end) (raised : ℕ)
+      (more : List ℕ)
       (fine : AreFine reference.places.now places at.reached.a0 at.end at.b1 (raised ∷ more)) where
     abbrev place : ℕ
     place = get_or places at.end 0
@@ -95,7 +98,8 @@ module _ (reference : PlacedRow) (places : List ℕ) where
       let vertical_step = step at here less raised raises fine in
       let len = length-placed_pels reference in
       let b2 = b2_is reference (here.so_far.b1 here.unfinished) in
-      let more = all_on raises (next places at) spells.0 rest spells.2 (read at here less raised raises fine) (omega arith) fine.4 in
+      let more = all_on raises (next places at) spells.0 rest spells.2 (read at here less raised raises fine)
+      (omega arith) fine.4 in
       record {
         goes_on = record {
           positions = placed_position reference.width places (next places at) ∷ more.goes_on.positions;
@@ -122,7 +126,8 @@ module _ (reference : PlacedRow) (places : List ℕ) where
 abbrev pub reached_at : ℕ → Colour → ℕ → ℕ → PlacedReached
 reached_at place colour end b1 = record { reached = record { a0 = Some place; colour = colour }; end = end; b1 = b1 }
 
-same_reached : (p q : ℕ) (c d : Colour) (m n i j : ℕ) → p ≡ q → c ≡ d → m ≡ n → i ≡ j → reached_at p c m i ≡ reached_at q d n j
+same_reached : (p q : ℕ) (c d : Colour) (m n i j : ℕ) → p ≡ q → c ≡ d → m ≡ n → i ≡ j
+    → reached_at p c m i ≡ reached_at q d n j
 same_reached p q c d m n i j place colour end b1 = grind arith
 
 after_is : (k : ℕ) (places : List ℕ) (at : PlacedReached)
@@ -132,13 +137,15 @@ after_is zero places at = grind arith
 after_is (suc k) places at = grind (arith, after_is k places (next places at))
 
 after_as : (count : ℕ) (places : List ℕ) (at : PlacedReached) → 0 < count → alternate Black at.b1 ≡ at.reached.colour
-    → reached_at (get_or places (at.end + count - 1) 0) (alternate Black (at.b1 + count)) (at.end + count) (at.b1 + count)
+    → reached_at (get_or places (at.end + count - 1) 0) (alternate Black (at.b1 + count)) (at.end + count)
+    (at.b1 + count)
     ≡ after count places at
 after_as zero places at some is = absurd (omega arith)
 after_as (suc k) places at some is =
     let e : at.end + suc k - 1 ≡ at.end + k = omega arith in
     same_reached (get_or places (at.end + suc k - 1) 0) (get_or places (at.end + k) 0)
-    (alternate Black (at.b1 + suc k)) (alternate at.reached.colour (suc k)) (at.end + suc k) (at.end + suc k) (at.b1 + suc k)
+    (alternate Black (at.b1 + suc k)) (alternate at.reached.colour (suc k)) (at.end + suc k) (at.end + suc k)
+    (at.b1 + suc k)
     (at.b1 + suc k) (ap (λ n. get_or places n 0) e)
     (sym (alternate-add Black at.b1 (suc k)) ∙ ap (λ c. alternate c (suc k)) is) refl refl
     ∙ after_is k places at
@@ -176,7 +183,8 @@ fine_from others places (raise ∷ raises) a0 end b some raised left right first
 )
 
 -- the row is read on by these steps, over places that are put behind those that are read
-pub several_on : (reference : PlacedRow) (places new : List ℕ) (at : PlacedReached) (raises : List ℕ) (count : ℕ) (colour : Colour)
+pub several_on : (reference : PlacedRow) (places new : List ℕ) (at : PlacedReached) (raises : List ℕ) (count : ℕ)
+    (colour : Colour)
     (b rest : List Bool) → Spells modes b (map vertical raises) rest → length raises ≡ count → 0 < count
     → IsReadInside reference places at
     → at.b1 + count ≤ reference.end → length new ≡ length places → take at.end new ≡ take at.end places

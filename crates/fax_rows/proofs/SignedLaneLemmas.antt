@@ -1,5 +1,6 @@
 -- Lanes that are compared with a sign.
-use Rattle.std.proofs.Common.{◌≡◌, ℕ, ◌-◌, ◌<◌, ◌^◌, suc, List, [], ◌∷◌, map, Bool, ltb, cond, refl, ap, ◌∙◌, length, get_or, arith, w32}
+use Rattle.std.proofs.Common.{◌≡◌, ℕ, ◌-◌, ◌<◌, ◌^◌, suc, List, [], ◌∷◌, map, Bool, ltb, cond, refl, ap, ◌∙◌, length}
+use Rattle.std.proofs.Common.{get_or, arith, w32}
 use Rattle.std.specs.Prelude.{ℤ, pos, negsuc}
 use lib.Lanes.{zip2}
 use borrow.Rule.Simd.Lanes.{act1, act2}
@@ -26,6 +27,7 @@ pub all_compared : (xs ys : List ℕ) → ((i : ℕ) → i < length xs → get_o
 all_compared [] ys small less = refl
 all_compared (x ∷ xs) [] small less = refl
 all_compared (x ∷ xs) (y ∷ ys) small less =
-    ap (λ z. z ∷ zip2 compared (map turned xs) (map turned ys)) (compared_is x y (small 0 (omega arith)) (less 0 (omega arith)))
+    ap (λ z. z ∷ zip2 compared (map turned xs) (map turned ys))
+    (compared_is x y (small 0 (omega arith)) (less 0 (omega arith)))
     ∙ ap (λ zs. cond (ltb x y) (2 ^ 32 - 1) 0 ∷ zs)
     (all_compared xs ys (λ i h. small (suc i) (omega arith)) (λ i h. less (suc i) (omega arith)))

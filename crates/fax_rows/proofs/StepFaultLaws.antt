@@ -1,6 +1,7 @@
 -- A row in two-dimensional coding or its one fault, where the tables are read in one way.
 use Rattle.std.proofs.lemmas.Grind.{common_steps}
-use Rattle.std.proofs.Common.{◌≡◌, ◌≢◌, ℕ, zero, suc, ◌+◌, ◌<◌, ◌≤◌, List, [], ◌∷◌, ◌++◌, length, replicate, Bool, refl, sym, ◌∙◌}
+use Rattle.std.proofs.Common.{◌≡◌, ◌≢◌, ℕ, zero, suc, ◌+◌, ◌<◌, ◌≤◌, List, [], ◌∷◌, ◌++◌, length, replicate, Bool, refl}
+use Rattle.std.proofs.Common.{sym, ◌∙◌}
 use Rattle.std.proofs.Common.{subst, arith, inl, inr}
 use Rattle.std.specs.Prelude.{ℤ, pos, negsuc, ◌+ℤ◌, ◌<ℤ◌, ◌≤ℤ◌, ◌⊎◌, Option, Some, None}
 use Rattle.std.proofs.lemmas.Int.{ints, by_lt_z}
@@ -12,7 +13,8 @@ use Rattle.fax_bits.specs.laws.Codes.{ReadsOneWay, ReadsRunsOneWay}
 use Rattle.fax_bits.specs.Tables.{modes}
 use Rattle.fax_rows.specs.declared.RowFault.{RowFault}
 use Rattle.fax_rows.specs.declared.RowFault.TheVariants.{OutOfRow, Extension as ExtensionFault}
-use Rattle.fax_rows.specs.Rows.{other, Position, beginning, first_pel, a0_number, coloured_up_to, IsStepBy, IsStep, AreSteps}
+use Rattle.fax_rows.specs.Rows.{other, Position, beginning, first_pel, a0_number, coloured_up_to, IsStepBy, IsStep}
+use Rattle.fax_rows.specs.Rows.{AreSteps}
 use Rattle.fax_rows.specs.code.Seen.{b1_from}
 use Rattle.fax_rows.specs.Faults.{row_fault, IsRunFault, IsModeFault, IsStepFault}
 use Rattle.fax_rows.specs.code.RowFaults.{IsHorizontalFault}
@@ -75,20 +77,25 @@ end_or_not (Some a) width = grind (arith, common_steps)
 
 module _ (runs_read : (colour : Colour) → ReadsRunsOneWay colour) (modes_read : ReadsOneWay modes) where
   -- where a mode is taken the fault is that mode's
-  fault_of_mode : (reference : List Colour) (old : Position) (b c : List Bool) (mode : ModeCode) (after : List Bool) (fault : RowFault)
+  fault_of_mode : (reference : List Colour) (old : Position) (b c : List Bool) (mode : ModeCode) (after : List Bool)
+      (fault : RowFault)
       → b ≡ c
       → Takes modes b mode after → IsStepFault reference old c fault → IsModeFault mode reference old after fault
   fault_of_mode reference old b c mode after fault at taken (inl none) =
-      absurd (modes_read.code.answer_has_no_fault b mode after none.0 taken (subst (λ x. IsFaultOf modes x none.0) (sym at) none.1))
+      absurd (modes_read.code.answer_has_no_fault b mode after none.0 taken
+      (subst (λ x. IsFaultOf modes x none.0) (sym at) none.1))
   fault_of_mode reference old b c mode after fault at taken (inr some) =
-      let same = modes_read.code.one_answer b mode some.0 after some.1 taken (subst (λ x. Takes modes x some.0 some.1) (sym at) some.2) in
+      let same = modes_read.code.one_answer b mode some.0 after some.1 taken
+      (subst (λ x. Takes modes x some.0 some.1) (sym at) some.2) in
       subst (λ m. IsModeFault m reference old after fault) (sym same.0)
       (subst (λ x. IsModeFault some.0 reference old x fault) (sym same.1) some.3)
 
   -- horizontal mode is a step or has a fault
-  horizontal_has_no_fault : (reference : List Colour) (old : Position) (b rest : List Bool) (first second : ℕ) (middle : List Bool)
+  horizontal_has_no_fault : (reference : List Colour) (old : Position) (b rest : List Bool) (first second : ℕ)
+      (middle : List Bool)
       (fault : RowFault)
-      → IsRun old.colour b first middle → IsRun (other old.colour) middle second rest → first_pel old + first + second ≤ length reference
+      → IsRun old.colour b first middle → IsRun (other old.colour) middle second rest
+      → first_pel old + first + second ≤ length reference
       → IsHorizontalFault reference old b fault → ⊥
   horizontal_has_no_fault reference old b rest first second middle fault run more within (inl at) =
       run_has_no_fault runs_read refl run (omega arith) at
@@ -96,15 +103,18 @@ module _ (runs_read : (colour : Colour) → ReadsRunsOneWay colour) (modes_read 
       let same = same_run runs_read refl run at.2 in
       run_has_no_fault runs_read same.1 more (omega (arith, same.0)) at.4
 
-  mode_has_no_fault : (mode : ModeCode) (reference : List Colour) (old new : Position) (b rest : List Bool) (fault : RowFault)
+  mode_has_no_fault : (mode : ModeCode) (reference : List Colour) (old new : Position) (b rest : List Bool)
+      (fault : RowFault)
       → IsStepBy mode reference old b new rest → IsModeFault mode reference old b fault → ⊥
   mode_has_no_fault Pass reference old new b rest fault step at = at
   mode_has_no_fault (Vertical d) reference old new b rest fault step at = at.0 step.0.in_row
   mode_has_no_fault Horizontal reference old new b rest fault step at =
-      horizontal_has_no_fault reference old b rest step.first step.second step.middle fault step.first_run step.second_run step.within at
+      horizontal_has_no_fault reference old b rest step.first step.second step.middle fault step.first_run
+      step.second_run step.within at
   mode_has_no_fault Extension reference old new b rest fault step at = step
 
-  step_has_no_fault : (reference : List Colour) (old : Position) (b c : List Bool) (new : Position) (rest : List Bool) (fault : RowFault)
+  step_has_no_fault : (reference : List Colour) (old : Position) (b c : List Bool) (new : Position) (rest : List Bool)
+      (fault : RowFault)
       → b ≡ c
       → IsStep reference old b new rest → IsStepFault reference old c fault → ⊥
   step_has_no_fault reference old b c new rest fault at step fails =
@@ -123,13 +133,16 @@ module _ (runs_read : (colour : Colour) → ReadsRunsOneWay colour) (modes_read 
   same_horizontal_fault reference old b fault another (inr first) (inr second) =
       let same = same_run runs_read refl first.2 second.2 in
       same_run_fault runs_read same.1 first.4
-      (subst (λ n. IsRunFault (other old.colour) (length reference) (first_pel old + n) second.1 another) (sym same.0) second.4)
+      (subst (λ n. IsRunFault (other old.colour) (length reference) (first_pel old + n) second.1 another) (sym same.0)
+      second.4)
 
-  same_mode_fault : (mode : ModeCode) (reference : List Colour) (old : Position) (b : List Bool) (fault another : RowFault)
+  same_mode_fault : (mode : ModeCode) (reference : List Colour) (old : Position) (b : List Bool)
+      (fault another : RowFault)
       → IsModeFault mode reference old b fault → IsModeFault mode reference old b another → fault ≡ another
   same_mode_fault Pass reference old b fault another first second = absurd first
   same_mode_fault (Vertical d) reference old b fault another first second = first.1 ∙ sym second.1
-  same_mode_fault Horizontal reference old b fault another first second = same_horizontal_fault reference old b fault another first second
+  same_mode_fault Horizontal reference old b fault another first second =
+      same_horizontal_fault reference old b fault another first second
   same_mode_fault Extension reference old b fault another first second = first ∙ sym second
 
   same_step_fault : (reference : List Colour) (old : Position) (b c : List Bool) (fault another : RowFault) → b ≡ c
@@ -142,7 +155,8 @@ module _ (runs_read : (colour : Colour) → ReadsRunsOneWay colour) (modes_read 
       absurd (modes_read.code.answer_has_no_fault b second.0 second.1 first.0
       (subst (λ x. Takes modes x second.0 second.1) (sym at) second.2) first.1)
 
-  vertical_or_fault : (reference : List Colour) (old : Position) (d : ℤ) (b : List Bool) → IsModeOrFault (Vertical d) reference old b
+  vertical_or_fault : (reference : List Colour) (old : Position) (d : ℤ) (b : List Bool)
+      → IsModeOrFault (Vertical d) reference old b
   vertical_or_fault reference old d b =
       by_lt_z (a0_number old) (pos (b1_from reference old) +ℤ d)
       (λ right. by_lt_z (pos (length reference)) (pos (b1_from reference old) +ℤ d)
@@ -167,7 +181,8 @@ module _ (runs_read : (colour : Colour) → ReadsRunsOneWay colour) (modes_read 
       (λ left. inr (OutOfRow, ((λ in_row. absurd (omega (arith, ints, in_row.right_of_a0, left))), refl)))
 
   -- the second run of horizontal mode
-  second_or_fault : (reference : List Colour) (old : Position) (b middle : List Bool) (first : ℕ) → IsRun old.colour b first middle
+  second_or_fault : (reference : List Colour) (old : Position) (b middle : List Bool) (first : ℕ)
+      → IsRun old.colour b first middle
       → first_pel old + first ≤ length reference → length middle < length b → IsModeOrFault Horizontal reference old b
   second_or_fault reference old b middle first run within shorter =
       elim (run_or_fault runs_read (other old.colour) (length reference) (first_pel old + first) middle within) [
@@ -201,7 +216,8 @@ module _ (runs_read : (colour : Colour) → ReadsRunsOneWay colour) (modes_read 
         | inr fault ↦ inr (fault.0, inl fault.1)
       ]
 
-  mode_or_fault : (mode : ModeCode) (reference : List Colour) (old : Position) (b : List Bool) → first_pel old ≤ length reference
+  mode_or_fault : (mode : ModeCode) (reference : List Colour) (old : Position) (b : List Bool)
+      → first_pel old ≤ length reference
       → IsModeOrFault mode reference old b
   mode_or_fault Pass reference old b within = grind (arith, next_change_is)
   mode_or_fault (Vertical d) reference old b within = vertical_or_fault reference old d b
@@ -248,7 +264,8 @@ module _ (runs_read : (colour : Colour) → ReadsRunsOneWay colour) (modes_read 
         at_step = at.at_step;
       }
 
-  find_steps : (fuel : ℕ) (reference : List Colour) (old : Position) (b : List Bool) → length b < fuel → first_pel old ≤ length reference
+  find_steps : (fuel : ℕ) (reference : List Colour) (old : Position) (b : List Bool) → length b < fuel
+      → first_pel old ≤ length reference
       → IsEndOrFault reference old b
   find_steps zero reference old b short within = absurd (omega arith)
   find_steps (suc fuel) reference old b short within =
@@ -274,17 +291,23 @@ module _ (runs_read : (colour : Colour) → ReadsRunsOneWay colour) (modes_read 
       (last another : Position)
       (rest left : List Bool) (fault : RowFault) → old ≡ start → b ≡ c
       → AreSteps reference old b positions last rest → last.a0 ≡ Some (length reference)
-      → AreSteps reference start c more another left → (another.a0 ≢ Some (length reference)) → IsStepFault reference another left fault → ⊥
-  ended_or_not reference old start b c [] [] last another rest left fault from at first ended second unfinished fails = grind (arith, common_steps)
-  ended_or_not reference old start b c [] (next ∷ more) last another rest left fault from at first ended second unfinished fails = grind (arith, common_steps)
-  ended_or_not reference old start b c (next ∷ positions) [] last another rest left fault from at first ended second unfinished fails =
+      → AreSteps reference start c more another left → (another.a0 ≢ Some (length reference))
+      → IsStepFault reference another left fault → ⊥
+  ended_or_not reference old start b c [] [] last another rest left fault from at first ended second unfinished fails =
+      grind (arith, common_steps)
+  ended_or_not reference old start b c [] (next ∷ more) last another rest left fault from at first ended second
+      unfinished fails = grind (arith, common_steps)
+  ended_or_not reference old start b c (next ∷ positions) [] last another rest left fault from at first ended second
+      unfinished fails =
       step_has_no_fault reference old b left next first.1 fault (at ∙ second.1) first.2
       (subst (λ p. IsStepFault reference p left fault) (second.0 ∙ sym from) fails)
-  ended_or_not reference old start b c (next ∷ positions) (onward ∷ more) last another rest left fault from at first ended second unfinished
+  ended_or_not reference old start b c (next ∷ positions) (onward ∷ more) last another rest left fault from at first
+      ended second unfinished
       fails =
       let step = same_step runs_read modes_read at first.2
       (subst (λ p. IsStep reference p c onward second.1) (sym from) second.2) in
-      ended_or_not reference next onward first.1 second.1 positions more last another rest left fault step.0 step.1 first.3 ended second.3
+      ended_or_not reference next onward first.1 second.1 positions more last another rest left fault step.0 step.1
+      first.3 ended second.3
       unfinished fails
 
   -- steps to a fault lead to one fault
@@ -296,17 +319,21 @@ module _ (runs_read : (colour : Colour) → ReadsRunsOneWay colour) (modes_read 
   same_fault_after reference old start b c [] [] last end left after fault another from at first here second there =
       same_step_fault reference last left after fault another (sym first.1 ∙ at ∙ second.1) here
       (subst (λ p. IsStepFault reference p after another) (second.0 ∙ sym from ∙ sym first.0) there)
-  same_fault_after reference old start b c [] (next ∷ more) last end left after fault another from at first here second there =
+  same_fault_after reference old start b c [] (next ∷ more) last end left after fault another from at first here second
+      there =
       absurd (step_has_no_fault reference start c left next second.1 fault (sym at ∙ first.1) second.2
       (subst (λ p. IsStepFault reference p left fault) (first.0 ∙ from) here))
-  same_fault_after reference old start b c (next ∷ positions) [] last end left after fault another from at first here second there =
+  same_fault_after reference old start b c (next ∷ positions) [] last end left after fault another from at first here
+      second there =
       absurd (step_has_no_fault reference old b after next first.1 another (at ∙ second.1) first.2
       (subst (λ p. IsStepFault reference p after another) (second.0 ∙ sym from) there))
-  same_fault_after reference old start b c (next ∷ positions) (onward ∷ more) last end left after fault another from at first here second
+  same_fault_after reference old start b c (next ∷ positions) (onward ∷ more) last end left after fault another from at
+      first here second
       there =
       let step = same_step runs_read modes_read at first.2
       (subst (λ p. IsStep reference p c onward second.1) (sym from) second.2) in
-      same_fault_after reference next onward first.1 second.1 positions more last end left after fault another step.0 step.1
+      same_fault_after reference next onward first.1 second.1 positions more last end left after fault another step.0
+      step.1
       first.3 here second.3 there
 
   pub row_over_reads_one_way : (reference : List Colour) → ReadsRowsOverOneWay reference
@@ -332,10 +359,12 @@ module _ (runs_read : (colour : Colour) → ReadsRunsOneWay colour) (modes_read 
           )
         ];
     answer_has_no_fault = λ b row rest fault whole not_whole.
-        ended_or_not reference beginning beginning b b whole.positions not_whole.positions whole.last not_whole.last rest not_whole.left
+        ended_or_not reference beginning beginning b b whole.positions not_whole.positions whole.last not_whole.last
+        rest not_whole.left
         fault
         refl refl whole.steps whole.ends not_whole.steps not_whole.unfinished not_whole.at_step;
     one_fault = λ b fault another first second.
-        same_fault_after reference beginning beginning b b first.positions second.positions first.last second.last first.left second.left
+        same_fault_after reference beginning beginning b b first.positions second.positions first.last second.last
+        first.left second.left
         fault another refl refl first.steps first.at_step second.steps second.at_step;
   }

@@ -20,5 +20,6 @@ pub vertical_step : (reference old new : List Colour) (at next : Reached) (d : �
 vertical_step reference old new at next d a1 colour in_row a1_is coloured turn = grind (arith, common_steps)
 
 -- a row is unfinished while a pel is left
-pub unfinished_below : (reference : List Colour) (o : Option ℕ) → unwrap_or o 0 < length reference → o ≡ Some (length reference) → ⊥
+pub unfinished_below : (reference : List Colour) (o : Option ℕ) → unwrap_or o 0 < length reference
+    → o ≡ Some (length reference) → ⊥
 unfinished_below reference o less e = grind arith

@@ -1,7 +1,8 @@
 -- Rows by their places of change: the pel at a place, and where it changes.
 use Rattle.fax_rows.proofs.ColourLemmas.{same_as, other_than}
 use Rattle.std.proofs.lemmas.Grind.{common_steps}
-use Rattle.std.proofs.Common.{◌≡◌, ℕ, zero, suc, ◌+◌, ◌-◌, ◌%◌, ◌<◌, ◌≤◌, List, [], ◌∷◌, ◌++◌, length, take, get_or, true, false, refl}
+use Rattle.std.proofs.Common.{◌≡◌, ℕ, zero, suc, ◌+◌, ◌-◌, ◌%◌, ◌<◌, ◌≤◌, List, [], ◌∷◌, ◌++◌, length, take, get_or}
+use Rattle.std.proofs.Common.{true, false, refl}
 use Rattle.std.proofs.Common.{ap, sym, ◌∙◌, subst, arith, inl, inr}
 use Rattle.std.specs.Prelude.{◌⊎◌, nat_le, if◌then◌else◌}
 use Rattle.std.proofs.lemmas.Bool.{le-leb, lt-leb}
@@ -19,17 +20,20 @@ unfolding pels_by
 length-pels_by width places = length-map-range_with_len (turned Black places) 0 width
 
 -- the pel at a place is black turned by each change that is not right of it
-pub pel-pels_by : (width : ℕ) (places : List ℕ) (i : ℕ) → i < width → pel (pels_by width places) i ≡ turned Black places i
+pub pel-pels_by : (width : ℕ) (places : List ℕ) (i : ℕ) → i < width
+    → pel (pels_by width places) i ≡ turned Black places i
 unfolding pels_by
 pel-pels_by width places i h = get_or-map-range_with_len (turned Black places) 0 width i i White h (omega arith)
 
 -- a place more turns the pels from there on, and no others
-pub turned-push_left : (c : Colour) (places : List ℕ) (q i : ℕ) → i < q → turned c (places ++ q ∷ []) i ≡ turned c places i
+pub turned-push_left : (c : Colour) (places : List ℕ) (q i : ℕ) → i < q
+    → turned c (places ++ q ∷ []) i ≡ turned c places i
 unfolding turned
 turned-push_left c [] q i h = rw (lt-leb q i h) refl
 turned-push_left c (p ∷ places) q i h = turned-push_left (if nat_le p i then other c else c) places q i h
 
-pub turned-push_right : (c : Colour) (places : List ℕ) (q i : ℕ) → q ≤ i → turned c (places ++ q ∷ []) i ≡ other (turned c places i)
+pub turned-push_right : (c : Colour) (places : List ℕ) (q i : ℕ) → q ≤ i
+    → turned c (places ++ q ∷ []) i ≡ other (turned c places i)
 unfolding turned
 turned-push_right c [] q i h = rw (le-leb q i h) refl
 turned-push_right c (p ∷ places) q i h = turned-push_right (if nat_le p i then other c else c) places q i h
@@ -58,7 +62,8 @@ turned-rank c [] i zero within left right = refl
 turned-rank c [] i (suc k) within left right = absurd (omega arith)
 turned-rank c (p ∷ places) i zero within left right =
     rw (lt-leb p i (right zero (omega arith) (omega arith)))
-    (turned-rank c places i zero (omega arith) (λ j h. absurd (omega arith)) (λ j h l. right (suc j) (omega arith) (omega arith)))
+    (turned-rank c places i zero (omega arith) (λ j h. absurd (omega arith))
+    (λ j h l. right (suc j) (omega arith) (omega arith)))
 turned-rank c (p ∷ places) i (suc k) within left right =
     rw (le-leb p i (left zero (omega arith)))
     (turned-rank (other c) places i k (omega arith) (λ j h. left (suc j) (omega arith))
@@ -67,7 +72,8 @@ turned-rank c (p ∷ places) i (suc k) within left right =
 module _ {places : List ℕ} {end : ℕ} (up : IsAscending places end) where
   -- places ascend also over several steps
   pub ascends : (i n : ℕ) → 0 < i → i + suc n < end → get_or places i 0 < get_or places (i + suc n) 0
-  ascends i zero some h = subst (λ m. get_or places i 0 < get_or places m 0) (omega arith) (up.steps i some (omega arith))
+  ascends i zero some h = subst (λ m. get_or places i 0 < get_or places m 0) (omega arith)
+      (up.steps i some (omega arith))
   ascends i (suc n) some h = grind (arith, ascends i n some (omega arith))
 
   pub below_later : (i j : ℕ) → 0 < i → i < j → j < end → get_or places i 0 < get_or places j 0
@@ -88,7 +94,8 @@ module _ {places : List ℕ} {end : ℕ} (up : IsAscending places end) where
   not_later (suc i) j order h = grind (arith, below_later)
 
   -- the colour after k places
-  pub colour_after_places : (i k : ℕ) → ArePlacesUpTo places end i k → turned Black (take end places) i ≡ alternate Black k
+  pub colour_after_places : (i k : ℕ) → ArePlacesUpTo places end i k
+      → turned Black (take end places) i ≡ alternate Black k
   colour_after_places i k at =
       turned-rank Black (take end places) i k (omega (arith, len, at.within)) left right
     where
@@ -107,7 +114,8 @@ module _ {places : List ℕ} {end : ℕ} (up : IsAscending places end) where
           rw (get_or-take end places j 0 (omega (arith, len))) (omega arith)
 
   -- the pel after k places
-  pub pel_after : (width i k : ℕ) → i < width → ArePlacesUpTo places end i k → pel (pels_by width (take end places)) i ≡ alternate Black k
+  pub pel_after : (width i k : ℕ) → i < width → ArePlacesUpTo places end i k
+      → pel (pels_by width (take end places)) i ≡ alternate Black k
   pel_after width i k h at = pel-pels_by width (take end places) i h ∙ colour_after_places i k at
 
   -- a row changes at each of its places

@@ -1,6 +1,7 @@
 -- Steps with a1 under b1, one after another, over places of change that are copied.
 use Rattle.std.proofs.lemmas.Grind.{common_steps}
-use Rattle.std.proofs.Common.{◌≡◌, ℕ, zero, suc, ◌+◌, ◌-◌, ◌<◌, ◌≤◌, List, [], ◌∷◌, ◌++◌, length, take, get_or, replicate, Bool, ℤ}
+use Rattle.std.proofs.Common.{◌≡◌, ℕ, zero, suc, ◌+◌, ◌-◌, ◌<◌, ◌≤◌, List, [], ◌∷◌, ◌++◌, length, take, get_or}
+use Rattle.std.proofs.Common.{replicate, Bool, ℤ}
 use Rattle.std.proofs.Common.{pos, refl, ap, sym, ◌∙◌, subst, arith, true, rules}
 use Prim.{search}
 use Rattle.std.specs.Prelude.{Some}
@@ -24,7 +25,8 @@ use Rattle.fax_rows.specs.code.Reached.{position_of}
 use Rattle.fax_rows.specs.code.Turns.{alternate, pels_by, IsAscending, IsTurnedFrom, TurnsAt}
 use Rattle.fax_rows.proofs.ChosenStepLemmas.{under_chosen}
 use Rattle.fax_rows.proofs.PlacedB1Lemmas.{length-placed_pels, b1_next}
-use Rattle.fax_rows.proofs.PlacedStepLemmas.{vertical_placed, turned_so_far, under_right, under_ahead, under_within, from_start}
+use Rattle.fax_rows.proofs.PlacedStepLemmas.{vertical_placed, turned_so_far, under_right, under_ahead, under_within}
+use Rattle.fax_rows.proofs.PlacedStepLemmas.{from_start}
 use Rattle.fax_rows.proofs.StepLemmas.{unfinished_below}
 use Rattle.fax_rows.proofs.TurnLemmas.{alternate-suc, turned-push_left, turned-push_right}
 
@@ -35,7 +37,13 @@ pub step_goes_on : {reference : PlacedRow} {places : List ℕ} {at : PlacedReach
     → GoesOn (placed_pels reference) (placed_position reference.width places at) b new rest
 step_goes_on {reference} {places} {at} here b new rest step = record {
   positions = new ∷ [];
-  steps = (unfinished_below (placed_pels reference) at.reached.a0 (omega (arith, here.unfinished, length-placed_pels reference)), rest, step, (refl, refl));
+  steps = (
+    unfinished_below (placed_pels reference) at.reached.a0
+        (omega (arith, here.unfinished, length-placed_pels reference)),
+    rest,
+    step,
+    (refl, refl),
+  );
 }
 
 -- in vertical mode, where the distance is said in two ways
@@ -104,25 +112,30 @@ module _ (reference : PlacedRow) (places : List ℕ) where
         (placed_position reference.width places (under_all k reference at)) rest
     pub so_far : IsReadTo reference places (under_all k reference at)
 
-  pub all_under : (k : ℕ) (at : PlacedReached) (b rest : List Bool) → Spells modes b (replicate k (Vertical (pos 0))) rest
+  pub all_under : (k : ℕ) (at : PlacedReached) (b rest : List Bool)
+      → Spells modes b (replicate k (Vertical (pos 0))) rest
       → IsReadInside reference places at → at.b1 + k ≤ reference.end
-      → ((i : ℕ) → i < k → get_or places (at.end + i) 0 ≡ get_or reference.places.now (at.b1 + i) 0) → AreUnder at k b rest
+      → ((i : ℕ) → i < k → get_or places (at.end + i) 0 ≡ get_or reference.places.now (at.b1 + i) 0)
+      → AreUnder at k b rest
   all_under zero at b rest spells here inside copied = grind (arith, common_steps)
   all_under (suc k) at b rest spells here inside copied =
       let same : at.end + 0 ≡ at.end = omega arith in
       let again : at.b1 + 0 ≡ at.b1 = omega arith in
       let is : get_or places at.end 0 ≡ get_or reference.places.now at.b1 0 =
-      ap (λ n. get_or places n 0) (sym same) ∙ copied 0 (omega arith) ∙ ap (λ n. get_or reference.places.now n 0) again in
+      ap (λ n. get_or places n 0) (sym same) ∙ copied 0 (omega arith)
+      ∙ ap (λ n. get_or reference.places.now n 0) again in
       let less : at.b1 < reference.end = omega arith in
       let some = (here.so_far.b1 here.unfinished).some in
       let below : get_or reference.places.now at.b1 0 < reference.width = reference.placed.below at.b1 some less in
       let vertical = step at here less is in
       let len = length-placed_pels reference in
-      let more = all_under k (under reference at) spells.0 rest spells.2 (record { so_far = read at here less is; unfinished = below })
+      let more = all_under k (under reference at) spells.0 rest spells.2
+      (record { so_far = read at here less is; unfinished = below })
       (omega arith)
       (λ i h. let one : at.end + 1 + i ≡ at.end + suc i = omega arith in
       let other_one : at.b1 + 1 + i ≡ at.b1 + suc i = omega arith in
-      ap (λ n. get_or places n 0) one ∙ copied (suc i) (omega arith) ∙ ap (λ n. get_or reference.places.now n 0) (sym other_one)) in
+      ap (λ n. get_or places n 0) one ∙ copied (suc i) (omega arith)
+      ∙ ap (λ n. get_or reference.places.now n 0) (sym other_one)) in
       record {
         goes_on = record {
           positions = placed_position reference.width places (under reference at) ∷ more.goes_on.positions;
@@ -154,7 +167,8 @@ same_placed place colour end b1 = grind (arith, common_steps)
 
 -- how far it is read after so many steps, one at least
 pub under_all_is : (k : ℕ) (reference : PlacedRow) (at : PlacedReached)
-    → placed (get_or reference.places.now (at.b1 + k) 0) (alternate at.reached.colour (suc k)) (at.end + suc k) (at.b1 + suc k)
+    → placed (get_or reference.places.now (at.b1 + k) 0) (alternate at.reached.colour (suc k)) (at.end + suc k)
+    (at.b1 + suc k)
     ≡ under_all (suc k) reference at
 under_all_is zero reference at = grind (arith, common_steps)
 under_all_is (suc k) reference at =
@@ -167,16 +181,20 @@ pub alternate-add : (c : Colour) (b k : ℕ) → alternate (alternate c b) k ≡
 alternate-add c b zero = let e : b ≡ b + 0 = omega arith in ap (alternate c) e
 alternate-add c b (suc k) =
     let e : suc (b + k) ≡ b + suc k = omega arith in
-    alternate-suc (alternate c b) k ∙ ap other (alternate-add c b k) ∙ sym (alternate-suc c (b + k)) ∙ ap (alternate c) e
+    alternate-suc (alternate c b) k ∙ ap other (alternate-add c b k) ∙ sym (alternate-suc c (b + k))
+    ∙ ap (alternate c) e
 
 -- the same, by the index of b1 after them
-pub under_all_as : (count : ℕ) (reference : PlacedRow) (at : PlacedReached) → 0 < count → alternate Black at.b1 ≡ at.reached.colour
-    → placed (get_or reference.places.now (at.b1 + count - 1) 0) (alternate Black (at.b1 + count)) (at.end + count) (at.b1 + count)
+pub under_all_as : (count : ℕ) (reference : PlacedRow) (at : PlacedReached) → 0 < count
+    → alternate Black at.b1 ≡ at.reached.colour
+    → placed (get_or reference.places.now (at.b1 + count - 1) 0) (alternate Black (at.b1 + count)) (at.end + count)
+    (at.b1 + count)
     ≡ under_all count reference at
 under_all_as zero reference at some is = absurd (omega arith)
 under_all_as (suc k) reference at some is =
     let e : at.b1 + suc k - 1 ≡ at.b1 + k = omega arith in
-    same_placed (ap (λ n. get_or reference.places.now n 0) e) (sym (alternate-add Black at.b1 (suc k)) ∙ ap (λ c. alternate c (suc k)) is)
+    same_placed (ap (λ n. get_or reference.places.now n 0) e) (sym (alternate-add Black at.b1 (suc k))
+    ∙ ap (λ c. alternate c (suc k)) is)
     refl refl
     ∙ under_all_is k reference at
 
@@ -193,24 +211,35 @@ one_is_taken law rest = law (Vertical (pos 0)) rest (search rules)
 ones_are_spelled : ModeBitsAreRead → (k : ℕ) (rest : List Bool)
     → Spells modes (replicate k true ++ rest) (replicate k (Vertical (pos 0))) rest
 ones_are_spelled law zero rest = refl
-ones_are_spelled law (suc k) rest = (replicate k true ++ rest, one_is_taken law (replicate k true ++ rest), ones_are_spelled law k rest)
+ones_are_spelled law (suc k) rest = (
+  replicate k true ++ rest,
+  one_is_taken law (replicate k true ++ rest),
+  ones_are_spelled law k rest,
+)
 
--- the row is read on by a step whose code is taken, and by so many ones after it, where the places that are put are those of
+-- the row is read on by a step whose code is taken, and by so many ones after it, where the places that are put are
+-- those of
 -- the reference row
 pub several_read : (reference : PlacedRow) (places new : List ℕ) (at : PlacedReached) (more : ℕ) (colour : Colour)
-    (b first rest : List Bool) → ModeBitsAreRead → Takes modes b (Vertical (pos 0)) first → first ≡ replicate more true ++ rest
-    → IsReadInside reference places at → at.b1 + (more + 1) ≤ reference.end → length new ≡ length places → take at.end new ≡ take at.end places
+    (b first rest : List Bool) → ModeBitsAreRead → Takes modes b (Vertical (pos 0)) first
+    → first ≡ replicate more true ++ rest
+    → IsReadInside reference places at → at.b1 + (more + 1) ≤ reference.end → length new ≡ length places
+    → take at.end new ≡ take at.end places
     → ((i : ℕ) → i < (more + 1) → get_or new (at.end + i) 0 ≡ get_or reference.places.now (at.b1 + i) 0)
     → colour ≡ alternate Black (at.b1 + (more + 1))
     → IsReadOn true reference places new at
-    (placed (get_or reference.places.now (at.b1 + (more + 1) - 1) 0) colour (at.end + (more + 1)) (at.b1 + (more + 1))) b rest
+    (placed (get_or reference.places.now (at.b1 + (more + 1) - 1) 0) colour (at.end + (more + 1)) (at.b1 + (more + 1)))
+    b rest
 several_read reference places new at more colour b first rest law taken ones here inside len kept copied is =
-    let spells = subst (λ c. Spells modes c (replicate more (Vertical (pos 0))) rest) (sym ones) (ones_are_spelled law more rest) in
+    let spells = subst (λ c. Spells modes c (replicate more (Vertical (pos 0))) rest) (sym ones)
+    (ones_are_spelled law more rest) in
     let one : suc more ≡ more + 1 = omega arith in
     let again = subst (λ n. Spells modes b (replicate n (Vertical (pos 0))) rest) one (first, taken, spells) in
     let all = all_under reference new ((more + 1)) at b rest again
-    (record { so_far = so_far_kept reference places new at here.so_far len kept; unfinished = here.unfinished }) inside copied in
-    let next_is = ap (λ c. placed (get_or reference.places.now (at.b1 + (more + 1) - 1) 0) c (at.end + (more + 1)) (at.b1 + (more + 1))) is
+    (record { so_far = so_far_kept reference places new at here.so_far len kept; unfinished = here.unfinished }) inside
+    copied in
+    let next_is = ap (λ c. placed (get_or reference.places.now (at.b1 + (more + 1) - 1) 0) c (at.end + (more + 1))
+    (at.b1 + (more + 1))) is
     ∙ under_all_as ((more + 1)) reference at (omega arith) (here.so_far.b1 here.unfinished).colour_is in
     let from = ap (λ ps. position_of at.reached (pels_by reference.width ps)) kept in
     subst (λ next. IsReadOn true reference places new at next b rest) (sym next_is) (record {
@@ -224,6 +253,8 @@ several_read reference places new at more colour b first rest law taken ones her
 -- or by that step alone
 pub one_read : (reference : PlacedRow) (places new : List ℕ) (at next : PlacedReached) (b rest : List Bool)
     → Takes modes b (Vertical (pos 0)) rest → IsReadInside reference places at
-    → IsVerticalStep (placed_pels reference) (placed_position reference.width places at) (pos 0) (placed_position reference.width new next)
+    → IsVerticalStep (placed_pels reference) (placed_position reference.width places at) (pos 0)
+    (placed_position reference.width new next)
     → IsReadTo reference new next → IsReadOn true reference places new at next b rest
-one_read reference places new at next b rest taken here vertical read = search (rules, step_goes_on, chosen_goes_on, under_chosen)
+one_read reference places new at next b rest taken here vertical read =
+    search (rules, step_goes_on, chosen_goes_on, under_chosen)

@@ -1,13 +1,15 @@
 -- A row unpacked by words of 64 pels.
 use Rattle.std.proofs.lemmas.Grind.{common_steps}
-use Rattle.std.proofs.Common.{◌≡◌, ℕ, zero, suc, ◌+◌, ◌-◌, ◌*◌, ◌/◌, ◌%◌, ◌^◌, ◌<◌, ◌≤◌, List, length, get_or, Bool, true}
+use Rattle.std.proofs.Common.{◌≡◌, ℕ, zero, suc, ◌+◌, ◌-◌, ◌*◌, ◌/◌, ◌%◌, ◌^◌, ◌<◌, ◌≤◌, List, length, get_or, Bool}
+use Rattle.std.proofs.Common.{true}
 use Rattle.std.proofs.Common.{false, not, nat_eq, ap, sym, ◌∙◌, arith, inl, inr, take, drop, length-drop, get_or-drop}
 use Rattle.std.specs.Int.{bit_at, from_be_bytes, to_be_bytes, w64}
 use Rattle.std.specs.Int.RustNames.{bit_xor}
 use Rattle.std.proofs.lemmas.Bool.{cases_lt}
 use Rattle.std.proofs.lemmas.List.{get_or-take, length-take-le}
 use Rattle.std.proofs.lemmas.Nat.{be_bytes_8, shr-shr}
-use Rattle.std.proofs.lemmas.Nat.Bits.{bit_at-lt, bit_at-zero, bit_at_xor, bit_at_above, bit_at_cat_low, bit_at_cat_high, bit_at_lowest}
+use Rattle.std.proofs.lemmas.Nat.Bits.{bit_at-lt, bit_at-zero, bit_at_xor, bit_at_above, bit_at_cat_low}
+use Rattle.std.proofs.lemmas.Nat.Bits.{bit_at_cat_high, bit_at_lowest}
 use Rattle.fax_bits.specs.declared.FillOrder.TheVariants.{MsbFirst}
 use Rattle.fax_bits.specs.Bits.{bits}
 use Rattle.fax_bits.specs.laws.Codes.{AreBitsByPlace}
@@ -17,7 +19,8 @@ use Rattle.fax_rows.proofs.PackedWordLemmas.{be_byte, byte_bit}
 use Rattle.fax_rows.proofs.PlacedReadLemmas.{places_within}
 
 -- the bits of a word are those of its bytes
-pub bits_of_word : (law : AreBitsByPlace) (bytes : List ℕ) (at word : ℕ) → at + 8 ≤ length bytes → ((i : ℕ) → get_or bytes i 0 < 256)
+pub bits_of_word : (law : AreBitsByPlace) (bytes : List ℕ) (at word : ℕ) → at + 8 ≤ length bytes
+    → ((i : ℕ) → get_or bytes i 0 < 256)
     → word ≡ from_be_bytes w64 (take 8 (drop at bytes)) → (i : ℕ) → i < 64
     → word_bit word i ≡ get_or (bits MsbFirst bytes) (8 * at + i) false
 bits_of_word law bytes at word room fit is i inside =
@@ -29,7 +32,8 @@ bits_of_word law bytes at word room fit is i inside =
     let few : q < 8 = omega arith in
     ap (λ k. nat_eq (bit_at word (63 - k)) 1) (sym whole)
     ∙ ap (λ b. nat_eq b 1)
-    (sym (byte_bit word q r few (omega arith)) ∙ ap (λ b. bit_at b (7 - r)) (sym (be_byte word q few) ∙ byte_there q few))
+    (sym (byte_bit word q r few (omega arith)) ∙ ap (λ b. bit_at b (7 - r))
+    (sym (be_byte word q few) ∙ byte_there q few))
     ∙ sym (law.of_bytes MsbFirst bytes (8 * at + i) (omega arith)
     ∙ ap (λ k. nat_eq (bit_at (get_or bytes k 0) (7 - (8 * at + i) % 8)) 1) byte
     ∙ ap (λ k. nat_eq (bit_at (get_or bytes (at + q) 0) (7 - k)) 1) place)
@@ -68,7 +72,8 @@ two_digits : (a b : ℕ) → a < 2 → b < 2 → nat_eq ((a + b) % 2) 1 ≡ turn
 two_digits a b ha hb = grind arith
 
 three_bits : (before word k : ℕ)
-    → bit_at (changes_of before word) k ≡ ((bit_at word k + bit_at (word / 2 ^ 1) k) % 2 + bit_at (before * 2 ^ 63 % 2 ^ 64) k) % 2
+    → bit_at (changes_of before word) k ≡ ((bit_at word k + bit_at (word / 2 ^ 1) k) % 2 + bit_at
+    (before * 2 ^ 63 % 2 ^ 64) k) % 2
 three_bits before word k = grind (arith, bit_at_xor)
 
 carried : (before : ℕ) → before * 2 ^ 63 % 2 ^ 64 ≡ before % 2 * 2 ^ 63 + 0
@@ -84,30 +89,35 @@ no_third a b = omega arith
 pub change_bit : (before word i : ℕ) → word < 2 ^ 64 → i < 64
     → word_bit (changes_of before word) i ≡ turns_bit (word_bit word i) (bit_before before word i)
 change_bit before word zero fits inside =
-    let none : bit_at (word / 2 ^ 1) 63 ≡ 0 = ap (λ n. n % 2) (shr-shr word 1 63) ∙ bit_at_above word 64 64 fits (omega arith) in
+    let none : bit_at (word / 2 ^ 1) 63 ≡ 0 = ap (λ n. n % 2) (shr-shr word 1 63)
+    ∙ bit_at_above word 64 64 fits (omega arith) in
     let carry : bit_at (before * 2 ^ 63 % 2 ^ 64) 63 ≡ bit_at before 0 =
     ap (λ n. bit_at n 63) (carried before) ∙ bit_at_cat_high (before % 2) 63 0 63 (omega arith) (omega arith)
     ∙ bit_at_lowest (before % 2) ∙ (omega arith) ∙ sym (bit_at_lowest before) in
     ap (λ b. nat_eq b 1)
     (three_bits before word 63 ∙ ap (λ b. ((bit_at word 63 + b) % 2 + bit_at (before * 2 ^ 63 % 2 ^ 64) 63) % 2) none
-    ∙ ap (λ b. ((bit_at word 63 + 0) % 2 + b) % 2) carry ∙ no_second (bit_at word 63) (bit_at before 0) (bit_at-lt word 63))
+    ∙ ap (λ b. ((bit_at word 63 + 0) % 2 + b) % 2) carry ∙ no_second (bit_at word 63) (bit_at before 0)
+    (bit_at-lt word 63))
     ∙ two_digits (bit_at word 63) (bit_at before 0) (bit_at-lt word 63) (bit_at-lt before 0)
 change_bit before word (suc i) fits inside =
     let k = 63 - suc i in
     let at : 1 + (63 - suc i) ≡ 63 - i = omega arith in
-    let half : bit_at (word / 2 ^ 1) k ≡ bit_at word (63 - i) = ap (λ n. n % 2) (shr-shr word 1 k) ∙ ap (bit_at word) at in
+    let half : bit_at (word / 2 ^ 1) k ≡ bit_at word (63 - i) =
+    ap (λ n. n % 2) (shr-shr word 1 k) ∙ ap (bit_at word) at in
     let none : bit_at (before * 2 ^ 63 % 2 ^ 64) k ≡ 0 =
     ap (λ n. bit_at n k) (carried before) ∙ bit_at_cat_low (before % 2) 63 0 k (omega arith) ∙ bit_at-zero k in
     ap (λ b. nat_eq b 1)
     (three_bits before word k ∙ ap (λ b. ((bit_at word k + b) % 2 + bit_at (before * 2 ^ 63 % 2 ^ 64) k) % 2) half
-    ∙ ap (λ b. ((bit_at word k + bit_at word (63 - i)) % 2 + b) % 2) none ∙ no_third (bit_at word k) (bit_at word (63 - i)))
+    ∙ ap (λ b. ((bit_at word k + bit_at word (63 - i)) % 2 + b) % 2) none
+    ∙ no_third (bit_at word k) (bit_at word (63 - i)))
     ∙ two_digits (bit_at word k) (bit_at word (63 - i)) (bit_at-lt word k) (bit_at-lt word (63 - i))
 
 pub equal_bits : (a b : Bool) → turns_bit a b ≡ false → a ≡ b
 equal_bits a b h = grind arith
 
 -- the places left of a pel are no more than the pels before it, and two
-pub room_after : (places : List ℕ) (end from : ℕ) → IsAscending places end → (1 < end → get_or places (end - 1) 0 < from) → end ≤ from + 2
+pub room_after : (places : List ℕ) (end from : ℕ) → IsAscending places end
+    → (1 < end → get_or places (end - 1) 0 < from) → end ≤ from + 2
 room_after places end from up last =
     elim (cases_lt 1 end) [
       | inl more ↦ places_within places end from up (omega (arith, last more))
@@ -115,6 +125,7 @@ room_after places end from up last =
     ]
 
 -- the last place is below a number where it is one of the changes, and 0 else
-pub last_below : (places : List ℕ) (end n : ℕ) → IsAscending places end → (1 < end → get_or places (end - 1) 0 < n) → 0 < n
+pub last_below : (places : List ℕ) (end n : ℕ) → IsAscending places end → (1 < end → get_or places (end - 1) 0 < n)
+    → 0 < n
     → get_or places (end - 1) 0 < n
 last_below places end n up last some = grind (arith, common_steps)

@@ -2,16 +2,19 @@
 use Rattle.std.proofs.lemmas.Grind.{common_steps}
 use Rattle.std.specs.Simd.{first_chunks}
 use Rattle.fax_bits.specs.Bits.{packed, code_bits, bits_number}
-use Rattle.std.proofs.Common.{◌≡◌, ℕ, zero, suc, ◌+◌, ◌-◌, ◌*◌, ◌<◌, ◌≤◌, ◌↔◌, List, [], ◌∷◌, ◌++◌, length, get_or, map, replicate, Bool, true, false}
+use Rattle.std.proofs.Common.{◌≡◌, ℕ, zero, suc, ◌+◌, ◌-◌, ◌*◌, ◌<◌, ◌≤◌, ◌↔◌, List, [], ◌∷◌, ◌++◌, length, get_or, map}
+use Rattle.std.proofs.Common.{replicate, Bool, true, false}
 use Rattle.std.proofs.Common.{refl, ap, sym, ◌∙◌, arith, IsTrue, append-nil}
 use Rattle.std.specs.Prelude.{Option, Some, None, pos, nat_eq}
-use Rattle.std.proofs.lemmas.List.{get_or-replicate, length-replicate, replicate-append-replicate, drop-replicate, take-replicate}
+use Rattle.std.proofs.lemmas.List.{get_or-replicate, length-replicate, replicate-append-replicate, drop-replicate}
+use Rattle.std.proofs.lemmas.List.{take-replicate}
 use Rattle.fax_bits.specs.declared.Colour.{Colour}
 use Rattle.fax_bits.specs.declared.Colour.TheVariants.{White}
 use Rattle.fax_bits.specs.Tables.{modes}
 use Rattle.fax_bits.specs.Written.{mode_bits, run_bits}
 use Rattle.fax_bits.specs.declared.modes.ModeCode.TheVariants.{Vertical}
-use Rattle.fax_rows.specs.Coded.{packed_len, packed_row, is_black, alternating_bits, one_dimensional_bits, two_dimensional_bits}
+use Rattle.fax_rows.specs.Coded.{packed_len, packed_row, is_black, alternating_bits, one_dimensional_bits}
+use Rattle.fax_rows.specs.Coded.{two_dimensional_bits}
 use Rattle.fax_rows.specs.Rows.{pel, is_changing, next_change, b1, runs_after}
 use Rattle.fax_rows.specs.code.Turns.{ArePlaces, row_of}
 use Rattle.fax_rows.proofs.ChangeLemmas.{first_place_is, next_change_is}
@@ -42,10 +45,12 @@ module _ {places : List ℕ} {end width : ℕ} (all : ArePlaces places end width
       cc
 
   -- a row is white just where it has one place
-  one_place : {row : List Colour} → row_of places end width ≡ row → row ≡ replicate (length row) White → IsTrue (nat_eq end 1)
+  one_place : {row : List Colour} → row_of places end width ≡ row → row ≡ replicate (length row) White
+      → IsTrue (nat_eq end 1)
   one_place is white_is = grind (arith, width_is, more_places)
 
-  pub is_white_row : {row : List Colour} → row_of places end width ≡ row → IsTrue (nat_eq end 1) ↔ (row ≡ replicate (length row) White)
+  pub is_white_row : {row : List Colour} → row_of places end width ≡ row
+      → IsTrue (nat_eq end 1) ↔ (row ≡ replicate (length row) White)
   is_white_row is = grind (arith, all_white, one_place)
 
 -- a white row is one run
@@ -57,7 +62,8 @@ white_runs n (suc k) = white_runs (n + 1) k ∙ ap (λ m. m ∷ []) (omega arith
 -- in one-dimensional coding it is written as that run
 pub white_1d : (width : ℕ) → one_dimensional_bits (white width) ≡ run_bits White width
 unfolding alternating_bits
-white_1d width = ap (alternating_bits White) (white_runs 0 width ∙ ap (λ m. m ∷ []) (omega arith)) ∙ append-nil (run_bits White width)
+white_1d width = ap (alternating_bits White) (white_runs 0 width ∙ ap (λ m. m ∷ []) (omega arith))
+    ∙ append-nil (run_bits White width)
 
 -- no changing element lies right of a place
 no_change : (width : ℕ) (from : Option ℕ) → next_change (white width) from ≡ width
@@ -86,7 +92,8 @@ white_2d width some =
     ) refl
 
 -- the codes of a run that were taken are those of a white row
-pub chosen_1d : (row : List Colour) (width : ℕ) (b rest : List Bool) → row ≡ replicate (length row) White → width ≡ length row
+pub chosen_1d : (row : List Colour) (width : ℕ) (b rest : List Bool) → row ≡ replicate (length row) White
+    → width ≡ length row
     → b ≡ run_bits White width ++ rest → b ≡ one_dimensional_bits row ++ rest
 chosen_1d row width b rest all same taken = grind (arith, white_1d)
 
@@ -104,7 +111,8 @@ white_bits (suc width) = ap (λ b. false ∷ b) (white_bits width)
 zero_bytes : (n m : ℕ) → 8 * n ≤ m → map bits_number (first_chunks 8 n (replicate m false)) ≡ replicate n 0
 zero_bytes zero m within = refl
 zero_bytes (suc n) m within =
-    rw (take-replicate 8 m false (omega arith), drop-replicate 8 m false) (ap (λ bytes. 0 ∷ bytes) (zero_bytes n (m - 8) (omega arith)))
+    rw (take-replicate 8 m false (omega arith), drop-replicate 8 m false)
+    (ap (λ bytes. 0 ∷ bytes) (zero_bytes n (m - 8) (omega arith)))
 
 white_packed : (width : ℕ) → packed_row (white width) ≡ replicate (packed_len width) 0
 unfolding packed_row packed
@@ -112,5 +120,6 @@ white_packed width =
     rw (white_bits width, length-replicate width false, replicate-append-replicate width 7 false)
     (zero_bytes (packed_len width) (width + 7) (omega arith))
 
-pub white_bytes : (row : List Colour) → row ≡ replicate (length row) White → packed_row row ≡ replicate (packed_len (length row)) 0
+pub white_bytes : (row : List Colour) → row ≡ replicate (length row) White
+    → packed_row row ≡ replicate (packed_len (length row)) 0
 white_bytes row is = ap packed_row is ∙ white_packed (length row)

@@ -1,5 +1,6 @@
 -- A row that is read has its width.
-use Rattle.std.proofs.Common.{◌≡◌, ℕ, ◌+◌, ◌-◌, ◌≤◌, List, [], ◌∷◌, ◌++◌, length, replicate, Bool, Option, Some, refl, ap, sym, ◌∙◌}
+use Rattle.std.proofs.Common.{◌≡◌, ℕ, ◌+◌, ◌-◌, ◌≤◌, List, [], ◌∷◌, ◌++◌, length, replicate, Bool, Option, Some, refl}
+use Rattle.std.proofs.Common.{ap, sym, ◌∙◌}
 use Rattle.std.proofs.Common.{subst, arith, pos, negsuc, ◌≤ℤ◌, ◌<ℤ◌, None, length-append}
 use Rattle.std.specs.Prelude.{unwrap_or}
 use Rattle.std.proofs.lemmas.Grind.{common_steps}
@@ -9,7 +10,8 @@ use Rattle.fax_bits.specs.declared.Colour.{Colour}
 use Rattle.fax_bits.specs.declared.Colour.TheVariants.{White}
 use Rattle.fax_bits.specs.declared.modes.ModeCode.{ModeCode}
 use Rattle.fax_bits.specs.declared.modes.ModeCode.TheVariants.{Pass, Horizontal, Vertical, Extension}
-use Rattle.fax_rows.specs.Rows.{other, b1, b2, Position, beginning, first_pel, IsStepBy, pels_of, AreRuns, AreSteps, IsTwoDimensionalRow}
+use Rattle.fax_rows.specs.Rows.{other, b1, b2, Position, beginning, first_pel, IsStepBy, pels_of, AreRuns, AreSteps}
+use Rattle.fax_rows.specs.Rows.{IsTwoDimensionalRow}
 use Rattle.fax_rows.specs.laws.Rows.{RowsHaveTheirWidth}
 use Rattle.fax_rows.proofs.ChangeLemmas.{next_change_is, next_is_ahead, next_of_within, next_of_right}
 use Rattle.fax_rows.proofs.PlacedStepLemmas.{right_after_first}
@@ -24,7 +26,8 @@ runs_wide width colour from b (n ∷ runs) rest (unfinished, middle, run, more) 
 abbrev IsPainted : List Colour → Position → Type 0
 IsPainted reference at = (length at.pels ≡ first_pel at) × (first_pel at ≤ length reference)
 
-b1_ahead : (reference : List Colour) (at : Position) → first_pel at ≤ length reference → first_pel at ≤ b1 reference at.a0 at.colour
+b1_ahead : (reference : List Colour) (at : Position) → first_pel at ≤ length reference
+    → first_pel at ≤ b1 reference at.a0 at.colour
 b1_ahead reference at within = grind (arith, next_of_right, right_after_first, next_of_within)
 
 left_of : (a0 : Option ℕ) (a1 : ℕ) → (elim a0 [ None ↦ negsuc 0 | Some a ↦ pos a ]) <ℤ pos a1 → unwrap_or a0 0 ≤ a1
@@ -35,11 +38,13 @@ painted_to : (at : Position) (to : ℕ) → length at.pels ≡ first_pel at → 
     → length (at.pels ++ replicate (to - first_pel at) at.colour) ≡ to
 painted_to at to painted right = omega (arith, length-append {A = Colour}, length-replicate {A = Colour})
 
-step_paints : (mode : ModeCode) (reference : List Colour) (old : Position) (b : List Bool) (new : Position) (rest : List Bool)
+step_paints : (mode : ModeCode) (reference : List Colour) (old : Position) (b : List Bool) (new : Position)
+    (rest : List Bool)
     → IsPainted reference old → IsStepBy mode reference old b new rest → IsPainted reference new
 step_paints Pass reference old b new rest painted step =
     let first = b1_ahead reference old painted.1 in
-    let second = next_is_ahead (Some (b1 reference old.a0 old.colour)) (next_change_is reference (Some (b1 reference old.a0 old.colour)))
+    let second = next_is_ahead (Some (b1 reference old.a0 old.colour))
+    (next_change_is reference (Some (b1 reference old.a0 old.colour)))
     (next_of_within reference old.a0 old.colour) in
     let within = (next_change_is reference (Some (b1 reference old.a0 old.colour))).within in
     rw step.0 (painted_to old (b2 reference old.a0 old.colour) painted.0 (omega arith), within)
@@ -52,11 +57,13 @@ step_paints Horizontal reference old b new rest painted step =
     rw step.new_is (omega (arith, length-append {A = Colour}, length-replicate {A = Colour}, painted.0), step.within)
 step_paints Extension reference old b new rest painted step = absurd step
 
-steps_paint : (reference : List Colour) (old : Position) (b : List Bool) (positions : List Position) (new : Position) (rest : List Bool)
+steps_paint : (reference : List Colour) (old : Position) (b : List Bool) (positions : List Position) (new : Position)
+    (rest : List Bool)
     → IsPainted reference old → AreSteps reference old b positions new rest → IsPainted reference new
 steps_paint reference old b [] new rest painted steps = subst (IsPainted reference) (sym steps.0) painted
 steps_paint reference old b (next ∷ positions) new rest painted (unfinished, middle, step, steps) =
-    steps_paint reference next middle positions new rest (step_paints step.mode reference old step.after next middle painted step.step) steps
+    steps_paint reference next middle positions new rest (step_paints step.mode reference old step.after next middle
+    painted step.step) steps
 
 row_over_wide : (reference : List Colour) (b : List Bool) (row : List Colour) (rest : List Bool)
     → IsTwoDimensionalRow reference b row rest → length row ≡ length reference
@@ -66,6 +73,7 @@ row_over_wide reference b row rest is =
 
 pub rows_have_their_width : RowsHaveTheirWidth
 rows_have_their_width = record {
-  one_dimensional = λ width b row rest is. ap length is.pels ∙ omega (arith, runs_wide width White 0 b is.runs rest is.coded);
+  one_dimensional = λ width b row rest is. ap length is.pels ∙ omega
+      (arith, runs_wide width White 0 b is.runs rest is.coded);
   two_dimensional = row_over_wide;
 }

@@ -1,6 +1,7 @@
 -- A row that is written is read back.
 use Rattle.std.proofs.lemmas.Grind.{common_steps}
-use Rattle.std.proofs.Common.{◌≡◌, ◌≢◌, ℕ, zero, suc, ◌+◌, ◌^◌, ◌<◌, ◌≤◌, List, [], ◌∷◌, ◌++◌, length, take, replicate, Bool}
+use Rattle.std.proofs.Common.{◌≡◌, ◌≢◌, ℕ, zero, suc, ◌+◌, ◌^◌, ◌<◌, ◌≤◌, List, [], ◌∷◌, ◌++◌, length, take, replicate}
+use Rattle.std.proofs.Common.{Bool}
 use Rattle.std.proofs.Common.{refl, ap, sym, ◌∙◌, subst, arith, inl, inr, append_assoc}
 use Rattle.std.specs.Prelude.{sum, Option, Some, None}
 use Rattle.std.proofs.lemmas.Bool.{cases_lt}
@@ -12,7 +13,8 @@ use Rattle.fax_bits.specs.Codes.{Takes}
 use Rattle.fax_bits.specs.laws.Codes.{RunBitsAreRead, ModeBitsAreRead}
 use Rattle.fax_bits.specs.Written.{mode_bits}
 use Rattle.fax_bits.specs.Tables.{modes}
-use Rattle.fax_rows.specs.Rows.{other, pels_of, runs_after, runs_of, IsOneDimensionalRow, Position, AreSteps, IsTwoDimensionalRow}
+use Rattle.fax_rows.specs.Rows.{other, pels_of, runs_after, runs_of, IsOneDimensionalRow, Position, AreSteps}
+use Rattle.fax_rows.specs.Rows.{IsTwoDimensionalRow}
 use Rattle.fax_rows.specs.laws.Rows.{HasWidth}
 use Rattle.fax_rows.specs.Coded.{step_bits, two_dimensional_bits, alternating_bits, one_dimensional_bits}
 use Rattle.fax_rows.specs.code.Choice.{places, colour_of, chosen_mode, run_pair_bits, next_a0}
@@ -49,7 +51,8 @@ step_bits-more limit reference row a0 unfinished = grind (arith, common_steps)
 not_at_width : (a0 : Option ℕ) (width : ℕ) → first_of a0 < width → a0 ≢ Some width
 not_at_width a0 width before same = omega (arith, ap first_of same)
 
-still_short : (a0 : Option ℕ) (width limit : ℕ) → width + 1 ≤ passed a0 + limit → limit ≡ 0 → first_of a0 ≤ width → first_of a0 ≡ width
+still_short : (a0 : Option ℕ) (width limit : ℕ) → width + 1 ≤ passed a0 + limit → limit ≡ 0 → first_of a0 ≤ width
+    → first_of a0 ≡ width
 still_short None width limit enough none within = absurd (omega arith)
 still_short (Some a) width limit enough none within = omega arith
 
@@ -69,15 +72,18 @@ module _ (runs_read : RunBitsAreRead) (modes_taken : ModeBitsAreRead) (reference
 
   bits_of_step : (limit : ℕ) (a0 : Option ℕ) (more : List Bool) → first_of a0 < length row
       → step_bits (suc limit) reference row a0 ++ more
-      ≡ mode_bits (mode_at a0) ++ (run_pair_bits (mode_at a0) row a0 (places reference row a0) ++ (step_bits limit reference row
+      ≡ mode_bits (mode_at a0) ++ (run_pair_bits (mode_at a0) row a0 (places reference row a0)
+      ++ (step_bits limit reference row
       (Some (next_at a0)) ++ more))
   bits_of_step limit a0 more unfinished = grind (arith, common_steps, step_bits-more, append_assoc)
 
   back_by_step : (limit : ℕ) (a0 : Option ℕ) (more : List Bool) → first_of a0 < length row
       → (rest : List Bool) → rest ≡ step_bits limit reference row (Some (next_at a0)) ++ more
       → (step : IsChosen reference row a0 rest (mode_at a0))
-      → IsWrittenBack reference row (here row (Some (next_at a0)) (colour_after (mode_at a0) (colour_of row a0))) rest more
-      → IsWrittenBack reference row (here row a0 (colour_of row a0)) (step_bits (suc limit) reference row a0 ++ more) more
+      → IsWrittenBack reference row (here row (Some (next_at a0)) (colour_after (mode_at a0) (colour_of row a0))) rest
+      more
+      → IsWrittenBack reference row (here row a0 (colour_of row a0)) (step_bits (suc limit) reference row a0 ++ more)
+      more
   back_by_step limit a0 more unfinished rest rest_is step back = record {
     positions = here row (Some (next_at a0)) (colour_after (mode_at a0) (colour_of row a0)) ∷ back.positions;
     last = back.last;
@@ -87,8 +93,10 @@ module _ (runs_read : RunBitsAreRead) (modes_taken : ModeBitsAreRead) (reference
       record {
         mode = mode_at a0;
         after = run_pair_bits (mode_at a0) row a0 (places reference row a0) ++ rest;
-        taken = subst (λ b. Takes modes b (mode_at a0) (run_pair_bits (mode_at a0) row a0 (places reference row a0) ++ rest))
-            (ap (λ b. mode_bits (mode_at a0) ++ (run_pair_bits (mode_at a0) row a0 (places reference row a0) ++ b)) rest_is
+        taken = subst (λ b. Takes modes b (mode_at a0) (run_pair_bits (mode_at a0) row a0 (places reference row a0)
+            ++ rest))
+            (ap (λ b. mode_bits (mode_at a0) ++ (run_pair_bits (mode_at a0) row a0 (places reference row a0) ++ b))
+            rest_is
             ∙ sym (bits_of_step limit a0 more unfinished))
             (modes_taken (mode_at a0) _ step.written);
         step = step.step;
@@ -112,12 +120,14 @@ module _ (runs_read : RunBitsAreRead) (modes_taken : ModeBitsAreRead) (reference
             let step = chosen reference row same_width a0 unfinished runs_read limits rest in
             let back = steps_back limit (Some (next_at a0)) (colour_after (mode_at a0) (colour_of row a0)) more
             step.within (omega (arith, step.right)) step.colour in
-            subst (λ c. IsWrittenBack reference row (here row a0 c) (step_bits (suc limit) reference row a0 ++ more) more)
+            subst (λ c. IsWrittenBack reference row (here row a0 c) (step_bits (suc limit) reference row a0 ++ more)
+            more)
             (sym (coloured unfinished)) (back_by_step limit a0 more unfinished rest refl step back)
       ]
 
   -- a row in two-dimensional coding is read back
-  pub two_dimensional_back : (more : List Bool) → IsTwoDimensionalRow reference (two_dimensional_bits reference row ++ more) row more
+  pub two_dimensional_back : (more : List Bool) → IsTwoDimensionalRow reference
+      (two_dimensional_bits reference row ++ more) row more
   two_dimensional_back more =
       let back = steps_back (length row + 1) None White more (omega arith) (omega arith) (λ h. refl) in
       record {
@@ -128,8 +138,10 @@ module _ (runs_read : RunBitsAreRead) (modes_taken : ModeBitsAreRead) (reference
         pels = back.pels;
       }
 
-replicate_more : (n : ℕ) (colour : Colour) (pels : List Colour) → replicate (n + 1) colour ++ pels ≡ replicate n colour ++ (colour ∷ pels)
-replicate_more n colour pels = rw (← replicate-append-replicate n 1 colour) (append_assoc (replicate n colour) (colour ∷ []) pels)
+replicate_more : (n : ℕ) (colour : Colour) (pels : List Colour)
+    → replicate (n + 1) colour ++ pels ≡ replicate n colour ++ (colour ∷ pels)
+replicate_more n colour pels = rw (← replicate-append-replicate n 1 colour)
+    (append_assoc (replicate n colour) (colour ∷ []) pels)
 
 -- the longest runs make up the pels
 pub pels_of-runs_after : (colour : Colour) (n : ℕ) (pels : List Colour)
@@ -163,7 +175,12 @@ runs_back : RunBitsAreRead → (colour : Colour) (runs : List ℕ) (more : List 
     → AreCodedRuns colour (alternating_bits colour runs ++ more) runs more
 unfolding alternating_bits
 runs_back runs_read colour [] more short = refl
-runs_back runs_read colour (n ∷ runs) more short = grind (arith, common_steps, runs_back runs_read (other colour) runs more (omega (arith, sum-cons n runs)))
+runs_back runs_read colour (n ∷ runs) more short = grind (
+  arith,
+  common_steps,
+  runs_back runs_read (other colour) runs
+      more (omega (arith, sum-cons n runs)),
+)
 
 -- a row in one-dimensional coding is read back
 pub one_dimensional_back : RunBitsAreRead → (row : List Colour) → HasWidth row → (more : List Bool)

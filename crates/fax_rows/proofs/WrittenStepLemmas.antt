@@ -25,7 +25,8 @@ use Rattle.fax_rows.proofs.WrittenPlaceLemmas.{known_bounds, same_widths, writte
 
 module _ (row : PlacedRow) where
   -- the places before that index are not right of a0
-  first_left : (a0 : Option ℕ) (k : ℕ) → IsFrom row.places.now row.end a0 k → get_or row.places.now (k - 1) 0 ≤ unwrap_or a0 0
+  first_left : (a0 : Option ℕ) (k : ℕ) → IsFrom row.places.now row.end a0 k
+      → get_or row.places.now (k - 1) 0 ≤ unwrap_or a0 0
   first_left a0 k at = grind arith
 
   -- the colour of a0, where it is inside the row
@@ -97,18 +98,22 @@ module _ {rows : RowPair} {ahead : ChangesAhead} (is : AreAhead rows ahead) wher
       ≡ chosen_mode (record { a1 = ahead.a1; a2 = 0; b1 = ahead.b1; b2 = ahead.b2 })
   mode_is = grind (arith, common_steps)
 
-  pub horizontal_bits : (mode : ModeCode) → mode ≡ chosen_mode (record { a1 = ahead.a1; a2 = 0; b1 = ahead.b1; b2 = ahead.b2 })
+  pub horizontal_bits : (mode : ModeCode) → mode ≡ chosen_mode
+      (record { a1 = ahead.a1; a2 = 0; b1 = ahead.b1; b2 = ahead.b2 })
       → mode ≡ Horizontal
       → bits_from (placed_pels rows.reference) (placed_pels rows.row) ahead.a0 ≡ mode_bits Horizontal ++ run_pair ahead
   horizontal_bits mode chosen is_horizontal = grind (arith, common_steps)
 
   -- a1 under b1
-  under_mode : ahead.a1 ≡ ahead.b1 → mode_from (placed_pels rows.reference) (placed_pels rows.row) ahead.a0 ≡ Vertical (pos 0)
+  under_mode : ahead.a1 ≡ ahead.b1 → mode_from (placed_pels rows.reference) (placed_pels rows.row) ahead.a0
+      ≡ Vertical (pos 0)
   under_mode same = grind (arith, common_steps, b2_ahead, ints)
 
-  pub under_bits : ahead.a1 ≡ ahead.b1 → bits_from (placed_pels rows.reference) (placed_pels rows.row) ahead.a0 ≡ mode_bits
+  pub under_bits : ahead.a1 ≡ ahead.b1 → bits_from (placed_pels rows.reference) (placed_pels rows.row) ahead.a0
+      ≡ mode_bits
       (Vertical (pos 0))
   under_bits same = grind (arith, common_steps, under_mode)
 
-  pub under_place : ahead.a1 ≡ ahead.b1 → ahead.a1 ≡ place_from (placed_pels rows.reference) (placed_pels rows.row) ahead.a0
+  pub under_place : ahead.a1 ≡ ahead.b1 → ahead.a1 ≡ place_from (placed_pels rows.reference) (placed_pels rows.row)
+      ahead.a0
   under_place same = grind (arith, under_mode)

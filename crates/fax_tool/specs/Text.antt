@@ -100,8 +100,8 @@ end_text (Some (Fault page row cause)) next =
 end_text (Some Outside) next =
     record { output = []; error = codes "fault cursor: CursorOutside\n"; status = 1 }
 
--- the lines up to a limit, if there is one; and whether the limit cuts them, which it does too where
--- these are just as many
+-- the lines up to a limit, if there is one; and whether the limit cuts them, which it does too
+-- where these are just as many
 abbrev pub up_to : Option ℕ → List PrintedLine → List PrintedLine
 up_to max lines = option_map_or (λ limit. take limit lines) max lines
 

@@ -11,8 +11,8 @@ abbrev pub sink_of : FillOrder → List ℕ → ℕ → ℕ → Sink
 sink_of order bytes count pending =
     record { order = order; bits = bits MsbFirst bytes ++ code_bits count pending }
 
--- no more bits are pending than may be, which are none, or thirty-two where there is room for five bytes
--- more
+-- no more bits are pending than may be, which are none, or thirty-two where there is room for five
+-- bytes more
 pub record IsPending (count pending most bytes capacity : ℕ) : Type 0 where
   pub within : count ≤ most
   pub few : most ≤ 32

@@ -18,7 +18,8 @@ pub record IsPairRead (b : List Bool) (pair : Pair) (rest : List Bool) : Type 0 
   pub white_some : 0 < pair.white
   pub black_some : 0 < pair.black
 
--- the bits begin with the code of horizontal mode and then with such a pair (T.4, section 4.2.1.3.2)
+-- the bits begin with the code of horizontal mode and then with such a pair (T.4, section
+-- 4.2.1.3.2)
 pub record IsHorizontalPairRead (b : List Bool) (pair : Pair) (rest : List Bool) : Type 0 where
   pub runs : List Bool
   pub mode : Takes modes b Horizontal runs

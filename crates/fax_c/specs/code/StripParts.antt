@@ -1,7 +1,8 @@
 -- What bytes that follow may change.
 use Rattle.std.specs.Prelude.{◌≡◌, ◌≢◌, ℕ, ◌*◌, ◌<◌, List, length, ⊤}
 use Rattle.fax_page.specs.declared.RowsEnd.{RowsEnd}
-use Rattle.fax_page.specs.declared.RowsEnd.TheVariants.{Marked, DataEnd, Fault as RowFaulty, TooMany}
+use Rattle.fax_page.specs.declared.RowsEnd.TheVariants.{Marked, DataEnd, Fault as RowFaulty}
+use Rattle.fax_page.specs.declared.RowsEnd.TheVariants.{TooMany}
 use Rattle.fax_page.specs.declared.StripFault.TheVariants.{DataEnds, EndMarker}
 use Rattle.fax_page.specs.declared.StripForm.{StripForm}
 use Rattle.fax_files.specs.declared.Cause.TheVariants.{Strip}

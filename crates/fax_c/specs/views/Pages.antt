@@ -38,7 +38,8 @@ TellsPage file page stride old_form form old new told status =
     × (((item : FormItem) × IsNumber (IsFormTail file (record { page = page; row = 0 })) 0 item
     × (form ≡ form_numbers item.form)
     × (((packed_len item.form.width ≤ stride)
-    × IsRasterFilled file (At (record { page = page; row = 0 })) item.form.rows stride old filled new)
+    × IsRasterFilled file (At (record { page = page; row = 0 })) item.form.rows stride old filled
+    new)
     ⊎ ((stride < packed_len item.form.width) × (filled ≡ none_filled page NoRoom) × (new ≡ old))))
     ⊎ ((end : End) × EndsAfter (IsFormTail file (record { page = page; row = 0 })) 0 end
     × (filled ≡ none_filled page (Ended end)) × (form ≡ old_form) × (new ≡ old)))

@@ -1,7 +1,6 @@
 -- Places as text, and read from it.
 -- A definition without a citation is this project's profile.
-use Rattle.std.specs.Prelude.{◌≡◌, ◌≢◌, ℕ, ◌<◌, ◌≤◌, ◌⊎◌, nat_le, if◌then◌else◌, List, length}
-use Rattle.std.specs.Prelude.{drop}
+use Rattle.std.specs.Prelude.{◌≡◌, ◌≢◌, ℕ, ◌<◌, ◌≤◌, ◌⊎◌, nat_le, if◌then◌else◌, List, length, drop}
 use Rattle.fax_walk.specs.Items.{begun_text}
 use Rattle.fax_walk.specs.declared.cursor.Cursor.{Cursor}
 use Rattle.fax_walk.specs.Pages.{IsCursor, IsLongCursor, LongPlace, cursor_text, long_cursor_text}
@@ -23,12 +22,13 @@ TellsPlaceText place runs old new len status =
     ⊎ ((len ≡ 0) × (new ≡ old)
     × ((LacksRuns place runs × (status ≡ 3)) ⊎ ((place.runs ≤ length runs) × (status ≡ 4))))
 
--- a text is this place's: a cursor's, and no run is changed; or that of a place inside a strip, whose
--- runs, which are no more than a row can have, are written, and no other run is changed
+-- a text is this place's: a cursor's, and no run is changed; or that of a place inside a strip,
+-- whose runs, which are no more than a row can have, are written, and no other run is changed
 abbrev pub IsPlaceRead : List ℕ → List ℕ → FaxPlace → List ℕ → Type 0
 IsPlaceRead text old_runs place runs =
     ((at : Cursor) × (text ≡ cursor_text at) × (place ≡ place_at at) × (runs ≡ old_runs))
-    ⊎ (HasRuns place runs × (place.runs ≤ most_runs) × (text ≡ long_cursor_text (long_place_of place runs))
+    ⊎ (HasRuns place runs × (place.runs ≤ most_runs)
+    × (text ≡ long_cursor_text (long_place_of place runs))
     × (drop place.runs runs ≡ drop place.runs old_runs))
 
 -- a text is no cursor's, and that of no place inside a strip that a row can have

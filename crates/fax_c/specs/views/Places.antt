@@ -82,8 +82,8 @@ IsAfter file begun filled old_runs place runs =
 abbrev pub outside_at : Cursor → Filled
 outside_at cursor = record { cursor = cursor; count = 0; used = 0; stop = Ended Outside }
 
--- rows from a place on are written and told, and the place is the one after them; or the place lacks
--- runs, which is told as a place outside the file, and nothing is changed
+-- rows from a place on are written and told, and the place is the one after them; or the place
+-- lacks runs, which is told as a place outside the file, and nothing is changed
 abbrev pub GoesOn : {N : Type 0} → (List Colour → List N) → List ℕ → FaxPlace → List ℕ
     → List FaxRow → List N → FaxPlace → List ℕ → List FaxRow → List N → FaxTold → ℕ → Type 0
 GoesOn numbers file old_place old_runs old_rows old_out place runs rows out told status =

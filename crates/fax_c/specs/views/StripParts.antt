@@ -18,8 +18,8 @@ use Rattle.fax_c.specs.declared.told.FaxTold.{FaxTold}
 use Rattle.fax_c.specs.Raster.{padded_row}
 use Rattle.fax_c.specs.Told.{no_fault}
 use Rattle.fax_c.specs.views.Places.{most_runs}
-use Rattle.fax_c.specs.views.Strips.{HasRoom, IsDueAt, IsPlaceAfter, IsReadable, IsReadableUncounted}
-use Rattle.fax_c.specs.views.Strips.{ReadsTo, StripPlace, TellsStripRows}
+use Rattle.fax_c.specs.views.Strips.{HasRoom, IsDueAt, IsPlaceAfter, IsReadable}
+use Rattle.fax_c.specs.views.Strips.{IsReadableUncounted, ReadsTo, StripPlace, TellsStripRows}
 
 -- the rows from one place of a strip to another are written and told, each in so many bytes, and
 -- are the same whatever bytes follow; the place is the one after them, and no fault is told
@@ -85,8 +85,8 @@ AwaitsMore given form strip stride old_place old_runs old place runs new told =
     ⊎ (IsNothingRead old_place old_runs old place runs new told
     × IsUnsettledAt given form strip old_place))
 
--- what is told of these bytes is told of them alone, and of all bytes, whatever follows; or rows are
--- read up to one that is not settled, and more bytes are waited for
+-- what is told of these bytes is told of them alone, and of all bytes, whatever follows; or rows
+-- are read up to one that is not settled, and more bytes are waited for
 abbrev pub TellsStripPart : List ℕ → FaxStrip → ℕ → FaxPlace → List ℕ → List ℕ → FaxPlace → List ℕ
     → List ℕ → FaxTold → FaxTold → ℕ → Type 0
 TellsStripPart strip given stride old_place old_runs old place runs new old_told told status =

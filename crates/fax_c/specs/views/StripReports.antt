@@ -53,8 +53,8 @@ report_of_end rows DataEnd notes = report_of_notes rows notes
 report_of_end rows end notes = report_without_notes rows (end_fault 0 rows end)
 
 -- the rows of a strip that nobody counted are read, and their notes told where they end well, or
--- the fault in the way of the next; or memory was refused; or the strip can be read so in no form of
--- these numbers; then nothing is changed
+-- the fault in the way of the next; or memory was refused; or the strip can be read so in no form
+-- of these numbers; then nothing is changed
 abbrev pub TellsUncountedReport : List ℕ → FaxStrip → FaxStripReport → FaxStripReport → ℕ → Type 0
 TellsUncountedReport strip given old report status =
     ((form : StripForm) × IsReadableUncounted strip given form

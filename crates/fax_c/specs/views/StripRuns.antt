@@ -1,7 +1,7 @@
 -- Rows as runs, which lie where a table says, coded as a strip.
 -- A definition without a citation is this project's profile.
-use Rattle.std.specs.Prelude.{◌≡◌, ℕ, ◌+◌, ◌<◌, ◌≤◌, ◌⊎◌, List, [], ◌∷◌, length, take, drop, slice_get}
-use Rattle.std.specs.Prelude.{Some, ⊤}
+use Rattle.std.specs.Prelude.{◌≡◌, ℕ, ◌+◌, ◌<◌, ◌≤◌, ◌⊎◌, List, [], ◌∷◌, length, take, drop}
+use Rattle.std.specs.Prelude.{slice_get, Some, ⊤}
 use Rattle.fax_rows.specs.Rows.{Colour, runs_of}
 use Rattle.fax_page.specs.declared.StripForm.{StripForm}
 use Rattle.fax_page.specs.Strip.{coded_strip}
@@ -31,9 +31,9 @@ AreRowsOf form table runs rows =
 abbrev pub IsFormWith : FaxStrip → ℕ → StripForm → Type 0
 IsFormWith given k form = IsStripFormGiven given form × (0 < k)
 
--- the rows of a table are coded as a strip, which is written where it has room, and its length told;
--- or memory was refused; or the numbers are no form, or there are no such rows; then nothing is
--- written
+-- the rows of a table are coded as a strip, which is written where it has room, and its length
+-- told; or memory was refused; or the numbers are no form, or there are no such rows; then nothing
+-- is written
 abbrev pub TellsStripOfRuns : FaxStrip → ℕ → List FaxRow → List ℕ → List ℕ → List ℕ → ℕ → ℕ
     → Type 0
 TellsStripOfRuns given k table runs old new len status =

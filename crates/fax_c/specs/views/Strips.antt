@@ -40,8 +40,8 @@ pub record IsStripFormGiven (given : FaxStrip) (form : StripForm) : Type 0 where
 abbrev pub IsReadable : List ℕ → FaxStrip → StripForm → Type 0
 IsReadable strip given form = IsStripFormGiven given form × (length strip ≤ 536870911)
 
--- a strip can be read in this form whose rows nobody counted, which are 0 by the numbers: it may have
--- as many as a strip has at most
+-- a strip can be read in this form whose rows nobody counted, which are 0 by the numbers: it may
+-- have as many as a strip has at most
 abbrev pub IsReadableUncounted : List ℕ → FaxStrip → StripForm → Type 0
 IsReadableUncounted strip given form =
     (given.rows ≡ 0) × IsReadable strip (record given { rows = most_rows }) form
@@ -66,9 +66,8 @@ abbrev pub IsDueAt : StripForm → List ℕ → FaxPlace → List ℕ → StripP
 IsDueAt form strip place runs at =
     IsPlace form.width place runs at × (at.row < form.rows) × (at.bits ≤ 8 * length strip)
 
--- from a place of these bits to another stand these rows, each over the row before it, and each ends
--- inside the bits
--- (T.4, section 4.2.1.1; T.6, section 2.2.1)
+-- from a place of these bits to another stand these rows, each over the row before it, and each
+-- ends inside the bits (T.4, section 4.2.1.1; T.6, section 2.2.1)
 abbrev pub ReadsTo : StripForm → List Bool → StripPlace → List (List Colour) → StripPlace → Type 0
 ReadsTo form all from [] to = from ≡ to
 ReadsTo form all from (row ∷ rows) to =

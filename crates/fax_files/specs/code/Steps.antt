@@ -1,7 +1,7 @@
 -- The steps to a page's form, as the code takes them.
 -- A definition without a citation is this project's profile.
-use Rattle.std.specs.Prelude.{◌≡◌, ◌≢◌, ℕ, ◌+◌, ◌≤◌, Bool, true, nat_le, nat_lt, ◌==◌, ◌&&◌, List, take}
-use Rattle.std.specs.Prelude.{if◌then◌else◌, drop, Option, Some, None, Result, Ok, Err}
+use Rattle.std.specs.Prelude.{◌≡◌, ◌≢◌, ℕ, ◌+◌, ◌≤◌, Bool, true, nat_le, nat_lt, ◌==◌, ◌&&◌, List}
+use Rattle.std.specs.Prelude.{take, if◌then◌else◌, drop, Option, Some, None, Result, Ok, Err}
 use Rattle.fax_files.specs.Directory.{Endian, FileFault, Entry, check, field, has_integers}
 use Rattle.fax_files.specs.Directory.{is_inside, needed, number_at, scalar, value_at}
 use Rattle.fax_files.specs.Directory.{values_place, ◌>>=◌}

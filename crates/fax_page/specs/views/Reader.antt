@@ -81,8 +81,8 @@ IsBegunInside form bytes i place before (Err Memory) = place ≤ 8 * length byte
 abbrev pub counted : ℕ → ℕ
 counted read = min (read + 1) 18446744073709551615
 
--- how many rows were read, where so many were read before this strip was begun at a row of it, up to
--- the greatest number of 64 bits
+-- how many rows were read, where so many were read before this strip was begun at a row of it, up
+-- to the greatest number of 64 bits
 abbrev pub rows_read : ℕ → ℕ → ℕ → ℕ
 rows_read before begun row = min (before + (row - begun)) 18446744073709551615
 

@@ -1,6 +1,6 @@
 -- What of a row in two-dimensional coding is due where no look-up finds the next code.
-use Rattle.std.specs.Prelude.{◌≡◌, ℕ, ◌+◌, ◌≤◌, ◌++◌, Bool, List, Option, None, Some, IfSome, IsTrue, ⊤}
-use Rattle.std.specs.Prelude.{length}
+use Rattle.std.specs.Prelude.{◌≡◌, ℕ, ◌+◌, ◌≤◌, ◌++◌, Bool, List, Option, None, Some, IfSome}
+use Rattle.std.specs.Prelude.{IsTrue, ⊤, length}
 use Rattle.fax_bits.specs.declared.Colour.{Colour}
 use Rattle.fax_bits.specs.declared.modes.ModeCode.TheVariants.{Horizontal}
 use Rattle.fax_bits.specs.Codes.{Takes, IsRun}
@@ -27,7 +27,8 @@ pub record AreReadRuns (choice : Bool) (colour : Colour) (width from : ℕ) (b :
 -- two runs are due, or the second one after a first one that T.4 chooses
 abbrev pub AreRunsDue : Colour → List Bool → Option ℕ → List Bool → Type 0
 AreRunsDue colour b None left = b ≡ left
-AreRunsDue colour b (Some first) left = IsRun colour b first left × (b ≡ run_bits colour first ++ left)
+AreRunsDue colour b (Some first) left = IsRun colour b first left
+    × (b ≡ run_bits colour first ++ left)
 
 -- a mode is due, or runs of horizontal mode
 abbrev pub IsDue : Colour → List Bool → Due → List Bool → Type 0

@@ -21,10 +21,11 @@ IsPackedWord row from word =
 -- the byte has those of the eight pels from a place on (the netpbm format, P4)
 abbrev pub IsPackedByte : List Colour → ℕ → ℕ → Type 0
 IsPackedByte row from byte =
-    (i : ℕ) → i < 8 → (bit_at byte (7 - i) == 1) ≡ slice_index_or (map is_black row) (from + i) false
+    (i : ℕ) → i < 8 → (bit_at byte (7 - i) == 1) ≡ slice_index_or (map is_black row) (from + i)
+    false
 
--- the places that are passed stand in a word, of which the pels left of the last of them are right, and
--- the others have the colour after it
+-- the places that are passed stand in a word, of which the pels left of the last of them are right,
+-- and the others have the colour after it
 pub record IsWordTo (row : PlacedRow) (from word passed : ℕ) : Type 0 where
   pub some : 0 < passed
   pub within : passed ≤ row.end

@@ -28,8 +28,8 @@ pub record IsReadTo (reference : PlacedRow) (places : List ℕ) (at : PlacedReac
       → IsB1At reference at.reached.a0 at.reached.colour at.b1
 
 -- this is so, and the row is not at its end
-pub record IsReadInside (reference : PlacedRow) (places : List ℕ) (at : PlacedReached) : Type 0 where
-  pub so_far : IsReadTo reference places at
+pub record IsReadInside (reference : PlacedRow) (put : List ℕ) (at : PlacedReached) : Type 0 where
+  pub so_far : IsReadTo reference put at
   pub unfinished : reached_pel at.reached < reference.width
 
 -- the bits begin with steps over which the row is read on, where it is asked for those that T.4

@@ -22,4 +22,5 @@ AreNumbers texts = (number : ℕ) (kept : ShortText) → IsMadeAt texts number k
 -- the texts that are made are those of two numbers, at 64 times the first and the second
 abbrev pub ArePairs : List ShortText → Type 0
 ArePairs texts = (first second : ℕ) (kept : ShortText) → second < 64
-    → IsMadeAt texts (64 * first + second) kept → IsText (and_number first ++ and_number second) kept
+    → IsMadeAt texts (64 * first + second) kept → IsText (and_number first ++ and_number second)
+    kept

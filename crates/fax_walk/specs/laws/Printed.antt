@@ -18,8 +18,8 @@ use Rattle.fax_walk.specs.Pages.{End, Fault, LongPlace, Outside, Proper, start}
 use Rattle.fax_walk.specs.Items.{AreItems, RowItem, cursor_after, long_after}
 use Rattle.fax_walk.specs.laws.InOrder.{IsTold}
 use Rattle.fax_walk.specs.laws.Left.{IsLeft}
-use Rattle.fax_walk.specs.views.Walk.{AreBeforeIt, AreRead, IsCursorOf, IsLent, IsLongOf, IsNext, WalkView}
-use Rattle.fax_walk.specs.views.Walk.{walk_from}
+use Rattle.fax_walk.specs.views.Walk.{AreBeforeIt, AreRead, IsCursorOf, IsLent, IsLongOf, IsNext}
+use Rattle.fax_walk.specs.views.Walk.{WalkView, walk_from}
 
 -- what is printed after an item: its cursor, or its place inside a strip, if there is one
 abbrev pub IsPrintedAfter : RowItem → Begun → Type 0

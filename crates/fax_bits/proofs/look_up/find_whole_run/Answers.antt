@@ -3,7 +3,11 @@ use Rattle.fax_bits.proofs.LookUpLemmas.{begins_more, run_code_short, short_run_
 use Rattle.fax_bits.proofs.look_up.find_whole_run.Goals as goal
 
 pub overflow_shl-bits : goal.overflow_shl-bits
-overflow_shl-bits c = omega (arith, run_code_short c.args.colour _ c.in_ok-first.first c.in_ok-first.code c.in_ok-first.ensures)
+overflow_shl-bits c = omega (
+  arith,
+  run_code_short c.args.colour _ c.in_ok-first.first c.in_ok-first.code
+      c.in_ok-first.ensures,
+)
 
 pub overflow_add-result : goal.overflow_add-result
 overflow_add-result c = grind (arith, run_code_short)

@@ -18,5 +18,6 @@ returns-clause-ok c =
 pub returns-in_err-put_all-clause-err : goal.returns-in_err-put_all-clause-err
 returns-in_err-put_all-clause-err c =
     on_err-of c.from_residual.result
-    (put-prefix c.args.colour c.args.n c.args.sink.now c.put_all.new.sink _ _ (c.in_err-put_all.ensures.err ∙ c.loop.invariant)
+    (put-prefix c.args.colour c.args.n c.args.sink.now c.put_all.new.sink _ _
+    (c.in_err-put_all.ensures.err ∙ c.loop.invariant)
     (first_codes c.args.n c.loop.counter (omega arith)))

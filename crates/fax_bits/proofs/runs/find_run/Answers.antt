@@ -10,13 +10,16 @@ run_place-place-requires c = aligned_fits c.args.n c.args.window c.requires.few 
 pub returns-then-place-lt-RUN_ENTRIES : goal.returns-then-place-lt-RUN_ENTRIES
 returns-then-place-lt-RUN_ENTRIES c =
     let colour = c.args.colour in
-    found_by_place (run_table colour) (run_table_has_short_codes colour) (run_table_is_prefix_free colour) c.args.n c.args.window
-    c.run_place-place.result c.requires.few c.requires.fits c.run_place-place.ensures c.run_entry.result c.run_entry.ensures.found
+    found_by_place (run_table colour) (run_table_has_short_codes colour) (run_table_is_prefix_free colour) c.args.n
+    c.args.window
+    c.run_place-place.result c.requires.few c.requires.fits c.run_place-place.ensures c.run_entry.result
+    c.run_entry.ensures.found
     c.within.result c.within.ensures
 
 pub returns-else-place-lt-RUN_ENTRIES : goal.returns-else-place-lt-RUN_ENTRIES
 returns-else-place-lt-RUN_ENTRIES c =
     let colour = c.args.colour in
-    none_by_place (run_table colour) (run_table_has_short_codes colour) (run_table_is_prefix_free colour) c.args.n c.args.window
+    none_by_place (run_table colour) (run_table_has_short_codes colour) (run_table_is_prefix_free colour) c.args.n
+    c.args.window
     c.run_place-place.result c.requires.few c.requires.fits c.run_place-place.ensures
     (omega (arith, length-run_table colour, c.if-place-lt-RUN_ENTRIES.false))

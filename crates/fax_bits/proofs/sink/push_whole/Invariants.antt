@@ -9,7 +9,8 @@ invariant-loop-left l = record {
   fits : l.rest < 2 ^ l.left;
   len : 8 * vec_len l.bytes + l.left ≡ 8 * vec_len l.initial.bytes + l.count;
   room : vec_capacity l.bytes ≡ vec_capacity l.initial.bytes;
-  put : bits MsbFirst l.bytes.items ++ code_bits l.left l.rest ≡ bits MsbFirst l.initial.bytes.items ++ code_bits l.count l.pending;
+  put : bits MsbFirst l.bytes.items ++ code_bits l.left l.rest
+      ≡ bits MsbFirst l.initial.bytes.items ++ code_bits l.count l.pending;
 }
 
 abbrev pub decreases-loop-left : goal.decreases-loop-left

@@ -4,7 +4,8 @@ use Rattle.fax_files.proofs.chain.turning_from.Goals as goal
 
 pub overflow_cast-result : goal.overflow_cast-result
 overflow_cast-result c =
-    let below = turning_below c.args.tiff.now c.has_few_pages.ensures _ _ _ c.round_from-round.ensures c.first_turn-page.ensures.turn in
+    let below = turning_below c.args.tiff.now c.has_few_pages.ensures _ _ _ c.round_from-round.ensures
+    c.first_turn-page.ensures.turn in
     omega (arith, below)
 
 pub returns : goal.returns

@@ -36,7 +36,8 @@ returns-clause-ok c =
     let raster = take len after in
     let rest = take (length after - len) (drop len after) in
     image_read c.args.bytes.now head.width head.height raster rest
-    (subst (λ (l : List ℕ). IsHeadRead c.args.bytes.now head.width head.height l) (take_both after len) c.in-Some.ensures.some)
+    (subst (λ (l : List ℕ). IsHeadRead c.args.bytes.now head.width head.height l) (take_both after len)
+    c.in-Some.ensures.some)
     within
     (length-take_of after len c.if-head-len.false
     ∙ grind (arith, c.if-head-len.false, c.saturating_mul-len.ensures, ap (λ n. head.height * n) c.row_len.ensures))
@@ -45,5 +46,6 @@ pub returns-clause-raster : goal.returns-clause-raster
 returns-clause-raster c =
     let head = c.in-Some.head in
     let within = sym c.is_within_limits.ensures ∙ c.if-not-is_within_limits.false in
-    subst (λ (l : List ℕ). IsHead c.args.bytes.now head.width head.height l) (take_both head.after.now c.saturating_mul-len.result)
+    subst (λ (l : List ℕ). IsHead c.args.bytes.now head.width head.height l)
+    (take_both head.after.now c.saturating_mul-len.result)
     (exact_head c.args.bytes.now head.width head.height head.after.now c.in-Some.ensures.some within)

@@ -24,7 +24,8 @@ returns c =
       | else-end-eq1 w ↦ (let even : c.args.placed.end % 2 ≡ 0 =
           omega (arith, w.if-end-eq1.false) in rw (w.tail-is, c.new-tail.ensures.items, even) refl)
     ] in
-    let arrays : c.if-at-ne1.tail.items ≡ c.put_rational-2.new.out.items ++ array_bytes offsets ++ array_bytes (lengths_of strips) =
+    let arrays : c.if-at-ne1.tail.items ≡ c.put_rational-2.new.out.items ++ array_bytes offsets
+    ++ array_bytes (lengths_of strips) =
     elim c.if-at-ne1.branch [
       | then-at-ne1+in_ok-put_offsets+in_ok-put_byte_counts w ↦
           rw (

@@ -4,4 +4,5 @@ use Rattle.fax_files.specs.views.Writing.{contents}
 use Rattle.fax_files.proofs.written.put_byte_counts.Given as goal
 
 abbrev pub invariant-loop-strip : goal.invariant-loop-strip
-invariant-loop-strip l = l.out.items ≡ l.initial.out.items ++ longs (lengths_of (contents (take l.strip-index l.strips)))
+invariant-loop-strip l = l.out.items ≡ l.initial.out.items ++ longs
+    (lengths_of (contents (take l.strip-index l.strips)))

@@ -24,8 +24,10 @@ overflow_add-place c =
 pub loop-strip-preserved : goal.loop-strip-preserved
 loop-strip-preserved c =
     let more =
-    offsets_more c.args.strips.now c.loop-strip.strip-index c.strip-item.result c.loop-strip-test.true c.strip-item.is c.args.start in
-    let end = end_of_strip c.args.strips.now c.loop-strip.strip-index c.strip-item.result c.loop-strip-test.true c.strip-item.is in
+    offsets_more c.args.strips.now c.loop-strip.strip-index c.strip-item.result c.loop-strip-test.true c.strip-item.is
+    c.args.start in
+    let end = end_of_strip c.args.strips.now c.loop-strip.strip-index c.strip-item.result c.loop-strip-test.true
+    c.strip-item.is in
     record {
       place = omega (arith, end, c.loop-strip.invariant.place, c.len.ensures);
       put =

@@ -14,8 +14,15 @@ returns-then-len-end-clause-none c =
 
 pub loop-strip-preserved : goal.loop-strip-preserved
 loop-strip-preserved c =
-    let end = end_of_strip c.args.strips.now c.loop-strip.strip-index c.strip-item.result c.loop-strip-test.true c.strip-item.is in
+    let end = end_of_strip c.args.strips.now c.loop-strip.strip-index c.strip-item.result c.loop-strip-test.true
+    c.strip-item.is in
     record {
       end = omega (arith, end, c.loop-strip.invariant.end, c.len-in-loop-strip.ensures);
-      limit = omega (arith, c.len.ensures, c.len-in-loop-strip.ensures, c.if-len-end.false, c.loop-strip.invariant.limit);
+      limit = omega (
+        arith,
+        c.len.ensures,
+        c.len-in-loop-strip.ensures,
+        c.if-len-end.false,
+        c.loop-strip.invariant.limit,
+      );
     }

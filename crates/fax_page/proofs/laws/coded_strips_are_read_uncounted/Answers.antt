@@ -13,5 +13,6 @@ returns c = λ form k rows limits fit.
     subst (λ b. IsUncounted form b rows (written_end form.coding)) (sym padded.2)
     (written_is_uncounted form (coded_bits form k rows ++ replicate padded.0 false) rows padded.0 limits.few_rows
     (omega (arith, fit.count, limits.some_rows))
-    (coded_lines_back c.one_dimensional_rows_are_read_back.ensures c.two_dimensional_rows_are_read_back.ensures form limits k rows
+    (coded_lines_back c.one_dimensional_rows_are_read_back.ensures c.two_dimensional_rows_are_read_back.ensures form
+    limits k rows
     (replicate padded.0 false) fit))

@@ -20,7 +20,8 @@ returns-in-Mh-default-clause-ok c =
     let sink = c.args.sink.now in
     rw (c.in-Mh-default.is-0)
     (on_ok_weaker c.put.result
-    (put_after_fill sink c.put.new.self c.args.form.aligned c.len.result c.fill_zeros-fill.result 12 1 (end_of_line) c.len.ensures
+    (put_after_fill sink c.put.new.self c.args.form.aligned c.len.result c.fill_zeros-fill.result 12 1 (end_of_line)
+    c.len.ensures
     c.fill_zeros-fill.ensures.exact (omega arith) refl)
     c.put.ensures.ok)
 
@@ -30,7 +31,8 @@ returns-in-Mr-OneDimensional-clause-ok c =
     let sink = c.args.sink.now in
     rw (c.in-Mr-OneDimensional.is-0, c.in-Mr-OneDimensional.is-1)
     (on_ok_weaker c.put-in-Mr-OneDimensional.result
-    (put_after_fill sink c.put-in-Mr-OneDimensional.new.self c.args.form.aligned c.len.result c.fill_zeros-fill.result 13 3
+    (put_after_fill sink c.put-in-Mr-OneDimensional.new.self c.args.form.aligned c.len.result c.fill_zeros-fill.result
+    13 3
     (end_of_line ++ true ∷ []) c.len.ensures
     c.fill_zeros-fill.ensures.exact (omega arith) refl)
     c.put-in-Mr-OneDimensional.ensures.ok)
@@ -41,7 +43,8 @@ returns-in-Mr-TwoDimensional-clause-ok c =
     let sink = c.args.sink.now in
     rw (c.in-Mr-TwoDimensional.is-0, c.in-Mr-TwoDimensional.is-1)
     (on_ok_weaker c.put-in-Mr-TwoDimensional.result
-    (put_after_fill sink c.put-in-Mr-TwoDimensional.new.self c.args.form.aligned c.len.result c.fill_zeros-fill.result 13 2
+    (put_after_fill sink c.put-in-Mr-TwoDimensional.new.self c.args.form.aligned c.len.result c.fill_zeros-fill.result
+    13 2
     (end_of_line ++ false ∷ []) c.len.ensures
     c.fill_zeros-fill.ensures.exact (omega arith) refl)
     c.put-in-Mr-TwoDimensional.ensures.ok)

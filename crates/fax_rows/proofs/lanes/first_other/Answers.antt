@@ -1,6 +1,7 @@
 use Rattle.std.proofs.Common.{◌<◌, ◌+◌, ◌*◌, ◌/◌, ◌%◌, sym, ◌∙◌, arith, length, get_or}
 use Rattle.fax_rows.specs.code.FirstOther.{first_other_in_byte}
-use Rattle.fax_rows.proofs.FirstOtherLemmas.{first_other_is, plain_in_byte, other_in_byte, plain_before, plain_on, found_in_byte}
+use Rattle.fax_rows.proofs.FirstOtherLemmas.{first_other_is, plain_in_byte, other_in_byte, plain_before, plain_on}
+use Rattle.fax_rows.proofs.FirstOtherLemmas.{found_in_byte}
 use Rattle.fax_rows.proofs.FirstOtherLemmas.{in_byte-ge}
 use Rattle.fax_rows.proofs.lanes.first_other.Goals as goal
 
@@ -14,7 +15,12 @@ returns-then-here-lt8 c =
     let below : c.args.from % 8 < 8 = omega arith in
     let found = c.first_other_in_byte-here.ensures in
     first_other_is bytes c.args.from (8 * (c.args.from / 8) + c.from.result) c.args.colour
-    (omega (arith, in_byte-ge (get_or bytes (c.args.from / 8) 0) (c.args.from % 8) c.args.colour, found, c.from.ensures))
+    (omega (
+      arith,
+      in_byte-ge (get_or bytes (c.args.from / 8) 0) (c.args.from % 8) c.args.colour,
+      found,
+      c.from.ensures,
+    ))
     (omega (arith, c.from.ensures, c.if-here-lt8.true))
     (λ k l h. plain_in_byte c.bits_stand_by_place.ensures bytes c.args.colour (c.args.from / 8) (c.args.from % 8)
     c.first_other_in_byte-here.result
@@ -30,8 +36,10 @@ returns-then-after-bytes c =
     let first = c.first_other_byte-after.ensures in
     first_other_is bytes c.args.from (8 * c.first_other_byte-after.result) c.args.colour (omega (arith, first.right))
     (omega (arith, first.within))
-    (plain_before c.bits_stand_by_place.ensures bytes c.args.colour c.args.from c.first_other_in_byte-here.result c.plain_byte.result
-    c.first_other_byte-after.result inside c.first_other_in_byte-here.ensures c.if-here-lt8.false c.plain_byte.ensures first)
+    (plain_before c.bits_stand_by_place.ensures bytes c.args.colour c.args.from c.first_other_in_byte-here.result
+    c.plain_byte.result
+    c.first_other_byte-after.result inside c.first_other_in_byte-here.ensures c.if-here-lt8.false c.plain_byte.ensures
+    first)
     (λ h. absurd (omega (arith, c.if-after-bytes.true)))
 
 pub returns : goal.returns
@@ -51,8 +59,10 @@ returns c =
     (plain_on bytes c.args.colour c.args.from (8 * after) (8 * after + c.from-2.result)
     (plain_before law bytes c.args.colour c.args.from c.first_other_in_byte-here.result c.plain_byte.result after inside
     c.first_other_in_byte-here.ensures c.if-here-lt8.false c.plain_byte.ensures first)
-    (λ k l h. plain_in_byte law bytes c.args.colour after 0 c.first_other_in_byte.result within (omega arith) (omega (arith, found)) k
+    (λ k l h. plain_in_byte law bytes c.args.colour after 0 c.first_other_in_byte.result within (omega arith)
+    (omega (arith, found)) k
     (omega arith) (omega (arith, c.from-2.ensures))))
-    (λ h. other_in_byte law bytes c.args.colour after 0 c.first_other_in_byte.result (8 * after + c.from-2.result) within (omega arith)
+    (λ h. other_in_byte law bytes c.args.colour after 0 c.first_other_in_byte.result (8 * after + c.from-2.result)
+    within (omega arith)
     found
     (omega (arith, near, found)) (omega (arith, c.from-2.ensures)))

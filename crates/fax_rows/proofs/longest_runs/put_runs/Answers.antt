@@ -13,7 +13,8 @@ turn-end-requires-clause-room c = omega (arith, more_room c.loop-n.invariant.put
 pub loop-n-preserved : goal.loop-n-preserved
 loop-n-preserved c =
     let runs = put_next_run c.args.runs.now c.loop-n.n-index c.loop-n.total _ (take c.loop-n.end c.loop-n.places)
-    (take c.turn-end.result c.turn-end.new.places) c.loop-n-test.true refl c.loop-n.invariant.runs c.turn-end.ensures.turned in
+    (take c.turn-end.result c.turn-end.new.places) c.loop-n-test.true refl c.loop-n.invariant.runs
+    c.turn-end.ensures.turned in
     record {
       runs = runs;
       put = put_on c.loop-n.invariant.put c.turn-end.ensures
@@ -22,7 +23,8 @@ loop-n-preserved c =
 
 pub returns-clause-pels : goal.returns-clause-pels
 returns-clause-pels c =
-    put_all_runs (subst (λ runs. ArePutRuns runs c.loop-n.total (take c.loop-n.end c.loop-n.places)) whole c.loop-n.invariant.runs)
+    put_all_runs (subst (λ runs. ArePutRuns runs c.loop-n.total (take c.loop-n.end c.loop-n.places)) whole
+    c.loop-n.invariant.runs)
     c.requires.whole
   where
     whole : take c.loop-n.n-index c.args.runs.now ≡ c.args.runs.now

@@ -23,7 +23,11 @@ put_turn-next-requires-clause-room c = omega (arith, more_room c.loop-runs.invar
 
 pub put_turn-requires-clause-room : goal.put_turn-requires-clause-room
 put_turn-requires-clause-room c =
-    omega (arith, more_room (put_on c.loop-runs.invariant.read.put c.put_turn-next.ensures (omega (arith, c.in-Some.ensures.within))))
+    omega (
+      arith,
+      more_room (put_on c.loop-runs.invariant.read.put c.put_turn-next.ensures
+          (omega (arith, c.in-Some.ensures.within))),
+    )
 
 pub loop-runs-preserved-in-Some : goal.loop-runs-preserved-in-Some
 loop-runs-preserved-in-Some c =
@@ -66,7 +70,14 @@ loop-runs-preserved-in-Continue-branch-2 c =
       colour = White;
       read = read_on read c.if-runs-width.true second.run second.right second.put.within second.turned second.chosen;
       white = λ h. refl;
-      same_end = omega (arith, second.same_end, first.same_end, so_far.same_end, ap (λ (s : Source). s.place + length s.left) same);
+      same_end = omega (
+        arith,
+        second.same_end,
+        first.same_end,
+        so_far.same_end,
+        ap
+            (λ (s : Source). s.place + length s.left) same,
+      );
     }
 
 pub loop-runs-preserved : goal.loop-runs-preserved
@@ -76,7 +87,8 @@ loop-runs-preserved c =
     let same = c.in_default.ensures.unchanged refl in
     record {
       colour = Black;
-      read = read_on (white_read so_far.read (so_far.white c.loop-runs-test.true) same) c.loop-runs-test.true first.run first.right
+      read = read_on (white_read so_far.read (so_far.white c.loop-runs-test.true) same) c.loop-runs-test.true first.run
+          first.right
           first.put.within first.turned first.chosen;
       white = λ h. absurd (omega arith);
       same_end = omega (arith, first.same_end, so_far.same_end, ap (λ (s : Source). s.place + length s.left) same);
@@ -91,8 +103,11 @@ returns-clause-ok c =
 
 pub returns-clause-chosen : goal.returns-clause-chosen
 returns-clause-chosen c is =
-    let done : c.loop-runs.runs.total ≡ c.args.width = let within = c.loop-runs.invariant.read.put.within in omega arith in
+    let done : c.loop-runs.runs.total ≡ c.args.width = let within = c.loop-runs.invariant.read.put.within in
+    omega arith in
     rw c.go_to.ensures
-    (runs_end c.one_dimensional_rows_are_read_as_nothing_else.ensures c.args.width c.args.source.now.left c.loop-runs.runs.total
-    c.loop-runs.invariant.colour _ c.loop-runs.ahead.left (c.loop-runs.invariant.read.written is) done c.requires.some c.requires.short
+    (runs_end c.one_dimensional_rows_are_read_as_nothing_else.ensures c.args.width c.args.source.now.left
+    c.loop-runs.runs.total
+    c.loop-runs.invariant.colour _ c.loop-runs.ahead.left (c.loop-runs.invariant.read.written is) done c.requires.some
+    c.requires.short
     (row_done c.loop-runs.invariant.read.so_far done (length-pels_by c.args.width _)))

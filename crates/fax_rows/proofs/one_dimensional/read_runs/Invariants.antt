@@ -7,7 +7,8 @@ use Rattle.fax_rows.proofs.one_dimensional.read_runs.Given as goal
 abbrev pub invariant-loop-runs : goal.invariant-loop-runs
 invariant-loop-runs l = record {
   colour : Colour;
-  read : HasRead l.width l.fn.source.left (IsTrue l.runs.is_chosen) l.runs.total colour l.places l.runs.end l.ahead.left;
+  read : HasRead l.width l.fn.source.left (IsTrue l.runs.is_chosen) l.runs.total colour l.places l.runs.end
+      l.ahead.left;
   white : l.runs.total < l.width → colour ≡ White;
   same_end : l.ahead.place + length l.ahead.left ≡ l.fn.source.place + length l.fn.source.left;
 }

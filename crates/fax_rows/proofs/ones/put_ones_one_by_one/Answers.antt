@@ -13,12 +13,14 @@ bounds-places-end c =
 
 pub loop-left-smaller : goal.loop-left-smaller
 loop-left-smaller c =
-    less_without c.loop-left.left _ (highest c.loop-left.left _ (omega arith) (omega (arith, c.loop-left.auto.left-fits)) refl)
+    less_without c.loop-left.left _ (highest c.loop-left.left _ (omega arith)
+    (omega (arith, c.loop-left.auto.left-fits)) refl)
 
 pub loop-left-preserved : goal.loop-left-preserved
 loop-left-preserved c =
     let at = count_leading_zeros 64 c.loop-left.left in
-    let top : IsHighest c.loop-left.left at = highest c.loop-left.left at (omega arith) (omega (arith, c.loop-left.auto.left-fits)) refl in
+    let top : IsHighest c.loop-left.left at = highest c.loop-left.left at (omega arith)
+    (omega (arith, c.loop-left.auto.left-fits)) refl in
     let so_far = c.loop-left.invariant.1 in (
       at + 1,
       record {
@@ -26,7 +28,8 @@ loop-left-preserved c =
         put =
             take_more_set c.loop-left.places c.loop-left.end (c.args.from + at) (bounds-places-end c)
             ∙ ap (λ ps. ps ++ (c.args.from + at) ∷ []) so_far.put
-            ∙ append_assoc (take c.args.end c.args.places.now) (ones_among c.args.from 63 c.args.word c.loop-left.invariant.0) _
+            ∙ append_assoc (take c.args.end c.args.places.now) (ones_among c.args.from 63 c.args.word
+            c.loop-left.invariant.0) _
             ∙ ap (λ ps. take c.args.end c.args.places.now ++ ps) (one_more _ _ _ so_far.rest c.args.from at top);
         within = omega (arith, so_far.within, ahead _ _ _ so_far.rest at top);
       },
@@ -35,4 +38,5 @@ loop-left-preserved c =
 pub returns-clause-put : goal.returns-clause-put
 returns-clause-put c =
     let so_far = c.loop-left.invariant.1 in
-    so_far.put ∙ ap (λ ps. take c.args.end c.args.places.now ++ ps) (sym (none_left _ _ _ so_far.rest c.args.from (omega arith)))
+    so_far.put ∙ ap (λ ps. take c.args.end c.args.places.now ++ ps)
+    (sym (none_left _ _ _ so_far.rest c.args.from (omega arith)))

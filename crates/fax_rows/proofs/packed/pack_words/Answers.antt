@@ -22,7 +22,8 @@ loop-k-preserved-then-k-change c =
       within = omega (arith, most, c.requires.within);
       done = λ i h. elim (cases_lt i at) [
         | inl less ↦
-            subst (IsPackedByte (placed_pels c.args.row) (8 * i)) (sym (c.fill.ensures.before i less)) (c.loop-k.invariant.done i less)
+            subst (IsPackedByte (placed_pels c.args.row) (8 * i)) (sym (c.fill.ensures.before i less))
+            (c.loop-k.invariant.done i less)
         | inr more ↦
             subst (IsPackedByte (placed_pels c.args.row) (8 * i))
             (sym (c.fill.ensures.filled i more h ∙ c.plain_byte.ensures ∙ ap plain_byte c.colour_after.ensures))
@@ -45,12 +46,15 @@ loop-k-preserved c =
     record {
       within = omega arith;
       done = λ i h.
-          part_written (λ j. IsPackedByte (placed_pels c.args.row) (8 * j)) c.loop-k.out c.copy_from_slice.new.self at _ room
+          part_written (λ j. IsPackedByte (placed_pels c.args.row) (8 * j)) c.loop-k.out c.copy_from_slice.new.self at _
+          room
           c.loop-k.invariant.done
           (λ j l.
           subst (IsPackedByte (placed_pels c.args.row) (8 * (at + j))) (sym (ap (λ part. get_or part j 0) bytes))
-          (byte_of_word _ (64 * c.loop-k.k) c.word_up_to-word.result.0 j (8 * (at + j)) packed (omega (arith, long)) (omega arith)))
+          (byte_of_word _ (64 * c.loop-k.k) c.word_up_to-word.result.0 j (8 * (at + j)) packed (omega (arith, long))
+          (omega arith)))
           i (omega (arith, long));
-      so_far = subst (λ n. HasPassed c.args.row.places.now c.args.row.end n c.word_up_to-word.result.1) next word.so_far;
+      so_far = subst (λ n. HasPassed c.args.row.places.now c.args.row.end n c.word_up_to-word.result.1) next
+          word.so_far;
       len = search (rules, places);
     }

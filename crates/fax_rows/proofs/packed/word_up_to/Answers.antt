@@ -17,17 +17,30 @@ loop-after-init c = record {
 }
 
 pub bounds-row-after : goal.bounds-row-after
-bounds-row-after c = omega (arith, c.loop-after.invariant.word.within, c.args.row.placed.room, end_within c.args.row.placed)
+bounds-row-after c = omega (
+  arith,
+  c.loop-after.invariant.word.within,
+  c.args.row.placed.room,
+  end_within
+      c.args.row.placed,
+)
 
 pub bounds-row-after-in-loop-after : goal.bounds-row-after-in-loop-after
-bounds-row-after-in-loop-after c = omega (arith, c.loop-after.invariant.word.within, c.args.row.placed.room, end_within c.args.row.placed)
+bounds-row-after-in-loop-after c = omega (
+  arith,
+  c.loop-after.invariant.word.within,
+  c.args.row.placed.room,
+  end_within
+      c.args.row.placed,
+)
 
 pub loop-after-preserved : goal.loop-after-preserved
 loop-after-preserved c =
     let same : c.loop-after.after + 1 - 1 ≡ c.loop-after.after = omega arith in
     record {
       word =
-          word_turned c.args.row (64 * c.args.k) c.loop-after.word c.loop-after.after (get_or c.args.row.places.now c.loop-after.after 0 % 64)
+          word_turned c.args.row (64 * c.args.k) c.loop-after.word c.loop-after.after
+          (get_or c.args.row.places.now c.loop-after.after 0 % 64)
           c.loop-after.invariant.word (omega arith) (omega arith) (λ ahead. omega arith);
       left = omega (arith, ap (λ m. get_or c.args.row.places.now m 0) same);
     }

@@ -6,7 +6,8 @@ use Rattle.fax_rows.proofs.turns.end_below.Goals.{Joined-else-end-gt1, else-end-
 use Rattle.fax_rows.proofs.turns.end_below.Goals.{else-end-gt1-via-else-end-gt1}
 
 pub returns-then-places-end-clause-below : goal.returns-then-places-end-clause-below
-returns-then-places-end-clause-below c = below_last c.args.places.now c.args.end c.args.width c.requires.ascending c.requires.last
+returns-then-places-end-clause-below c = below_last c.args.places.now c.args.end c.args.width c.requires.ascending
+    c.requires.last
 
 pub returns-then-places-end-clause-within : goal.returns-then-places-end-clause-within
 returns-then-places-end-clause-within c =
@@ -14,7 +15,8 @@ returns-then-places-end-clause-within c =
 
 pub returns-then-places-end-clause-pels : goal.returns-then-places-end-clause-pels
 returns-then-places-end-clause-pels c =
-    without_last c.args.width c.args.places.now c.args.end c.requires.ascending.started c.requires.ascending.within (omega arith)
+    without_last c.args.width c.args.places.now c.args.end c.requires.ascending.started c.requires.ascending.within
+    (omega arith)
 
 -- the last place, if any, is not the width
 differs : (c : Joined-else-end-gt1) → (c.args.end ≤ 1) ⊎ (get_or c.args.places.now (c.args.end - 1) 0 ≢ c.args.width)

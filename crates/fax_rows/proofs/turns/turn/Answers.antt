@@ -7,7 +7,8 @@ pub returns-then-places-end : goal.returns-then-places-end
 returns-then-places-end c = record {
   ascending = search rules;
   last = search rules;
-  turned = turned_back c.args.places.now c.args.end c.args.place c.requires.ascending.started c.requires.ascending.within (omega arith);
+  turned = turned_back c.args.places.now c.args.end c.args.place c.requires.ascending.started
+      c.requires.ascending.within (omega arith);
   same_len = search rules;
 }
 

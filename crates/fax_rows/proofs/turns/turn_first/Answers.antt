@@ -34,7 +34,8 @@ first c = get_or-set_same c.rotate_right.new.self 0 0 0 (omega (arith, c.rotate_
 
 pub returns-clause-placed : goal.returns-clause-placed
 returns-clause-placed c =
-    with_first c.args.places.now (set c.rotate_right.new.self 0 0) c.args.end c.args.width c.requires (omega (arith, c.if-places-eq0.false))
+    with_first c.args.places.now (set c.rotate_right.new.self 0 0) c.args.end c.args.width c.requires
+    (omega (arith, c.if-places-eq0.false))
     (len c) (first c) (right_by_one c)
 
 pub returns-clause-turned : goal.returns-clause-turned

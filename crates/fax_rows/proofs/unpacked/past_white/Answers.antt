@@ -8,6 +8,7 @@ pub loop-k-preserved : goal.loop-k-preserved
 loop-k-preserved c = record {
   from = omega (arith, c.loop-k.invariant.from);
   within = omega arith;
-  white = white_on (bits MsbFirst c.args.bytes.now) c.args.word c.args.from c.loop-k.k (omega arith) c.loop-k.invariant.white
+  white = white_on (bits MsbFirst c.args.bytes.now) c.args.word c.args.from c.loop-k.k (omega arith)
+      c.loop-k.invariant.white
       (c.if-are_white.ensures refl);
 }

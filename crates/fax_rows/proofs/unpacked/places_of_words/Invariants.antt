@@ -12,7 +12,8 @@ invariant-loop-k l = record {
   within : l.k ≤ l.words;
   ascending : IsAscending l.places l.end;
   left : 1 < l.end → get_or l.places (l.end - 1) 0 < 64 * l.k;
-  unpacked : IsUnpackedTo (bits MsbFirst l.bytes) (take l.end l.places) (64 * l.k) (colour_of_bit (word_bit l.before 63));
+  unpacked : IsUnpackedTo (bits MsbFirst l.bytes) (take l.end l.places) (64 * l.k)
+      (colour_of_bit (word_bit l.before 63));
 }
 
 abbrev pub decreases-loop-k : goal.decreases-loop-k

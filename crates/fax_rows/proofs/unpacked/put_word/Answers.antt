@@ -4,12 +4,31 @@ use Rattle.fax_rows.proofs.UnpackedWordLemmas.{room_after}
 use Rattle.fax_rows.proofs.unpacked.put_word.Goals as goal
 
 pub put_ones-requires-clause-room : goal.put_ones-requires-clause-room
-put_ones-requires-clause-room c = omega (arith, room_after c.args.places.now c.args.end c.args.from c.requires.ascending c.requires.left, c.requires.room)
+put_ones-requires-clause-room c = omega (
+  arith,
+  room_after c.args.places.now c.args.end c.args.from c.requires.ascending
+      c.requires.left,
+  c.requires.room,
+)
 
 pub returns : goal.returns
 returns c =
     let put =
-    word_put c.args.places.now c.put_ones.new.places c.args.end c.put_ones.result c.args.from c.args.before c.args.word (omega arith)
-    (omega (arith, c.put_ones.ensures.within, c.put_ones.ensures.same_len, room_after c.args.places.now c.args.end c.args.from c.requires.ascending c.requires.left, c.requires.room))
+    word_put c.args.places.now c.put_ones.new.places c.args.end c.put_ones.result c.args.from c.args.before c.args.word
+    (omega arith)
+    (omega (
+      arith,
+      c.put_ones.ensures.within,
+      c.put_ones.ensures.same_len,
+      room_after c.args.places.now c.args.end
+          c.args.from c.requires.ascending c.requires.left,
+      c.requires.room,
+    ))
     c.requires.ascending c.requires.left c.put_ones.ensures.put in
-    record { ascending = put.ascending; left = put.left; unpacked = put.put.unpacked; same_len = c.put_ones.ensures.same_len }
+    record {
+      ascending = put.ascending;
+      left = put.left;
+      unpacked = put.put.unpacked;
+      same_len =
+          c.put_ones.ensures.same_len;
+    }

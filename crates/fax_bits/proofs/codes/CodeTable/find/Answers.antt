@@ -3,7 +3,8 @@ use Rattle.fax_bits.specs.Codes.{bits_of}
 use Rattle.fax_bits.specs.Bits.{code_bits, BeginsWith}
 use Rattle.fax_bits.proofs.FindLemmas.{code_ahead, ahead_is_short, ahead_is_first}
 use Rattle.fax_bits.proofs.TableLemmas.{listed, each_below_more, each-from_below}
-use Rattle.fax_bits.proofs.codes.CodeTable.find.Goals.{else-len-n-via-then-len-n+else-window-n, else-len-n-via-else-len-n}
+use Rattle.fax_bits.proofs.codes.CodeTable.find.Goals.{else-len-n-via-then-len-n+else-window-n}
+use Rattle.fax_bits.proofs.codes.CodeTable.find.Goals.{else-len-n-via-else-len-n}
 use Rattle.fax_bits.proofs.codes.CodeTable.find.Goals as goal
 
 pub returns-then-window-n : goal.returns-then-window-n
@@ -39,5 +40,6 @@ loop-i-preserved g c =
 
 pub returns : goal.returns
 returns g c =
-    each-from_below (λ other. BeginsWith (code_bits c.args.n c.args.window) (bits_of other) → ⊥) g.Self.CodeTable.table c.loop-i.i
+    each-from_below (λ other. BeginsWith (code_bits c.args.n c.args.window) (bits_of other) → ⊥) g.Self.CodeTable.table
+    c.loop-i.i
     (omega (arith, g.met.Self.CodeTable.counted, c.loop-i-test.false)) c.loop-i.invariant

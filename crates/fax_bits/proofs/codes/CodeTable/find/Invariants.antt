@@ -5,4 +5,5 @@ use Rattle.fax_bits.proofs.codes.CodeTable.find.Given as goal
 
 -- no entry gone through so far begins the bits
 abbrev pub invariant-loop-i : goal.invariant-loop-i
-invariant-loop-i g l = EachBelow (λ entry. BeginsWith (code_bits l.n l.window) (bits_of entry) → ⊥) g.Self.CodeTable.table l.i
+invariant-loop-i g l = EachBelow (λ entry. BeginsWith (code_bits l.n l.window) (bits_of entry) → ⊥)
+    g.Self.CodeTable.table l.i

@@ -16,9 +16,14 @@ returns-then-not-take c =
     let byte_is = c.from.ensures ∙ ap (λ xs. get_or xs c.loop-byte.byte-index 0) c.deref-byte-items.ensures.value in (
       λ is. cc is,
       λ begins.
-          absurd (other_byte bytes c.loop-byte.byte-index c.args.source.now.left c.loop-byte.ahead.left c.loop-byte.invariant c.from.result
+          absurd (other_byte bytes c.loop-byte.byte-index c.args.source.now.left c.loop-byte.ahead.left
+          c.loop-byte.invariant c.from.result
           _ within byte_is
-          c.if-not-take.ensures.taken.1 (begins.0, begins.1 ∙ ap (λ (s : Sink). s.bits ++ begins.0) (sym c.self.view_is))),
+          c.if-not-take.ensures.taken.1 (
+            begins.0,
+            begins.1 ∙ ap (λ (s : Sink). s.bits ++ begins.0)
+                (sym c.self.view_is),
+          )),
     )
 
 pub loop-byte-preserved : goal.loop-byte-preserved
@@ -26,13 +31,15 @@ loop-byte-preserved c =
     let bytes = c.self.inside.bytes.items in
     let within : c.loop-byte.byte-index < length bytes = omega (arith, ap length c.deref-byte-items.ensures.value) in
     next_byte bytes c.loop-byte.byte-index _ _ c.loop-byte.invariant c.from.result _ within
-    (c.from.ensures ∙ ap (λ xs. get_or xs c.loop-byte.byte-index 0) c.deref-byte-items.ensures.value) c.if-not-take.ensures.taken
+    (c.from.ensures ∙ ap (λ xs. get_or xs c.loop-byte.byte-index 0) c.deref-byte-items.ensures.value)
+    c.if-not-take.ensures.taken
 
 pub returns : goal.returns
 returns c =
     let bytes = c.self.inside.bytes.items in
     let all : c.loop-byte.byte-index ≡ length bytes = omega (arith, ap length c.deref-byte-items.ensures.value) in
-    let same = last_bits bytes c.loop-byte.byte-index _ _ c.loop-byte.invariant _ c.begins.result all c.begins.ensures in
+    let same = last_bits bytes c.loop-byte.byte-index _ _ c.loop-byte.invariant _ c.begins.result all c.begins.ensures
+    in
     let bits_are = ap (λ (s : Sink). s.bits) c.self.view_is in (
       λ is. ((same.0 is).0, (same.0 is).1 ∙ ap (λ b. b ++ (same.0 is).0) bits_are),
       λ begins. same.1 (begins.0, begins.1 ∙ ap (λ b. b ++ begins.0) (sym bits_are)),

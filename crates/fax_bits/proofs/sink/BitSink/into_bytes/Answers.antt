@@ -9,8 +9,10 @@ use Rattle.fax_bits.proofs.sink.BitSink.into_bytes.Goals as goal
 
 pub returns-in-MsbFirst : goal.returns-in-MsbFirst
 returns-in-MsbFirst c =
-    ap (λ order. bits order c.push_whole.new.bytes.items) (sym (ap (λ (s : Sink). s.order) c.self.view_is) ∙ c.in-MsbFirst.is)
-    ∙ all_pushed c.self.inside.order c.self.inside.bytes.items c.push_whole.new.bytes.items c.self.inside.count c.self.inside.pending
+    ap (λ order. bits order c.push_whole.new.bytes.items) (sym (ap (λ (s : Sink). s.order) c.self.view_is)
+    ∙ c.in-MsbFirst.is)
+    ∙ all_pushed c.self.inside.order c.self.inside.bytes.items c.push_whole.new.bytes.items c.self.inside.count
+    c.self.inside.pending
     c.push_whole.result.1 c.push_whole.result.0 c.args.self c.self.view_is c.push_whole.ensures.pushed c.requires.whole
     c.push_whole.ensures.fewer
 
@@ -26,6 +28,7 @@ returns-in-LsbFirst c =
     (sym (ap (λ (s : Sink). s.order) c.self.view_is) ∙ c.in-LsbFirst.is)
     ∙ ap (bits LsbFirst) (written_over old.len new old.items len ∙ turned)
     ∙ bits-reversed old.items
-    ∙ all_pushed c.self.inside.order c.self.inside.bytes.items c.push_whole.new.bytes.items c.self.inside.count c.self.inside.pending
+    ∙ all_pushed c.self.inside.order c.self.inside.bytes.items c.push_whole.new.bytes.items c.self.inside.count
+    c.self.inside.pending
     c.push_whole.result.1 c.push_whole.result.0 c.args.self c.self.view_is c.push_whole.ensures.pushed c.requires.whole
     c.push_whole.ensures.fewer

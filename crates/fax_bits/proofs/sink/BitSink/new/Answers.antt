@@ -5,4 +5,5 @@ use Rattle.fax_bits.proofs.sink.BitSink.new.Goals as goal
 
 pub returns : goal.returns
 unfolding bits code_bits
-returns c = ap (λ items. record { order = c.args.order; bits = bits MsbFirst items ++ code_bits 0 0 }) c.new.ensures.items
+returns c = ap (λ items. record { order = c.args.order; bits = bits MsbFirst items ++ code_bits 0 0 })
+    c.new.ensures.items

@@ -15,5 +15,7 @@ returns-clause-ok c =
     let joined = joined-lt inside.count inside.pending 32 c.from.result c.self.invariant.fits fits short in
     let put = put_after inside.order inside.bytes.items inside.count inside.pending 32 c.from.result c.args.self.now
     c.self.invariant.fits fits short c.self.view_is
-    ∙ ap (λ n. record { order = c.args.self.now.order; bits = c.args.self.now.bits ++ code_bits 32 n }) c.from.ensures in
-    word_put inside.order inside.bytes.items c.push_word.new.bytes.items inside.count _ _ short joined put c.push_word.ensures.pushed
+    ∙ ap (λ n. record { order = c.args.self.now.order; bits = c.args.self.now.bits ++ code_bits 32 n }) c.from.ensures
+    in
+    word_put inside.order inside.bytes.items c.push_word.new.bytes.items inside.count _ _ short joined put
+    c.push_word.ensures.pushed

@@ -13,7 +13,8 @@ overflow_cast-bits c =
     omega (arith, high, most)
 
 pub take-requires-clause-fits : goal.take-requires-clause-fits
-take-requires-clause-fits c = high_part-lt c.args.len (c.args.len / 2) c.args.bits (omega arith) c.requires.short c.requires.fits
+take-requires-clause-fits c = high_part-lt c.args.len (c.args.len / 2) c.args.bits (omega arith) c.requires.short
+    c.requires.fits
 
 pub returns-then-not-take : goal.returns-then-not-take
 returns-then-not-take c = (
@@ -21,8 +22,10 @@ returns-then-not-take c = (
   λ begins.
       absurd (first_other c.args.self.now.left _ _
       (λ front. c.if-not-take.ensures.taken.1 (subst (λ (s : Source). BeginsWith s.left
-      (code_bits (c.args.len - c.args.len / 2) (c.args.bits / 2 ^ (c.args.len / 2)))) (sym c.again-ahead.ensures) front))
-      (subst (BeginsWith c.args.self.now.left) (two_parts c.args.len (c.args.len / 2) c.args.bits (omega arith) c.requires.short
+      (code_bits (c.args.len - c.args.len / 2) (c.args.bits / 2 ^ (c.args.len / 2)))) (sym c.again-ahead.ensures)
+      front))
+      (subst (BeginsWith c.args.self.now.left) (two_parts c.args.len (c.args.len / 2) c.args.bits (omega arith)
+      c.requires.short
       c.requires.fits) begins)),
 )
 

@@ -19,7 +19,8 @@ returns-then-begins_with_one c =
     let order = c.self.inside.order in
     let bytes = c.self.inside.bytes.now in
     let is =
-    one_looked_up order bytes c.self.inside.window c.self.inside.window c.args.self.now c.self.invariant c.self.view_is refl refl
+    one_looked_up order bytes c.self.inside.window c.self.inside.window c.args.self.now c.self.invariant c.self.view_is
+    refl refl
     c.self.invariant.within c.after-self-inside.result (c.if-begins_with_one.ensures.ahead refl order bytes)
     c.after-self-inside.ensures.count c.after-self-inside.ensures.at in
     record {
@@ -32,7 +33,8 @@ returns-then-begins_with_one c =
 pub after-self-inside-requires-2 : goal.after-self-inside-requires-2
 after-self-inside-requires-2 c =
     let begun = begins_more _ c.number.result c.in_ok-len.len c.in_ok-len.mode
-    (code_begins modes (code_bits 13 (c.number.result / 2 ^ 19)) c.in_ok-len.len c.in_ok-len.mode modes_has_short_codes c.in_ok-len.ensures) in
+    (code_begins modes (code_bits 13 (c.number.result / 2 ^ 19)) c.in_ok-len.len c.in_ok-len.mode modes_has_short_codes
+    c.in_ok-len.ensures) in
     let short = begun_short 32 c.number.result begun in
     record { loaded = omega (arith, short, c.in_ok-self-inside.ensures.many); short = omega (arith, short) }
 
@@ -42,10 +44,12 @@ returns c =
     let bytes = c.self.inside.bytes.now in
     let w = c.in_ok-self-inside in
     let begun = begins_more _ c.number.result c.in_ok-len.len c.in_ok-len.mode
-    (code_begins modes (code_bits 13 (c.number.result / 2 ^ 19)) c.in_ok-len.len c.in_ok-len.mode modes_has_short_codes c.in_ok-len.ensures) in
+    (code_begins modes (code_bits 13 (c.number.result / 2 ^ 19)) c.in_ok-len.len c.in_ok-len.mode modes_has_short_codes
+    c.in_ok-len.ensures) in
     let is =
     looked_up order bytes c.self.inside.window w.field-0 c.args.self.now c.self.invariant c.self.view_is w.ensures.ahead
-    w.ensures.place w.ensures.within 32 (omega arith) w.ensures.many c.number.result (c.number.ensures.number order bytes (inl (omega (arith, w.ensures.many))))
+    w.ensures.place w.ensures.within 32 (omega arith) w.ensures.many c.number.result
+    (c.number.ensures.number order bytes (inl (omega (arith, w.ensures.many))))
     begun c.after-self-inside-2.result c.after-self-inside-2.ensures.count c.after-self-inside-2.ensures.at in
     record {
       takes = code_taken modes c.args.self.now c.in_ok-len.mode _ is;

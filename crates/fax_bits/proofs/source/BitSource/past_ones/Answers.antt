@@ -10,4 +10,5 @@ returns-clause-ones c =
     let few = c.min-count.ensures in
     ones_taken order bytes w w c.args.self.now c.self.invariant c.self.view_is refl refl c.self.invariant.within
     c.ones.result c.ones.ensures.loaded (c.ones.ensures.ahead order bytes) c.min-count.result (omega (arith, few))
-    (omega (arith, few, c.requires)) c.after-self-inside.result c.after-self-inside.ensures.count c.after-self-inside.ensures.at
+    (omega (arith, few, c.requires)) c.after-self-inside.result c.after-self-inside.ensures.count
+    c.after-self-inside.ensures.at

@@ -13,7 +13,8 @@ returns c =
     let w = c.in_ok-self-inside in
     let is =
     looked_up order bytes c.self.inside.window w.field-0 c.args.self.now c.self.invariant c.self.view_is w.ensures.ahead
-    w.ensures.place w.ensures.within 32 (omega arith) w.ensures.many c.number.result (c.number.ensures.number order bytes (inl (omega (arith, w.ensures.many))))
+    w.ensures.place w.ensures.within 32 (omega arith) w.ensures.many c.number.result
+    (c.number.ensures.number order bytes (inl (omega (arith, w.ensures.many))))
     c.in_ok-len.ensures c.after-self-inside.result c.after-self-inside.ensures.count c.after-self-inside.ensures.at in
     record {
       run = run_taken c.args.colour is.front c.args.self.now.left c.in_ok-len.pels _ is.meaning is.taken;

@@ -17,8 +17,10 @@ returns-then-ahead-len-clause-taken c =
     let bytes = c.self.inside.bytes.now in
     let more = c.filled-ahead.ensures in
     let window = c.filled-ahead.result in
-    let left = loaded_left order bytes c.self.inside.window window c.args.self.now c.self.invariant c.self.view_is more.ahead more.place more.within in
-    let all = all_loaded order bytes c.self.inside.window window c.args.self.now c.self.invariant c.self.view_is more.ahead more.place more.within in (
+    let left = loaded_left order bytes c.self.inside.window window c.args.self.now c.self.invariant c.self.view_is
+    more.ahead more.place more.within in
+    let all = all_loaded order bytes c.self.inside.window window c.args.self.now c.self.invariant c.self.view_is
+    more.ahead more.place more.within in (
       refl,
       λ begins.
           elim c.then-ahead-len.branch [
@@ -28,8 +30,10 @@ returns-then-ahead-len-clause-taken c =
                   | inr ends ↦ omega (arith, as_many _ _ _ begins, all ends, w.if-ahead-len.true)
                 ]
             | then-ahead-len-via-else-ahead-len+then-number-bits w ↦
-                w.if-number-bits.true (w.number.ensures.number order bytes (enough c.args.len bytes window c.requires.short more.many)
-                ∙ ap (λ b. bits_number (take c.args.len (b ++ replicate c.args.len false))) left ∙ spells_it _ _ _ c.requires.fits begins)
+                w.if-number-bits.true (w.number.ensures.number order bytes
+                (enough c.args.len bytes window c.requires.short more.many)
+                ∙ ap (λ b. bits_number (take c.args.len (b ++ replicate c.args.len false))) left
+                ∙ spells_it _ _ _ c.requires.fits begins)
           ],
     )
 
@@ -39,6 +43,7 @@ returns-clause-taken c = grind (arith, common_steps, loaded-left, spelled)
 pub returns-clause-same_end : goal.returns-clause-same_end
 returns-clause-same_end c =
     let more = c.filled-ahead.ensures in
-    end_kept c.self.inside.order c.self.inside.bytes.now c.self.inside.window c.filled-ahead.result c.args.self.now c.self.invariant
+    end_kept c.self.inside.order c.self.inside.bytes.now c.self.inside.window c.filled-ahead.result c.args.self.now
+    c.self.invariant
     c.self.view_is more.ahead more.place more.within c.args.len c.after-self-inside.result c.requires.short
     c.after-self-inside.ensures.count c.after-self-inside.ensures.at

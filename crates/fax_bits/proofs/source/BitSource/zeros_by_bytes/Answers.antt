@@ -4,7 +4,8 @@ use Rattle.fax_bits.proofs.source.BitSource.zeros_by_bytes.Goals as goal
 
 pub returns-then-bit : goal.returns-then-bit
 returns-then-bit c =
-    zeros_ahead c.args.self.now.left c.loop-zeros.zeros (omega arith) c.loop-zeros.invariant.below (sym c.bit.ensures ∙ c.if-bit.true)
+    zeros_ahead c.args.self.now.left c.loop-zeros.zeros (omega arith) c.loop-zeros.invariant.below
+    (sym c.bit.ensures ∙ c.if-bit.true)
 
 pub returns : goal.returns
 returns c = grind (arith, all_zeros)

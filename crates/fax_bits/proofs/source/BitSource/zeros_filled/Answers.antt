@@ -9,5 +9,6 @@ returns-then-zeros-ahead c =
     let bytes = c.self.inside.bytes.now in
     let left : bits_ahead order bytes c.filled-ahead.result ≡ c.args.self.now.left =
     c.filled-ahead.ensures.ahead ∙ c.self.invariant.bits_are ∙ ap (λ (s : Source). s.left) c.self.view_is in
-    let stands = subst (λ b. HasZerosAhead b c.zeros-zeros.result) left (c.zeros-zeros.ensures.ahead order bytes (omega arith)) in
+    let stands = subst (λ b. HasZerosAhead b c.zeros-zeros.result) left
+    (c.zeros-zeros.ensures.ahead order bytes (omega arith)) in
     subst (HasZerosAhead c.args.self.now.left) (sym c.from.ensures) stands

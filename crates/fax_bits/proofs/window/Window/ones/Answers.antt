@@ -9,4 +9,5 @@ returns-clause-loaded c = grind (arith, ones_loaded)
 pub returns-clause-ahead : goal.returns-clause-ahead
 returns-clause-ahead c order bytes =
     let w = c.args.self in
-    ones_before w.count w.bits _ (bits order (drop w.at bytes)) w.few (omega arith) c.leading_ones.ensures (returns-clause-loaded c)
+    ones_before w.count w.bits _ (bits order (drop w.at bytes)) w.few (omega arith) c.leading_ones.ensures
+    (returns-clause-loaded c)

@@ -14,7 +14,8 @@ returns-clause-ahead c =
     let order = c.args.order in
     let bytes = c.args.bytes.now in
     let fits : c.from.result < 2 ^ 8 = omega (arith, c.from.ensures, c.byte_at-byte.type_inv) in
-    ap (λ b. b ++ bits order (drop (w.at + 1) bytes)) (loaded_bits 8 w.count w.bits c.from.result (omega (arith, c.requires.room))
+    ap (λ b. b ++ bits order (drop (w.at + 1) bytes)) (loaded_bits 8 w.count w.bits c.from.result
+    (omega (arith, c.requires.room))
     w.zeros_after fits)
     ∙ append_assoc (first_bits w.count w.bits) (code_bits 8 c.from.result) (bits order (drop (w.at + 1) bytes))
     ∙ ap (λ b. first_bits w.count w.bits ++ (b ++ bits order (drop (w.at + 1) bytes)))

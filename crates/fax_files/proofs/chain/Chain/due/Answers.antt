@@ -17,10 +17,12 @@ pub returns-in_err-directory-clause-answer : goal.returns-in_err-directory-claus
 returns-in_err-directory-clause-answer c =
     let p = err_from_is_err_and c.from_residual.result c.from_residual.ensures.1 in
     rw (p.1, p.2, c.in_err-directory.ensures.fault, ← c.self.view_is) (λ offsets end is.
-    outside _ _ _ _ (place_of _ _ _ _ c.self.invariant) offsets end is c.if-self-eq0.false c.in_err-directory.ensures.outside)
+    outside _ _ _ _ (place_of _ _ _ _ c.self.invariant) offsets end is c.if-self-eq0.false
+    c.in_err-directory.ensures.outside)
 
 pub returns-clause-answer : goal.returns-clause-answer
 returns-clause-answer c = rw (← c.self.view_is) (λ offsets end is.
-    found _ _ _ _ (place_of _ _ _ _ c.self.invariant) offsets end is _ c.in_ok-directory.ensures.directory c.if-self-eq0.false
+    found _ _ _ _ (place_of _ _ _ _ c.self.invariant) offsets end is _ c.in_ok-directory.ensures.directory
+    c.if-self-eq0.false
     c.in_ok-directory.ensures.whole
     (not_here c.self.inside.tiff _ _ c.self.invariant.search_is (sym c.turns_at.ensures ∙ c.if-turns_at.false)))

@@ -9,5 +9,6 @@ returns-in-Ok c = λ fields h.
 
 pub returns-in_default : goal.returns-in_default
 returns-in_default c = λ fields h.
-    let none = rw c.in_default.is at (tag_searched c.tag.result c.binary_search.result c.binary_search.ensures.position) in
+    let none = rw c.in_default.is at (tag_searched c.tag.result c.binary_search.result c.binary_search.ensures.position)
+    in
     passed c.args.entry fields _ (λ k inside e. none k inside (e ∙ sym c.tag.ensures)) h

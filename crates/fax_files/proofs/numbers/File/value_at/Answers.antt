@@ -7,23 +7,32 @@ pub overflow_add-place : goal.overflow_add-place
 overflow_add-place c =
     omega (
       arith,
-      value_inside _ _ _ c.args.i c.values_place.result c.value_len.result c.values_place.ensures c.value_len.ensures.value
+      value_inside _ _ _ c.args.i c.values_place.result c.value_len.result c.values_place.ensures
+          c.value_len.ensures.value
           c.requires.there,
     )
 
 pub u16_at-requires : goal.u16_at-requires
 u16_at-requires c =
-    let inside = value_inside _ _ _ c.args.i c.values_place.result c.value_len.result c.values_place.ensures c.value_len.ensures.value
+    let inside = value_inside _ _ _ c.args.i c.values_place.result c.value_len.result c.values_place.ensures
+    c.value_len.ensures.value
     c.requires.there in
-    omega (arith, short_len c.args.entry.now (ap (λ (e : Entry). e.kind) (sym c.entry.view_is) ∙ c.if-entry-eq-SHORT.true), inside)
+    omega (
+      arith,
+      short_len c.args.entry.now (ap (λ (e : Entry). e.kind) (sym c.entry.view_is)
+          ∙ c.if-entry-eq-SHORT.true),
+      inside,
+    )
 
 pub u32_at-requires : goal.u32_at-requires
 u32_at-requires c =
-    let inside = value_inside _ _ _ c.args.i c.values_place.result c.value_len.result c.values_place.ensures c.value_len.ensures.value
+    let inside = value_inside _ _ _ c.args.i c.values_place.result c.value_len.result c.values_place.ensures
+    c.value_len.ensures.value
     c.requires.there in
     let integer = (holds_integers _ _ _ _ c.requires.there).kind in
     omega (
       arith,
-      other_len c.args.entry.now integer (λ e. c.if-entry-eq-SHORT.false (ap (λ (e : Entry). e.kind) c.entry.view_is ∙ e)),
+      other_len c.args.entry.now integer (λ e. c.if-entry-eq-SHORT.false
+          (ap (λ (e : Entry). e.kind) c.entry.view_is ∙ e)),
       inside,
     )

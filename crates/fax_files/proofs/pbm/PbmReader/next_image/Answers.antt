@@ -7,6 +7,9 @@ pub returns-in-Err-clause-fault : goal.returns-in-Err-clause-fault
 returns-in-Err-clause-fault c = rw (← c.self.view_is) (record {
   again = λ given is. absurd (c.in_default.not-Some given is);
   first =
-      λ none. (λ empty. false≢true (sym c.if-is_empty.false ∙ c.is_empty.ensures ∙ ap (λ l. length l == 0) empty), c.in-Err.ensures.err);
+      λ none. (
+        λ empty. false≢true (sym c.if-is_empty.false ∙ c.is_empty.ensures ∙ ap (λ l. length l == 0) empty),
+        c.in-Err.ensures.err,
+      );
   kept = refl;
 })

@@ -7,13 +7,15 @@ use Rattle.fax_files.proofs.strips.Strips.bytes.Goals as goal
 pub value_at-offset-requires-clause-there : goal.value_at-offset-requires-clause-there
 value_at-offset-requires-clause-there c =
     rw (c.file-file.ensures.endian, c.file-file.ensures.file)
-    (fewer_integers _ _ _ (c.args.s + 1) c.self.inside.count (omega (arith, c.requires, ap (λ (p : PageStrips). p.count) c.self.view_is))
+    (fewer_integers _ _ _ (c.args.s + 1) c.self.inside.count (omega
+    (arith, c.requires, ap (λ (p : PageStrips). p.count) c.self.view_is))
     c.self.invariant.offsets_there)
 
 pub value_at-len-requires-clause-there : goal.value_at-len-requires-clause-there
 value_at-len-requires-clause-there c =
     rw (c.file-file.ensures.endian, c.file-file.ensures.file)
-    (fewer_integers _ _ _ (c.args.s + 1) c.self.inside.count (omega (arith, c.requires, ap (λ (p : PageStrips). p.count) c.self.view_is))
+    (fewer_integers _ _ _ (c.args.s + 1) c.self.inside.count (omega
+    (arith, c.requires, ap (λ (p : PageStrips). p.count) c.self.view_is))
     c.self.invariant.counts_there)
 
 pub returns-then-not-is_inside-clause-outside : goal.returns-then-not-is_inside-clause-outside

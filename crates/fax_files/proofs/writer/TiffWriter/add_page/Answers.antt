@@ -13,7 +13,8 @@ OnOk-at_not_err r not_err p = grind arith
 pub returns-in_default-clause-too_large : goal.returns-in_default-clause-too_large
 returns-in_default-clause-too_large c =
     let start : c.len-start.result ≡ length c.self.inside.bytes.items = omega (arith, c.len-start.ensures) in
-    let long = too_long c.self.inside.bytes.items c.self.inside.link c.self.inside.total c.self.inside.added 0 c.args.form.now
+    let long = too_long c.self.inside.bytes.items c.self.inside.link c.self.inside.total c.self.inside.added 0
+    c.args.form.now
     c.args.strips.now c.self.invariant.link_inside c.requires.limits c.requires.exchanged c.requires.strips
     (rw start at c.in_default.ensures.none) in
     rw (← c.self.view_is) (λ _. long, λ _. refl)
@@ -22,15 +23,26 @@ pub returns-then-page_end-from-clause-too_large : goal.returns-then-page_end-fro
 returns-then-page_end-from-clause-too_large c =
     let start : c.len-start.result ≡ length c.self.inside.bytes.items = omega (arith, c.len-start.ensures) in
     let end = rw start at c.in-Some.ensures.found in
-    let size = size c.self.inside.bytes.items c.self.inside.link c.self.inside.total c.self.inside.added c.in-Some.end c.args.form.now
+    let size = size c.self.inside.bytes.items c.self.inside.link c.self.inside.total c.self.inside.added c.in-Some.end
+    c.args.form.now
     c.args.strips.now c.self.invariant.link_inside c.requires.limits c.requires.exchanged c.requires.strips end in
-    rw (← c.self.view_is) (λ _. omega (arith, size, c.page_end-page_end.ensures, c.from.ensures, c.if-page_end-from.true), λ _. refl)
+    rw (← c.self.view_is) (
+      λ _. omega (
+        arith,
+        size,
+        c.page_end-page_end.ensures,
+        c.from.ensures,
+        c.if-page_end-from.true,
+      ),
+      λ _. refl,
+    )
 
 pub returns-in_default-page_tail-clause-too_large : goal.returns-in_default-page_tail-clause-too_large
 returns-in_default-page_tail-clause-too_large c =
     let start : c.len-start.result ≡ length c.self.inside.bytes.items = omega (arith, c.len-start.ensures) in
     let end = rw start at c.in-Some.ensures.found in
-    let size = size c.self.inside.bytes.items c.self.inside.link c.self.inside.total c.self.inside.added c.in-Some.end c.args.form.now
+    let size = size c.self.inside.bytes.items c.self.inside.link c.self.inside.total c.self.inside.added c.in-Some.end
+    c.args.form.now
     c.args.strips.now c.self.invariant.link_inside c.requires.limits c.requires.exchanged c.requires.strips end in
     rw (← c.self.view_is) (
       λ e. absurd (cc),
@@ -48,7 +60,8 @@ pub returns-then-is_err-clause-too_large : goal.returns-then-is_err-clause-too_l
 returns-then-is_err-clause-too_large c =
     let start : c.len-start.result ≡ length c.self.inside.bytes.items = omega (arith, c.len-start.ensures) in
     let end = rw start at c.in-Some.ensures.found in
-    let size = size c.self.inside.bytes.items c.self.inside.link c.self.inside.total c.self.inside.added c.in-Some.end c.args.form.now
+    let size = size c.self.inside.bytes.items c.self.inside.link c.self.inside.total c.self.inside.added c.in-Some.end
+    c.args.form.now
     c.args.strips.now c.self.invariant.link_inside c.requires.limits c.requires.exchanged c.requires.strips end in
     rw (← c.self.view_is) (
       λ e. absurd (cc),
@@ -66,7 +79,8 @@ pub returns-then-is_err-2-clause-too_large : goal.returns-then-is_err-2-clause-t
 returns-then-is_err-2-clause-too_large c =
     let start : c.len-start.result ≡ length c.self.inside.bytes.items = omega (arith, c.len-start.ensures) in
     let end = rw start at c.in-Some.ensures.found in
-    let size = size c.self.inside.bytes.items c.self.inside.link c.self.inside.total c.self.inside.added c.in-Some.end c.args.form.now
+    let size = size c.self.inside.bytes.items c.self.inside.link c.self.inside.total c.self.inside.added c.in-Some.end
+    c.args.form.now
     c.args.strips.now c.self.invariant.link_inside c.requires.limits c.requires.exchanged c.requires.strips end in
     rw (← c.self.view_is) (
       λ e. absurd (cc),
@@ -84,7 +98,8 @@ pub returns-clause-too_large : goal.returns-clause-too_large
 returns-clause-too_large c =
     let start : c.len-start.result ≡ length c.self.inside.bytes.items = omega (arith, c.len-start.ensures) in
     let end = rw start at c.in-Some.ensures.found in
-    let size = size c.self.inside.bytes.items c.self.inside.link c.self.inside.total c.self.inside.added c.in-Some.end c.args.form.now
+    let size = size c.self.inside.bytes.items c.self.inside.link c.self.inside.total c.self.inside.added c.in-Some.end
+    c.args.form.now
     c.args.strips.now c.self.invariant.link_inside c.requires.limits c.requires.exchanged c.requires.strips end in
     rw (← c.self.view_is) (
       λ e. absurd (cc),
@@ -103,7 +118,8 @@ set_link-requires c =
     let start : c.len-start.result ≡ length c.self.inside.bytes.items = omega (arith, c.len-start.ensures) in
     let end = rw start at c.in-Some.ensures.found in
     let laid = rw start at c.laid_out-at.ensures in
-    let put = OnOk-at_not_err c.append.result (sym c.is_err-2.ensures.value ∙ c.if-is_err-2.false) c.append.ensures.ok in
+    let put = OnOk-at_not_err c.append.result (sym c.is_err-2.ensures.value ∙ c.if-is_err-2.false) c.append.ensures.ok
+    in
     let now_is = rw c.reserve.ensures.items at put in
     rw now_is (omega (
       arith,
@@ -117,14 +133,18 @@ invariant_of-self-2 c =
     let start : c.len-start.result ≡ length c.self.inside.bytes.items = omega (arith, c.len-start.ensures) in
     let end = rw start at c.in-Some.ensures.found in
     let laid = rw start at c.laid_out-at.ensures in
-    let put = OnOk-at_not_err c.append.result (sym c.is_err-2.ensures.value ∙ c.if-is_err-2.false) c.append.ensures.ok in
+    let put = OnOk-at_not_err c.append.result (sym c.is_err-2.ensures.value ∙ c.if-is_err-2.false) c.append.ensures.ok
+    in
     let now_is = rw c.reserve.ensures.items at put in
     let tail = c.deref.ensures.value ∙ (rw start at c.in-Ok.ensures) in
-    let bytes = c.set_link.ensures ∙ added_bytes c.self.inside.bytes.items c.self.inside.link c.self.inside.total c.self.inside.added
+    let bytes = c.set_link.ensures ∙ added_bytes c.self.inside.bytes.items c.self.inside.link c.self.inside.total
+    c.self.inside.added
     c.in-Some.end c.args.form.now c.args.strips.now c.self.invariant.link_inside c.requires.limits c.requires.exchanged
     c.requires.strips end _ laid _ _ tail now_is in
-    still_writing c.self.inside.bytes.items c.self.inside.link c.self.inside.total c.self.inside.added c.in-Some.end c.args.form.now
-    c.args.strips.now c.self.invariant.link_inside c.requires.limits c.requires.exchanged c.requires.strips end _ laid _ bytes
+    still_writing c.self.inside.bytes.items c.self.inside.link c.self.inside.total c.self.inside.added c.in-Some.end
+    c.args.form.now
+    c.args.strips.now c.self.invariant.link_inside c.requires.limits c.requires.exchanged c.requires.strips end _ laid _
+    bytes
     (omega (arith, c.page_end-page_end.ensures, c.from.ensures, c.if-page_end-from.false))
 
 pub returns-clause-ok : goal.returns-clause-ok
@@ -132,12 +152,16 @@ returns-clause-ok c =
     let start : c.len-start.result ≡ length c.self.inside.bytes.items = omega (arith, c.len-start.ensures) in
     let end = rw start at c.in-Some.ensures.found in
     let laid = rw start at c.laid_out-at.ensures in
-    let put = OnOk-at_not_err c.append.result (sym c.is_err-2.ensures.value ∙ c.if-is_err-2.false) c.append.ensures.ok in
+    let put = OnOk-at_not_err c.append.result (sym c.is_err-2.ensures.value ∙ c.if-is_err-2.false) c.append.ensures.ok
+    in
     let now_is = rw c.reserve.ensures.items at put in
     let tail = c.deref.ensures.value ∙ (rw start at c.in-Ok.ensures) in
-    let bytes = c.set_link.ensures ∙ added_bytes c.self.inside.bytes.items c.self.inside.link c.self.inside.total c.self.inside.added
+    let bytes = c.set_link.ensures ∙ added_bytes c.self.inside.bytes.items c.self.inside.link c.self.inside.total
+    c.self.inside.added
     c.in-Some.end c.args.form.now c.args.strips.now c.self.invariant.link_inside c.requires.limits c.requires.exchanged
     c.requires.strips end _ laid _ _ tail now_is in
-    let link = new_link c.self.inside.bytes.items c.self.inside.link c.self.inside.total c.self.inside.added c.in-Some.end c.args.form.now
-    c.args.strips.now c.self.invariant.link_inside c.requires.limits c.requires.exchanged c.requires.strips end _ laid in
+    let link = new_link c.self.inside.bytes.items c.self.inside.link c.self.inside.total c.self.inside.added
+    c.in-Some.end c.args.form.now
+    c.args.strips.now c.self.invariant.link_inside c.requires.limits c.requires.exchanged c.requires.strips end _ laid
+    in
     rw (← c.self.view_is, bytes, link) refl

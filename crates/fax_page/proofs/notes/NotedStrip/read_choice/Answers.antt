@@ -18,14 +18,21 @@ returns-clause-ok c =
     let row = c.read_seen.new.row in
     let width : length row ≡ form.width = c.in-Ok-false.ensures.same_width ∙ c.requires.widths.row_width in
     let fits : HasWidth row =
-    record { some = omega (arith, width, c.requires.limits.some_pels); short = omega (arith, width, c.requires.limits.short_rows) } in
+    record {
+      some = omega (arith, width, c.requires.limits.some_pels);
+      short =
+          omega (arith, width, c.requires.limits.short_rows);
+    } in
     let put : c.put_codes.new.sink.bits ≡ row_bits dimension reference row =
     ap (λ (s : Sink). s.bits) c.in_ok-put_codes.ensures.ok
     ∙ ap (λ (s : Sink). s.bits ++ row_bits dimension reference row) c.clear.ensures in
     let begins : IsTrue c.begins.result ↔ BeginsWith codes c.put_codes.new.sink.bits =
-    subst (λ (s : Source). IsTrue c.begins.result ↔ BeginsWith s.left c.put_codes.new.sink.bits) c.again-codes.ensures c.begins.ensures in
-    let coded = subst (λ n. IsRowIn dimension n reference codes row c.read_seen.new.source.left) c.requires.widths.row_width c.in-Ok-false.ensures.ok in
-    codes_read c.one_dimensional_rows_are_read_as_nothing_else.ensures c.two_dimensional_rows_are_read_as_nothing_else.ensures
+    subst (λ (s : Source). IsTrue c.begins.result ↔ BeginsWith s.left c.put_codes.new.sink.bits) c.again-codes.ensures
+    c.begins.ensures in
+    let coded = subst (λ n. IsRowIn dimension n reference codes row c.read_seen.new.source.left)
+    c.requires.widths.row_width c.in-Ok-false.ensures.ok in
+    codes_read c.one_dimensional_rows_are_read_as_nothing_else.ensures
+    c.two_dimensional_rows_are_read_as_nothing_else.ensures
     form reference row codes _ _ dimension _ fits width c.requires.widths.reference_width coded put begins
 
 pub returns-in-Ok-true-clause-ok : goal.returns-in-Ok-true-clause-ok
@@ -34,7 +41,8 @@ returns-in-Ok-true-clause-ok c =
     let reference = c.args.rows.now.reference in
     let codes = c.args.self.now.source.left in
     record {
-      coded = subst (λ n. IsRowIn dimension n reference codes c.read_seen.new.row c.read_seen.new.source.left) c.requires.widths.row_width c.in-Ok-true.ensures.ok;
+      coded = subst (λ n. IsRowIn dimension n reference codes c.read_seen.new.row c.read_seen.new.source.left)
+          c.requires.widths.row_width c.in-Ok-true.ensures.ok;
       choice = (λ _. c.in-Ok-true.ensures.chosen (search rules), λ _. refl);
     }
 
@@ -43,6 +51,7 @@ returns-in-Err-clause-err c =
     let cause = c.in-Err.cause in (
       refl,
       cause,
-      subst (λ n. IsRowFaultIn c.args.dimension n c.args.rows.now.reference c.args.self.now.source.left cause) c.requires.widths.row_width c.in-Err.ensures.err,
+      subst (λ n. IsRowFaultIn c.args.dimension n c.args.rows.now.reference c.args.self.now.source.left cause)
+          c.requires.widths.row_width c.in-Err.ensures.err,
       rw c.again-codes.ensures at c.stop-fault.ensures,
     )

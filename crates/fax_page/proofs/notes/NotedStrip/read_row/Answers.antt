@@ -11,9 +11,11 @@ returns-then-take_white-clause-ok c =
     let row = c.args.rows.now.reference in
     let codes = c.read_start.new.source.left in
     let rest = c.take_white.new.source.left in
-    line_noted form c.args.i row row c.args.self.now.source.left codes rest dimension _ _ c.requires.limits.some_pels c.in-Ok.ensures.ok
+    line_noted form c.args.i row row c.args.self.now.source.left codes rest dimension _ _ c.requires.limits.some_pels
+    c.in-Ok.ensures.ok
     (record {
-      coded = subst (λ n. IsRowIn dimension n row codes row rest) c.requires.widths.reference_width (c.if-take_white.ensures.row refl);
+      coded = subst (λ n. IsRowIn dimension n row codes row rest) c.requires.widths.reference_width
+          (c.if-take_white.ensures.row refl);
       noted = codes_seen _ _ (c.if-take_white.ensures.chosen refl);
     })
 
@@ -31,6 +33,7 @@ pub returns-clause-err : goal.returns-clause-err
 returns-clause-err c =
     let form = c.args.self.now.form in
     IfErr-weaker c.note_codes.result _ _
-    (λ fault is. codes_fault form c.args.i c.args.rows.now.reference c.args.self.now.source.left c.read_start.new.source.left
+    (λ fault is. codes_fault form c.args.i c.args.rows.now.reference c.args.self.now.source.left
+    c.read_start.new.source.left
     c.in-Ok.dimension fault c.in-Ok.ensures.ok is)
     (rw (c.if-take_white.ensures.unchanged refl) at c.note_codes.ensures.err)

@@ -18,7 +18,8 @@ loop-i-preserved c =
     let old = c.loop-i.strip in
     let rows = c.loop-i.self-inside.rows in
     let new = c.read_row.new.self in
-    let noted = subst (λ (f : StripForm). IsLineNoted f c.loop-i.i rows.reference old.source.left c.read_row.new.rows.reference new.source.left
+    let noted = subst (λ (f : StripForm). IsLineNoted f c.loop-i.i rows.reference old.source.left
+    c.read_row.new.rows.reference new.source.left
     old.not_t4_choice new.not_t4_choice) c.loop-i.invariant.form_is c.in_ok-read_row.ensures.ok in
     record {
       noting = c.in_ok-read_row.ensures.still;

@@ -12,7 +12,8 @@ pub loop-i-init : goal.loop-i-init
 loop-i-init c =
     let width : length c.self.inside.rows.reference ≡ c.args.form.width =
     c.self.invariant.reference_width ∙ c.self.view_is ∙ sym c.requires.width in
-    let white : c.whiten.new.self ≡ replicate c.args.form.width White = c.whiten.ensures ∙ ap (λ n. replicate n White) width in
+    let white : c.whiten.new.self ≡ replicate c.args.form.width White =
+    c.whiten.ensures ∙ ap (λ n. replicate n White) width in
     record {
       noting = record {
         limits = record {
@@ -44,7 +45,8 @@ loop-i-preserved c =
     let old = c.loop-i.strip in
     let rows = c.loop-i.self-inside.rows in
     let new = c.read_row.new.self in
-    let noted = subst (λ (f : StripForm). IsLineNoted f c.loop-i.i rows.reference old.source.left c.read_row.new.rows.reference new.source.left
+    let noted = subst (λ (f : StripForm). IsLineNoted f c.loop-i.i rows.reference old.source.left
+    c.read_row.new.rows.reference new.source.left
     old.not_t4_choice new.not_t4_choice) c.loop-i.invariant.form_is c.in-Ok.ensures.ok in
     record {
       noting = c.in-Ok.ensures.still;
@@ -56,6 +58,7 @@ pub returns-clause-ok : goal.returns-clause-ok
 returns-clause-ok c =
     let all : c.loop-i.i ≡ most_rows = omega arith in
     let strip = c.loop-i.strip in
-    let found = subst (λ n. AreFoundAfter c.args.form.coding strip.source.left n None strip.not_t4_choice c.found_in_rows-2.result) (sym all)
+    let found = subst (λ n. AreFoundAfter c.args.form.coding strip.source.left n None strip.not_t4_choice
+    c.found_in_rows-2.result) (sym all)
     c.found_in_rows-2.ensures in
     uncounted_noted _ _ _ _ _ _ _ _ c.loop-i.invariant.read all found

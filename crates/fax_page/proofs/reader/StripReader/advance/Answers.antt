@@ -13,7 +13,8 @@ invariant_of-self c =
       begun_before = search rules;
       within = search rules;
       placed =
-          placed_after _ _ _ _ _ _ _ _ _ count c.self.invariant.placed (c.self.invariant.at_row c.in_default.is) c.in-Ok.ensures.ok
+          placed_after _ _ _ _ _ _ _ _ _ count c.self.invariant.placed (c.self.invariant.at_row c.in_default.is)
+          c.in-Ok.ensures.ok
           c.in-Ok.ensures.same_end c.place-self-inside.ensures;
       at_row = λ none.
           row_after _ _ _ _ _ _ _ _ _ count c.self.invariant.placed (c.self.invariant.at_row none) c.in-Ok.ensures.ok
@@ -35,16 +36,19 @@ returns-in-Ok c =
       same_form = search rules;
       same_bytes = search rules;
       still_no_fault = search rules;
-      within = placed_after _ _ _ _ _ _ _ _ _ count c.self.invariant.placed here ok same_end c.place-self-inside.ensures;
+      within = placed_after _ _ _ _ _ _ _ _ _ count c.self.invariant.placed here ok same_end
+          c.place-self-inside.ensures;
     })
 
 pub returns-in-Err : goal.returns-in-Err
 returns-in-Err c =
     let reader = c.self.inside in
     let here = c.self.invariant.at_row c.in_default.is in
-    let again = bits_again reader.form.order reader.bytes.now reader.place _ _ _ c.new-start.ensures c.skip.ensures here in
+    let again = bits_again reader.form.order reader.bytes.now reader.place _ _ _ c.new-start.ensures c.skip.ensures here
+    in
     let cause =
-    cause_there reader.form reader.row reader.rows reader.bytes.now reader.place reader.source c.line_fault-fault.result here
+    cause_there reader.form reader.row reader.rows reader.bytes.now reader.place reader.source c.line_fault-fault.result
+    here
     (rw again (c.line_fault-fault.ensures reader.rows (rw again at c.in-Err.ensures.err))) in
     rw (← c.self.view_is)
     (inr (record { no_fault = search rules; due = search rules; cause = cause; told = search rules }))

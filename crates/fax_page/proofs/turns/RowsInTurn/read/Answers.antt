@@ -10,8 +10,10 @@ returns-then-take_white-clause-ok c =
     let row = c.args.self.now in
     let codes = c.read_start.new.source.left in
     let rest = c.take_white.new.source.left in
-    let read = subst (λ (r : List Colour). IsRowIn dimension (length r) r codes r rest) c.reference.ensures (c.if-take_white.ensures.row refl) in
-    line_begun c.args.form c.args.i row row c.args.source.now.left codes rest dimension c.requires.some_pels c.in-Ok.ensures.ok
+    let read = subst (λ (r : List Colour). IsRowIn dimension (length r) r codes r rest) c.reference.ensures
+    (c.if-take_white.ensures.row refl) in
+    line_begun c.args.form c.args.i row row c.args.source.now.left codes rest dimension c.requires.some_pels
+    c.in-Ok.ensures.ok
     (subst (λ n. IsRowIn dimension n row codes row rest) c.requires.width read)
 
 pub returns-in-Ok-read_codes-clause-ok : goal.returns-in-Ok-read_codes-clause-ok

@@ -12,7 +12,8 @@ returns c =
     (record {
       not_refused = search rules;
       bytes_are =
-          finished w.form.order w.sink c.put_end.new.sink c.pad.new.self (end_bits w.form.coding) c.into_bytes-bytes.result.items
+          finished w.form.order w.sink c.put_end.new.sink c.pad.new.self (end_bits w.form.coding)
+          c.into_bytes-bytes.result.items
           c.bits_are_packed_in_one_way.ensures c.self.invariant.same_order c.in_ok-put_end.ensures.ok c.pad.ensures fit
           c.into_bytes-bytes.ensures;
     })

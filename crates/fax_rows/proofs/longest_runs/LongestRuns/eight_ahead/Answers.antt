@@ -3,12 +3,18 @@ use Rattle.fax_rows.proofs.LongestRunLemmas.{lane_is, length-runs_between, rest_
 use Rattle.fax_rows.proofs.longest_runs.LongestRuns.eight_ahead.Goals as goal
 
 pub returns-then-self-le8 : goal.returns-then-self-le8
-returns-then-self-le8 c = omega (arith, ap length c.self.view_is, length-runs_between c.self.inside.places.now, c.self.invariant.some)
+returns-then-self-le8 c = omega (
+  arith,
+  ap length c.self.view_is,
+  length-runs_between c.self.inside.places.now,
+  c.self.invariant.some,
+)
 
 pub overflow_cast-result : goal.overflow_cast-result
 overflow_cast-result c =
     rw (rest_is c.self.inside.places.now 1)
-    (runs_fit _ _ (λ a b right left. record { fits = omega (arith, lane_is a b right left) }) 8 c.self.inside.places.now (omega arith)
+    (runs_fit _ _ (λ a b right left. record { fits = omega (arith, lane_is a b right left) }) 8 c.self.inside.places.now
+    (omega arith)
     c.self.invariant)
 
 pub returns : goal.returns

@@ -11,6 +11,7 @@ bounds-row-change_after c =
 pub returns : goal.returns
 returns c =
     let row = c.placed-row.result in
-    let next = subst (λ pels. IsNext pels c.args.from (get_or row.places.now c.change_after.result 0)) c.placed-row.ensures
+    let next = subst (λ pels. IsNext pels c.args.from (get_or row.places.now c.change_after.result 0))
+    c.placed-row.ensures
     (next_here row.placed c.args.from c.change_after.result c.change_after.ensures) in
     record { place = next.place; within = next.within; right = next.right }

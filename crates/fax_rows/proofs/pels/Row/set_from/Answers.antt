@@ -13,4 +13,5 @@ returns c = grind (arith, common_steps, width_is)
 
 pub returns-then-row-eq1 : goal.returns-then-row-eq1
 returns-then-row-eq1 c =
-    c.whiten.ensures ∙ ap (λ n. replicate n White) c.requires ∙ sym (all_white c.row.invariant c.row.view_is c.if-row-eq1.true)
+    c.whiten.ensures ∙ ap (λ n. replicate n White) c.requires ∙ sym
+    (all_white c.row.invariant c.row.view_is c.if-row-eq1.true)

@@ -14,7 +14,8 @@ use Rattle.fax_rows.proofs.pels.Row.set_runs.Goals as goal
 longest_of : (row : List Colour) (runs : List ℕ) (len width : ℕ) → length row ≡ len → width ≡ len → runs_of row ≡ runs
     → AreLongest runs width
 longest_of row runs len width same wide is =
-    subst (λ n. AreLongest runs n) (same ∙ sym wide) (subst (λ ns. AreLongest ns (length row)) is (runs_are_longest row))
+    subst (λ n. AreLongest runs n) (same ∙ sym wide) (subst (λ ns. AreLongest ns (length row)) is
+    (runs_are_longest row))
 
 pub returns-then-not-are_longest-clause-no_such_row : goal.returns-then-not-are_longest-clause-no_such_row
 returns-then-not-are_longest-clause-no_such_row c = λ told row len is.

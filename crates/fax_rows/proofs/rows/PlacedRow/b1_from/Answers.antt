@@ -13,7 +13,9 @@ pub returns-else-eq : goal.returns-else-eq
 returns-else-eq c =
     let differs : c.colour_after.result ≢ c.args.colour = same_false the_type _ _ (sym c.if-eq.ensures) in
     let next : c.change_after-next.result + 1 ≡ suc c.change_after-next.result = omega arith in
-    b1_here c.args.self c.args.a0 c.change_after-next.result (c.change_after-next.result + 1) c.args.colour c.change_after-next.ensures
+    b1_here c.args.self c.args.a0 c.change_after-next.result (c.change_after-next.result + 1) c.args.colour
+    c.change_after-next.ensures
     (inr refl)
     (ap (alternate Black) next ∙ alternate-suc Black c.change_after-next.result
-    ∙ ap other (sym c.colour_after.ensures ∙ differs_is c.args.colour c.colour_after.result differs) ∙ other-other c.args.colour)
+    ∙ ap other (sym c.colour_after.ensures ∙ differs_is c.args.colour c.colour_after.result differs)
+    ∙ other-other c.args.colour)

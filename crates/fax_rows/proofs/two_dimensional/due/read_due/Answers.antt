@@ -6,7 +6,8 @@ use Rattle.fax_rows.proofs.two_dimensional.due.read_due.Goals as goal
 pub returns-in-Runs-clause-read : goal.returns-in-Runs-clause-read
 returns-in-Runs-clause-read g c b is =
     let due = rw c.in-Runs.is at is in
-    map_ok c.last_horizontal.result (c.last_horizontal.ensures.read due.0 due.2) (λ next read. pair_read c.requires.inside due.1 read)
+    map_ok c.last_horizontal.result (c.last_horizontal.ensures.read due.0 due.2)
+    (λ next read. pair_read c.requires.inside due.1 read)
 
 pub returns-in-Err-clause-stop : goal.returns-in-Err-clause-stop
 returns-in-Err-clause-stop g c b is =

@@ -19,11 +19,14 @@ pub loop-ahead-init : goal.loop-ahead-init
 loop-ahead-init g c =
     let pause = c.requires.pause in
     let same =
-    c.reached.ensures pause.at pause.a0 pause.end pause.b1 (pause.due.inside.so_far.b1 pause.due.inside.unfinished).colour_is in
+    c.reached.ensures pause.at pause.a0 pause.end pause.b1 (pause.due.inside.so_far.b1
+    pause.due.inside.unfinished).colour_is in
     let there = ap (λ (s : Source). s.left) c.skip_to.ensures
-    ∙ rw c.again-ahead.ensures (rest_there c.args.source.now c.args.pause.place pause.front pause.rest pause.bits pause.place) in
+    ∙ rw c.again-ahead.ensures (rest_there c.args.source.now c.args.pause.place pause.front pause.rest pause.bits
+    pause.place) in
     let place = ap (λ (s : Source). s.place) c.skip_to.ensures in
-    let due : IsDue c.reached.result.reached.colour pause.middle c.args.pause.due c.skip_to.new.self.left = rw (same, there) pause.due.read in
+    let due : IsDue c.reached.result.reached.colour pause.middle c.args.pause.due c.skip_to.new.self.left =
+    rw (same, there) pause.due.read in
     let read = rw same at (c.in_ok-at.ensures.read pause.middle due) in
     record {
       steps = goes_further pause.steps read.steps;
@@ -56,9 +59,11 @@ returns-in_err-at-2-clause-stop g c =
     (pels_by c.args.reference.width (take c.loop-ahead.at.end c.loop-ahead.places)) c.loop-ahead.ahead.left
     c.loop-ahead.invariant.steps (omega (arith, length-placed_pels c.args.reference)) in
     let p = err_from_is_err_and c.from_residual-in_err-at-2.result c.from_residual-in_err-at-2.ensures.1 in
-    rw (p.1, p.2) (stop_as _ c.in_err-at-2.field-0.0 (c.in_err-at-2.ensures.stop c.loop-ahead.ahead.left refl) here (λ more h. h))
+    rw (p.1, p.2) (stop_as _ c.in_err-at-2.field-0.0 (c.in_err-at-2.ensures.stop c.loop-ahead.ahead.left refl) here
+    (λ more h. h))
 
 pub returns-clause-read : goal.returns-clause-read
 returns-clause-read g c =
-    rw c.go_to.ensures (row_done c.args.reference c.args.source.now.left c.loop-ahead.places c.loop-ahead.at c.loop-ahead.ahead.left
+    rw c.go_to.ensures (row_done c.args.reference c.args.source.now.left c.loop-ahead.places c.loop-ahead.at
+    c.loop-ahead.ahead.left
     c.loop-ahead.invariant.steps c.loop-ahead.invariant.chosen c.loop-ahead.invariant.so_far (omega arith))

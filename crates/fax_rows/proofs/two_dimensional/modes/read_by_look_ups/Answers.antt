@@ -3,7 +3,8 @@ use Rattle.std.proofs.lemmas.Int.{ints}
 use Rattle.fax_rows.specs.Rows.{beginning}
 use Rattle.fax_rows.specs.code.PlacedRow.{placed_pels}
 use Rattle.fax_rows.proofs.PlacedB1Lemmas.{length-placed_pels}
-use Rattle.fax_rows.proofs.GoesOnLemmas.{no_step, no_chosen_step, goes_further, chosen_further, goes_on_leaves, due_leaves, leaves_more}
+use Rattle.fax_rows.proofs.GoesOnLemmas.{no_step, no_chosen_step, goes_further, chosen_further, goes_on_leaves}
+use Rattle.fax_rows.proofs.GoesOnLemmas.{due_leaves, leaves_more}
 use Rattle.fax_rows.proofs.ReadRowLemmas.{row_done}
 use Rattle.fax_rows.proofs.PlacedStepLemmas.{nothing_read}
 use Rattle.fax_rows.proofs.two_dimensional.modes.read_by_look_ups.Goals as goal
@@ -26,7 +27,8 @@ loop-ahead-preserved g c = record {
 
 pub returns-clause-read : goal.returns-clause-read
 returns-clause-read g c =
-    rw c.go_to.ensures (row_done c.args.reference c.args.source.now.left c.loop-ahead.places c.loop-ahead.at c.loop-ahead.ahead.left
+    rw c.go_to.ensures (row_done c.args.reference c.args.source.now.left c.loop-ahead.places c.loop-ahead.at
+    c.loop-ahead.ahead.left
     c.loop-ahead.invariant.steps c.loop-ahead.invariant.chosen c.loop-ahead.invariant.so_far (omega arith))
 
 pub returns-in-Err-Fault-clause-stop : goal.returns-in-Err-Fault-clause-stop

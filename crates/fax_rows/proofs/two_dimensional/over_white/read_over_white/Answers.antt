@@ -43,10 +43,13 @@ returns-in-Some-End-clause-read g c =
     let taken = rw c.in-Some-End.field-0-is at c.in-Some-End.ensures.step in
     let under = rw c.placed.ensures at c.under_b1.ensures in
     let read =
-    one_read c.args.reference c.loop-at.places c.under_b1.new.places (placed_over_white c.loop-at.at) c.under_b1.result c.loop-at.ahead.left
+    one_read c.args.reference c.loop-at.places c.under_b1.new.places (placed_over_white c.loop-at.at) c.under_b1.result
+    c.loop-at.ahead.left
     c.next_step.new.source.left taken inside under.step under.so_far in
-    rw c.go_to.ensures (row_done c.args.reference c.args.source.now.left c.under_b1.new.places c.under_b1.result c.next_step.new.source.left
-    (goes_further c.loop-at.invariant.steps read.steps) (λ h. chosen_further (c.loop-at.invariant.chosen h) (read.chosen refl)) read.so_far
+    rw c.go_to.ensures (row_done c.args.reference c.args.source.now.left c.under_b1.new.places c.under_b1.result
+    c.next_step.new.source.left
+    (goes_further c.loop-at.invariant.steps read.steps) (λ h. chosen_further (c.loop-at.invariant.chosen h)
+    (read.chosen refl)) read.so_far
     (end_reached c.args.reference c.loop-at.places _ c.loop-at.at c.under_b1.result c.requires.white under.step))
 
 pub returns-in-None-clause-stop : goal.returns-in-None-clause-stop
@@ -83,6 +86,7 @@ returns-in-None-clause-stop g c =
 
 pub returns-clause-read : goal.returns-clause-read
 returns-clause-read g c =
-    rw c.go_to-2.ensures (row_done c.args.reference c.args.source.now.left c.loop-at.places (placed_over_white c.loop-at.at)
+    rw c.go_to-2.ensures (row_done c.args.reference c.args.source.now.left c.loop-at.places
+    (placed_over_white c.loop-at.at)
     c.loop-at.ahead.left c.loop-at.invariant.steps c.loop-at.invariant.chosen c.loop-at.invariant.so_far
     (omega (arith, reached_over_white c.loop-at.at, c.loop-at.invariant.so_far.within, c.loop-at-test.false)))

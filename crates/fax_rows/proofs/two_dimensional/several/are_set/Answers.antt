@@ -9,7 +9,8 @@ wanted_is : (count : ℕ) → count ≤ 4 → 1 * 2 ^ count % 184467440737095516
 wanted_is count h = grind (arith, common_steps)
 
 all : (a b d count i : ℕ) → count ≤ 4
-    → IsTrue (nat_eq (bit_and (bit_and (bit_and a b) d) (1 * 2 ^ count % 18446744073709551616 - 1)) (1 * 2 ^ count % 18446744073709551616 - 1))
+    → IsTrue (nat_eq (bit_and (bit_and (bit_and a b) d) (1 * 2 ^ count % 18446744073709551616 - 1))
+    (1 * 2 ^ count % 18446744073709551616 - 1))
     → i < count → (bit_at a i ≡ 1) × (bit_at b i ≡ 1) × (bit_at d i ≡ 1)
 all a b d count i few set h =
     three_set a b d count i

@@ -24,15 +24,18 @@ less_lanes-requires-2-clause-others c = grind (arith, right_four)
 
 pub less_lanes-requires-3-clause-lanes : goal.less_lanes-requires-3-clause-lanes
 less_lanes-requires-3-clause-lanes c =
-    before_four c.args.others.now c.args.found.raises c.args.b c.args.found.count c.raised_a0.result c.requires.some c.requires.room
-    c.requires.small (near c.args.found c.requires.few) c.requires.few.few c.requires.few.lanes (omega (arith, c.raised_a0.ensures.small))
+    before_four c.args.others.now c.args.found.raises c.args.b c.args.found.count c.raised_a0.result c.requires.some
+    c.requires.room
+    c.requires.small (near c.args.found c.requires.few) c.requires.few.few c.requires.few.lanes
+    (omega (arith, c.raised_a0.ensures.small))
 
 pub less_lanes-requires-3-clause-others : goal.less_lanes-requires-3-clause-others
 less_lanes-requires-3-clause-others c = grind (arith, raised_four)
 
 pub returns-clause-raised : goal.returns-clause-raised
 returns-clause-raised c =
-    lane_raised c.args.others.now c.args.found.raises c.args.b c.args.found.count c.raised_a0.result c.requires.some c.requires.room
+    lane_raised c.args.others.now c.args.found.raises c.args.b c.args.found.count c.raised_a0.result c.requires.some
+    c.requires.room
     c.requires.small (near c.args.found c.requires.few) c.requires.few.few c.requires.few.lanes
     (λ i h. subst (λ n. bit_at n i ≡ 1) c.less_lanes.ensures (c.if-not-fine.ensures.first refl i h))
     (λ i h. subst (λ n. bit_at n i ≡ 1) c.less_lanes-2.ensures (c.if-not-fine.ensures.second refl i h))
@@ -40,7 +43,8 @@ returns-clause-raised c =
 
 pub returns-clause-left : goal.returns-clause-left
 returns-clause-left c =
-    lane_left c.args.others.now c.args.found.raises c.args.b c.args.found.count c.raised_a0.result c.requires.some c.requires.room
+    lane_left c.args.others.now c.args.found.raises c.args.b c.args.found.count c.raised_a0.result c.requires.some
+    c.requires.room
     c.requires.small (near c.args.found c.requires.few) c.requires.few.few c.requires.few.lanes
     (λ i h. subst (λ n. bit_at n i ≡ 1) c.less_lanes.ensures (c.if-not-fine.ensures.first refl i h))
     (λ i h. subst (λ n. bit_at n i ≡ 1) c.less_lanes-2.ensures (c.if-not-fine.ensures.second refl i h))
@@ -48,7 +52,8 @@ returns-clause-left c =
 
 pub returns-clause-right : goal.returns-clause-right
 returns-clause-right c =
-    lane_right c.args.others.now c.args.found.raises c.args.b c.args.found.count c.raised_a0.result c.requires.some c.requires.room
+    lane_right c.args.others.now c.args.found.raises c.args.b c.args.found.count c.raised_a0.result c.requires.some
+    c.requires.room
     c.requires.small (near c.args.found c.requires.few) c.requires.few.few c.requires.few.lanes
     (λ i h. subst (λ n. bit_at n i ≡ 1) c.less_lanes.ensures (c.if-not-fine.ensures.first refl i h))
     (λ i h. subst (λ n. bit_at n i ≡ 1) c.less_lanes-2.ensures (c.if-not-fine.ensures.second refl i h))
@@ -56,11 +61,20 @@ returns-clause-right c =
 
 pub returns-clause-ascending : goal.returns-clause-ascending
 returns-clause-ascending c =
-    lane_ascending c.args.others.now c.args.found.raises c.args.b c.args.found.count c.raised_a0.result c.requires.some c.requires.room
+    lane_ascending c.args.others.now c.args.found.raises c.args.b c.args.found.count c.raised_a0.result c.requires.some
+    c.requires.room
     c.requires.small (near c.args.found c.requires.few) c.requires.few.few c.requires.few.lanes
     (λ i h. subst (λ n. bit_at n i ≡ 1) c.less_lanes.ensures (c.if-not-fine.ensures.first refl i h))
     (λ i h. subst (λ n. bit_at n i ≡ 1) c.less_lanes-2.ensures (c.if-not-fine.ensures.second refl i h))
     (λ i h. subst (λ n. bit_at n i ≡ 1) c.less_lanes-3.ensures (c.if-not-fine.ensures.third refl i h))
 
 pub returns-clause-first : goal.returns-clause-first
-returns-clause-first c = grind (arith, common_steps, lane_first, near, c.raised_a0.ensures.right, c.requires.some, c.less_lanes.ensures)
+returns-clause-first c = grind (
+  arith,
+  common_steps,
+  lane_first,
+  near,
+  c.raised_a0.ensures.right,
+  c.requires.some,
+  c.less_lanes.ensures,
+)

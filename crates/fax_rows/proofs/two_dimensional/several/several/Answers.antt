@@ -25,9 +25,11 @@ returns-clause-read g c =
     let lanes = c.in_ok-lanes.ensures in
     let new = c.put_four.new.places in
     let put = c.put_four.ensures in
-    let long : length (raises_of found) ≡ found.count = length-take-le found.count found.raises (omega (arith, few.few, few.lanes)) in
+    let long : length (raises_of found) ≡ found.count = length-take-le found.count found.raises
+    (omega (arith, few.few, few.lanes)) in
     let some = (c.requires.inside.so_far.b1 c.requires.inside.unfinished).some in
-    rw c.go_to-2.ensures (several_on reference c.args.places.now new at (raises_of found) found.count c.colour_after.result
+    rw c.go_to-2.ensures (several_on reference c.args.places.now new at (raises_of found) found.count
+    c.colour_after.result
     c.args.source.now.left _ read.spelled long few.some c.requires.inside
     (omega (arith, c.if-at-reference.false, few.few))
     put.same_len put.kept

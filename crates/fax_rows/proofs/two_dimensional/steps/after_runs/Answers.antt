@@ -31,7 +31,8 @@ returns-clause-so_far c =
     (horizontal_so_far c.requires.inside c.args.first c.args.second c.requires.within turns again
     (λ h. rw (← from)
     (c.b1_after.ensures (omega (arith, from)) c.args.at.reached.colour
-    (same_start c.args.reference c.args.at.reached.a0 c.args.at.reached.colour c.args.at.b1 _ (c.requires.inside.so_far.b1 c.requires.inside.unfinished)
+    (same_start c.args.reference c.args.at.reached.a0 c.args.at.reached.colour c.args.at.b1 _
+    (c.requires.inside.so_far.b1 c.requires.inside.unfinished)
     (omega (arith, from))))))
 
 pub returns-clause-placed : goal.returns-clause-placed

@@ -15,7 +15,8 @@ pub turned_at-requires-clause-b1 : goal.turned_at-requires-clause-b1
 turned_at-requires-clause-b1 c = λ h.
     let at = c.args.at in
     c.b1_before-b1.ensures (other at.reached.colour)
-    (left_start c.args.reference at.reached.a0 at.reached.colour at.b1 _ (c.requires.inside.so_far.b1 c.requires.inside.unfinished)
+    (left_start c.args.reference at.reached.a0 at.reached.colour at.b1 _
+    (c.requires.inside.so_far.b1 c.requires.inside.unfinished)
     (number_right at.reached _ c.in_ok-place.ensures.right))
 
 pub returns-clause-step : goal.returns-clause-step

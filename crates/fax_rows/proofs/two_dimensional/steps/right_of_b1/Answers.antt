@@ -21,8 +21,15 @@ pub turned_at-requires-clause-b1 : goal.turned_at-requires-clause-b1
 turned_at-requires-clause-b1 c = λ h.
     let at = c.args.at in
     c.b1_after-b1.ensures h (other at.reached.colour)
-    (right_start c.args.reference at.reached.a0 at.reached.colour at.b1 _ (c.requires.inside.so_far.b1 c.requires.inside.unfinished) (omega arith) h)
+    (right_start c.args.reference at.reached.a0 at.reached.colour at.b1 _
+    (c.requires.inside.so_far.b1 c.requires.inside.unfinished) (omega arith) h)
 
 pub returns-clause-step : goal.returns-clause-step
 returns-clause-step c =
-    c.turned_at.ensures.step c.args.d (omega (arith, ints, c.from.ensures, c.unsigned_abs.ensures.value, c.requires.right.le))
+    c.turned_at.ensures.step c.args.d (omega (
+      arith,
+      ints,
+      c.from.ensures,
+      c.unsigned_abs.ensures.value,
+      c.requires.right.le,
+    ))
