@@ -6,6 +6,7 @@ mod BeginLemmas
 mod EntryLemmas
 mod EntryReadLemmas
 mod GetterLemmas
+mod CommandLineLemmas
 mod ExampleLemmas
 mod RuleLemmas
 mod UseLemmas
