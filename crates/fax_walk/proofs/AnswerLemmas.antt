@@ -1,6 +1,7 @@
 -- What is converted has one output or one fault, and what is checked has one report.
 use Rattle.std.proofs.lemmas.Grind.{common_steps}
-use Rattle.std.proofs.Common.{arith, ◌≡◌, ℕ, List, length, Option, Some, None, Err, Bool, refl, ap, sym, ◌∙◌, subst, inl, inr, codes}
+use Rattle.std.proofs.Common.{arith, ◌≡◌, ℕ, List, length, Option, Some, None, Err, Bool, refl, ap, sym, ◌∙◌, subst}
+use Rattle.std.proofs.Common.{inl, inr, codes}
 use Rattle.std.specs.Prelude.{flat_map, not}
 use Rattle.fax_bits.specs.Bits.{bits, BeginsWith}
 use Rattle.fax_bits.specs.declared.Colour.{Colour}
@@ -22,7 +23,8 @@ use Rattle.fax_walk.specs.declared.options.ConvertFault.{ConvertFault}
 use Rattle.fax_walk.specs.declared.options.ConvertFault.TheVariants as Refused
 use Rattle.fax_walk.specs.declared.options.Options.{Options}
 use Rattle.fax_walk.specs.declared.walk.Place.{Place}
-use Rattle.fax_walk.specs.Converted.{IsConverted, IsNotConverted, IsSource, IsTiff, IsTooLarge, SourcePage, pages_of, target_bytes}
+use Rattle.fax_walk.specs.Converted.{IsConverted, IsNotConverted, IsSource, IsTiff, IsTooLarge, SourcePage, pages_of}
+use Rattle.fax_walk.specs.Converted.{target_bytes}
 use Rattle.fax_walk.specs.Pages.{AreFrom, IsPageAt, goes_on, ends_as}
 use Rattle.fax_walk.specs.Report.{IsNoted, IsReportedEnd, IsStripNoted, note_if}
 use Rattle.fax_walk.specs.Items.{AreItems, RowItem}
@@ -41,7 +43,8 @@ source_fault Outside = Refused.UnknownInput
 
 module _ (images_once : ImagesAreReadInOneWay) (one_forms : FilesHaveOneForms) (one_items : FilesHaveOneItems) where
   -- a source has one list of pages
-  one_source : (bytes : List ℕ) (pages others : List SourcePage) → IsSource bytes pages → IsSource bytes others → pages ≡ others
+  one_source : (bytes : List ℕ) (pages others : List SourcePage) → IsSource bytes pages → IsSource bytes others
+      → pages ≡ others
   one_source bytes pages others (inl (begins, images, are, is)) (inl (begins', images', are', is')) = grind arith
   one_source bytes pages others (inl (begins, images, are, is)) (inr (tiff, forms, items, forms_are, items_are, is')) =
       absurd (not_both bytes begins tiff)
@@ -53,7 +56,8 @@ module _ (images_once : ImagesAreReadInOneWay) (one_forms : FilesHaveOneForms) (
       let same_items = two_of (one_items bytes) items items' Proper Proper items_are items_are' in
       is ∙ ap (λ l. pages_of l items) same_forms.0 ∙ ap (pages_of forms') same_items.0 ∙ sym is'
 
-  no_tiff_source : (bytes : List ℕ) (items : List RowItem) (p r : ℕ) (cause : Cause) (pages : List SourcePage) → IsTiff bytes
+  no_tiff_source : (bytes : List ℕ) (items : List RowItem) (p r : ℕ) (cause : Cause) (pages : List SourcePage)
+      → IsTiff bytes
       → AreItems bytes items (Fault p r cause) → IsSource bytes pages → ⊥
   no_tiff_source bytes items p r cause pages tiff are (inl (begins, images, are', is)) = not_both bytes begins tiff
   no_tiff_source bytes items p r cause pages tiff are (inr (tiff', forms', items', forms_are', items_are', is')) =
@@ -70,9 +74,11 @@ module _ (images_once : ImagesAreReadInOneWay) (one_forms : FilesHaveOneForms) (
       ∙ ap (target_bytes options.target options) (one_source bytes first.pages second.pages first.source second.source)
       ∙ sym second.output_is
 
-  output_has_no_fault : (bytes : List ℕ) (options : Options) (output : List ℕ) (fault : ConvertFault) → IsConverted bytes options output
+  output_has_no_fault : (bytes : List ℕ) (options : Options) (output : List ℕ) (fault : ConvertFault)
+      → IsConverted bytes options output
       → IsNotConverted bytes options fault → ⊥
-  output_has_no_fault bytes options output Refused.UnknownInput is none = no_source bytes is.pages none.0 none.1 is.source
+  output_has_no_fault bytes options output Refused.UnknownInput is none =
+      no_source bytes is.pages none.0 none.1 is.source
   output_has_no_fault bytes options output (Refused.Pbm image fault) is none = grind arith
   output_has_no_fault bytes options output (Refused.Source p r cause) is none =
       no_tiff_source bytes none.1 p r cause is.pages none.0 none.2 is.source
@@ -97,7 +103,8 @@ module _ (images_once : ImagesAreReadInOneWay) (one_forms : FilesHaveOneForms) (
   one_fault bytes options (Refused.Source p r cause) Refused.UnknownInput first second = absurd (second.1 first.0)
   one_fault bytes options (Refused.Source p r cause) (Refused.Pbm image fault) first second = grind arith
   one_fault bytes options (Refused.Source p r cause) (Refused.Source p' r' cause') first second =
-      let same = (two_of (one_items bytes) first.1 second.1 (Fault p r cause) (Fault p' r' cause') first.2 second.2).1 in
+      let same = (two_of (one_items bytes) first.1 second.1 (Fault p r cause) (Fault p' r' cause') first.2 second.2).1
+      in
       ap source_fault same
   one_fault bytes options (Refused.Source p r cause) Refused.OutputTooLarge first second =
       absurd (no_tiff_source bytes first.1 p r cause second.0 first.0 first.2 second.1)
@@ -131,7 +138,8 @@ module _ (chains : FilesHaveOneChain) (file : List ℕ) where
 
 module _ (strips_once : (form : StripForm) → ReadsStripsOneWay form) (noted_once : StripsAreNotedInOneWay) where
   -- a strip that has notes has no fault
-  noted_or_fault : (form : StripForm) (b : List Bool) (rows others : List (List Colour)) (found : StripNotes) (fault : StripFault)
+  noted_or_fault : (form : StripForm) (b : List Bool) (rows others : List (List Colour)) (found : StripNotes)
+      (fault : StripFault)
       → IsNotedAs form b rows found → IsStrip form b others (Some fault) → ⊥
   noted_or_fault form b rows others found fault noted strip =
       let whole : IsStrip form b rows None = record { left = noted.left; lines = noted.lines } in
@@ -144,11 +152,16 @@ module _ (strips_once : (form : StripForm) → ReadsStripsOneWay form) (noted_on
       (rows', found', noted', is', to_is') =
       let same = noted_once (strip_form form s) (bits form.order bytes) rows rows' found found' noted noted' in
       cc
-  single_strip form p s (Some bytes) (goes_on notes to) (ends_as end) (rows, found, noted, is, to_is) (rows', fault, left, lines, is') =
-      absurd (noted_or_fault (strip_form form s) (bits form.order bytes) rows rows' found fault noted (record { left = left; lines = lines }))
-  single_strip form p s (Some bytes) (ends_as end) (goes_on others place) (rows', fault, left, lines, is') (rows, found, noted, is, to_is) =
-      absurd (noted_or_fault (strip_form form s) (bits form.order bytes) rows rows' found fault noted (record { left = left; lines = lines }))
-  single_strip form p s (Some bytes) (ends_as end) (ends_as other) (rows, fault, left, lines, is) (rows', fault', left', lines', is') =
+  single_strip form p s (Some bytes) (goes_on notes to) (ends_as end) (rows, found, noted, is, to_is)
+      (rows', fault, left, lines, is') =
+      absurd (noted_or_fault (strip_form form s) (bits form.order bytes) rows rows' found fault noted
+      (record { left = left; lines = lines }))
+  single_strip form p s (Some bytes) (ends_as end) (goes_on others place) (rows', fault, left, lines, is')
+      (rows, found, noted, is, to_is) =
+      absurd (noted_or_fault (strip_form form s) (bits form.order bytes) rows rows' found fault noted
+      (record { left = left; lines = lines }))
+  single_strip form p s (Some bytes) (ends_as end) (ends_as other) (rows, fault, left, lines, is)
+      (rows', fault', left', lines', is') =
       let b = bits form.order bytes in
       let strip : IsStrip (strip_form form s) b rows (Some fault) = record { left = left; lines = lines } in
       let strip' : IsStrip (strip_form form s) b rows' (Some fault') = record { left = left'; lines = lines' } in
@@ -160,7 +173,8 @@ module _ (strips_once : (form : StripForm) → ReadsStripsOneWay form) (noted_on
     single_noted : (at : ℕ × Option ℕ) → IsSingle (IsNoted file at)
     single_noted (p, None) =
         single_on_page chains file (record { page = p; row = 0 })
-        (λ here step. step ≡ goes_on (note_if (not (ascend (entries here.endian file here.offset))) p None EntriesOutOfOrder) (p, Some 0))
+        (λ here step. step ≡ goes_on (note_if (not (ascend (entries here.endian file here.offset))) p None
+        EntriesOutOfOrder) (p, Some 0))
         ends_as (λ here x y first second. first ∙ sym second)
     single_noted (p, Some s) =
         single_on_page chains file (record { page = p; row = 0 })
@@ -173,7 +187,8 @@ module _ (strips_once : (form : StripForm) → ReadsStripsOneWay form) (noted_on
       let end_is = subst (λ (e : End). IsReportedEnd file e other.pages other.fault) (sym rows.1) second.end_is in
       let ends = one_end chains file first.end report.pages other.pages report.fault other.fault first.end_is end_is in
       let noted = subst (λ (e : End). AreFrom (IsNoted file) (0, None) second.notes e) (sym rows.1) second.noted in
-      let notes = single_from (IsNoted file) (single_noted chains file) (0, None) first.notes second.notes first.end first.end first.noted noted in
+      let notes = single_from (IsNoted file) (single_noted chains file) (0, None) first.notes second.notes first.end
+      first.end first.noted noted in
       record {
         notes = first.notes_are ∙ ap (λ l. flat_map (λ own. own) l) notes.0 ∙ sym second.notes_are;
         pages = ends.0;

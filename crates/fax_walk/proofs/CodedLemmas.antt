@@ -1,6 +1,7 @@
 -- A file of coded strips has the rows and the forms of the pages that it was written of.
 use Rattle.std.proofs.lemmas.Grind.{common_steps}
-use Rattle.std.proofs.Common.{◌≡◌, ◌≢◌, true, ℕ, zero, suc, ◌+◌, ◌*◌, ◌<◌, ◌≤◌, min, List, [], ◌∷◌, ◌++◌, length, map, take, drop}
+use Rattle.std.proofs.Common.{◌≡◌, ◌≢◌, true, ℕ, zero, suc, ◌+◌, ◌*◌, ◌<◌, ◌≤◌, min, List, [], ◌∷◌, ◌++◌, length, map}
+use Rattle.std.proofs.Common.{take, drop}
 use Rattle.std.proofs.Common.{Option, refl, sym, ap, ◌∙◌, subst, arith, length-take, length-drop}
 use Rattle.std.specs.Prelude.{All, unwrap_or, IsTrue}
 use Rattle.std.specs.List.{AllZip, range_with_len}
@@ -22,7 +23,8 @@ use Rattle.fax_files.specs.laws.Pbm.{AreOfWidth}
 use Rattle.fax_walk.specs.declared.options.Options.{Options}
 use Rattle.fax_walk.specs.Converted.{SourcePage, written_page}
 use Rattle.fax_walk.specs.code.OpenStrips.{coded_of, rows_of_strip}
-use Rattle.fax_walk.specs.laws.Written.{HoldsRows, IsWritableSource, written_pages, WrittenFilesAreWalked, CodedFilesAreWalked}
+use Rattle.fax_walk.specs.laws.Written.{HoldsRows, IsWritableSource, written_pages, WrittenFilesAreWalked}
+use Rattle.fax_walk.specs.laws.Written.{CodedFilesAreWalked}
 use Rattle.fax_walk.proofs.OpenPageLemmas.{whole_of}
 
 -- strips of enough rows, from strip s on, are all rows that are left
@@ -34,7 +36,8 @@ rows_joined form s (suc n) rows within =
     let place : s * in_strip + in_strip ≡ (s + 1) * in_strip = omega arith in
     sym (take-append-drop in_strip (drop (s * in_strip) rows))
     ∙ ap (λ (l : List (List Colour)). rows_of_strip form rows s ++ l)
-    (drop-drop in_strip (s * in_strip) rows ∙ ap (λ (i : ℕ). drop i rows) place ∙ rows_joined form (s + 1) n rows (omega arith))
+    (drop-drop in_strip (s * in_strip) rows ∙ ap (λ (i : ℕ). drop i rows) place
+    ∙ rows_joined form (s + 1) n rows (omega arith))
 
 all_wide : (width : ℕ) (rows : List (List Colour)) → AreOfWidth width rows → All (λ row. length row ≡ width) rows
 all_wide width [] are = All-nil (λ row. length row ≡ width)
@@ -45,9 +48,11 @@ module _ (law : CodedStripsAreRead) (form : PageForm) (limits : IsPageForm form)
   in_strip = form.rows_per_strip
 
   -- coded strips hold their rows
-  holds_from : (rows : List (List Colour)) → length rows ≡ form.rows → All (λ row. length row ≡ form.width) rows → (s n : ℕ)
+  holds_from : (rows : List (List Colour)) → length rows ≡ form.rows → All (λ row. length row ≡ form.width) rows
+      → (s n : ℕ)
       → s + n ≡ form.strips
-      → HoldStripRows form s (map (coded_of form k rows) (range_with_len s n)) (map (rows_of_strip form rows) (range_with_len s n))
+      → HoldStripRows form s (map (coded_of form k rows) (range_with_len s n))
+      (map (rows_of_strip form rows) (range_with_len s n))
   holds_from rows count wide s zero strips = tt
   holds_from rows count wide s (suc n) strips =
       let before : s * in_strip < form.rows = (whole_of form limits).needed s (omega arith) in
@@ -55,7 +60,8 @@ module _ (law : CodedStripsAreRead) (form : PageForm) (limits : IsPageForm form)
       let left = drop (s * in_strip) rows in
       let here : length (take in_strip left) ≡ (strip_form form s).rows =
       omega (arith, length-take in_strip left, length-drop (s * in_strip) rows) in
-      let widths = All-take (λ row. length row ≡ form.width) in_strip left (All-drop (λ row. length row ≡ form.width) (s * in_strip) rows wide)
+      let widths = All-take (λ row. length row ≡ form.width) in_strip left
+      (All-drop (λ row. length row ≡ form.width) (s * in_strip) rows wide)
       in
       let shape : AreRowsOf (strip_form form s) (take in_strip left) = record { count = here; widths = widths } in (
         law (strip_form form s) k (take in_strip left)
@@ -72,10 +78,18 @@ module _ (law : CodedStripsAreRead) (form : PageForm) (limits : IsPageForm form)
 height : (strip : Option ℕ) (rows : ℕ) → ForSome strip (λ n. 0 < n) → 1 ≤ rows → 1 ≤ min (unwrap_or strip rows) rows
 height strip rows some any = grind arith
 
-within_limits : (width rows : ℕ) → IsTrue (is_within_limits width rows) → (1 ≤ width) × (width ≤ 65535) × (1 ≤ rows) × (rows ≤ 1000000)
-within_limits width rows within = (grind (arith, nat_tests), grind (arith, nat_tests), grind (arith, nat_tests), grind (arith, nat_tests))
+within_limits : (width rows : ℕ) → IsTrue (is_within_limits width rows)
+    → (1 ≤ width) × (width ≤ 65535) × (1 ≤ rows) × (rows ≤ 1000000)
+within_limits width rows within = (
+  grind (arith, nat_tests),
+  grind (arith, nat_tests),
+  grind (arith, nat_tests),
+  grind
+      (arith, nat_tests),
+)
 
-module _ (law : CodedStripsAreRead) (options : Options) (coding : Coding) (some_strip : ForSome options.strip (λ rows. 0 < rows))
+module _ (law : CodedStripsAreRead) (options : Options) (coding : Coding)
+    (some_strip : ForSome options.strip (λ rows. 0 < rows))
     (has_eols : options.aligned ≡ true → coding ≢ Mmr) where
   module _ (source : SourcePage) (w : IsWritableSource source) where
     abbrev form : PageForm
@@ -92,12 +106,15 @@ module _ (law : CodedStripsAreRead) (options : Options) (coding : Coding) (some_
         let rows = source.image.rows in
         let none : 0 ≡ 0 * form.rows_per_strip = omega arith in (
           map (rows_of_strip form rows) (range_with_len 0 form.strips),
-          holds_from law form form_limits options.k rows refl (all_wide source.image.width rows w.image.rows) 0 form.strips (omega arith),
+          holds_from law form form_limits options.k rows refl (all_wide source.image.width rows w.image.rows) 0
+              form.strips (omega arith),
           ap (λ (i : ℕ). drop i rows) none ∙ rows_joined form 0 form.strips rows
-              (subst (λ (n : ℕ). length rows ≤ n * form.rows_per_strip) (omega arith) (whole_of form form_limits).enough),
+              (subst (λ (n : ℕ). length rows ≤ n * form.rows_per_strip) (omega arith)
+              (whole_of form form_limits).enough),
         )
 
-  all_writable : (pages : List SourcePage) → All IsWritableSource pages → AreWritable (written_pages options coding pages)
+  all_writable : (pages : List SourcePage) → All IsWritableSource pages
+      → AreWritable (written_pages options coding pages)
   all_writable [] are = tt
   all_writable (source ∷ pages) are = (
     page_writable source (All-head IsWritableSource source pages are),

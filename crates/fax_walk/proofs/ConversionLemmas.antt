@@ -1,5 +1,6 @@
 -- A source that is converted, and the images of a file, counted.
-use Rattle.std.proofs.Common.{◌≡◌, ℕ, ◌+◌, ◌<◌, inl, inr, List, [], ◌∷◌, ◌++◌, length, Some, None, refl, sym, ap, subst, ◌∙◌, arith}
+use Rattle.std.proofs.Common.{◌≡◌, ℕ, ◌+◌, ◌<◌, inl, inr, List, [], ◌∷◌, ◌++◌, length, Some, None, refl, sym, ap, subst}
+use Rattle.std.proofs.Common.{◌∙◌, arith}
 use Rattle.std.proofs.Common.{append_assoc, append-nil, ◌≢◌, Result}
 use Rattle.std.specs.Prelude.{IfErr, IfOk}
 use Rattle.std.proofs.lemmas.List.{length-append}
@@ -15,7 +16,8 @@ use Rattle.fax_walk.specs.code.Conversion.{AreImagesRead, IsImageCount, IsImages
 pub none_read : (bytes : List ℕ) → AreImagesRead bytes bytes 0
 none_read bytes = record { images = []; count_is = refl; after = λ more end are. are }
 
-pub one_more : (bytes left : List ℕ) (count : ℕ) (image : Image) (rest : List ℕ) → AreImagesRead bytes left count → IsImage left image rest
+pub one_more : (bytes left : List ℕ) (count : ℕ) (image : Image) (rest : List ℕ) → AreImagesRead bytes left count
+    → IsImage left image rest
     → AreImagesRead bytes rest (count + 1)
 one_more bytes left count image rest read is = record {
   images = read.images ++ image ∷ [];
@@ -43,11 +45,13 @@ fault_met bytes left count fault read some is = record {
 }
 
 -- an image has bytes of its own
-pub image_is_long : (bytes : List ℕ) (image : Image) (rest : List ℕ) → IsImage bytes image rest → length rest < length bytes
+pub image_is_long : (bytes : List ℕ) (image : Image) (rest : List ℕ) → IsImage bytes image rest
+    → length rest < length bytes
 image_is_long bytes image rest is = grind (arith, length-append)
 
 -- what the output of all pages of a source is
-module _ (bytes : List ℕ) (at : Progress) (output : Output) (source : IsSource bytes at.pages) (written : IsWrittenTo output at)
+module _ (bytes : List ℕ) (at : Progress) (output : Output) (source : IsSource bytes at.pages)
+    (written : IsWrittenTo output at)
     (all : length at.pages ≡ at.total) where
   pub converted : (result : Result (List ℕ) ConvertFault) → IfOk result (FinishesAs output)
       → IfOk result (IsConverted bytes at.options)

@@ -1,5 +1,6 @@
 -- A cursor's text is cut at its colons, and its numbers are read.
-use Rattle.std.proofs.Common.{◌≡◌, ◌≢◌, ℕ, ◌^◌, ◌<◌, List, [], ◌∷◌, ◌++◌, length, get_or, Result, ◌∙◌, append_assoc, arith}
+use Rattle.std.proofs.Common.{◌≡◌, ◌≢◌, ℕ, ◌^◌, ◌<◌, List, [], ◌∷◌, ◌++◌, length, get_or, Result, ◌∙◌, append_assoc}
+use Rattle.std.proofs.Common.{arith}
 use Rattle.std.specs.Prelude.{Option, MatchOption, OnErr, decimal}
 use Rattle.std.specs.Borrow.{Bor}
 use Rattle.std.specs.Str.Parse.{AllDigits, digits_value}
@@ -27,12 +28,15 @@ version_has_no_colon : (i : ℕ) → i < length version → get_or version i 0 �
 version_has_no_colon i within = grind arith
 
 -- the text after the first colon of a cursor's
-pub after_version : (text : List ℕ) (at : Cursor) (r : Option (Bor (List ℕ) × Bor (List ℕ))) → IsSplitOnceResult 58 text r
-    → text ≡ cursor_text at → MatchOption r ⊥ (λ x. (x.0.now ≡ version) × (x.1.now ≡ (decimal at.page ++ 58 ∷ []) ++ decimal at.row))
+pub after_version : (text : List ℕ) (at : Cursor) (r : Option (Bor (List ℕ) × Bor (List ℕ)))
+    → IsSplitOnceResult 58 text r
+    → text ≡ cursor_text at → MatchOption r ⊥ (λ x. (x.0.now ≡ version)
+    × (x.1.now ≡ (decimal at.page ++ 58 ∷ []) ++ decimal at.row))
 after_version text at r cut is = split_after 58 text version _ r cut (omega arith) is version_has_no_colon
 
 -- the two numbers of a cursor's text
-pub page_and_row : (place : List ℕ) (at : Cursor) (r : Option (Bor (List ℕ) × Bor (List ℕ))) → IsSplitOnceResult 58 place r
+pub page_and_row : (place : List ℕ) (at : Cursor) (r : Option (Bor (List ℕ) × Bor (List ℕ)))
+    → IsSplitOnceResult 58 place r
     → IsCursor at → place ≡ (decimal at.page ++ 58 ∷ []) ++ decimal at.row
     → MatchOption r ⊥ (λ x. (x.0.now ≡ decimal at.page) × (x.1.now ≡ decimal at.row))
 page_and_row place at r cut limits is =

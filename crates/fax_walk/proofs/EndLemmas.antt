@@ -21,19 +21,22 @@ use Rattle.fax_walk.proofs.TailLawLemmas.{same_strip, split_at_number, strip_beg
 -- the rows end properly, or at a place or after it
 abbrev pub EndsFrom : RowPlace → End → Type 0
 EndsFrom at end =
-    (end ≡ Proper) ⊎ ((p r : ℕ) × (cause : Cause) × (end ≡ Fault p r cause) × (at.page ≤ p) × (at.page ≡ p → at.row ≤ r))
+    (end ≡ Proper) ⊎ ((p r : ℕ) × (cause : Cause) × (end ≡ Fault p r cause) × (at.page ≤ p)
+    × (at.page ≡ p → at.row ≤ r))
 
 inside : (at : RowPlace) (end : End) → EndsFrom at end → end ≡ Outside → ⊥
 inside at end from e = grind arith
 
 -- in a strip they end at the row that is due; where there is no strip, at its first row
-in_strip : (form : PageForm) (at : RowPlace) (found : Option (List ℕ)) (end : End) → IsInStrip form at found (ends_as end)
+in_strip : (form : PageForm) (at : RowPlace) (found : Option (List ℕ)) (end : End)
+    → IsInStrip form at found (ends_as end)
     → (found ≡ None → at.row ≤ strip_at form at.row * form.rows_per_strip) → EndsFrom at end
 in_strip form at found end stop first = grind arith
 
 -- the place after an item is below it, or on a page after
 pub follows : (file : List ℕ) (at : RowPlace) (item : RowItem) (to : RowPlace) → IsRow file at (goes_on item to)
-    → (item.page ≡ at.page) × (item.row ≡ at.row) × (item.page ≤ to.page) × (to.page ≡ item.page → to.row ≡ item.row + 1)
+    → (item.page ≡ at.page) × (item.row ≡ at.row) × (item.page ≤ to.page)
+    × (to.page ≡ item.page → to.row ≡ item.row + 1)
 follows file at item to step = grind arith
 
 module _ (chains : FilesHaveOneChain) (file : List ℕ) where
@@ -43,14 +46,16 @@ module _ (chains : FilesHaveOneChain) (file : List ℕ) where
 
   -- at a row of a page
   on_page : (at : RowPlace) (here : FilePage) → IsPageAt file (cursor_at at) (Ok here)
-      → (strip_bytes here.endian file here.offset (strip_at here.form at.row) ≡ None → at.row ≤ strip_at here.form at.row * here.form.rows_per_strip)
+      → (strip_bytes here.endian file here.offset (strip_at here.form at.row) ≡ None
+      → at.row ≤ strip_at here.form at.row * here.form.rows_per_strip)
       → (end : End) → IsRow file at (ends_as end) → EndsFrom at end
   on_page at here page first end (Err none, page', is) =
       let same = same_answer (one_page chains file (cursor_at at)) (Err none) (Ok here) page' page in absurd cc
   on_page at here page first end (Ok there, page', is) =
       let same = same_answer (one_page chains file (cursor_at at)) (Ok there) (Ok here) page' page in
       let is_here : there ≡ here = cc in
-      in_strip here.form at (strip_bytes here.endian file here.offset (strip_at here.form at.row)) end (rw is_here at is) first
+      in_strip here.form at (strip_bytes here.endian file here.offset (strip_at here.form at.row)) end
+      (rw is_here at is) first
 
   -- after an item
   module _ (at : RowPlace) (item : RowItem) (to : RowPlace) (end : End) where
@@ -58,7 +63,8 @@ module _ (chains : FilesHaveOneChain) (file : List ℕ) where
     after_item read = after_read file (λ t. IsRow file t (ends_as end) → EndsFrom t end) at item to read
         (λ last. on_due (item.page + 1) (inr (cursor_after item, read.here, page_there (item.row + 1), refl)) end)
         (λ within begins. on_page (first_at item.page (item.row + 1)) read.here (page_there (item.row + 1))
-        (λ none. let begin = strip_begin read.here.form.rows_per_strip (item.row + 1) begins in omega (arith, begin)) end)
+        (λ none. let begin = strip_begin read.here.form.rows_per_strip (item.row + 1) begins in omega (arith, begin))
+        end)
         (λ within some. on_page (inner_after read.here.form item) read.here (page_there (item.row + 1))
         (λ none. let same = same_strip file at item to read some in
         let there = rw (← same.0) at read.bytes_are in absurd (cc (none, there))) end)
@@ -66,7 +72,8 @@ module _ (chains : FilesHaveOneChain) (file : List ℕ) where
         page_there : (r : ℕ) → IsPageAt file (record { page = item.page; row = r }) (Ok read.here)
         page_there = its_page file at item to read
 
-  ends_there : (at : RowPlace) (items : List RowItem) (end : End) → ((e : End) → IsRow file at (ends_as e) → EndsFrom at e)
+  ends_there : (at : RowPlace) (items : List RowItem) (end : End)
+      → ((e : End) → IsRow file at (ends_as e) → EndsFrom at e)
       → AreFrom (IsRow file) at items end → end ≡ Outside → ⊥
   ends_there at [] end stops is = inside at end (stops end is)
   ends_there at (x ∷ items) end stops (to, step, rest) =
@@ -78,7 +85,8 @@ module _ (chains : FilesHaveOneChain) (file : List ℕ) where
 pub items_end_in_the_file : FilesHaveOneChain → ItemsEndInTheFile
 items_end_in_the_file chains file items end are outside = grind (arith, never_outside)
 
-not_before : (item : RowItem) (to : RowPlace) (end : End) → item.page ≤ to.page → (to.page ≡ item.page → to.row ≡ item.row + 1)
+not_before : (item : RowItem) (to : RowPlace) (end : End) → item.page ≤ to.page
+    → (to.page ≡ item.page → to.row ≡ item.row + 1)
     → EndsFrom to end → EndsBefore end (cursor_after item) → ⊥
 not_before item to end later below h before = grind arith
 

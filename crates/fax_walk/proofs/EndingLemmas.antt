@@ -1,5 +1,6 @@
 -- What a chain's next directory is, and where it ends.
-use Rattle.std.proofs.Common.{◌≡◌, ℕ, ◌+◌, ◌<◌, ◌≤◌, false, List, length, Option, Some, None, Result, Ok, Err, inl, inr, refl}
+use Rattle.std.proofs.Common.{◌≡◌, ℕ, ◌+◌, ◌<◌, ◌≤◌, false, List, length, Option, Some, None, Result, Ok, Err, inl, inr}
+use Rattle.std.proofs.Common.{refl}
 use Rattle.std.proofs.Common.{ap, ◌∙◌, arith}
 use Rattle.std.proofs.lemmas.Bool.Decides.{nat_tests}
 use Rattle.std.specs.Prelude.{slice_get, ◌==◌}
@@ -16,7 +17,8 @@ use Rattle.fax_walk.specs.declared.end.End.{End}
 use Rattle.fax_walk.specs.declared.end.End.TheVariants.{Proper, Fault, Outside}
 use Rattle.fax_walk.specs.Pages.{IsPageAt}
 use Rattle.fax_walk.specs.code.Opening.{end_past_chain, page_or_end}
-use Rattle.fax_walk.specs.code.Opening.{EndsAt, IsChainBefore, IsFilePage, IsNamed, IsNoPage, IsPageAnswer, PageDue, page_with}
+use Rattle.fax_walk.specs.code.Opening.{EndsAt, IsChainBefore, IsFilePage, IsNamed, IsNoPage, IsPageAnswer, PageDue}
+use Rattle.fax_walk.specs.code.Opening.{page_with}
 use Rattle.fax_walk.proofs.OpeningLemmas.{due_some, due_none, due_fault}
 use Rattle.fax_walk.proofs.PageLawLemmas.{none_past, proper_end}
 
@@ -30,7 +32,8 @@ outside_row pages at some = grind arith
 -- a directory stands there
 pub goes_on : (file : List ℕ) (number : ℕ) (chain new : ChainState) (answer : Result (Option TiffDirectory) FileFault)
     (directory : TiffDirectory)
-    → IsChainBefore file number chain → IsDueAnswer chain answer → answer ≡ Ok (Some directory) → new ≡ after_answer chain answer
+    → IsChainBefore file number chain → IsDueAnswer chain answer → answer ≡ Ok (Some directory)
+    → new ≡ after_answer chain answer
     → IsChainBefore file (number + 1) new
 goes_on file number chain new answer directory before due is counted = grind (arith, slice_get_within)
 
@@ -52,10 +55,12 @@ module _ (file : List ℕ) (number : ℕ) (chain : ChainState) (answer : Result 
   count_is none = grind (arith, none_past)
 
   -- where the chain ends properly, and where it ends with a fault
-  ended_at : (at : Cursor) → answer ≡ Ok None → number ≤ at.page → IsPageAt file at (Err (end_past_chain number None at))
+  ended_at : (at : Cursor) → answer ≡ Ok None → number ≤ at.page
+      → IsPageAt file at (Err (end_past_chain number None at))
   ended_at at is past =
       let none = due_none chain answer due is one.offsets one.end is_one in
-      let end_is : end_past_chain (length one.offsets) one.end at ≡ end_past_chain number None at = rw (none.1, count_is none.0) refl in
+      let end_is : end_past_chain (length one.offsets) one.end at ≡ end_past_chain number None at =
+      rw (none.1, count_is none.0) refl in
       rw end_is at (past_chain at none.0 past)
 
   pub none_before : (at : Cursor) → answer ≡ Ok None → number < at.page → IsPageAt file at (Err Outside)
@@ -63,7 +68,8 @@ module _ (file : List ℕ) (number : ℕ) (chain : ChainState) (answer : Result 
 
   pub row_past : (r : ℕ) → answer ≡ Ok None → 0 < r → IsPageAt file (record { page = number; row = r }) (Err Outside)
   row_past r is some =
-      let at : Cursor = record { page = number; row = r } in rw (outside_row number at some) at (ended_at at is (omega arith))
+      let at : Cursor = record { page = number; row = r } in rw (outside_row number at some) at
+      (ended_at at is (omega arith))
 
   pub proper_end_at : answer ≡ Ok None → IsPageAt file (record { page = number; row = 0 }) (Err Proper)
   proper_end_at is = rw (proper_end number) at (ended_at (record { page = number; row = 0 }) is (omega arith))
@@ -72,12 +78,14 @@ module _ (file : List ℕ) (number : ℕ) (chain : ChainState) (answer : Result 
       → IsPageAt file at (Err (Fault number 0 (File fault)))
   fault_before_page at fault is past =
       let none = due_fault chain answer due fault is one.offsets one.end is_one in
-      let end_is : end_past_chain (length one.offsets) one.end at ≡ Fault number 0 (File fault) = rw (none.1, count_is none.0) refl in
+      let end_is : end_past_chain (length one.offsets) one.end at ≡ Fault number 0 (File fault) =
+      rw (none.1, count_is none.0) refl in
       rw end_is at (past_chain at none.0 past)
 
   -- a directory stands there
   module _ (directory : TiffDirectory) (is : answer ≡ Ok (Some directory)) where
-    there : (slice_get one.offsets chain.given ≡ Some directory.offset) × (directory ≡ directory_of chain.tiff directory.offset)
+    there : (slice_get one.offsets chain.given ≡ Some directory.offset)
+        × (directory ≡ directory_of chain.tiff directory.offset)
     there = due_some chain answer due directory is one.offsets one.end is_one
 
     pub same_file : directory.file ≡ chain.tiff.file
@@ -110,7 +118,8 @@ named_page file at chain due before answer its within = (
   rw (answer.1 ∙ before.file_is, answer.0 ∙ before.given) at (its.here at.row),
 )
 
-pub named_outside : (file : List ℕ) (at : Cursor) (chain : ChainState) (due : PageDue) → IsChainBefore file at.page chain
+pub named_outside : (file : List ℕ) (at : Cursor) (chain : ChainState) (due : PageDue)
+    → IsChainBefore file at.page chain
     → IsPageAnswer chain (Ok (Some due)) → IsFilePage due.page due.chain due.directory due.form → due.form.rows < at.row
     → EndsAt file at Outside
 named_outside file at chain due before answer its above = inr (

@@ -1,5 +1,6 @@
 -- A walk that enters its first page.
-use Rattle.std.proofs.Common.{◌≡◌, ℕ, ◌*◌, ◌<◌, ◌≤◌, ◌⊎◌, inl, inr, List, [], Some, Result, Ok, Err, refl, sym, ◌∙◌, arith}
+use Rattle.std.proofs.Common.{◌≡◌, ℕ, ◌*◌, ◌<◌, ◌≤◌, ◌⊎◌, inl, inr, List, [], Some, Result, Ok, Err, refl, sym, ◌∙◌}
+use Rattle.std.proofs.Common.{arith}
 use Rattle.std.proofs.Math.Nat.{div-add-mod}
 use Rattle.std.proofs.Math.Seq.{drop-nil}
 use Rattle.std.proofs.lemmas.Bool.{cases_lt}
@@ -24,7 +25,8 @@ no_beginning : (file : List ℕ) (begun : Begun) (end : End) → Begins file beg
 no_beginning file begun end begins = grind arith
 
 -- a walk whose first place has no row
-no_row : (file : List ℕ) (begun : Begun) (end : End) (at : RowPlace) (n : ℕ) → Begins file begun (Ok (at, n)) → IsRow file at (ends_as end)
+no_row : (file : List ℕ) (begun : Begun) (end : End) (at : RowPlace) (n : ℕ) → Begins file begun (Ok (at, n))
+    → IsRow file at (ends_as end)
     → (n ≡ 0) ⊎ EndsBefore end (begun_cursor begun) → HasNoRows file begun end
 no_row file begun end at n begins stop before = record {
   tail = (Ok (at, n), begins, ([], stop, sym (drop-nil n)));
@@ -61,12 +63,14 @@ module _ (file : List ℕ) (at : Cursor) where
         → IfOk result (IsOpenedFirst file (At at))
     opened_on below result opened page_is first_is = grind (arith, begins_on)
 
-    pub refused_on : at.row < due.form.rows → (result : Result PageState OpenFault) → IfErr result (IsRefusal (IsNoStrip due at.row))
+    pub refused_on : at.row < due.form.rows → (result : Result PageState OpenFault)
+        → IfErr result (IsRefusal (IsNoStrip due at.row))
         → IfErr result (IsRefusal (HasNoRows file (At at)))
     refused_on below (Ok page) refused = refused
     refused_on below (Err Memory) refused = tt
     refused_on below (Err (Ended end)) refused =
-        no_row file (At at) end (here at.row) (row_in_strip due.form at.row) (begins_on below) (rw (named.0) at refused.stop)
+        no_row file (At at) end (here at.row) (row_in_strip due.form at.row) (begins_on below)
+        (rw (named.0) at refused.stop)
         (elim (cases_lt 0 (row_in_strip due.form at.row)) [
           | inl some ↦
               let parts = div-add-mod at.row due.form.rows_per_strip in
@@ -97,7 +101,8 @@ module _ (file : List ℕ) (at : Cursor) where
       refused_next past result refused = grind (arith, no_row, begins_next, its_file)
 
       pub opened_next : due.form.rows ≤ at.row → (result : Result PageState OpenFault)
-          → IfOk result (IsOpenedAt due.chain.tiff.file (first_at due.chain.given 0) 0 0) → IfOk result (IsOpenedFirst file (At at))
+          → IfOk result (IsOpenedAt due.chain.tiff.file (first_at due.chain.given 0) 0 0)
+          → IfOk result (IsOpenedFirst file (At at))
       opened_next past result opened = grind (arith, begins_next, its_file)
 
 module _ (file : List ℕ) (place : LongPlace) where

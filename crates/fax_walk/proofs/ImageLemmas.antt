@@ -1,7 +1,9 @@
 -- Images that are converted.
 use Rattle.std.proofs.lemmas.Grind.{common_steps}
-use Rattle.std.proofs.Common.{◌≡◌, ◌≢◌, ℕ, zero, suc, ◌+◌, ◌*◌, ◌≤◌, inl, inr, List, [], ◌∷◌, ◌++◌, length, map, take, drop, Some}
-use Rattle.std.proofs.Common.{None, refl, sym, ap, ◌∙◌, subst, arith, append_assoc, length-append, length-take, length-drop}
+use Rattle.std.proofs.Common.{◌≡◌, ◌≢◌, ℕ, zero, suc, ◌+◌, ◌*◌, ◌≤◌, inl, inr, List, [], ◌∷◌, ◌++◌, length, map, take}
+use Rattle.std.proofs.Common.{drop, Some}
+use Rattle.std.proofs.Common.{None, refl, sym, ap, ◌∙◌, subst, arith, append_assoc, length-append, length-take}
+use Rattle.std.proofs.Common.{length-drop}
 use Rattle.std.specs.Prelude.{codes}
 use Rattle.std.proofs.lemmas.List.{length-map, drop-drop, map-append}
 use Rattle.fax_bits.specs.Bits.{BeginsWith}
@@ -42,8 +44,10 @@ pub raster_widths : PackingUndoesUnpacking → (width n : ℕ) (bytes : List ℕ
     → AreOfWidth width (raster_rows width n bytes)
 raster_widths packs width zero bytes enough = tt
 raster_widths packs width (suc n) bytes enough =
-    let first : length (take (packed_len width) bytes) ≡ packed_len width = omega (arith, length-take (packed_len width) bytes) in
-    let rest : n * packed_len width ≤ length (drop (packed_len width) bytes) = omega (arith, length-drop (packed_len width) bytes) in (
+    let first : length (take (packed_len width) bytes) ≡ packed_len width =
+    omega (arith, length-take (packed_len width) bytes) in
+    let rest : n * packed_len width ≤ length (drop (packed_len width) bytes) =
+    omega (arith, length-drop (packed_len width) bytes) in (
       packs.unpacked_count width (take (packed_len width) bytes) first,
       raster_widths packs width n (drop (packed_len width) bytes) rest,
     )
@@ -54,16 +58,19 @@ no_bytes image rest is = let spelled = is.head.spelled in cc
 
 -- the images that are left
 module _ (reads : ImagesAreReadInOneWay) (begins : ImagesBeginInOneWay) where
-  pub no_fault : (left : List ℕ) (rest : List Image) (fault : PbmFault) → AreImages left rest None → (left ≢ []) × IsImageFault left fault
+  pub no_fault : (left : List ℕ) (rest : List Image) (fault : PbmFault) → AreImages left rest None
+      → (left ≢ []) × IsImageFault left fault
       → ⊥
   no_fault left rest fault are is =
       let same = reads left rest [] None (Some fault) are (inr (fault, is.0, is.1, refl)) in
       let no : ⊥ = cc (same.1) in no
 
   -- the image that is read is the first of those that are left
-  pub one_read : (left next : List ℕ) (image : Image) (rest : List Image) → AreImages left rest None → IsImage left image next
+  pub one_read : (left next : List ℕ) (image : Image) (rest : List Image) → AreImages left rest None
+      → IsImage left image next
       → (later : List Image) × (rest ≡ image ∷ later) × AreImages next later None
-  one_read left next image [] (inl none) is = absurd (no_bytes image next (subst (λ (l : List ℕ). IsImage l image next) none.0 is))
+  one_read left next image [] (inl none) is = absurd (no_bytes image next
+      (subst (λ (l : List ℕ). IsImage l image next) none.0 is))
   one_read left next image [] (inr fault) is = absurd cc
   one_read left next image (first ∷ rest) are is =
       let one = begins left first image are.0 next are.1 is in
@@ -74,9 +81,18 @@ pub images_begun : (bytes : List ℕ) (options : Options) (total : ℕ) (output 
     → IsBeginning options total output
     → AreImagesWritten bytes bytes options total output
 images_begun bytes options total output counted begun =
-    record { before = []; rest = counted.images; all = counted.are; total_is = counted.count_is; left_are = counted.are; written = begun }
+    record {
+      before = [];
+      rest = counted.images;
+      all = counted.are;
+      total_is = counted.count_is;
+      left_are =
+          counted.are;
+      written = begun;
+    }
 
-module _ (reads : ImagesAreReadInOneWay) (begins : ImagesBeginInOneWay) (bytes left : List ℕ) (options : Options) (total : ℕ)
+module _ (reads : ImagesAreReadInOneWay) (begins : ImagesBeginInOneWay) (bytes left : List ℕ) (options : Options)
+    (total : ℕ)
     (output : Output) (so_far : AreImagesWritten bytes left options total output) where
   abbrev pub at : Progress
   at = record { options = options; total = total; pages = map page_of_image so_far.before }
@@ -103,7 +119,8 @@ module _ (reads : ImagesAreReadInOneWay) (begins : ImagesBeginInOneWay) (bytes l
           all = subst (λ (l : List Image). AreImages bytes l None) same so_far.all;
           total_is = sym (ap length same) ∙ so_far.total_is;
           left_are = read.2;
-          written = subst (λ (l : List SourcePage). IsWrittenTo new (record { options = options; total = total; pages = l }))
+          written = subst (λ (l : List SourcePage). IsWrittenTo new
+              (record { options = options; total = total; pages = l }))
               (sym (map-append page_of_image so_far.before (image ∷ []))) written;
         }
 
@@ -113,7 +130,13 @@ module _ (reads : ImagesAreReadInOneWay) (begins : ImagesBeginInOneWay) (bytes l
     none_left = (reads left so_far.rest [] None None so_far.left_are (inl (empty, refl))).0
 
     pub all_written : length at.pages ≡ total
-    all_written = omega (arith, pages_are, ap length none_left, length-append so_far.before so_far.rest, so_far.total_is)
+    all_written = omega (
+      arith,
+      pages_are,
+      ap length none_left,
+      length-append so_far.before so_far.rest,
+      so_far.total_is,
+    )
 
     pub source : BeginsWith bytes (codes "P4") → IsSource bytes at.pages
     source begins = grind (arith, common_steps, none_left)

@@ -1,6 +1,7 @@
 -- A long cursor's text is cut at its colons and commas, and its numbers are read.
 use Rattle.std.proofs.lemmas.Grind.{common_steps}
-use Rattle.std.proofs.Common.{◌≡◌, ◌≢◌, ℕ, ◌^◌, ◌<◌, ◌-◌, List, [], ◌∷◌, ◌++◌, length, get_or, ap, sym, ◌∙◌, append_assoc}
+use Rattle.std.proofs.Common.{◌≡◌, ◌≢◌, ℕ, ◌^◌, ◌<◌, ◌-◌, List, [], ◌∷◌, ◌++◌, length, get_or, ap, sym, ◌∙◌}
+use Rattle.std.proofs.Common.{append_assoc}
 use Rattle.std.proofs.Common.{length-append, Result, Ok, Err, arith}
 use Rattle.std.specs.Prelude.{OnOk, Some, None, decimal, flat_map, ⊤}
 use Rattle.std.specs.Borrow.{Bor}
@@ -24,7 +25,8 @@ abbrev pub run_and : ℕ → List ℕ
 run_and run = decimal run ++ 44 ∷ []
 
 -- runs after the first one, and in front of the last
-after_first : (runs : List ℕ) (last : ℕ) → flat_map and_run (runs ++ last ∷ []) ≡ 44 ∷ (flat_map run_and runs ++ decimal last)
+after_first : (runs : List ℕ) (last : ℕ) → flat_map and_run (runs ++ last ∷ [])
+    ≡ 44 ∷ (flat_map run_and runs ++ decimal last)
 after_first [] last = append-nil (44 ∷ decimal last)
 after_first (run ∷ runs) last = grind (arith, common_steps, after_first runs last)
 
@@ -75,7 +77,8 @@ before_comma rest run after cut (n ∷ []) short some is =
     (ap (λ s. get_or s (length run.now) 0) (sym whole) ∙ at))
 before_comma rest run after cut (n ∷ m ∷ runs) short some is =
     let small : n < 2 ^ 32 = All-head (λ k. k < 2 ^ 32) n (m ∷ runs) short in
-    let parts = split_after 44 rest (decimal n) (runs_text (m ∷ runs)) (Some (run, after)) cut (omega arith) is (no_comma n small) in (
+    let parts = split_after 44 rest (decimal n) (runs_text (m ∷ runs)) (Some (run, after)) cut (omega arith) is
+    (no_comma n small) in (
       record { run = n; short = small; text_is = parts.0 },
       record {
         runs = m ∷ runs;
@@ -95,7 +98,8 @@ no_comma_left rest cut (n ∷ m ∷ runs) short some is =
     let small : n < 2 ^ 32 = All-head (λ k. k < 2 ^ 32) n (m ∷ runs) short in
     absurd (split_after 44 rest (decimal n) (runs_text (m ∷ runs)) None cut (omega arith) is (no_comma n small))
 
-pub run_before : (rest : List ℕ) (run after : Bor (List ℕ)) → IsSplitOnceResult 44 rest (Some (run, after)) → IsRunsText rest
+pub run_before : (rest : List ℕ) (run after : Bor (List ℕ)) → IsSplitOnceResult 44 rest (Some (run, after))
+    → IsRunsText rest
     → IsRunText run.now × IsRunsText after.now
 run_before rest run after cut is = before_comma rest run after cut is.runs is.short is.some is.text_is
 
@@ -124,16 +128,19 @@ none_before_colon text cut = λ number rest small is.
 pub no_number_before : (text : List ℕ) (digits after : Bor (List ℕ)) → IsSplitOnceResult 58 text (Some (digits, after))
     → ((number : ℕ) → number < 2 ^ 32 → digits.now ≢ decimal number) → IsNumberCut text None
 no_number_before text digits after cut none = λ number rest small is.
-    let parts = split_after 58 text (decimal number) rest (Some (digits, after)) cut (omega arith) is (no_colon number small) in
+    let parts = split_after 58 text (decimal number) rest (Some (digits, after)) cut (omega arith) is
+    (no_colon number small) in
     none number small parts.0
 
 -- the number before the first colon is the only one
-pub number_before : (text : List ℕ) (digits after : Bor (List ℕ)) (n : ℕ) → IsSplitOnceResult 58 text (Some (digits, after))
+pub number_before : (text : List ℕ) (digits after : Bor (List ℕ)) (n : ℕ)
+    → IsSplitOnceResult 58 text (Some (digits, after))
     → n < 2 ^ 32 → digits.now ≡ decimal n → IsNumberCut text (Some (n, after))
 number_before text digits after n cut small is = (
   (split_parts 58 text (Some (digits, after)) cut (omega arith)).0 ∙ ap (λ d. d ++ 58 ∷ after.now) is,
   λ number rest short text_is.
-      let parts = split_after 58 text (decimal number) rest (Some (digits, after)) cut (omega arith) text_is (no_colon number short) in
+      let parts = split_after 58 text (decimal number) rest (Some (digits, after)) cut (omega arith) text_is
+      (no_colon number short) in
       (decimal_injective number n (omega arith) (omega arith) (sym parts.0 ∙ is), sym parts.1),
 )
 
@@ -152,10 +159,12 @@ pub is_long_text : (text after_version after_page after_row after_bits : List �
     → text ≡ number_and version after_version → version ≡ 2 → after_version ≡ number_and place.at.page after_page
     → after_page ≡ number_and place.at.row after_row → after_row ≡ number_and place.bits after_bits
     → after_bits ≡ runs_text place.runs → text ≡ long_cursor_text place
-is_long_text text after_version after_page after_row after_bits version place whole two page row bits runs = grind (arith, text_by_numbers)
+is_long_text text after_version after_page after_row after_bits version place whole two page row bits runs =
+    grind (arith, text_by_numbers)
 
 -- the parts of a long cursor's text, put one after another
-pub put_one_after_another : {E : Type 0} (answer : Result ⊤ E) (old t₁ t₂ t₃ t₄ t₅ t₆ t₇ t₈ new : List ℕ) (place : LongPlace)
+pub put_one_after_another : {E : Type 0} (answer : Result ⊤ E) (old t₁ t₂ t₃ t₄ t₅ t₆ t₇ t₈ new : List ℕ)
+    (place : LongPlace)
     → t₁ ≡ old ++ decimal 2 → t₂ ≡ t₁ ++ 58 ∷ [] → t₃ ≡ t₂ ++ decimal place.at.page → t₄ ≡ t₃ ++ 58 ∷ []
     → t₅ ≡ t₄ ++ decimal place.at.row → t₆ ≡ t₅ ++ 58 ∷ [] → t₇ ≡ t₆ ++ decimal place.bits → t₈ ≡ t₇ ++ 58 ∷ []
     → OnOk answer (new ≡ t₈ ++ runs_text place.runs) → OnOk answer (new ≡ old ++ long_cursor_text place)

@@ -25,7 +25,8 @@ not_first : (c x : ℕ) (xs : List ℕ) → IsNotIn c (x ∷ xs) → x ≢ c
 not_first c x xs none = none 0 (omega arith)
 
 -- lists that are cut at the first of these numbers are cut at one place
-cut_at : (c : ℕ) (xs ys us vs : List ℕ) → IsNotIn c xs → IsNotIn c ys → xs ++ c ∷ us ≡ ys ++ c ∷ vs → (xs ≡ ys) × (us ≡ vs)
+cut_at : (c : ℕ) (xs ys us vs : List ℕ) → IsNotIn c xs → IsNotIn c ys → xs ++ c ∷ us ≡ ys ++ c ∷ vs
+    → (xs ≡ ys) × (us ≡ vs)
 cut_at c [] [] us vs none none' e = (refl, cc)
 cut_at c [] (y ∷ ys) us vs none none' e = absurd (not_first c y ys none' (cc e))
 cut_at c (x ∷ xs) [] us vs none none' e = absurd (not_first c x xs none (cc e))
@@ -47,7 +48,8 @@ one_number : (n m : ℕ) → n < 2 ^ 32 → m < 2 ^ 32 → decimal n ≡ decimal
 one_number n m small short e = decimal_injective n m (omega arith) (omega arith) e
 
 -- a number before a colon
-before_colon : (n m : ℕ) (us vs : List ℕ) → n < 2 ^ 32 → m < 2 ^ 32 → number_and n us ≡ number_and m vs → (n ≡ m) × (us ≡ vs)
+before_colon : (n m : ℕ) (us vs : List ℕ) → n < 2 ^ 32 → m < 2 ^ 32 → number_and n us ≡ number_and m vs
+    → (n ≡ m) × (us ≡ vs)
 before_colon n m us vs small short e = grind (arith, cut_at, no_colon, one_number)
 
 -- the texts of cursors differ
@@ -60,14 +62,17 @@ first_and_others : (n m : ℕ) (runs others : List ℕ) → n < 2 ^ 32 → m < 2
     → decimal n ++ flat_map and_run runs ≡ decimal m ++ flat_map and_run others → (n ≡ m) × (runs ≡ others)
 first_and_others n m [] [] small short all all' e = grind (arith, one_number, append-nil)
 first_and_others n m [] (r ∷ others) small short all all' e =
-    absurd (not_cut 44 (decimal n) (decimal m) (decimal r ++ flat_map and_run others) (no_comma n small) (sym (append-nil (decimal n)) ∙ e))
+    absurd (not_cut 44 (decimal n) (decimal m) (decimal r ++ flat_map and_run others) (no_comma n small)
+    (sym (append-nil (decimal n)) ∙ e))
 first_and_others n m (r ∷ runs) [] small short all all' e =
     absurd (not_cut 44 (decimal m) (decimal n) (decimal r ++ flat_map and_run runs) (no_comma m short)
     (sym (append-nil (decimal m)) ∙ sym e))
 first_and_others n m (r ∷ runs) (s ∷ others) small short all all' e =
-    let parts = cut_at 44 (decimal n) (decimal m) (decimal r ++ flat_map and_run runs) (decimal s ++ flat_map and_run others)
+    let parts = cut_at 44 (decimal n) (decimal m) (decimal r ++ flat_map and_run runs)
+    (decimal s ++ flat_map and_run others)
     (no_comma n small) (no_comma m short) e in
-    let rest = first_and_others r s runs others (All-head (λ k. k < 2 ^ 32) r runs all) (All-head (λ k. k < 2 ^ 32) s others all')
+    let rest = first_and_others r s runs others (All-head (λ k. k < 2 ^ 32) r runs all)
+    (All-head (λ k. k < 2 ^ 32) s others all')
     (All-tail (λ k. k < 2 ^ 32) r runs all) (All-tail (λ k. k < 2 ^ 32) s others all') parts.1 in
     (one_number n m small short parts.0, ap (λ (i : ℕ). i ∷ runs) rest.0 ∙ ap (λ (l : List ℕ). s ∷ l) rest.1)
 
@@ -76,15 +81,18 @@ one_runs : (runs others : List ℕ) → 0 < length runs → 0 < length others �
 one_runs [] others some some' all all' e = absurd (omega arith)
 one_runs (n ∷ runs) [] some some' all all' e = absurd (omega arith)
 one_runs (n ∷ runs) (m ∷ others) some some' all all' e =
-    let parts = first_and_others n m runs others (All-head (λ k. k < 2 ^ 32) n runs all) (All-head (λ k. k < 2 ^ 32) m others all')
+    let parts = first_and_others n m runs others (All-head (λ k. k < 2 ^ 32) n runs all)
+    (All-head (λ k. k < 2 ^ 32) m others all')
     (All-tail (λ k. k < 2 ^ 32) n runs all) (All-tail (λ k. k < 2 ^ 32) m others all') e in
     ap (λ (i : ℕ). i ∷ runs) parts.0 ∙ ap (λ (l : List ℕ). m ∷ l) parts.1
 
-one_place : (place other : LongPlace) → place.at ≡ other.at → place.bits ≡ other.bits → place.runs ≡ other.runs → place ≡ other
+one_place : (place other : LongPlace) → place.at ≡ other.at → place.bits ≡ other.bits → place.runs ≡ other.runs
+    → place ≡ other
 one_place place other ats bits runs = grind arith
 
 -- the texts of long cursors differ
-places : (place other : LongPlace) → IsLongCursor place → IsLongCursor other → long_cursor_text place ≡ long_cursor_text other
+places : (place other : LongPlace) → IsLongCursor place → IsLongCursor other
+    → long_cursor_text place ≡ long_cursor_text other
     → place ≡ other
 places place other is is_too e = grind (arith, text_by_numbers, before_colon, one_place, one_runs)
 

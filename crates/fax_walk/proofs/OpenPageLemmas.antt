@@ -1,6 +1,7 @@
 -- A page that is open: where it stands, and what is read there.
 use Rattle.std.proofs.lemmas.Grind.{common_steps}
-use Rattle.std.proofs.Common.{◌≡◌, ℕ, ◌+◌, ◌-◌, ◌*◌, ◌<◌, ◌≤◌, ◌⊎◌, inl, inr, min, List, [], ◌∷◌, ◌++◌, length, drop, Option, Some, None}
+use Rattle.std.proofs.Common.{◌≡◌, ℕ, ◌+◌, ◌-◌, ◌*◌, ◌<◌, ◌≤◌, ◌⊎◌, inl, inr, min, List, [], ◌∷◌, ◌++◌, length, drop}
+use Rattle.std.proofs.Common.{Option, Some, None}
 use Rattle.std.proofs.Common.{Result, Ok, Err, refl, sym, ap, ◌∙◌, subst, arith, add-mul, ◌^◌}
 use Rattle.std.proofs.lemmas.Bool.{cases_lt}
 use Rattle.std.proofs.lemmas.Bool.Decides.{nat_tests}
@@ -25,13 +26,16 @@ use Rattle.fax_walk.specs.declared.end.End.{End}
 use Rattle.fax_walk.specs.declared.end.End.TheVariants.{Fault}
 use Rattle.fax_walk.specs.declared.opening.OpenFault.{OpenFault}
 use Rattle.fax_walk.specs.Pages.{LongPlace, IsPageAt, goes_on, ends_as}
-use Rattle.fax_walk.specs.Items.{Inner, RowItem, RowPlace, IsRow, before, exchanged, first_at, IsInnerOn, long_at, place_after}
+use Rattle.fax_walk.specs.Items.{Inner, RowItem, RowPlace, IsRow, before, exchanged, first_at, IsInnerOn, long_at}
+use Rattle.fax_walk.specs.Items.{place_after}
 use Rattle.fax_walk.specs.code.Places.{IsInner, cursor_at, row_in_strip, strip_at, place_on}
 use Rattle.fax_walk.specs.laws.InOrder.{LeadTo}
 use Rattle.fax_walk.specs.code.Opening.{IsFilePage, PageDue, page_with}
 use Rattle.fax_walk.specs.views.Walk.{HasPage}
-use Rattle.fax_walk.specs.code.Stages.{GivesRow, HasSkipped, IsNoInner, IsNoPlace, IsNoStrip, IsRefusal, IsOpen, IsSamePage, IsStripOf}
-use Rattle.fax_walk.specs.code.Stages.{KeepsPlace, PageState, ReadsPageRow, StopsAtRow, item_of, place_of, row_of, skipped}
+use Rattle.fax_walk.specs.code.Stages.{GivesRow, HasSkipped, IsNoInner, IsNoPlace, IsNoStrip, IsRefusal, IsOpen}
+use Rattle.fax_walk.specs.code.Stages.{IsSamePage, IsStripOf}
+use Rattle.fax_walk.specs.code.Stages.{KeepsPlace, PageState, ReadsPageRow, StopsAtRow, item_of, place_of, row_of}
+use Rattle.fax_walk.specs.code.Stages.{skipped}
 use Rattle.fax_walk.proofs.InOrderLemmas.{leads_on}
 use Rattle.fax_walk.proofs.RunLemmas.{pels_after}
 use Rattle.fax_walk.proofs.StripPlaceLemmas.{in_strip}
@@ -42,7 +46,8 @@ pub whole_of : (form : PageForm) → IsPageForm form → IsWholeForm form
 whole_of form limits = grind arith
 
 -- the place of a row of a page: a strip's first, or one inside its strip
-pub at_first : (form : PageForm) (p r : ℕ) (inner : Inner) → r < form.rows → row_in_strip form r ≡ 0 → place_on form p r inner ≡ first_at
+pub at_first : (form : PageForm) (p r : ℕ) (inner : Inner) → r < form.rows → row_in_strip form r ≡ 0
+    → place_on form p r inner ≡ first_at
     p r
 at_first form p r inner below none = grind (arith, common_steps)
 
@@ -54,7 +59,8 @@ pub at_end : (form : PageForm) (p r : ℕ) (inner : Inner) → r ≡ form.rows �
 at_end form p r inner last = grind (arith, common_steps)
 
 -- row i of strip s is due, after which so many bits and this row stand before it
-module _ (form : PageForm) (p s i r : ℕ) (inner : Inner) (r_is : r ≡ s * form.rows_per_strip + i) (due : i < (strip_form form s).rows) where
+module _ (form : PageForm) (p s i r : ℕ) (inner : Inner) (r_is : r ≡ s * form.rows_per_strip + i)
+    (due : i < (strip_form form s).rows) where
   pub row_below : r < form.rows
   row_below = omega (arith, r_is, due)
 
@@ -62,13 +68,20 @@ module _ (form : PageForm) (p s i r : ℕ) (inner : Inner) (r_is : r ≡ s * for
   numbers = in_strip form.rows_per_strip s i r (omega (arith, due)) r_is
 
   pub due_at : (i ≡ 0 → inner ≡ before form.width None)
-      → (o : Option Inner) × (place_on form p r inner ≡ record { page = p; row = r; inner = o }) × (before form.width o ≡ inner)
+      → (o : Option Inner) × (place_on form p r inner ≡ record { page = p; row = r; inner = o })
+      × (before form.width o ≡ inner)
   due_at first = elim (cases_lt 0 i) [
     | inl some ↦ (Some inner, at_inner form p r inner row_below (omega (arith, some, numbers.1)), refl)
-    | inr none ↦ (None, at_first form p r inner row_below (omega (arith, none, numbers.1)), sym (first (omega (arith, none))))
+    | inr none ↦ (
+      None,
+      at_first form p r inner row_below (omega (arith, none, numbers.1)),
+      sym
+          (first (omega (arith, none))),
+    )
   ]
 
-module _ (page : PageState) (limits : IsPageForm page.form) (strip_is : IsStripOf page.form page.directory page.number page.strip) where
+module _ (page : PageState) (limits : IsPageForm page.form) (strip_is : IsStripOf page.form page.directory page.number
+    page.strip) where
   abbrev n : ℕ
   n = page.form.rows_per_strip
 
@@ -85,7 +98,8 @@ module _ (page : PageState) (limits : IsPageForm page.form) (strip_is : IsStripO
     pub is_below : row_of page < page.form.rows
     is_below = row_below page.form page.page page.number page.strip.row (row_of page) before_row refl due_now
 
-    pub numbered : (strip_at page.form (row_of page) ≡ page.number) × (row_in_strip page.form (row_of page) ≡ page.strip.row)
+    pub numbered : (strip_at page.form (row_of page) ≡ page.number)
+        × (row_in_strip page.form (row_of page) ≡ page.strip.row)
     numbered = numbers page.form page.page page.number page.strip.row (row_of page) before_row refl due_now
 
     stands : (o : Option Inner) × (place_of page ≡ record { page = page.page; row = row_of page; inner = o })
@@ -152,7 +166,8 @@ module _ (page : PageState) (limits : IsPageForm page.form) (strip_is : IsStripO
     first_there : place_of page ≡ first_at page.page (row_of page)
     first_there = at_first page.form page.page (row_of page) _ due next_numbers.1
 
-    pub strip_outside : IsFilePage page.page page.chain page.directory page.form → bytes_of page.directory (page.number + 1) ≡ None
+    pub strip_outside : IsFilePage page.page page.chain page.directory page.form
+        → bytes_of page.directory (page.number + 1) ≡ None
         → IsRow page.directory.file (place_of page) (ends_as (Fault page.page (row_of page) (File StripOutside)))
     strip_outside its outside = rw first_there (
       Ok (page_with page.directory page.form),
@@ -164,19 +179,23 @@ module _ (page : PageState) (limits : IsPageForm page.form) (strip_is : IsStripO
     next_row_is strip none = omega (arith, none, next_row)
 
     pub next_place : (strip : StripState) → strip.row ≡ 0
-        → place_on page.form page.page ((page.number + 1) * n + strip.row) (record { bits = strip.place; reference = strip.reference })
+        → place_on page.form page.page ((page.number + 1) * n + strip.row)
+        (record { bits = strip.place; reference = strip.reference })
         ≡ place_of page
     next_place strip none = grind (arith, common_steps, next_numbers)
 
 -- so many rows of a page are read at most
-pub rows_within : (page : PageState) → IsPageForm page.form → page.number < page.form.strips → page.strip.form ≡ strip_form page.form
+pub rows_within : (page : PageState) → IsPageForm page.form → page.number < page.form.strips
+    → page.strip.form ≡ strip_form page.form
     page.number
     → page.strip.row ≤ page.strip.form.rows → row_of page ≤ page.form.rows
 rows_within page limits within form_is within_strip = grind arith
 
 -- so few rows are read that they can be counted
-pub few_read : (page : PageState) → IsPageForm page.form → page.number < page.form.strips → page.strip.form ≡ strip_form page.form page.number
-    → page.strip.row ≤ page.strip.form.rows → page.page < 2 ^ 32 → page.read ≤ page.page * most_rows + row_of page → page.read < 2 ^ 53
+pub few_read : (page : PageState) → IsPageForm page.form → page.number < page.form.strips
+    → page.strip.form ≡ strip_form page.form page.number
+    → page.strip.row ≤ page.strip.form.rows → page.page < 2 ^ 32 → page.read ≤ page.page * most_rows + row_of page
+    → page.read < 2 ^ 53
 few_read page limits within form_is within_strip some_page few = grind (arith, common_steps)
 
 -- a page that is open, as its fields have it
@@ -195,7 +214,8 @@ state page chain directory form first number strip shown read = record {
 
 -- the next strip begins
 pub next_keeps : (page : PageState) (strip : StripState) (shown : List Colour) → IsPageForm page.form
-    → IsStripOf page.form page.directory page.number page.strip → page.strip.row ≡ page.strip.form.rows → row_of page < page.form.rows
+    → IsStripOf page.form page.directory page.number page.strip → page.strip.row ≡ page.strip.form.rows
+    → row_of page < page.form.rows
     → strip.row ≡ 0 → (read : ℕ) → read ≡ page.read
     → KeepsPlace page (record page { number = page.number + 1; strip = strip; shown = shown; read = read })
 next_keeps page strip shown limits strip_is all_read due none now_read read_is = record {
@@ -207,8 +227,10 @@ next_keeps page strip shown limits strip_is all_read due none now_read read_is =
 
 -- the next strip is not there
 pub next_stops : (page : PageState) → IsPageForm page.form → IsStripOf page.form page.directory page.number page.strip
-    → IsFilePage page.page page.chain page.directory page.form → page.strip.row ≡ page.strip.form.rows → row_of page < page.form.rows
-    → bytes_of page.directory (page.number + 1) ≡ None → StopsAtRow page (Fault page.page (row_of page) (File StripOutside))
+    → IsFilePage page.page page.chain page.directory page.form → page.strip.row ≡ page.strip.form.rows
+    → row_of page < page.form.rows
+    → bytes_of page.directory (page.number + 1) ≡ None → StopsAtRow page
+    (Fault page.page (row_of page) (File StripOutside))
 next_stops page limits strip_is its all_read due outside =
     record { stop = strip_outside page limits strip_is all_read due its outside; told = (File StripOutside, refl) }
 
@@ -216,13 +238,21 @@ module _ (old page : PageState) (keeps : KeepsPlace old page) where
   -- a row is read at the place that was kept
   pub reads_kept : (strip : StripState) (shown : List Colour) → IsOpen old → IsPageForm page.form
       → IsStripOf page.form page.directory page.number page.strip
-      → IsFilePage page.page page.chain page.directory page.form → ReadsRow page.strip strip → shown ≡ exchanged page.form strip.reference
+      → IsFilePage page.page page.chain page.directory page.form → ReadsRow page.strip strip
+      → shown ≡ exchanged page.form strip.reference
       → (read : ℕ) → read ≡ page.read + 1 → ReadsPageRow old (record page { strip = strip; shown = shown; read = read })
   reads_kept strip shown is_open limits strip_is its reads shown_is now_read read_is =
       let new : PageState = record page { strip = strip; shown = shown; read = now_read } in
       let due = reads.due in
       let same = keeps.same in
-      let item : RowItem = record { page = page.page; form = page.form; row = row_of page; pels = shown; bits = strip.place } in
+      let item : RowItem = record {
+        page = page.page;
+        form = page.form;
+        row = row_of page;
+        pels = shown;
+        bits =
+            strip.place;
+      } in
       let its_item : RowItem = item_of old (row_of old) new in
       let item_is : item ≡ its_item = rw (same.page, keeps.row, same.form) refl in
       let step = row_read page limits strip_is due its strip shown reads shown_is reads.within in
@@ -230,10 +260,12 @@ module _ (old page : PageState) (keeps : KeepsPlace old page) where
       let read : IsRow page.directory.file (place_of page) (goes_on its_item (place_of new)) =
       rw (← item_is, after) step in
       record {
-        due = subst (λ (f : PageForm). row_of old < f.rows) same.form (rw keeps.row at (is_below page limits strip_is due));
+        due = subst (λ (f : PageForm). row_of old < f.rows) same.form
+            (rw keeps.row at (is_below page limits strip_is due));
         same = record { page = same.page; form = same.form; first = same.first; directory = same.directory };
         still_open = record { no_fault = reads.still_no_fault; first = rw (same.first, same.form) is_open.first };
-        step = subst (λ (d : TiffDirectory). IsRow d.file (place_of old) (goes_on its_item (place_of new))) same.directory
+        step = subst (λ (d : TiffDirectory). IsRow d.file (place_of old) (goes_on its_item (place_of new)))
+            same.directory
             (subst (λ (t : RowPlace). IsRow page.directory.file t (goes_on its_item (place_of new))) keeps.place read);
         next_row = omega (arith, reads.next_row, keeps.row);
         one_more = omega (arith, keeps.read, read_is);
@@ -245,15 +277,18 @@ module _ (old page : PageState) (keeps : KeepsPlace old page) where
 
 -- a fault is met at the row where the reader of the strip stays
 pub fault_stops : (page : PageState) (strip : StripState) (fault : StripFault) → IsOpen page → IsPageForm page.form
-    → IsStripOf page.form page.directory page.number page.strip → IsFilePage page.page page.chain page.directory page.form
+    → IsStripOf page.form page.directory page.number page.strip
+    → IsFilePage page.page page.chain page.directory page.form
     → IsAdvance page.strip (Err fault) strip → (row : ℕ) → row ≡ page.number * page.form.rows_per_strip + strip.row
     → StopsAtRow page (Fault page.page row (Strip fault))
-fault_stops page strip fault is_open limits strip_is its (inl again) row due = absurd (cc (is_open.no_fault, again.told))
+fault_stops page strip fault is_open limits strip_is its (inl again) row due =
+    absurd (cc (is_open.no_fault, again.told))
 fault_stops page strip fault is_open limits strip_is its (inr meets) row due =
     rw (due, meets.told)
     (record { stop = row_fault page limits strip_is meets.due its fault strip meets; told = (Strip fault, refl) })
 
-module _ (old now new : PageState) (items : List RowItem) (skips : HasSkipped old now items) (reads : ReadsPageRow now new) where
+module _ (old now new : PageState) (items : List RowItem) (skips : HasSkipped old now items)
+    (reads : ReadsPageRow now new) where
   abbrev its_item : RowItem
   its_item = item_of now (row_of now) new
 
@@ -266,9 +301,11 @@ module _ (old now new : PageState) (items : List RowItem) (skips : HasSkipped ol
   pub one_skipped : row_of new ≤ new.first → HasSkipped old new (items ++ its_item ∷ [])
   one_skipped before = grind (arith, common_steps, lead_on)
 
-  pub row_given : IsFilePage new.page new.chain new.directory new.form → new.first < row_of new → new.read < 2 ^ 53 → GivesRow old new
+  pub row_given : IsFilePage new.page new.chain new.directory new.form → new.first < row_of new → new.read < 2 ^ 53
+      → GivesRow old new
   row_given its past few =
-      let count : length items ≡ skipped old = omega (arith, past, skips.few, skips.rows, reads.next_row, same_on.first) in
+      let count : length items ≡ skipped old = omega (arith, past, skips.few, skips.rows, reads.next_row, same_on.first)
+      in
       let item_is : its_item ≡ item_of old (row_of old + skipped old) new =
       rw (← skips.same.page, ← count, skips.rows, skips.same.form) refl in
       record {
@@ -290,7 +327,8 @@ module _ (old now new : PageState) (items : List RowItem) (skips : HasSkipped ol
       }
 
 -- a page that is due is opened at the strip that holds a row
-module _ (due : PageDue) (first : ℕ) (its : IsFilePage due.page due.chain due.directory due.form) (limits : IsPageForm due.form)
+module _ (due : PageDue) (first : ℕ) (its : IsFilePage due.page due.chain due.directory due.form)
+    (limits : IsPageForm due.form)
     (there : first < due.form.rows) where
   abbrev number : ℕ
   number = strip_at due.form first
@@ -301,7 +339,8 @@ module _ (due : PageDue) (first : ℕ) (its : IsFilePage due.page due.chain due.
   begin_numbers : (strip_at due.form begins ≡ number) × (row_in_strip due.form begins ≡ 0)
   begin_numbers = in_strip due.form.rows_per_strip number 0 begins limits.some_rows_per_strip (omega arith)
 
-  pub refused_strip : bytes_of due.directory number ≡ None → IsNoStrip due first (Fault due.page begins (File StripOutside))
+  pub refused_strip : bytes_of due.directory number ≡ None → IsNoStrip due first
+      (Fault due.page begins (File StripOutside))
   refused_strip outside = record {
     stop = (
       Ok (page_with due.directory due.form),
@@ -313,11 +352,13 @@ module _ (due : PageDue) (first : ℕ) (its : IsFilePage due.page due.chain due.
   }
 
 -- the first row of a page is that of its first strip
-pub page_first : (due : PageDue) (p : ℕ) → due.page ≡ p → first_at due.page (strip_at due.form 0 * due.form.rows_per_strip) ≡ first_at p 0
+pub page_first : (due : PageDue) (p : ℕ) → due.page ≡ p → first_at due.page
+    (strip_at due.form 0 * due.form.rows_per_strip) ≡ first_at p 0
 page_first due p is = grind (arith, common_steps)
 
 -- a page that is due is there
-pub due_there : (p : ℕ) (chain : ChainState) (directory : TiffDirectory) (form : PageForm) → IsFilePage p chain directory form
+pub due_there : (p : ℕ) (chain : ChainState) (directory : TiffDirectory) (form : PageForm)
+    → IsFilePage p chain directory form
     → HasPage directory.file p
 due_there p chain directory form its = (Ok (page_with directory form), its.here 0, tt)
 
@@ -327,8 +368,10 @@ pub refused_after : (file : List ℕ) (due : PageDue) (p : ℕ) (result : Result
 refused_after file due p result page_is file_is refused = grind arith
 
 -- runs that are those of a row are a place's
-pub inner_is : (width : ℕ) (bytes : List ℕ) (place : LongPlace) (reference : List Colour) → place.bits ≤ 8 * length bytes
-    → length reference ≡ width → runs_of reference ≡ place.runs → IsInner width bytes place × (reference ≡ pels_of White place.runs)
+pub inner_is : (width : ℕ) (bytes : List ℕ) (place : LongPlace) (reference : List Colour)
+    → place.bits ≤ 8 * length bytes
+    → length reference ≡ width → runs_of reference ≡ place.runs
+    → IsInner width bytes place × (reference ≡ pels_of White place.runs)
 inner_is width bytes place reference within width_is runs = grind (arith, common_steps, pels_after)
 
 -- a place inside a strip of a page that is due
@@ -351,10 +394,12 @@ module _ (due : PageDue) (place : LongPlace) (its : IsFilePage due.page due.chai
   )
 
   module _ (bytes : List ℕ) (there : bytes_of due.directory its_number ≡ Some bytes) where
-    pub is_inner : IsInner due.form.width bytes place → IsInnerOn due.directory.file (page_with due.directory due.form) place
+    pub is_inner : IsInner due.form.width bytes place → IsInnerOn due.directory.file (page_with due.directory due.form)
+        place
     is_inner inner = record { row = below; not_first = some; fits = rw there inner }
 
-    pub no_place : (fault : OpenFault) → IsNoPlace (strip_form due.form its_number) bytes place fault → IsRefusal (IsNoInner due place)
+    pub no_place : (fault : OpenFault) → IsNoPlace (strip_form due.form its_number) bytes place fault
+        → IsRefusal (IsNoInner due place)
         fault
     no_place fault none = grind arith
 
@@ -370,8 +415,10 @@ module _ (page : PageState) (limits : IsPageForm page.form) (within : page.numbe
   pub long_none : (page.strip.row ≡ 0) ⊎ (page.strip.row ≡ page.strip.form.rows) → None ≡ long_of
   long_none (inl none) =
       let begins = (whole_of page.form limits).needed page.number within in
-      let numbers = in_strip page.form.rows_per_strip page.number 0 (row_of page) limits.some_rows_per_strip (omega (arith, none)) in
-      none_first page.page (row_of page) (at_first page.form page.page (row_of page) _ (omega (arith, begins, none)) numbers.1)
+      let numbers = in_strip page.form.rows_per_strip page.number 0 (row_of page) limits.some_rows_per_strip
+      (omega (arith, none)) in
+      none_first page.page (row_of page) (at_first page.form page.page (row_of page) _ (omega (arith, begins, none))
+      numbers.1)
   long_none (inr all) = elim (cases_lt (row_of page) page.form.rows) [
     | inl below ↦ none_first page.page (row_of page) (first_there page limits strip_is all below)
     | inr past ↦
@@ -392,5 +439,10 @@ module _ (page : PageState) (limits : IsPageForm page.form) (within : page.numbe
         (omega (arith, some, (numbered page limits strip_is due).1))
 
     pub long_some : (bits : ℕ) → bits ≡ page.strip.place → bits ≤ 4294967295
-        → Some (record { at = record { page = page.page; row = row_of page }; bits = bits; runs = runs_of page.strip.reference }) ≡ long_of
+        → Some (record {
+          at = record { page = page.page; row = row_of page };
+          bits = bits;
+          runs =
+              runs_of page.strip.reference;
+        }) ≡ long_of
     long_some bits is few = rw (inside, ← is) (grind (arith, nat_tests, few))

@@ -1,5 +1,6 @@
 -- Rows that are put on a page, strip by strip.
-use Rattle.std.proofs.Common.{◌≡◌, ℕ, zero, suc, ◌+◌, ◌*◌, ◌<◌, ◌≤◌, min, List, [], ◌∷◌, ◌++◌, length, take, drop, Option, Some}
+use Rattle.std.proofs.Common.{◌≡◌, ℕ, zero, suc, ◌+◌, ◌*◌, ◌<◌, ◌≤◌, min, List, [], ◌∷◌, ◌++◌, length, take, drop}
+use Rattle.std.proofs.Common.{Option, Some}
 use Rattle.std.specs.List.{range_with_len}
 use Rattle.std.proofs.Common.{map, None, Vec, refl, sym, ap, ◌∙◌, arith, length-drop}
 use Rattle.std.specs.declared.alloc.Global.{Global}
@@ -24,7 +25,8 @@ strips_more form k (suc n) rows more far =
     let before : place ≤ length rows = omega arith in
     let here : form.rows_per_strip ≤ length (drop place rows) = omega (arith, length-drop place rows) in
     let last : coded_of form k (rows ++ more) n ≡ coded_of form k rows n =
-    ap (λ (l : List (List Colour)). coded_strip (strip_form form n) k (take form.rows_per_strip l)) (drop-append-le place rows more before)
+    ap (λ (l : List (List Colour)). coded_strip (strip_form form n) k (take form.rows_per_strip l))
+    (drop-append-le place rows more before)
     ∙ ap (coded_strip (strip_form form n) k) (take-append-le form.rows_per_strip (drop place rows) more here) in
     let m : suc n ≡ n + 1 = omega arith in
     ap (λ (i : ℕ). map (coded_of form k (rows ++ more)) (range_with_len 0 i)) m
@@ -69,7 +71,8 @@ module _ (writes : WritesRowByRow) (form : PageForm) (k : ℕ) (rows : List (Lis
   pub ready_started : (writer : WriterState) → page.writer ≡ Some writer → IsReady writer
   ready_started writer is = let started = rw is at put.in_strip in started.2.has_put
 
-  pub ready_new : (writer : WriterState) → page.writer ≡ None → writer ≡ writer_beginning (strip_form page.form n) page.k → IsReady writer
+  pub ready_new : (writer : WriterState) → page.writer ≡ None
+      → writer ≡ writer_beginning (strip_form page.form n) page.k → IsReady writer
   ready_new writer none is = grind (arith, drop_all)
 
   module _ (row : List Colour) (old new : WriterState) (ready : IsReady old) (puts : PutsRow old row new) where

@@ -1,6 +1,7 @@
 -- An output that is written page by page.
 use Rattle.std.proofs.lemmas.Grind.{common_steps}
-use Rattle.std.proofs.Common.{◌≡◌, ℕ, suc, ◌+◌, ◌-◌, ◌*◌, ◌<◌, ◌≤◌, inl, List, [], ◌∷◌, ◌++◌, length, map, Option, Some, Result, refl, sym}
+use Rattle.std.proofs.Common.{◌≡◌, ℕ, suc, ◌+◌, ◌-◌, ◌*◌, ◌<◌, ◌≤◌, inl, List, [], ◌∷◌, ◌++◌, length, map, Option, Some}
+use Rattle.std.proofs.Common.{Result, refl, sym}
 use Rattle.std.proofs.Common.{ap, ◌∙◌, subst, arith, append_assoc, append-nil, length-append, length-take, length-drop}
 use Rattle.std.specs.Prelude.{flat_map, OnOk}
 use Rattle.std.proofs.lemmas.List.{length_push, flat_map_more, length-map, map-append}
@@ -24,7 +25,8 @@ use Rattle.fax_walk.specs.declared.open_strips.OpenStrips.{OpenStrips}
 use Rattle.fax_walk.specs.declared.sheet.Sheet.{Sheet}
 use Rattle.fax_walk.specs.Converted.{SourcePage, written_page, target_bytes, IsTooLarge}
 use Rattle.fax_walk.specs.code.OpenStrips.{HasPutRows, AreInStrip}
-use Rattle.fax_walk.specs.code.Output.{Progress, Part, no_rows, with_row, page_of, after, nothing_written, sheet_form, coding_of}
+use Rattle.fax_walk.specs.code.Output.{Progress, Part, no_rows, with_row, page_of, after, nothing_written, sheet_form}
+use Rattle.fax_walk.specs.code.Output.{coding_of}
 use Rattle.fax_walk.specs.code.Output.{StaysTooLarge, HasImages, HasPages, HasRowsOnPage, HasImageRows, BecomesTooLarge}
 
 -- what follows where a call was done
@@ -32,7 +34,8 @@ pub on_ok : {E : Type 0} {P Q : Type 0} (result : Result (Unit {0}) E) → OnOk 
 on_ok result holds follows = grind arith
 
 -- rows of one width, and one more
-pub widths_more : (width : ℕ) (rows : List (List Colour)) (row : List Colour) → AreOfWidth width rows → length row ≡ width
+pub widths_more : (width : ℕ) (rows : List (List Colour)) (row : List Colour) → AreOfWidth width rows
+    → length row ≡ width
     → AreOfWidth width (rows ++ row ∷ [])
 widths_more width [] row are is = (is, tt)
 widths_more width (first ∷ rows) row are is = (are.0, widths_more width rows row are.1 is)
@@ -60,15 +63,18 @@ images_split pages more page = grind (arith, append_assoc, map-append, flat_map-
 
 -- images are too large in any options
 images_too_large : (target : Target) (options : Options) (pages : List SourcePage) → target ≡ Pbm
-    → max_file < length (pbm_of (map (λ page. page.image) pages)) → IsTooLarge target pages (target_bytes target options pages)
-images_too_large target options pages is long = subst (λ t. IsTooLarge t pages (target_bytes t options pages)) (sym is) (inl long)
+    → max_file < length (pbm_of (map (λ page. page.image) pages))
+    → IsTooLarge target pages (target_bytes target options pages)
+images_too_large target options pages is long = subst (λ t. IsTooLarge t pages (target_bytes t options pages)) (sym is)
+    (inl long)
 
 module _ (packs : PackingUndoesUnpacking) (at : Progress) (sheet : Sheet) (target : at.options.target ≡ Pbm) where
   abbrev done : List ℕ
   done = pbm_of (map (λ page. page.image) at.pages)
 
   -- an image for which there is no room makes the output too large
-  pub image_too_large : max_file < length done + length (head_bytes sheet.width sheet.rows) + sheet.rows * packed_len sheet.width
+  pub image_too_large : max_file < length done + length (head_bytes sheet.width sheet.rows) + sheet.rows * packed_len
+      sheet.width
       → BecomesTooLarge (no_rows at sheet)
   image_too_large large = λ rows count widths more all.
       let page = page_of sheet rows in
@@ -89,13 +95,15 @@ module _ (packs : PackingUndoesUnpacking) (at : Progress) (sheet : Sheet) (targe
       images_too_large at.options.target at.options ((at.pages ++ page ∷ []) ++ more) target long
 
 -- an image is begun
-pub image_begun : (at : Progress) (sheet : Sheet) (old new : List ℕ) → HasImages old at → new ≡ old ++ head_bytes sheet.width sheet.rows
+pub image_begun : (at : Progress) (sheet : Sheet) (old new : List ℕ) → HasImages old at
+    → new ≡ old ++ head_bytes sheet.width sheet.rows
     → length new + sheet.rows * packed_len sheet.width ≤ max_file → HasImageRows new (no_rows at sheet)
 image_begun at sheet old new has new_is fits = grind (arith, append-nil)
 
 -- a row is put after the others of its image
 pub image_row : PackingUndoesUnpacking → (part : Part) (row : List Colour) (old new : List ℕ) → HasImageRows old part
-    → length part.rows < part.sheet.rows → length row ≡ part.sheet.width → new ≡ old ++ packed_row row → HasImageRows new (with_row part row)
+    → length part.rows < part.sheet.rows → length row ≡ part.sheet.width → new ≡ old ++ packed_row row
+    → HasImageRows new (with_row part row)
 image_row packs part row old new has due width new_is =
     let before = pbm_of (map (λ page. page.image) part.at.pages) in
     let head = head_bytes part.sheet.width part.sheet.rows in
@@ -105,7 +113,8 @@ image_row packs part row old new has due width new_is =
     let len : length (packed_row row) ≡ packed_len part.sheet.width = packs.packed_count row ∙ ap packed_len width in
     let size : length new ≡ length old + packed_len part.sheet.width =
     ap length new_is ∙ length-append old (packed_row row) ∙ ap (λ (n : ℕ). length old + n) len in
-    let room : has.left * packed_len part.sheet.width ≡ (has.left - 1) * packed_len part.sheet.width + packed_len part.sheet.width =
+    let room : has.left * packed_len part.sheet.width ≡ (has.left - 1) * packed_len part.sheet.width + packed_len
+    part.sheet.width =
     ap (λ (n : ℕ). n * packed_len part.sheet.width) one ∙ omega arith in
     record {
       target = has.target;
@@ -119,7 +128,8 @@ image_row packs part row old new has due width new_is =
 pages_append : (old : Written) (total k : ℕ) (pages more : List WrittenPage)
     → with_pages old total k (pages ++ more) ≡ with_pages (with_pages old total k pages) total (k + length pages) more
 unfolding with_pages
-pages_append old total k [] more = let here : k ≡ k + 0 = omega arith in ap (λ (n : ℕ). with_pages old total n more) here
+pages_append old total k [] more = let here : k ≡ k + 0 = omega arith in
+    ap (λ (n : ℕ). with_pages old total n more) here
 pages_append old total k (page ∷ pages) more =
     let next = with_page old total k page.form page.strips in
     let there : k + 1 + length pages ≡ k + suc (length pages) = omega arith in
@@ -128,7 +138,8 @@ pages_append old total k (page ∷ pages) more =
 
 -- a page more, whatever stands before it
 pages_next : (old : Written) (total : ℕ) (pages : List WrittenPage) (page : WrittenPage)
-    → with_pages old total 0 (pages ++ page ∷ []) ≡ with_page (with_pages old total 0 pages) total (length pages) page.form page.strips
+    → with_pages old total 0 (pages ++ page ∷ []) ≡ with_page (with_pages old total 0 pages) total (length pages)
+    page.form page.strips
 unfolding with_pages
 pages_next old total pages page = grind (arith, common_steps, pages_append)
 
@@ -138,20 +149,30 @@ page_grows : (old : Written) (total k : ℕ) (form : PageForm) (strips : List (L
 unfolding with_page
 page_grows old total k form strips = grind (arith, length-append, length-take, length-drop)
 
-pages_grow : (old : Written) (total k : ℕ) (pages : List WrittenPage) → length old.bytes ≤ length (with_pages old total k pages).bytes
+pages_grow : (old : Written) (total k : ℕ) (pages : List WrittenPage)
+    → length old.bytes ≤ length (with_pages old total k pages).bytes
 unfolding with_pages
 pages_grow old total k [] = omega arith
 pages_grow old total k (page ∷ pages) =
-    grind (arith, common_steps, page_grows, pages_grow (with_page old total k page.form page.strips) total (k + 1) pages)
+    grind (
+      arith,
+      common_steps,
+      page_grows,
+      pages_grow (with_page old total k page.form page.strips) total (k + 1)
+          pages,
+    )
 
 -- a TIFF file of no page yet
-pub file_begun : (options : Options) (total : ℕ) (coding : Coding) (writer : Writing) → coding_of options.target ≡ Some coding
+pub file_begun : (options : Options) (total : ℕ) (coding : Coding) (writer : Writing)
+    → coding_of options.target ≡ Some coding
     → total ≤ 65535
-    → writer ≡ record { written = empty_file; total = total; added = 0 } → HasPages coding writer (nothing_written options total)
+    → writer ≡ record { written = empty_file; total = total; added = 0 }
+    → HasPages coding writer (nothing_written options total)
 unfolding with_pages
 file_begun options total coding writer coding_is few is = grind arith
 
-reached_by : (form : PageForm) (k n : ℕ) (rows : List (List Colour)) (writer : Option WriterState) → length rows ≡ form.rows
+reached_by : (form : PageForm) (k n : ℕ) (rows : List (List Colour)) (writer : Option WriterState)
+    → length rows ≡ form.rows
     → AreInStrip form k n rows writer → form.rows ≤ n * form.rows_per_strip
 reached_by form k n rows writer all is = grind arith
 
@@ -162,7 +183,8 @@ pub all_strips : (form : PageForm) (k : ℕ) (rows : List (List Colour)) (page :
 all_strips form k rows page put all = grind (arith, reached_by)
 
 -- a page of a TIFF file whose rows were all put
-module _ (part : Part) (coding : Coding) (writer : Writing) (page : OpenStrips) (has : HasRowsOnPage coding writer (Some page) part)
+module _ (part : Part) (coding : Coding) (writer : Writing) (page : OpenStrips)
+    (has : HasRowsOnPage coding writer (Some page) part)
     (all : length part.rows ≡ part.sheet.rows) where
   abbrev options : Options
   options = part.at.options

@@ -18,7 +18,8 @@ use Rattle.fax_walk.specs.declared.end.End.{End}
 use Rattle.fax_walk.specs.declared.end.End.TheVariants.{Fault}
 use Rattle.fax_walk.specs.Pages.{IsPageAt}
 use Rattle.fax_walk.specs.Report.{note_if, IsReportedEnd, IsReport}
-use Rattle.fax_walk.specs.code.Check.{before_page, before_strip, CheckPlace, EndsThere, HasChecked, IsDirectoryOfPage, IsRestChecked}
+use Rattle.fax_walk.specs.code.Check.{before_page, before_strip, CheckPlace, EndsThere, HasChecked, IsDirectoryOfPage}
+use Rattle.fax_walk.specs.code.Check.{IsRestChecked}
 use Rattle.fax_walk.specs.code.Check.{ArePagesChecked}
 use Rattle.fax_walk.proofs.CheckLemmas.{nothing_checked, checked_on}
 use Rattle.fax_walk.proofs.InOrderLemmas.{ended_at}
@@ -29,7 +30,8 @@ ends_at_page : (file : List ℕ) (p : ℕ) (end : End) → IsPageAt file (record
 ends_at_page file p end at = ((Err end, at, refl), (Err end, at, refl))
 
 -- a page whose fields are refused
-pub refused_page : (directory : TiffDirectory) (p : ℕ) (old new : List Note) (fault : FileFault) → IsDirectoryOfPage directory p
+pub refused_page : (directory : TiffDirectory) (p : ℕ) (old new : List Note) (fault : FileFault)
+    → IsDirectoryOfPage directory p
     → new ≡ old → form_of directory ≡ Err fault
     → IsRestChecked directory.file (before_page p) p old new (record { rows = 0; fault = Some (File fault) })
 refused_page directory p old new fault here same refused = record {
@@ -42,10 +44,12 @@ refused_page directory p old new fault here same refused = record {
 }
 
 -- the rest of a page after the note on its directory
-module _ (directory : TiffDirectory) (form : PageForm) (p : ℕ) (limits : IsPageForm form) (form_is : form_of directory ≡ Ok form)
+module _ (directory : TiffDirectory) (form : PageForm) (p : ℕ) (limits : IsPageForm form)
+    (form_is : form_of directory ≡ Ok form)
     (here : IsDirectoryOfPage directory p) where
   abbrev on_entries : List Note
-  on_entries = note_if (not (ascend (entries directory.endian directory.file directory.offset))) p None EntriesOutOfOrder
+  on_entries = note_if (not (ascend (entries directory.endian directory.file directory.offset))) p None
+      EntriesOutOfOrder
 
   some_strip : 0 < form.strips
   some_strip = grind arith
@@ -65,14 +69,17 @@ module _ (directory : TiffDirectory) (form : PageForm) (p : ℕ) (limits : IsPag
       })
 
   pub formed_page : (old middle new : List Note) (read : PageRead) → middle ≡ old ++ on_entries
-      → IsRestChecked directory.file (before_strip form p 0) p middle new read → IsRestChecked directory.file (before_page p) p old new read
+      → IsRestChecked directory.file (before_strip form p 0) p middle new read
+      → IsRestChecked directory.file (before_page p) p old new read
   formed_page old middle new read middle_is rest = record {
     noted = on_entries ++ rest.noted;
-    notes_are = rest.notes_are ∙ ap (λ (l : List Note). l ++ rest.noted) middle_is ∙ append_assoc old on_entries rest.noted;
+    notes_are = rest.notes_are ∙ ap (λ (l : List Note). l ++ rest.noted) middle_is
+        ∙ append_assoc old on_entries rest.noted;
     few = rest.few;
     to = rest.to;
     is = subst (HasChecked directory.file (before_page p) rest.to (on_entries ++ rest.noted)) (omega arith)
-        (checked_on directory.file (before_page p) (before_strip form p 0) rest.to on_entries rest.noted 0 read.rows entries_checked rest.is);
+        (checked_on directory.file (before_page p) (before_strip form p 0) rest.to on_entries rest.noted 0 read.rows
+        entries_checked rest.is);
     after = rest.after;
   }
 
@@ -81,20 +88,25 @@ pub none_checked : (file : List ℕ) (noted : List Note) → noted ≡ [] → Ar
 none_checked file noted none = rw none (record { few = omega arith; is = nothing_checked file (before_page 0) })
 
 -- one more page was read wholly
-pub page_after : (file : List ℕ) (given rows : ℕ) (old new : List Note) (read : PageRead) → ArePagesChecked file given rows old
-    → IsRestChecked file (before_page given) given old new read → read.fault ≡ None → ArePagesChecked file (given + 1) (rows + read.rows)
+pub page_after : (file : List ℕ) (given rows : ℕ) (old new : List Note) (read : PageRead)
+    → ArePagesChecked file given rows old
+    → IsRestChecked file (before_page given) given old new read → read.fault ≡ None
+    → ArePagesChecked file (given + 1) (rows + read.rows)
     new
 page_after file given rows old new read so_far page none = grind (arith, checked_on)
 
 -- the report of a file that is checked to its end
 reported : (file : List ℕ) (report : Report) (notes : List Note) (rows : ℕ) (to : CheckPlace) (end : End)
-    → HasChecked file (before_page 0) to notes rows → EndsThere file to end → report.notes.items ≡ notes → report.rows ≡ rows
+    → HasChecked file (before_page 0) to notes rows → EndsThere file to end → report.notes.items ≡ notes
+    → report.rows ≡ rows
     → IsReportedEnd file end report.pages report.fault → IsReport file report
 reported file report notes rows to end is ends notes_are rows_are end_is = grind (arith, ended_at)
 
 -- after the last page
-pub last_report : (file : List ℕ) (given : ℕ) (end : End) (report : Report) → ArePagesChecked file given report.rows report.notes.items
-    → IsPageAt file (record { page = given; row = 0 }) (Err end) → IsReportedEnd file end report.pages report.fault → IsReport file report
+pub last_report : (file : List ℕ) (given : ℕ) (end : End) (report : Report)
+    → ArePagesChecked file given report.rows report.notes.items
+    → IsPageAt file (record { page = given; row = 0 }) (Err end) → IsReportedEnd file end report.pages report.fault
+    → IsReport file report
 last_report file given end report so_far at =
     reported file report _ _ (before_page given) end so_far.is (ends_at_page file given end at) refl refl
 
@@ -105,11 +117,13 @@ pub stop_report : (file : List ℕ) (given rows : ℕ) (old : List Note) (read :
     → IsReportedEnd file (Fault given read.rows cause) report.pages report.fault → IsReport file report
 stop_report file given rows old read cause report so_far page some =
     reported file report (old ++ page.noted) (rows + read.rows) page.to (Fault given read.rows cause)
-    (checked_on file (before_page 0) (before_page given) page.to old page.noted rows read.rows so_far.is page.is) (rw some at page.after)
+    (checked_on file (before_page 0) (before_page given) page.to old page.noted rows read.rows so_far.is page.is)
+    (rw some at page.after)
     page.notes_are
 
 -- the report of a file without a good header
-pub header_report : (file : List ℕ) (met : FileFault) (report : Report) → header file ≡ Err met → report.notes.items ≡ []
+pub header_report : (file : List ℕ) (met : FileFault) (report : Report) → header file ≡ Err met
+    → report.notes.items ≡ []
     → report.pages ≡ 0
     → report.rows ≡ 0 → report.fault ≡ Some (record { page = 0; row = 0 }, File met) → IsReport file report
 header_report file met report bad none pages rows fault_is =

@@ -1,6 +1,7 @@
 -- What is asked of a file's pages has one answer, and so have its forms.
 use Rattle.std.proofs.lemmas.Grind.{common_steps}
-use Rattle.std.proofs.Common.{◌-◌, ◌<◌, ◌≤◌, ◌⊎◌, inl, inr, ◌≡◌, ℕ, zero, suc, ◌+◌, List, [], ◌∷◌, length, drop, Option, Some, None, Result}
+use Rattle.std.proofs.Common.{◌-◌, ◌<◌, ◌≤◌, ◌⊎◌, inl, inr, ◌≡◌, ℕ, zero, suc, ◌+◌, List, [], ◌∷◌, length, drop, Option}
+use Rattle.std.proofs.Common.{Some, None, Result}
 use Rattle.std.proofs.Common.{Ok, Err, refl, sym, ap, ◌∙◌, subst, arith, true}
 use Rattle.std.proofs.lemmas.List.{drop-drop}
 use Rattle.std.proofs.lemmas.Option.{slice_get_cases, slice_get_within}
@@ -17,12 +18,15 @@ use Rattle.fax_files.specs.laws.Files.{FilesHaveOneChain}
 use Rattle.fax_walk.specs.declared.cursor.Cursor.{Cursor}
 use Rattle.fax_walk.specs.declared.end.End.{End}
 use Rattle.fax_walk.specs.declared.end.End.TheVariants.{Fault, Outside, Proper}
-use Rattle.fax_walk.specs.Pages.{AreFrom, FormItem, FilePage, IsPageAt, IsOnPage, IsForm, IsFormTail, NextItem, goes_on, ends_as}
+use Rattle.fax_walk.specs.Pages.{AreFrom, FormItem, FilePage, IsPageAt, IsOnPage, IsForm, IsFormTail, NextItem, goes_on}
+use Rattle.fax_walk.specs.Pages.{ends_as}
 use Rattle.fax_walk.specs.code.Opening.{page_over, IsPageUnder, end_past_chain, page_or_end}
-use Rattle.fax_walk.specs.laws.Tails.{FilesHaveOneForms, CursorsHaveOneFormTail, FormTailOfPage, FormTailOfStart, FormsStandByNumber}
+use Rattle.fax_walk.specs.laws.Tails.{FilesHaveOneForms, CursorsHaveOneFormTail, FormTailOfPage, FormTailOfStart}
+use Rattle.fax_walk.specs.laws.Tails.{FormsStandByNumber}
 use Rattle.fax_walk.specs.laws.Tails.{FormTailsGoOn}
 use Rattle.fax_bits.specs.laws.Codes.{IsOne}
-use Rattle.fax_walk.proofs.InOrderLemmas.{get_dropped, IsOneAnswer, IsSingle, IsListed, listed_by, one_list, same_answer, split_at_number}
+use Rattle.fax_walk.proofs.InOrderLemmas.{get_dropped, IsOneAnswer, IsSingle, IsListed, listed_by, one_list}
+use Rattle.fax_walk.proofs.InOrderLemmas.{same_answer, split_at_number}
 
 -- an equation has one answer
 pub only_it : {A : Type 0} (it : A) → IsOneAnswer (λ (other : A). other ≡ it)
@@ -52,7 +56,8 @@ pub record IsChained (file : List ℕ) (at : Cursor) (found : Result FilePage En
   pub found_is : found ≡ page_over head.endian file offsets fault at (slice_get offsets at.page)
 
 chained : (file : List ℕ) (at : Cursor) (found : Result FilePage End) → IsPageAt file at found
-    → ((fault : FileFault) × (header file ≡ Err fault) × (found ≡ Err (Fault 0 0 (File fault)))) ⊎ IsChained file at found
+    → ((fault : FileFault) × (header file ≡ Err fault) × (found ≡ Err (Fault 0 0 (File fault))))
+    ⊎ IsChained file at found
 chained file at found = grind arith
 
 -- a page stands in its chain, and an end past it, or for a fault of the page's fields
@@ -61,8 +66,10 @@ module _ (endian : Endian) (file offsets : List ℕ) (fault : Option FileFault) 
       → (found ≡ Some here.offset) × (endian ≡ here.endian) × (page here.endian file here.offset ≡ Ok here.form)
   over_page here found e = grind arith
 
-  over_end : (end : End) (found : Option ℕ) → ◌≡◌ {A = Result FilePage End} (Err end) (page_over endian file offsets fault at found)
-      → ((refused : FileFault) × (end ≡ Fault at.page 0 (File refused))) ⊎ ((found ≡ None) × (end ≡ end_past_chain (length offsets) fault at))
+  over_end : (end : End) (found : Option ℕ) → ◌≡◌ {A = Result FilePage End} (Err end)
+      (page_over endian file offsets fault at found)
+      → ((refused : FileFault) × (end ≡ Fault at.page 0 (File refused)))
+      ⊎ ((found ≡ None) × (end ≡ end_past_chain (length offsets) fault at))
   over_end end found e = grind arith
 
 -- the page that a cursor names, in the chain of its file's directories
@@ -76,11 +83,13 @@ pub in_chain : (file : List ℕ) (at : Cursor) (here : FilePage) → IsPageAt fi
 in_chain file at here is = elim (chained file at (Ok here) is) [
   | inl (fault, is_head, e) ↦ absurd cc
   | inr its ↦
-      let (there, endian, fields) = over_page its.head.endian file its.offsets its.fault at here (slice_get its.offsets at.page) its.found_is in
+      let (there, endian, fields) = over_page its.head.endian file its.offsets its.fault at here
+      (slice_get its.offsets at.page) its.found_is in
       record { its = its; there = there; endian = endian; fields = fields }
 ]
 
-proper_past : (n pages : ℕ) (fault : Option FileFault) → Proper ≡ end_past_chain pages fault (record { page = n; row = 0 })
+proper_past : (n pages : ℕ) (fault : Option FileFault) → Proper
+    ≡ end_past_chain pages fault (record { page = n; row = 0 })
     → (fault ≡ None) × (n ≡ pages)
 proper_past n pages fault e = grind (arith, nat_tests)
 
@@ -100,7 +109,8 @@ proper_after file n there = elim (chained file (record { page = n; row = 0 }) (E
 ]
 
 -- a file has one chain
-pub one_chain : FilesHaveOneChain → (file : List ℕ) {at other : Cursor} {found there : Result FilePage End} → (its : IsChained file at found)
+pub one_chain : FilesHaveOneChain → (file : List ℕ) {at other : Cursor} {found there : Result FilePage End}
+    → (its : IsChained file at found)
     → (others : IsChained file other there) → its.offsets ≡ others.offsets
 one_chain chains file its others =
     let both : ◌≡◌ {A = Result Header FileFault} (Ok others.head) (Ok its.head) = sym others.is_head ∙ its.is_head in
@@ -120,7 +130,8 @@ module _ (chains : FilesHaveOneChain) (file : List ℕ) where
         one = λ other is.
             let same = chain.one is.0 is.1 is.2 in
             is.3 ∙ ap (λ (l : List ℕ). page_over head.endian file l is.1 at (slice_get l at.page)) same.0
-            ∙ ap (λ (e : Option FileFault). page_over head.endian file chain.offsets e at (slice_get chain.offsets at.page)) same.1;
+            ∙ ap (λ (e : Option FileFault). page_over head.endian file chain.offsets e at
+            (slice_get chain.offsets at.page)) same.1;
       }
 
   pub one_page : (at : Cursor) → IsOneAnswer (IsPageAt file at)
@@ -128,7 +139,8 @@ module _ (chains : FilesHaveOneChain) (file : List ℕ) where
 
   -- what is single on each page is single on the page that a cursor names
   pub single_on_page : {A : Type 0} (at : Cursor) (asked : FilePage → A → Type 0) (ended : End → A)
-      → ((here : FilePage) → IsSingle (asked here)) → IsSingle (λ (x : A). IsOnPage file at (λ here. asked here x) (λ end. x ≡ ended end))
+      → ((here : FilePage) → IsSingle (asked here)) → IsSingle (λ (x : A). IsOnPage file at (λ here. asked here x)
+      (λ end. x ≡ ended end))
   single_on_page at asked ended single x y (found, page, is) (other, page', is') =
       let same = same_answer (one_page at) other found page' page in by_page found is (rw same at is')
     where
@@ -162,7 +174,8 @@ module _ (chains : FilesHaveOneChain) (file : List ℕ) where
   pub one_form : (p : ℕ) → IsOneAnswer (IsForm file p)
   one_form p =
       let form_of : FilePage → NextItem FormItem ℕ = λ here. goes_on (record { page = p; form = here.form }) (p + 1) in
-      let only = one_on_page (record { page = p; row = 0 }) (λ here step. step ≡ form_of here) ends_as (λ here. only_it (form_of here)) in
+      let only = one_on_page (record { page = p; row = 0 }) (λ here step. step ≡ form_of here) ends_as
+      (λ here. only_it (form_of here)) in
       record { it = only.it; is = only.is; one = only.one }
 
 -- page p is due: it is the first one, or the one after a page
@@ -183,7 +196,8 @@ module _ (chains : FilesHaveOneChain) (file : List ℕ) (p : ℕ) (due : IsDue f
         omega (arith, next, within, ap (λ (l : List ℕ). length l) (one_chain chains file found.its its))
   ]
 
-  past : (pages : ℕ) → pages ≡ p → (fault : Option FileFault) → end ≡ end_past_chain pages fault (record { page = p; row = 0 })
+  past : (pages : ℕ) → pages ≡ p → (fault : Option FileFault)
+      → end ≡ end_past_chain pages fault (record { page = p; row = 0 })
       → EndsDue p end
   past pages all fault e = grind arith
 
@@ -193,10 +207,12 @@ module _ (chains : FilesHaveOneChain) (file : List ℕ) (p : ℕ) (due : IsDue f
 -- the pages after a directory that stands in the chain
 module _ (file : List ℕ) (head : Header) (is_head : header file ≡ Ok head) (offsets : List ℕ) (fault : Option FileFault)
     (chain : IsChain head file offsets fault) where
-  pub page_here : (at : Cursor) → IsPageAt file at (page_over head.endian file offsets fault at (slice_get offsets at.page))
+  pub page_here : (at : Cursor) → IsPageAt file at (page_over head.endian file offsets fault at
+      (slice_get offsets at.page))
   page_here at = rw (is_head, IsPageAt) (offsets, fault, chain, refl)
 
-  pub no_page : (at : Cursor) → drop at.page offsets ≡ [] → IsPageAt file at (Err (end_past_chain (length offsets) fault at))
+  pub no_page : (at : Cursor) → drop at.page offsets ≡ [] → IsPageAt file at
+      (Err (end_past_chain (length offsets) fault at))
   no_page at e = rw (first_dropped at.page offsets, e) at (page_here at)
 
   pub some_page : (at : Cursor) (q : ℕ) (later : List ℕ) → drop at.page offsets ≡ q ∷ later
@@ -236,7 +252,8 @@ one_form_tail chains file at =
     (λ here. only_it (first_form at here.form)) in
     by_begin only.it only.is only.one
   where
-    by_begin : (begin : Result ℕ End) → Begins file at begin → ((other : Result ℕ End) → Begins file at other → other ≡ begin)
+    by_begin : (begin : Result ℕ End) → Begins file at begin →
+        ((other : Result ℕ End) → Begins file at other → other ≡ begin)
         → IsOne (IsFormTail file at)
     by_begin (Err none) is only = record {
       items = [];
@@ -263,7 +280,8 @@ module _ (file : List ℕ) where
   of_forms p [] end (Err none, page, e) = let same : end ≡ none = cc in (Err none, (Err none, page, refl), (refl, same))
   of_forms p [] end (Ok here, page, e) = absurd cc
   of_forms p (x ∷ forms) end (to, (Err none, page, e), rest) = absurd cc
-  of_forms p (x ∷ forms) end (to, (Ok here, page, e), rest) = (Ok p, (Ok here, page, refl), (to, (Ok here, page, e), rest))
+  of_forms p (x ∷ forms) end (to, (Ok here, page, e), rest) =
+      (Ok p, (Ok here, page, refl), (to, (Ok here, page, e), rest))
 
   form_page : (p : ℕ) (item : FormItem) (to : ℕ) → IsForm file p (goes_on item to) → (item.page ≡ p) × (to ≡ p + 1)
   form_page p item to h = grind arith
@@ -292,4 +310,5 @@ form_tails_go_on file at all end n item (Ok from, begins, are) there =
     let split = split_at_number (IsForm file) from 0 all all end n item are refl there in
     let next = form_page file split.at item split.to split.step in
     of_forms file (item.page + 1) (drop (n + 1) all) end
-    (subst (λ (p : ℕ). AreFrom (IsForm file) p (drop (n + 1) all) end) (next.1 ∙ ap (λ (n : ℕ). n + 1) (sym next.0)) split.rest)
+    (subst (λ (p : ℕ). AreFrom (IsForm file) p (drop (n + 1) all) end) (next.1 ∙ ap (λ (n : ℕ). n + 1) (sym next.0))
+    split.rest)

@@ -20,7 +20,8 @@ use Rattle.fax_walk.proofs.StripPlaceLemmas.{shown_length, strip_count}
 use Rattle.fax_walk.proofs.RowLawLemmas.{LinesAreRead}
 use Rattle.fax_walk.proofs.StripRowLemmas.{AreRead, strip_rows}
 
-shown_both : (form : PageForm) (rows more : List (List Colour)) → shown form (rows ++ more) ≡ shown form rows ++ shown form more
+shown_both : (form : PageForm) (rows more : List (List Colour))
+    → shown form (rows ++ more) ≡ shown form rows ++ shown form more
 shown_both form rows more = by_test form.exchanged
   where
     by_test : (b : Bool) → (if b then map (map other) (rows ++ more) else rows ++ more)
@@ -35,13 +36,16 @@ numbered_both p r (row ∷ rows) more =
     rw n (ap (λ (l : List WalkedRow). record { page = p; row = r; pels = row } ∷ l) (numbered_both p (r + 1) rows more))
 
 -- rows of a page that lead to a place, and those after them
-read_both : (file : List ℕ) (p : ℕ) (at middle : RowPlace) (r : ℕ) (rows more : List (List Colour)) (reached : RowPlace → Type 0)
+read_both : (file : List ℕ) (p : ℕ) (at middle : RowPlace) (r : ℕ) (rows more : List (List Colour))
+    (reached : RowPlace → Type 0)
     → AreRead file p at r rows (λ to. to ≡ middle) → AreRead file p middle (r + length rows) more reached
     → AreRead file p at r (rows ++ more) reached
 read_both file p at middle r rows more reached first second = grind (arith, map-append, numbered_both, leads_both)
 
-module _ (by_place : AreBitsByPlace) (lines_read : LinesAreRead) (file : List ℕ) (endian : Endian) (q : ℕ) (form : PageForm) (p : ℕ)
-    (page : (r : ℕ) → IsPageAt file (record { page = p; row = r }) (Ok (record { endian = endian; offset = q; form = form })))
+module _ (by_place : AreBitsByPlace) (lines_read : LinesAreRead) (file : List ℕ) (endian : Endian) (q : ℕ)
+    (form : PageForm) (p : ℕ)
+    (page : (r : ℕ) → IsPageAt file (record { page = p; row = r })
+    (Ok (record { endian = endian; offset = q; form = form })))
     (whole : IsWholeForm form) where
   -- the rows of the strips from strip s on lead to the page after it
   pub strips_from : (strips : List (List (List Colour))) (s r : ℕ) → r ≡ min (s * form.rows_per_strip) form.rows
@@ -61,5 +65,6 @@ module _ (by_place : AreBitsByPlace) (lines_read : LinesAreRead) (file : List �
       rw here at (strip_rows by_place lines_read file endian q form p page whole s below bytes there rows None strip) in
       let later = strips_from strips (s + 1) (r + length rows) (omega (arith, count, here)) rest in
       rw (inside, shown_both form rows (joined strips))
-      (read_both file p (first_at p r) (first_on form p (r + length rows)) r (shown form rows) (shown form (joined strips))
+      (read_both file p (first_at p r) (first_on form p (r + length rows)) r (shown form rows)
+      (shown form (joined strips))
       (λ to. to ≡ first_at (p + 1) 0) first (rw length_is later))

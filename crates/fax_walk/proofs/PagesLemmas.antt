@@ -1,5 +1,6 @@
 -- Steps of a reader of pages.
-use Rattle.std.proofs.Common.{◌≡◌, ℕ, ◌+◌, ◌^◌, ◌<◌, Bool, true, false, List, [], ◌∷◌, ◌++◌, length, Option, Some, None, Result, Ok, Err}
+use Rattle.std.proofs.Common.{◌≡◌, ℕ, ◌+◌, ◌^◌, ◌<◌, Bool, true, false, List, [], ◌∷◌, ◌++◌, length, Option, Some, None}
+use Rattle.std.proofs.Common.{Result, Ok, Err}
 use Rattle.std.proofs.Common.{inl, inr, refl, sym, ap, ◌∙◌, subst, arith, append-nil, append_assoc}
 use Rattle.std.proofs.lemmas.Bool.Decides.{nat_tests}
 use Rattle.std.proofs.lemmas.List.{length_push}
@@ -10,7 +11,8 @@ use Rattle.fax_files.specs.views.Tiff.{TiffDirectory}
 use Rattle.fax_walk.specs.declared.cursor.Cursor.{Cursor}
 use Rattle.fax_walk.specs.declared.end.End.{End}
 use Rattle.fax_walk.specs.Pages.{AreFrom, FormItem, IsForm, IsFormTail, goes_on, ends_as}
-use Rattle.fax_walk.specs.code.Pages.{told_of, IsSoundReader, GoesOnAt, HasGiven, IsPageAfter, IsFirstDue, IsDueIn, EndsNow}
+use Rattle.fax_walk.specs.code.Pages.{told_of, IsSoundReader, GoesOnAt, HasGiven, IsPageAfter, IsFirstDue, IsDueIn}
+use Rattle.fax_walk.specs.code.Pages.{EndsNow}
 use Rattle.fax_walk.specs.views.InOrder.{EndsAfter, HasEndedAs}
 use Rattle.fax_walk.specs.declared.end.End.TheVariants.{Proper}
 use Rattle.fax_walk.specs.declared.end.WalkFault.{WalkFault}
@@ -26,7 +28,8 @@ use Rattle.fax_walk.specs.declared.pages.PagesStage.{PagesStage}
 use Rattle.fax_walk.specs.declared.pages.PagesStage.TheVariants.{Before, After, Ended}
 
 -- a page of a file is the form of its number
-pub form_here : (p : ℕ) (chain : ChainState) (directory : TiffDirectory) (form : PageForm) → IsFilePage p chain directory form
+pub form_here : (p : ℕ) (chain : ChainState) (directory : TiffDirectory) (form : PageForm)
+    → IsFilePage p chain directory form
     → IsForm directory.file p (goes_on (record { page = p; form = form }) (p + 1))
 form_here p chain directory form its = (Ok (page_with directory form), its.here 0, refl)
 
@@ -36,7 +39,11 @@ module _ (file : List ℕ) (at : Cursor) (due : PageDue) (named : IsNamed file a
   begins_here first =
       let test : (at.row == 0) ≡ true = grind (arith, nat_tests, first) in
       record {
-        on = λ forms end are. (Ok due.page, (Ok (page_with due.directory due.form), named.3, rw (test, named.1) refl), are);
+        on = λ forms end are. (
+          Ok due.page,
+          (Ok (page_with due.directory due.form), named.3, rw (test, named.1) refl),
+          are,
+        );
         file_is = named.0;
       }
 
@@ -56,7 +63,8 @@ module _ (file : List ℕ) (at : Cursor) (due : PageDue) (named : IsNamed file a
   chain_file = its.after.file_is ∙ named.0
 
   -- from a later row with the page after it
-  pub begins_after : 0 < at.row → (result : Result PageDue End) → IfOk result (IsPageAfter due.chain) → IfOk result (IsFirstDue file at)
+  pub begins_after : 0 < at.row → (result : Result PageDue End) → IfOk result (IsPageAfter due.chain)
+      → IfOk result (IsFirstDue file at)
   begins_after some (Ok next) after = record {
     on = subst (GoesOnAt file at []) (sym (after.0 ∙ number)) (begins_next file at due named some);
     file_is = after.1 ∙ chain_file;
@@ -64,7 +72,8 @@ module _ (file : List ℕ) (at : Cursor) (due : PageDue) (named : IsNamed file a
   begins_after some (Err end) after = after
 
   pub ends_after : 0 < at.row → (result : Result PageDue End)
-      → IfErr result (λ end. IsForm due.chain.tiff.file due.chain.given (ends_as end)) → IfErr result (IsFormTail file at [])
+      → IfErr result (λ end. IsForm due.chain.tiff.file due.chain.given (ends_as end))
+      → IfErr result (IsFormTail file at [])
   ends_after some (Ok next) after = after
   ends_after some (Err end) after = begins_next file at due named some [] end (rw (chain_file, number) at after)
 
@@ -77,12 +86,14 @@ no_forms file at end (inr (here, page, above, end_is)) =
     (Err end, (Ok here, page, rw (first, near, end_is) refl), (refl, refl))
 
 -- after the forms that lead to a page the pages end
-ended_after : (file : List ℕ) (begun : Cursor) (given p : ℕ) (end : End) → HasGiven file begun given p → IsForm file p (ends_as end)
+ended_after : (file : List ℕ) (begun : Cursor) (given p : ℕ) (end : End) → HasGiven file begun given p
+    → IsForm file p (ends_as end)
     → EndsAfter (IsFormTail file begun) given end
 ended_after file begun given p end come is =
     (come.forms ++ [], come.on [] end is, ap (λ (l : List FormItem). length l) (append-nil come.forms) ∙ come.count)
 
-pub ends_later : (file : List ℕ) (begun : Cursor) (given : ℕ) (told : Option End) (chain : ChainState) (result : Result PageDue End)
+pub ends_later : (file : List ℕ) (begun : Cursor) (given : ℕ) (told : Option End) (chain : ChainState)
+    (result : Result PageDue End)
     → told ≡ None
     → HasGiven file begun given chain.given × IsChainBefore file chain.given chain → IfErr result
     (λ end. IsForm chain.tiff.file chain.given (ends_as end))
@@ -99,7 +110,8 @@ module _ (tails : CursorsHaveOneFormTail) (of_page : FormTailOfPage) where
       (one.items, one.end, (of_page file p one.items one.end).0 one.is)
 
   -- the page that is due is handed out
-  pub page_given : (pages : PagesView) (due : PageDue) → IsDueIn pages due → IsFilePage due.page due.chain due.directory due.form
+  pub page_given : (pages : PagesView) (due : PageDue) → IsDueIn pages due
+      → IsFilePage due.page due.chain due.directory due.form
       → IsPageForm due.form → due.page + 1 < 2 ^ 32
       → HandsOutPage pages (record { page = due.page; form = due.form })
       (record pages { given = pages.given + 1; told = None })
@@ -131,13 +143,15 @@ untold file begun given cursor tails is =
     left_after IsFormTail (record { file = file; begun = begun; given = given; told = None }) (λ at. at)
     (λ item. record { page = item.page + 1; row = 0 }) cursor (tails file begun) is
 
-pub forms_left : (file : List ℕ) (begun : Cursor) (given : ℕ) (cursor : Cursor) (stage : PagesStage) → CursorsHaveOneFormTail
+pub forms_left : (file : List ℕ) (begun : Cursor) (given : ℕ) (cursor : Cursor) (stage : PagesStage)
+    → CursorsHaveOneFormTail
     → IsSoundReader file begun given cursor stage
     → (forms : List FormItem) × (end : End)
     × AreFormsLeft (record { file = file; begun = begun; given = given; told = told_of stage }) forms end
 forms_left file begun given cursor Before tails sound = untold file begun given cursor tails sound.cursor_is
 forms_left file begun given cursor (After chain) tails sound = untold file begun given cursor tails sound.cursor_is
-forms_left file begun given cursor (Ended end) tails sound = ([], end, left_ended (IsFormTail file begun) given end sound.come)
+forms_left file begun given cursor (Ended end) tails sound =
+    ([], end, left_ended (IsFormTail file begun) given end sound.come)
 
 -- one page more was handed out
 pub given_more : (file : List ℕ) (begun : Cursor) (given : ℕ) (due : PageDue) → HasGiven file begun given due.page
@@ -160,10 +174,12 @@ given_more file begun given due come file_is its = (
 )
 
 -- what is answered where the pages have ended
-pub ended_properly : (old new : PagesView) (end : End) (more : Bool) → HasEndedAs IsFormTail old end new → Ok more ≡ answer_of end
+pub ended_properly : (old new : PagesView) (end : End) (more : Bool) → HasEndedAs IsFormTail old end new
+    → Ok more ≡ answer_of end
     → HasEndedAs IsFormTail old Proper new
 ended_properly old new end more ended is = grind arith
 
-pub ended_so : (old new : PagesView) (end : End) (fault : WalkFault) → HasEndedAs IsFormTail old end new → Err fault ≡ answer_of end
+pub ended_so : (old new : PagesView) (end : End) (fault : WalkFault) → HasEndedAs IsFormTail old end new
+    → Err fault ≡ answer_of end
     → IsNextPage old (Err fault) new
 ended_so old new end fault ended is = grind arith

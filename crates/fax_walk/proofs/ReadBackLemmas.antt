@@ -32,19 +32,22 @@ use Rattle.fax_walk.proofs.ImageLemmas.{raster_count, raster_widths}
 use Rattle.fax_walk.proofs.SourceLemmas.{first_page, found_page}
 
 -- a page of a form within the limits, whose rows have its width, can be written
-page_writable : (form : PageForm) (own : List RowItem) → IsPageForm form → length own ≡ form.rows → AreOfWidth form.width (pels_of own)
+page_writable : (form : PageForm) (own : List RowItem) → IsPageForm form → length own ≡ form.rows
+    → AreOfWidth form.width (pels_of own)
     → IsWritableSource (page_of (form_sheet form) (pels_of own))
 page_writable form own limits count wide = grind (arith, length-map)
 
 -- an image that was read can be written
-image_writable : PackingUndoesUnpacking → (left : List ℕ) (image : Image) (rest : List ℕ) → IsImage left image rest → IsWritableImage image
+image_writable : PackingUndoesUnpacking → (left : List ℕ) (image : Image) (rest : List ℕ) → IsImage left image rest
+    → IsWritableImage image
 image_writable packs left image rest is =
     let count : length image.rows ≡ is.height =
     ap (λ (l : List (List Colour)). length l) is.rows_are ∙ raster_count image.width is.height is.raster in
     let whole = is.whole in
     record {
       within = subst (λ (n : ℕ). IsTrue (is_within_limits image.width n)) (sym count) is.within;
-      rows = subst (AreOfWidth image.width) (sym is.rows_are) (raster_widths packs image.width is.height is.raster (omega (arith, whole)));
+      rows = subst (AreOfWidth image.width) (sym is.rows_are) (raster_widths packs image.width is.height is.raster
+          (omega (arith, whole)));
     }
 
 image_page_writable : (image : Image) → IsWritableImage image → IsWritableSource (page_of_image image)
@@ -54,11 +57,13 @@ images_writable : PackingUndoesUnpacking → (bytes : List ℕ) (images : List I
     → All IsWritableSource (map page_of_image images)
 images_writable packs bytes [] are = All-nil IsWritableSource
 images_writable packs bytes (image ∷ images) (rest, is, are) =
-    All-cons IsWritableSource (page_of_image image) (map page_of_image images) (image_page_writable image (image_writable packs bytes image rest is))
+    All-cons IsWritableSource (page_of_image image) (map page_of_image images)
+    (image_page_writable image (image_writable packs bytes image rest is))
     (images_writable packs rest images are)
 
 -- a file of images that begins as one has one
-some_images : (bytes : List ℕ) (images : List Image) → BeginsWith bytes (codes "P4") → AreImages bytes images None → 1 ≤ length images
+some_images : (bytes : List ℕ) (images : List Image) → BeginsWith bytes (codes "P4") → AreImages bytes images None
+    → 1 ≤ length images
 some_images bytes images begins are = grind (arith, common_steps)
 
 pages_counted : (forms : List FormItem) (items : List RowItem) → length (pages_of forms items) ≡ length forms
@@ -66,11 +71,13 @@ pages_counted [] items = refl
 pages_counted (one ∷ forms) items = ap suc (pages_counted forms (drop one.form.rows items))
 
 -- rows of a page with their places
-rows_numbered : (p : ℕ) (form : PageForm) (r : ℕ) (own : List RowItem) → AreRowsOn p form r own → map walked own ≡ numbered p r (pels_of own)
+rows_numbered : (p : ℕ) (form : PageForm) (r : ℕ) (own : List RowItem) → AreRowsOn p form r own
+    → map walked own ≡ numbered p r (pels_of own)
 rows_numbered p form r [] are = refl
 rows_numbered p form r (x ∷ own) are = rw (are.0, are.2, rows_numbered p form (r + 1) own are.4) refl
 
-rows_wide : (p : ℕ) (form : PageForm) (r : ℕ) (own : List RowItem) → AreRowsOn p form r own → AreOfWidth form.width (pels_of own)
+rows_wide : (p : ℕ) (form : PageForm) (r : ℕ) (own : List RowItem) → AreRowsOn p form r own
+    → AreOfWidth form.width (pels_of own)
 rows_wide p form r [] are = tt
 rows_wide p form r (x ∷ own) are = (are.3, rows_wide p form (r + 1) own are.4)
 
@@ -83,16 +90,20 @@ items_kept (one ∷ forms) p items (own, others, items_are, are, inl whole) =
     grind (arith, first_page, rows_numbered, map-append, items_kept forms (p + 1) others whole.2)
 
 module _ (packs : PackingUndoesUnpacking) (paged : FilesArePaged) (within_limits : FormsAreWithinLimits) where
-  page_limits : (file : List ℕ) → All (λ byte. byte < 256) file → (at : Cursor) (here : FilePage) → IsPageAt file at (Ok here)
+  page_limits : (file : List ℕ) → All (λ byte. byte < 256) file → (at : Cursor) (here : FilePage)
+      → IsPageAt file at (Ok here)
       → IsPageForm here.form
   page_limits file bytes at here is =
       let found = in_chain file at here is in within_limits here.endian file here.offset here.form bytes found.fields
 
   -- the pages of forms and items that end properly can be written
-  forms_writable : (file : List ℕ) → All (λ byte. byte < 256) file → (forms : List FormItem) (p : ℕ) (items : List RowItem)
-      → AreFrom (IsForm file) p forms Proper → ArePaged p forms Proper items Proper → All IsWritableSource (pages_of forms items)
+  forms_writable : (file : List ℕ) → All (λ byte. byte < 256) file
+      → (forms : List FormItem) (p : ℕ) (items : List RowItem)
+      → AreFrom (IsForm file) p forms Proper → ArePaged p forms Proper items Proper
+      → All IsWritableSource (pages_of forms items)
   forms_writable file bytes [] p items forms_are paged = All-nil IsWritableSource
-  forms_writable file bytes (one ∷ forms) p items forms_are (own, others, items_are, are, inr stop) = let no = stop.2.3 in absurd cc
+  forms_writable file bytes (one ∷ forms) p items forms_are (own, others, items_are, are, inr stop) = let no =
+      stop.2.3 in absurd cc
   forms_writable file bytes (one ∷ forms) p items (next, step, rest) (own, others, items_are, are, inl whole) =
       let found = found_page file p one next step in
       let limits : IsPageForm one.form =
@@ -108,32 +119,43 @@ module _ (packs : PackingUndoesUnpacking) (paged : FilesArePaged) (within_limits
   source_writable bytes are_bytes pages (inl (begins, images, are, pages_are)) =
       let some = some_images bytes images begins are in
       let count : length pages ≡ length images =
-      ap (λ (l : List SourcePage). length l) pages_are ∙ length-map images page_of_image in
-      (subst (All IsWritableSource) (sym pages_are) (images_writable packs bytes images are), omega (arith, some, count))
+      ap (λ (l : List SourcePage). length l) pages_are ∙ length-map images page_of_image in (
+        subst (All IsWritableSource) (sym pages_are) (images_writable packs bytes images are),
+        omega
+            (arith, some, count),
+      )
   source_writable bytes are_bytes pages (inr (tiff, forms, items, forms_are, items_are, pages_are)) =
       let some = some_pages bytes forms forms_are in
-      let count : length pages ≡ length forms = ap (λ (l : List SourcePage). length l) pages_are ∙ pages_counted forms items in (
+      let count : length pages ≡ length forms = ap (λ (l : List SourcePage). length l) pages_are
+      ∙ pages_counted forms items in (
         subst (All IsWritableSource) (sym pages_are) (forms_writable bytes are_bytes forms 0 items forms_are
             (paged bytes forms Proper items Proper forms_are items_are)),
         omega (arith, some, count),
       )
 
-images_of_pages : (pages : List SourcePage) → All IsWritableSource pages → AreWritableImages (map (λ source. source.image) pages)
+images_of_pages : (pages : List SourcePage) → All IsWritableSource pages
+    → AreWritableImages (map (λ source. source.image) pages)
 images_of_pages [] are = tt
-images_of_pages (source ∷ pages) are =
-    ((All-head IsWritableSource source pages are).image, images_of_pages pages (All-tail IsWritableSource source pages are))
+images_of_pages (source ∷ pages) are = (
+  (All-head IsWritableSource source pages are).image,
+  images_of_pages pages
+      (All-tail IsWritableSource source pages are),
+)
 
 module _ (written : CodedFilesAreWalked) (images : WrittenImagesAreRead) (options : Options) (pages : List SourcePage)
     (are : All IsWritableSource pages) (some : 1 ≤ length pages) where
-  read_back : (target : Target) → options.target ≡ target → (output : List ℕ) → output ≡ target_bytes target options pages
+  read_back : (target : Target) → options.target ≡ target → (output : List ℕ)
+      → output ≡ target_bytes target options pages
       → (IsTooLarge target pages output → ⊥) → AreReadBack target options pages output
   read_back target target_is output output_is fits = grind (arith, images_of_pages)
 
-pub conversions_are_read_back : PackingUndoesUnpacking → FilesArePaged → FormsAreWithinLimits → CodedFilesAreWalked → WrittenImagesAreRead
+pub conversions_are_read_back : PackingUndoesUnpacking → FilesArePaged → FormsAreWithinLimits → CodedFilesAreWalked
+    → WrittenImagesAreRead
     → ConversionsAreReadBack
 conversions_are_read_back packs paged within written images bytes options output are_bytes converted =
     let found = source_writable packs paged within bytes are_bytes converted.pages converted.source in
-    read_back written images options converted.pages found.0 found.1 options.target refl output converted.output_is converted.fits
+    read_back written images options converted.pages found.0 found.1 options.target refl output converted.output_is
+    converted.fits
 
 -- a TIFF file does not begin as images do
 pub not_both : (bytes : List ℕ) → BeginsWith bytes (codes "P4") → IsTiff bytes → ⊥
@@ -152,9 +174,11 @@ module _ (paged : FilesArePaged) where
   source_kept bytes pages tiff h = grind (arith, items_kept)
 
   pub conversions_keep_items : FilesHaveOneItems → ConversionsAreReadBack → ConversionsKeepItems
-  conversions_keep_items one back bytes options output items others end other are_bytes tiff target converted items_are others_are =
+  conversions_keep_items one back bytes options output items others end other are_bytes tiff target converted items_are
+      others_are =
       let kept = source_kept bytes converted.pages tiff converted.source in
-      let found = walked_in options.target options converted.pages output target (back bytes options output are_bytes converted) in
+      let found = walked_in options.target options converted.pages output target
+      (back bytes options output are_bytes converted) in
       let source = one bytes in
       let made = one output in
       let first = source.one items end items_are in

@@ -1,5 +1,6 @@
 -- What a walk begins with has one tail and one end.
-use Rattle.std.proofs.Common.{◌≡◌, ℕ, ◌+◌, ◌*◌, ◌<◌, ◌≤◌, ◌⊎◌, inl, inr, Bool, List, [], ◌∷◌, map, length, drop, Option, Some, None, Result}
+use Rattle.std.proofs.Common.{◌≡◌, ℕ, ◌+◌, ◌*◌, ◌<◌, ◌≤◌, ◌⊎◌, inl, inr, Bool, List, [], ◌∷◌, map, length, drop, Option}
+use Rattle.std.proofs.Common.{Some, None, Result}
 use Rattle.std.proofs.Common.{Ok, Err, refl, sym, ap, ◌∙◌, arith, length-drop, ◌-◌}
 use Rattle.std.proofs.lemmas.Bool.{cases_eq, cases_lt}
 use Rattle.std.proofs.lemmas.Slice.Eq.{bytes_eq-Decides}
@@ -24,7 +25,8 @@ use Rattle.fax_walk.specs.declared.begun.Begun.TheVariants.{At, Inside}
 use Rattle.fax_walk.specs.declared.end.End.{End}
 use Rattle.fax_walk.specs.declared.end.End.TheVariants.{Fault, Outside}
 use Rattle.fax_walk.specs.Pages.{LongPlace, Cursor, FilePage, IsPageAt, NextItem, goes_on, ends_as}
-use Rattle.fax_walk.specs.Items.{RowItem, RowPlace, first_at, exchanged, before, IsInStrip, IsRow, place_after, IsBegunOn, IsInnerOn}
+use Rattle.fax_walk.specs.Items.{RowItem, RowPlace, first_at, exchanged, before, IsInStrip, IsRow, place_after}
+use Rattle.fax_walk.specs.Items.{IsBegunOn, IsInnerOn}
 use Rattle.fax_walk.specs.Items.{IsTailFrom, inner_at, begun_cursor}
 use Rattle.fax_walk.specs.code.Places.{strip_at, row_in_strip, FitsStrip, cursor_at}
 use Rattle.fax_walk.specs.views.Walk.{Begins}
@@ -44,13 +46,15 @@ other_twice (Black ∷ row) = ap (λ (l : List Colour). Black ∷ l) (other_twic
 pub exchanged_twice : (form : PageForm) (row : List Colour) → exchanged form (exchanged form row) ≡ row
 exchanged_twice form row = grind (arith, other_twice)
 
-same_items : (item another : RowItem) → item.page ≡ another.page → item.form ≡ another.form → item.row ≡ another.row → item.pels ≡ another.pels
+same_items : (item another : RowItem) → item.page ≡ another.page → item.form ≡ another.form → item.row ≡ another.row
+    → item.pels ≡ another.pels
     → item.bits ≡ another.bits
     → item ≡ another
 same_items item another pages forms rows pels bits = grind arith
 
 -- as many bits stand before one rest
-one_place : AreBitsByPlace → (order : FillOrder) (bytes : List ℕ) (n m : ℕ) → n ≤ 8 * length bytes → m ≤ 8 * length bytes
+one_place : AreBitsByPlace → (order : FillOrder) (bytes : List ℕ) (n m : ℕ) → n ≤ 8 * length bytes
+    → m ≤ 8 * length bytes
     → drop n (bits order bytes) ≡ drop m (bits order bytes) → n ≡ m
 one_place by_place order bytes n m within within' same =
     let all = bits order bytes in
@@ -80,10 +84,12 @@ module _ (by_place : AreBitsByPlace) (lines_read : LinesAreRead) where
     one_item : (item another : RowItem) (to place : RowPlace) → IsItem item to → IsItem another place → another ≡ item
     one_item item another to place is is_too =
         let same =
-        (lines_read strip i reference).line.one_answer b (exchanged form another.pels) (exchanged form item.pels) _ _ is_too.3 is.3 in
+        (lines_read strip i reference).line.one_answer b (exchanged form another.pels) (exchanged form item.pels) _ _
+        is_too.3 is.3 in
         let pels : another.pels ≡ item.pels =
         sym (exchanged_twice form another.pels) ∙ ap (exchanged form) same.0 ∙ exchanged_twice form item.pels in
-        let place_is : another.bits ≡ item.bits = one_place by_place form.order bytes another.bits item.bits is_too.2 is.2 same.1 in
+        let place_is : another.bits ≡ item.bits = one_place by_place form.order bytes another.bits item.bits is_too.2
+        is.2 same.1 in
         same_items another item (is_too.0 ∙ sym is.0) (is_too.5 ∙ sym is.5) (is_too.1 ∙ sym is.1) pels place_is
 
     by_line : ((row : List Colour) × (rest : List Bool) × IsLine strip i reference b row rest)
@@ -91,9 +97,22 @@ module _ (by_place : AreBitsByPlace) (lines_read : LinesAreRead) where
         → IsOneAnswer (IsInStrip form at (Some bytes))
     by_line (inl (row, rest, line)) =
         let from = (lines_read strip i reference).rest all (before form.width at.inner).bits row rest line in
-        let item : RowItem = record { page = at.page; form = form; row = at.row; pels = exchanged form row; bits = from.0 } in
-        let is : IsItem item (place_after item) =
-        (refl, refl, omega (arith, from.1, by_place.count form.order bytes), rw (from.2, exchanged_twice form row) line, refl, refl) in
+        let item : RowItem = record {
+          page = at.page;
+          form = form;
+          row = at.row;
+          pels = exchanged form row;
+          bits =
+              from.0;
+        } in
+        let is : IsItem item (place_after item) = (
+          refl,
+          refl,
+          omega (arith, from.1, by_place.count form.order bytes),
+          rw (from.2, exchanged_twice form row) line,
+          refl,
+          refl,
+        ) in
         record { it = goes_on item (place_after item); is = is; one = only_item item is }
       where
         only_item : (item : RowItem) → IsItem item (place_after item) → (other : NextItem RowItem RowPlace)
@@ -119,7 +138,8 @@ module _ (by_place : AreBitsByPlace) (lines_read : LinesAreRead) where
 
   pub one_in_strip : (form : PageForm) (at : RowPlace) (found : Option (List ℕ)) → IsOneAnswer (IsInStrip form at found)
   one_in_strip form at None = grind arith
-  one_in_strip form at (Some bytes) = let only = in_bytes form at bytes in record { it = only.it; is = only.is; one = only.one }
+  one_in_strip form at (Some bytes) = let only = in_bytes form at bytes in
+      record { it = only.it; is = only.is; one = only.one }
 
   module _ (chains : FilesHaveOneChain) (file : List ℕ) where
     pub one_row : (at : RowPlace) → IsOneAnswer (IsRow file at)
@@ -132,7 +152,12 @@ module _ (by_place : AreBitsByPlace) (lines_read : LinesAreRead) where
 -- the place inside its strip after an item
 abbrev pub inner_after : PageForm → RowItem → RowPlace
 inner_after form item =
-    record { page = item.page; row = item.row + 1; inner = Some (record { bits = item.bits; reference = exchanged form item.pels }) }
+    record {
+      page = item.page;
+      row = item.row + 1;
+      inner = Some
+          (record { bits = item.bits; reference = exchanged form item.pels });
+    }
 
 -- after an item of a page of this form: on the page after, at the page's next strip, or inside its strip
 abbrev pub IsAfter : PageForm → RowItem → RowPlace → Type 0
@@ -169,25 +194,32 @@ module _ (file : List ℕ) where
       → IsPageAt file (record { page = item.page; row = r }) (Ok read.here)
   its_page at item to read r = rw read.is.0 (any_row (cursor_at at) r read.here read.page)
 
-  pub same_page : FilesHaveOneChain → (at : Cursor) (here there : FilePage) → IsPageAt file at (Ok here) → IsPageAt file at (Ok there)
+  pub same_page : FilesHaveOneChain → (at : Cursor) (here there : FilePage) → IsPageAt file at (Ok here)
+      → IsPageAt file at (Ok there)
       → here ≡ there
-  same_page chains at here there is is_too = let same = same_answer (one_page chains file at) (Ok here) (Ok there) is is_too in cc
+  same_page chains at here there is is_too = let same = same_answer (one_page chains file at) (Ok here) (Ok there) is
+      is_too in cc
 
   -- what holds of the place after a row that was read: on the page after, at the next strip, or inside the strip
-  pub after_read : (holds : RowPlace → Type 0) (at : RowPlace) (item : RowItem) (to : RowPlace) (read : IsRead at item to)
+  pub after_read : (holds : RowPlace → Type 0) (at : RowPlace) (item : RowItem) (to : RowPlace)
+      (read : IsRead at item to)
       → (read.here.form.rows ≤ item.row + 1 → holds (first_at (item.page + 1) 0))
-      → (item.row + 1 < read.here.form.rows → row_in_strip read.here.form (item.row + 1) ≡ 0 → holds (first_at item.page (item.row + 1)))
-      → (item.row + 1 < read.here.form.rows → 0 < row_in_strip read.here.form (item.row + 1) → holds (inner_after read.here.form item))
+      → (item.row + 1 < read.here.form.rows → row_in_strip read.here.form (item.row + 1) ≡ 0
+      → holds (first_at item.page (item.row + 1)))
+      → (item.row + 1 < read.here.form.rows → 0 < row_in_strip read.here.form (item.row + 1)
+      → holds (inner_after read.here.form item))
       → holds to
   after_read holds at item to read past first inside = grind arith
 
 -- from each place on there are items, up to an end
-module _ (by_place : AreBitsByPlace) (lines_read : LinesAreRead) (chains : FilesHaveOneChain) (forms : FormsAreWhole) (file : List ℕ) where
+module _ (by_place : AreBitsByPlace) (lines_read : LinesAreRead) (chains : FilesHaveOneChain) (forms : FormsAreWhole)
+    (file : List ℕ) where
   -- more than the rows that are left
   abbrev measure : RowPlace → ℕ
   measure at = (length file - at.page) * 1000001 + (1000000 - at.row)
 
-  row_falls : (at : RowPlace) (item : RowItem) (to : RowPlace) → IsRow file at (goes_on item to) → measure to < measure at
+  row_falls : (at : RowPlace) (item : RowItem) (to : RowPlace) → IsRow file at (goes_on item to)
+      → measure to < measure at
   row_falls at item to step = grind (arith, read_at, page_few, whole_page, after_read)
 
   pub rows_listed : (at : RowPlace) → IsListed (IsRow file) at
@@ -199,7 +231,8 @@ same_list xs ys = by_test (bytes_eq xs ys) (bytes_eq-Decides xs ys)
     by_test : (test : Bool) → Decides test (xs ≡ ys) → (xs ≡ ys) ⊎ (xs ≡ ys → ⊥)
     by_test test decides = grind arith
 
-fits : (width : ℕ) (found : Option (List ℕ)) (place : LongPlace) → FitsStrip width found place ⊎ (FitsStrip width found place → ⊥)
+fits : (width : ℕ) (found : Option (List ℕ)) (place : LongPlace)
+    → FitsStrip width found place ⊎ (FitsStrip width found place → ⊥)
 fits width None place = inl tt
 fits width (Some bytes) place = elim (cases_lt (8 * length bytes) place.bits) [
   | inl far ↦ inr (λ is. omega (arith, far, is.0))
@@ -216,10 +249,11 @@ module _ (file : List ℕ) (here : FilePage) where
   inner_or_not : (place : LongPlace) → IsInnerOn file here place ⊎ (IsInnerOn file here place → ⊥)
   inner_or_not place = elim (cases_lt place.at.row here.form.rows) [
     | inl below ↦ elim (cases_lt 0 (row_in_strip here.form place.at.row)) [
-      | inl some ↦ elim (fits here.form.width (strip_bytes here.endian file here.offset (strip_at here.form place.at.row)) place) [
-        | inl fit ↦ inl (record { row = below; not_first = some; fits = fit })
-        | inr not ↦ inr (λ is. not is.fits)
-      ]
+      | inl some ↦ elim (fits here.form.width (strip_bytes here.endian file here.offset
+          (strip_at here.form place.at.row)) place) [
+            | inl fit ↦ inl (record { row = below; not_first = some; fits = fit })
+            | inr not ↦ inr (λ is. not is.fits)
+          ]
       | inr none ↦ inr (λ is. omega (arith, none, is.not_first))
     ]
     | inr above ↦ inr (λ is. omega (arith, above, is.row))
@@ -229,7 +263,8 @@ module _ (file : List ℕ) (here : FilePage) where
       → IsOneAnswer (IsBegunOn file (Inside place) here)
   by_inner place (inl is) = record { it = Ok (inner_at place, 0); is = inl (is, refl); one = only }
     where
-      only : (other : Result (RowPlace × ℕ) End) → IsBegunOn file (Inside place) here other → other ≡ Ok (inner_at place, 0)
+      only : (other : Result (RowPlace × ℕ) End) → IsBegunOn file (Inside place) here other
+          → other ≡ Ok (inner_at place, 0)
       only other (inl (is_too, e)) = e
       only other (inr (not, e)) = absurd (not is)
   by_inner place (inr not) = record { it = Err Outside; is = inr (not, refl); one = only }
@@ -240,12 +275,14 @@ module _ (file : List ℕ) (here : FilePage) where
 
   pub one_on : (begun : Begun) → IsOneAnswer (IsBegunOn file begun here)
   one_on (At at) = record { it = _; is = refl; one = λ other same. same }
-  one_on (Inside place) = let only = by_inner place (inner_or_not place) in record { it = only.it; is = only.is; one = only.one }
+  one_on (Inside place) = let only = by_inner place (inner_or_not place) in
+      record { it = only.it; is = only.is; one = only.one }
 
 -- a walk begins in one way
 pub one_beginning : FilesHaveOneChain → (file : List ℕ) (begun : Begun) → IsOneAnswer (Begins file begun)
 one_beginning chains file begun =
-    let only = one_on_page chains file (begun_cursor begun) (IsBegunOn file begun) Err (λ here. one_on file here begun) in
+    let only = one_on_page chains file (begun_cursor begun) (IsBegunOn file begun) Err (λ here. one_on file here begun)
+    in
     record { it = only.it; is = only.is; one = only.one }
 
 pub one_tail_from : AreBitsByPlace → LinesAreRead → FilesHaveOneChain → FormsAreWhole → BeginningsHaveOneTail
@@ -253,7 +290,8 @@ one_tail_from by_place lines_read chains forms file begun =
     let only = one_beginning chains file begun in by_begin only.it only.is only.one
   where
     by_begin : (begin : Result (RowPlace × ℕ) End) → Begins file begun begin
-        → ((other : Result (RowPlace × ℕ) End) → Begins file begun other → other ≡ begin) → IsOne (IsTailFrom file begun)
+        → ((other : Result (RowPlace × ℕ) End) → Begins file begun other → other ≡ begin)
+        → IsOne (IsTailFrom file begun)
     by_begin (Err none) is only = record {
       items = [];
       end = none;

@@ -21,7 +21,13 @@ runs_short : (colour : Colour) (n most : ℕ) (pels : List Colour) → n + lengt
 unfolding runs_after
 runs_short colour n most [] within = All-cons (λ run. run < most) n [] (omega arith) (All-nil (λ run. run < most))
 runs_short colour n most (first ∷ pels) within =
-    grind (arith, common_steps, runs_short colour (n + 1) most pels (omega arith), runs_short (other colour) 1 most pels (omega arith))
+    grind (
+      arith,
+      common_steps,
+      runs_short colour (n + 1) most pels (omega arith),
+      runs_short (other colour) 1 most pels
+          (omega arith),
+    )
 
 -- there is one at least
 some_run : (colour : Colour) (n : ℕ) (pels : List Colour) → 0 < length (runs_after colour n pels)
@@ -50,7 +56,8 @@ places_are_short lines_read forms chains file begun all end n item place short t
     let whole = whole_page file forms (record { page = split.row.at.page; row = split.row.at.row }) row.here row.page in
     let few = page_few chains file (record { page = split.row.at.page; row = split.row.at.row }) row.here row.page in
     let wide : length (exchanged row.here.form item.pels) ≡ row.here.form.width =
-    ap (λ (l : List Colour). length l) (sym (pels_are forms chains file lines_read begun item after end split place long))
+    ap (λ (l : List Colour). length l) (sym (pels_are forms chains file lines_read begun item after end split place
+    long))
     ∙ (inner forms chains file lines_read begun item after end split place long).1 in
     let runs : All (λ run. run < 2 ^ 32) (runs_of (exchanged row.here.form item.pels)) =
     runs_short White 0 (2 ^ 32) (exchanged row.here.form item.pels) (omega (arith, wide, whole.width)) in

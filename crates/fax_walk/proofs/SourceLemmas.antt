@@ -39,8 +39,10 @@ record HasRows (file : List ℕ) (p : ℕ) (form : PageForm) (r : ℕ) (from : R
   ends : ((r + length own ≡ form.rows) × (to ≡ first_at (p + 1) 0))
       ⊎ ((r + length own < form.rows) × ((q n : ℕ) × (cause : Cause) × IsRow file to (ends_as (Fault q n cause))))
 
-module _ (by_place : AreBitsByPlace) (lines_read : LinesAreRead) (file : List ℕ) (endian : Endian) (q : ℕ) (form : PageForm) (p : ℕ)
-    (page : (r : ℕ) → IsPageAt file (record { page = p; row = r }) (Ok (record { endian = endian; offset = q; form = form }))) where
+module _ (by_place : AreBitsByPlace) (lines_read : LinesAreRead) (file : List ℕ) (endian : Endian) (q : ℕ)
+    (form : PageForm) (p : ℕ)
+    (page : (r : ℕ) → IsPageAt file (record { page = p; row = r })
+    (Ok (record { endian = endian; offset = q; form = form }))) where
   abbrev place_at : ℕ → Option Inner → RowPlace
   place_at r inner = record { page = p; row = r; inner = inner }
 
@@ -52,28 +54,33 @@ module _ (by_place : AreBitsByPlace) (lines_read : LinesAreRead) (file : List �
   IsWide inner = length (before form.width inner).reference ≡ form.width
 
   -- no row is there
-  stops : (r : ℕ) (inner : Option Inner) (n : ℕ) (cause : Cause) → r < form.rows → IsRow file (place_at r inner) (ends_as (Fault p n cause))
+  stops : (r : ℕ) (inner : Option Inner) (n : ℕ) (cause : Cause) → r < form.rows
+      → IsRow file (place_at r inner) (ends_as (Fault p n cause))
       → Rows r (place_at r inner)
   stops r inner n cause less is = grind (arith, common_steps)
 
   -- the rows from row r on, where those after it are known
   module _ (r : ℕ) (due : r < form.rows)
       (next : (inner : Option Inner) → IsWide inner → r + 1 < form.rows → Rows (r + 1) (place_at (r + 1) inner)) where
-    after : (item : RowItem) → item.page ≡ p → item.row ≡ r → item.form ≡ form → length (exchanged form item.pels) ≡ form.width
+    after : (item : RowItem) → item.page ≡ p → item.row ≡ r → item.form ≡ form
+        → length (exchanged form item.pels) ≡ form.width
         → Rows (r + 1) (place_after item)
     after item same_page same_row same_form wide = grind (arith, common_steps)
 
     -- by what the file has of the strip
     by_found : (inner : Option Inner) → IsWide inner → (found : Option (List ℕ)) → (answer : NextItem RowItem RowPlace)
-        → IsInStrip form (place_at r inner) found answer → IsRow file (place_at r inner) answer → Rows r (place_at r inner)
+        → IsInStrip form (place_at r inner) found answer → IsRow file (place_at r inner) answer
+        → Rows r (place_at r inner)
     by_found inner wide None (goes_on item to) is row = absurd cc
     by_found inner wide None (ends_as end) is row =
         let same : end ≡ Fault p (strip_at form r * form.rows_per_strip) (File StripOutside) = cc in
-        stops r inner _ (File StripOutside) due (subst (λ (e : End). IsRow file (place_at r inner) (ends_as e)) same row)
+        stops r inner _ (File StripOutside) due (subst (λ (e : End). IsRow file (place_at r inner) (ends_as e)) same
+        row)
     by_found inner wide (Some bytes) (ends_as end) (fault, stop, end_is) row =
         stops r inner r (Strip fault) due (subst (λ (e : End). IsRow file (place_at r inner) (ends_as e)) end_is row)
     by_found inner wide (Some bytes) (goes_on item to) is row =
-        let item_is = (lines_read _ _ (before form.width inner).reference).width _ (exchanged form item.pels) _ wide is.3 in
+        let item_is = (lines_read _ _ (before form.width inner).reference).width _ (exchanged form item.pels) _ wide
+        is.3 in
         let rest : Rows (r + 1) to = rw is.4 (after item is.0 is.1 is.5 item_is) in
         record {
           own = item ∷ rest.own;
@@ -87,10 +94,12 @@ module _ (by_place : AreBitsByPlace) (lines_read : LinesAreRead) (file : List �
         }
 
   -- from a place on, where so many rows are left
-  rows_on : (left r : ℕ) (inner : Option Inner) → r + left ≡ form.rows → IsWide inner → r < form.rows → Rows r (place_at r inner)
+  rows_on : (left r : ℕ) (inner : Option Inner) → r + left ≡ form.rows → IsWide inner → r < form.rows
+      → Rows r (place_at r inner)
   rows_on zero r inner count wide due = absurd (omega (arith, count, due))
   rows_on (suc left) r inner count wide due =
-      let only = one_in_strip by_place lines_read form (place_at r inner) (strip_bytes endian file q (strip_at form r)) in
+      let only = one_in_strip by_place lines_read form (place_at r inner) (strip_bytes endian file q (strip_at form r))
+      in
       by_found r due (λ later later_wide more. rows_on left (r + 1) later (omega (arith, count)) later_wide more)
       inner wide (strip_bytes endian file q (strip_at form r)) only.it only.is (Ok _, page r, only.is)
 
@@ -98,12 +107,14 @@ module _ (by_place : AreBitsByPlace) (lines_read : LinesAreRead) (file : List �
   page_rows some = rows_on form.rows 0 None (omega arith) (length-replicate form.width White) some
 
 -- a place of a page that is not there has this end, and so has the form due there
-pub not_there : (file : List ℕ) (k : ℕ) (end : End) → IsForm file k (ends_as end) → IsPageAt file (record { page = k; row = 0 }) (Err end)
+pub not_there : (file : List ℕ) (k : ℕ) (end : End) → IsForm file k (ends_as end)
+    → IsPageAt file (record { page = k; row = 0 }) (Err end)
 not_there file k end h = grind arith
 
 -- the page whose form is due, and the page after it
 pub found_page : (file : List ℕ) (p : ℕ) (one : FormItem) (next : ℕ) → IsForm file p (goes_on one next)
-    → (here : FilePage) × IsPageAt file (record { page = p; row = 0 }) (Ok here) × (one.form ≡ here.form) × (next ≡ p + 1)
+    → (here : FilePage) × IsPageAt file (record { page = p; row = 0 }) (Ok here) × (one.form ≡ here.form)
+    × (next ≡ p + 1)
 found_page file p one next (Err end, page, e) = absurd cc
 found_page file p one next (Ok here, page, e) =
     let item : one ≡ record { page = p; form = here.form } = cc in
@@ -114,11 +125,13 @@ found_page file p one next (Ok here, page, e) =
 after_led : {S A : Type 0} (next : S → NextItem A S → Type 0) → ((at : S) → IsOneAnswer (next at)) → (at to : S)
     (own items : List A) (end : End) → LeadTo next at own to → AreFrom next at items end
     → (others : List A) × (items ≡ own ++ others) × AreFrom next to others end
-after_led {S} {A} next answers at to [] items end to_is are = (items, refl, subst (λ (s : S). AreFrom next s items end) (sym to_is) are)
+after_led {S} {A} next answers at to [] items end to_is are =
+    (items, refl, subst (λ (s : S). AreFrom next s items end) (sym to_is) are)
 after_led {S} {A} next answers at to (x ∷ own) [] end (place, step, lead) are = grind (arith, common_steps)
 after_led {S} {A} next answers at to (x ∷ own) (y ∷ items) end (place, step, lead) (place', step', rest) =
     let same = same_step (answers at) y x place' place step' step in
-    let later = after_led next answers place to own items end lead (subst (λ (s : S). AreFrom next s items end) same.1 rest) in
+    let later = after_led next answers place to own items end lead
+    (subst (λ (s : S). AreFrom next s items end) same.1 rest) in
     (later.0, ap (λ (i : A). i ∷ items) same.0 ∙ ap (λ (l : List A). x ∷ l) later.1, later.2)
 
 module _ (by_place : AreBitsByPlace) (lines_read : LinesAreRead) (chains : FilesHaveOneChain) (wholes : FormsAreWhole)
@@ -127,17 +140,21 @@ module _ (by_place : AreBitsByPlace) (lines_read : LinesAreRead) (chains : Files
   answers = one_row by_place lines_read chains file
 
   -- the items of a file are the rows of its pages
-  pub paged : (forms : List FormItem) (p : ℕ) (last : End) (items : List RowItem) (end : End) → AreFrom (IsForm file) p forms last
+  pub paged : (forms : List FormItem) (p : ℕ) (last : End) (items : List RowItem) (end : End)
+      → AreFrom (IsForm file) p forms last
       → AreFrom (IsRow file) (first_at p 0) items end → ArePaged p forms last items end
   paged [] p last items end forms_are items_are =
-      one_from (IsRow file) answers (first_at p 0) items [] end last items_are (Err last, not_there file p last forms_are, refl)
+      one_from (IsRow file) answers (first_at p 0) items [] end last items_are
+      (Err last, not_there file p last forms_are, refl)
   paged (one ∷ forms) p last items end (next, step, rest) items_are =
       let found = found_page file p one next step in
       let here = found.0 in
       let k : Cursor = record { page = p; row = 0 } in
       let whole = whole_page file wholes k here found.1 in
-      let due = page_rows by_place lines_read file here.endian here.offset here.form p (λ r. any_row file k r here found.1) whole.some_rows in
-      let rows_are : AreRowsOn p one.form 0 due.own = subst (λ (f : PageForm). AreRowsOn p f 0 due.own) (sym found.2) due.are in
+      let due = page_rows by_place lines_read file here.endian here.offset here.form p
+      (λ r. any_row file k r here found.1) whole.some_rows in
+      let rows_are : AreRowsOn p one.form 0 due.own = subst (λ (f : PageForm). AreRowsOn p f 0 due.own) (sym found.2)
+      due.are in
       elim due.ends [
         | inl all ↦
             let split = after_led (IsRow file) answers (first_at p 0) due.to due.own items end due.lead items_are in
@@ -155,7 +172,8 @@ module _ (by_place : AreBitsByPlace) (lines_read : LinesAreRead) (chains : Files
             )
         | inr (fewer, (n, r, cause, stop)) ↦
             let ended = ended_at (IsRow file) (first_at p 0) due.to due.own (Fault n r cause) due.lead stop in
-            let same = one_from (IsRow file) answers (first_at p 0) items due.own end (Fault n r cause) items_are ended in (
+            let same = one_from (IsRow file) answers (first_at p 0) items due.own end (Fault n r cause) items_are ended
+            in (
               due.own,
               [],
               same.0 ∙ sym (append-nil due.own),

@@ -1,5 +1,6 @@
 -- The strips of a page that is checked.
-use Rattle.std.proofs.Common.{◌≡◌, ℕ, ◌+◌, ◌*◌, ◌<◌, List, [], ◌∷◌, ◌++◌, length, min, Some, None, Ok, refl, sym, ◌∙◌, arith, append_assoc}
+use Rattle.std.proofs.Common.{◌≡◌, ℕ, ◌+◌, ◌*◌, ◌<◌, List, [], ◌∷◌, ◌++◌, length, min, Some, None, Ok, refl, sym, ◌∙◌}
+use Rattle.std.proofs.Common.{arith, append_assoc}
 use Rattle.std.proofs.Common.{append-nil}
 use Rattle.std.specs.Prelude.{Option}
 use Rattle.fax_bits.specs.declared.Colour.{Colour}
@@ -76,27 +77,32 @@ module _ (directory : TiffDirectory) (form : PageForm) (p : ℕ) (on : IsPageToC
   noted_on s answer is = (Ok _, page 0, is)
 
   -- one more strip is whole
-  pub strip_after : (s : ℕ) (old middle new : List Note) (bytes : List ℕ) (rows : List (List Colour)) (found : StripNotes)
+  pub strip_after : (s : ℕ) (old middle new : List Note) (bytes : List ℕ) (rows : List (List Colour))
+      (found : StripNotes)
       → s < form.strips → Checks s old middle → bytes_of directory s ≡ Some bytes
       → IsNotedAs (strip_form form s) (bits form.order bytes) rows found → new ≡ middle ++ notes_on_strip p s found
       → Checks (s + 1) old new
   strip_after s old middle new bytes rows found due so_far there is new_is =
-      let strip : IsStrip (strip_form form s) (bits form.order bytes) rows None = record { left = is.left; lines = is.lines } in
+      let strip : IsStrip (strip_form form s) (bits form.order bytes) rows None =
+      record { left = is.left; lines = is.lines } in
       let below = whole.needed s due in
       let count = strip_count (strip_form form s) (bits form.order bytes) rows None strip in
       let total : min (s * n) form.rows + length rows ≡ min ((s + 1) * n) form.rows = omega (arith, count, below) in
       let place : s * n + length rows ≡ min ((s + 1) * n) form.rows = omega (arith, count, below) in
       let read =
-      strip_rows on.by_place on.lines_read file directory.endian directory.offset form p page whole s below bytes there rows None strip in
+      strip_rows on.by_place on.lines_read file directory.endian directory.offset form p page whole s below bytes there
+      rows None strip in
       let to = rw place at read.there in
-      let this : HasChecked file (before_strip form p s) (before_strip form p (s + 1)) (notes_on_strip p s found) (length rows) =
+      let this : HasChecked file (before_strip form p s) (before_strip form p (s + 1)) (notes_on_strip p s found)
+      (length rows) =
       rw (at_strip s due) (record {
         found = notes_on_strip p s found ∷ [];
         lead = ((before_strip form p (s + 1)).next, noted_on s _ (rw there (rows, found, is, refl, refl)), refl);
         notes_are = sym (append-nil (notes_on_strip p s found));
         items = read.items;
         lead_rows = rw to at read.lead;
-        count = sym (walked_length file p (first_at p (s * n)) (s * n) (shown form rows) _ read ∙ shown_length form rows);
+        count = sym (walked_length file p (first_at p (s * n)) (s * n) (shown form rows) _ read
+            ∙ shown_length form rows);
       }) in
       record {
         noted = so_far.noted ++ notes_on_strip p s found;
@@ -125,14 +131,23 @@ module _ (directory : TiffDirectory) (form : PageForm) (p : ℕ) (on : IsPageToC
       let total : min (s * n) form.rows + rows ≡ s * n + rows = omega (arith, inside) in
       let to : CheckPlace = record { next = (p, Some s); row = row } in
       let strip : HasChecked file (before_strip form p s) to [] rows =
-      rw (at_strip s due) (record { found = []; lead = refl; notes_are = refl; items = items; lead_rows = lead; count = count }) in
+      rw (at_strip s due) (record {
+        found = [];
+        lead = refl;
+        notes_are = refl;
+        items = items;
+        lead_rows = lead;
+        count =
+            count;
+      }) in
       record {
         noted = so_far.noted;
         notes_are = so_far.notes_are;
         few = omega (arith, on.limits.rows, inside);
         to = to;
         is = rw (append-nil so_far.noted, total) at
-            (checked_on file (before_strip form p 0) (before_strip form p s) to so_far.noted [] (min (s * n) form.rows) rows so_far.is strip);
+            (checked_on file (before_strip form p 0) (before_strip form p s) to so_far.noted [] (min (s * n) form.rows)
+            rows so_far.is strip);
         after = (noted_on s _ noted, stop);
       }
 
@@ -144,10 +159,12 @@ module _ (directory : TiffDirectory) (form : PageForm) (p : ℕ) (on : IsPageToC
       let end : End = Fault p (s * n) (File StripOutside) in
       let zero : s * n + 0 ≡ s * n = omega arith in
       rw zero at
-      (fault_after s 0 (File StripOutside) old new due (omega (arith, whole.needed s due)) so_far (first_at p (s * n)) [] refl refl
+      (fault_after s 0 (File StripOutside) old new due (omega (arith, whole.needed s due)) so_far (first_at p (s * n))
+      [] refl refl
       (rw (none, zero) refl)
       (rw zero
-      (row_at on.by_place on.lines_read file directory.endian directory.offset form p page whole (s * n) None None (ends_as end)
+      (row_at on.by_place on.lines_read file directory.endian directory.offset form p page whole (s * n) None None
+      (ends_as end)
       (rw number.0 none) (rw number.0 refl))))
 
   -- the rows of a strip end at a fault inside the page
@@ -160,7 +177,8 @@ module _ (directory : TiffDirectory) (form : PageForm) (p : ℕ) (on : IsPageToC
   pub row_inside : (s : ℕ) (b : List ℕ) (fault : NotesFault) → s < form.strips
       → IsNotesFault (strip_form form s) (bits form.order b) fault → IsRowInside (s * n) fault
   row_inside s b Memory due refused = tt
-  row_inside s b (RowOfStrip row fault) due (rows, row_is, strip) = omega (arith, row_is, on.limits.rows, inside_page s b rows fault due strip)
+  row_inside s b (RowOfStrip row fault) due (rows, row_is, strip) =
+      omega (arith, row_is, on.limits.rows, inside_page s b rows fault due strip)
 
   pub strip_fault : (s : ℕ) (old new : List Note) (b : List ℕ) (fault : NotesFault) (read : PageRead)
       → s < form.strips → Checks s old new → bytes_of directory s ≡ Some b
@@ -168,9 +186,12 @@ module _ (directory : TiffDirectory) (form : PageForm) (p : ℕ) (on : IsPageToC
   strip_fault s old new b Memory read due so_far there refused none = absurd none
   strip_fault s old new b (RowOfStrip row fault) read due so_far there (rows, row_is, strip) read_is =
       let rows_read =
-      strip_rows on.by_place on.lines_read file directory.endian directory.offset form p page whole s (whole.needed s due) b there rows
+      strip_rows on.by_place on.lines_read file directory.endian directory.offset form p page whole s
+      (whole.needed s due) b there rows
       (Some fault) strip in
       rw (read_is, ← row_is)
-      (fault_after s (length rows) (Strip fault) old new due (inside_page s b rows fault due strip) so_far rows_read.to rows_read.items
-      rows_read.lead (sym (walked_length file p (first_at p (s * n)) (s * n) (shown form rows) _ rows_read ∙ shown_length form rows))
+      (fault_after s (length rows) (Strip fault) old new due (inside_page s b rows fault due strip) so_far rows_read.to
+      rows_read.items
+      rows_read.lead (sym (walked_length file p (first_at p (s * n)) (s * n) (shown form rows) _ rows_read
+      ∙ shown_length form rows))
       (rw there (rows, fault, strip.left, strip.lines, refl)) rows_read.there)

@@ -28,14 +28,17 @@ abbrev pub IsCount : Option StripFault → ℕ → ℕ → Type 0
 IsCount None n all = n ≡ all
 IsCount (Some fault) n all = n < all
 
-counted : (form : StripForm) (i : ℕ) (reference : List Colour) (b : List Bool) (rows : List (List Colour)) (end : Option StripFault)
+counted : (form : StripForm) (i : ℕ) (reference : List Colour) (b : List Bool) (rows : List (List Colour))
+    (end : Option StripFault)
     (left : List Bool)
     → AreLines form i reference b rows end left → IsCount end (i + length rows) form.rows
 counted form i reference b [] None left lines = omega (arith, lines.1)
 counted form i reference b [] (Some fault) left lines = omega (arith, lines.1)
-counted form i reference b (row ∷ rows) end left lines = grind (arith, common_steps, counted form (i + 1) row lines.0 rows end left lines.3)
+counted form i reference b (row ∷ rows) end left lines = grind
+    (arith, common_steps, counted form (i + 1) row lines.0 rows end left lines.3)
 
 -- how many rows a strip has
-pub strip_count : (form : StripForm) (b : List Bool) (rows : List (List Colour)) (end : Option StripFault) → IsStrip form b rows end
+pub strip_count : (form : StripForm) (b : List Bool) (rows : List (List Colour)) (end : Option StripFault)
+    → IsStrip form b rows end
     → IsCount end (length rows) form.rows
 strip_count form b rows end strip = grind (arith, counted)

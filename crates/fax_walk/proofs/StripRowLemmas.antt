@@ -1,5 +1,6 @@
 -- The rows of a strip are rows that a walk hands out, one after another.
-use Rattle.std.proofs.Common.{◌≡◌, ℕ, ◌+◌, ◌*◌, ◌<◌, ◌≤◌, inl, inr, Bool, true, false, List, [], ◌∷◌, map, length, drop, Option, Some, None}
+use Rattle.std.proofs.Common.{◌≡◌, ℕ, ◌+◌, ◌*◌, ◌<◌, ◌≤◌, inl, inr, Bool, true, false, List, [], ◌∷◌, map, length, drop}
+use Rattle.std.proofs.Common.{Option, Some, None}
 use Rattle.std.proofs.Common.{Ok, refl, sym, ap, ◌∙◌, subst, arith}
 use Rattle.std.proofs.lemmas.Bool.{cases_lt}
 use Rattle.std.proofs.lemmas.Bool.Decides.{nat_tests}
@@ -28,7 +29,8 @@ use Rattle.fax_walk.proofs.OpenPageLemmas.{at_first, at_end, due_at, numbers}
 use Rattle.fax_walk.proofs.StripPlaceLemmas.{in_strip, shown_row}
 
 -- these rows of page p are read from a place on, the first of them with this number, and what they lead to is so
-pub record AreRead (file : List ℕ) (p : ℕ) (at : RowPlace) (r : ℕ) (rows : List (List Colour)) (reached : RowPlace → Type 0) : Type 0 where
+pub record AreRead (file : List ℕ) (p : ℕ) (at : RowPlace) (r : ℕ) (rows : List (List Colour))
+    (reached : RowPlace → Type 0) : Type 0 where
   pub items : List RowItem
   pub rows_are : map walked items ≡ numbered p r rows
   pub to : RowPlace
@@ -39,17 +41,21 @@ numbered_length : (p r : ℕ) (rows : List (List Colour)) → length (numbered p
 numbered_length p r [] = refl
 numbered_length p r (row ∷ rows) = omega (arith, numbered_length p (r + 1) rows)
 
-pub walked_length : (file : List ℕ) (p : ℕ) (at : RowPlace) (r : ℕ) (rows : List (List Colour)) (reached : RowPlace → Type 0)
+pub walked_length : (file : List ℕ) (p : ℕ) (at : RowPlace) (r : ℕ) (rows : List (List Colour))
+    (reached : RowPlace → Type 0)
     (read : AreRead file p at r rows reached) → length read.items ≡ length rows
 walked_length file p at r rows reached read = grind (arith, length-map, numbered_length)
 
 -- no rows are read
-pub none_read : (file : List ℕ) (p : ℕ) (form : PageForm) (at : RowPlace) (r : ℕ) (reached : RowPlace → Type 0) → reached at
+pub none_read : (file : List ℕ) (p : ℕ) (form : PageForm) (at : RowPlace) (r : ℕ) (reached : RowPlace → Type 0)
+    → reached at
     → AreRead file p at r (shown form []) reached
 none_read file p form at r reached here = grind arith
 
-module _ (by_place : AreBitsByPlace) (lines_read : LinesAreRead) (file : List ℕ) (endian : Endian) (q : ℕ) (form : PageForm) (p : ℕ)
-    (page : (r : ℕ) → IsPageAt file (record { page = p; row = r }) (Ok (record { endian = endian; offset = q; form = form })))
+module _ (by_place : AreBitsByPlace) (lines_read : LinesAreRead) (file : List ℕ) (endian : Endian) (q : ℕ)
+    (form : PageForm) (p : ℕ)
+    (page : (r : ℕ) → IsPageAt file (record { page = p; row = r })
+    (Ok (record { endian = endian; offset = q; form = form })))
     (whole : IsWholeForm form) where
   abbrev n : ℕ
   n = form.rows_per_strip
@@ -61,75 +67,90 @@ module _ (by_place : AreBitsByPlace) (lines_read : LinesAreRead) (file : List �
   pub row_at : (r : ℕ) (inner : Option Inner) (found : Option (List ℕ)) (answer : NextItem RowItem RowPlace)
       → strip_bytes endian file q (strip_at form r) ≡ found → IsInStrip form (place_at r inner) found answer
       → IsRow file (place_at r inner) answer
-  row_at r inner found answer e is = (Ok _, page r, subst (λ (o : Option (List ℕ)). IsInStrip form (place_at r inner) o answer) (sym e) is)
+  row_at r inner found answer e is = (
+    Ok _,
+    page r,
+    subst (λ (o : Option (List ℕ)). IsInStrip form (place_at r inner) o
+        answer) (sym e) is,
+  )
 
   -- the rows of a strip lead to the next one, or to the row that is not there
   abbrev pub Reaches : Option StripFault → ℕ → RowPlace → Type 0
   Reaches None r to = to ≡ first_on form p r
   Reaches (Some fault) r to = IsRow file to (ends_as (Fault p r (Strip fault)))
 
-  module _ (s : ℕ) (below : s * n < form.rows) (bytes : List ℕ) (bytes_are : strip_bytes endian file q s ≡ Some bytes) where
-    abbrev strip : StripForm
-    strip = strip_form form s
+  module _ (s : ℕ) (below : s * n < form.rows) (bytes : List ℕ) (bytes_are : strip_bytes endian file q s ≡ Some bytes)
+    where
+      abbrev strip : StripForm
+      strip = strip_form form s
 
-    abbrev all : List Bool
-    all = bits form.order bytes
+      abbrev all : List Bool
+      all = bits form.order bytes
 
-    -- before the strip's first row
-    abbrev first : Inner
-    first = before form.width None
+      -- before the strip's first row
+      abbrev first : Inner
+      first = before form.width None
 
-    -- after the strip's last row
-    after_strip : (inner : Inner) (r : ℕ) → r ≡ s * n + strip.rows → place_on form p r inner ≡ first_on form p r
-    after_strip inner r r_is = elim (cases_lt r form.rows) [
-      | inl less ↦
-          let test : nat_lt r form.rows ≡ true = grind (arith, nat_tests, less) in
-          let number = in_strip n (s + 1) 0 r whole.some_in_strip (omega arith) in
-          at_first form p r inner less number.1 ∙ rw test refl
-      | inr past ↦
-          let test : nat_lt r form.rows ≡ false = grind (arith, nat_tests, past) in
-          at_end form p r inner (omega arith) ∙ rw test refl
-    ]
+      -- after the strip's last row
+      after_strip : (inner : Inner) (r : ℕ) → r ≡ s * n + strip.rows → place_on form p r inner ≡ first_on form p r
+      after_strip inner r r_is = elim (cases_lt r form.rows) [
+        | inl less ↦
+            let test : nat_lt r form.rows ≡ true = grind (arith, nat_tests, less) in
+            let number = in_strip n (s + 1) 0 r whole.some_in_strip (omega arith) in
+            at_first form p r inner less number.1 ∙ rw test refl
+        | inr past ↦
+            let test : nat_lt r form.rows ≡ false = grind (arith, nat_tests, past) in
+            at_end form p r inner (omega arith) ∙ rw test refl
+      ]
 
-    -- the rows from row i of the strip on
-    lines_from : (inner : Inner) (r i : ℕ) (own : List (List Colour)) (stop : Option StripFault) (left : List Bool)
-        → r ≡ s * n + i → i ≤ strip.rows → (i ≡ 0 → inner ≡ first) → AreLines strip i inner.reference (drop inner.bits all) own stop left
-        → AreRead file p (place_on form p r inner) r (shown form own) (Reaches stop (r + length own))
-    lines_from inner r i [] None left r_is within begins lines =
-        let none : r + 0 ≡ r = omega arith in
-        none_read file p form _ r (Reaches None (r + 0)) (rw none (after_strip inner r (omega (arith, lines.1))))
-    lines_from inner r i [] (Some fault) left r_is within begins lines =
-        let number = numbers form p s i r inner r_is lines.1 in
-        let at = due_at form p s i r inner r_is lines.1 begins in
-        let none : r + 0 ≡ r = omega arith in
-        none_read file p form _ r (Reaches (Some fault) (r + 0))
-        (rw (none, at.1) (row_at r at.0 (Some bytes) (ends_as (Fault p r (Strip fault))) (rw number.0 bytes_are)
-        (fault, rw (number.1, at.2) lines.2, refl)))
-    lines_from inner r i (row ∷ rows) stop left r_is within begins (rest, due, line, more) =
-        let number = numbers form p s i r inner r_is due in
-        let at = due_at form p s i r inner r_is due begins in
-        let from = (lines_read strip i inner.reference).rest all inner.bits row rest line in
-        let item : RowItem = record { page = p; form = form; row = r; pels = exchanged form row; bits = from.0 } in
-        let twice = exchanged_twice form row in
-        let step =
-        row_at r at.0 (Some bytes) (goes_on item (place_after item)) (rw number.0 bytes_are)
-        (refl, refl, omega (arith, from.1, by_place.count form.order bytes), rw (number.0, number.1, at.2, from.2, twice) line, refl, refl) in
-        let later =
-        lines_from (record { bits = from.0; reference = exchanged form item.pels }) (r + 1) (i + 1) rows stop left (omega (arith, r_is))
-        (omega (arith, due)) (λ none. absurd (omega arith)) (rw (twice, from.2) more) in
-        let count : r + length (row ∷ rows) ≡ r + 1 + length rows = omega arith in
-        rw (at.1, shown_row form row rows, count) (record {
-          items = item ∷ later.items;
-          rows_are = ap (λ (l : List WalkedRow). walked item ∷ l) later.rows_are;
-          to = later.to;
-          lead = (place_after item, step, later.lead);
-          there = later.there;
-        })
+      -- the rows from row i of the strip on
+      lines_from : (inner : Inner) (r i : ℕ) (own : List (List Colour)) (stop : Option StripFault) (left : List Bool)
+          → r ≡ s * n + i → i ≤ strip.rows → (i ≡ 0 → inner ≡ first)
+          → AreLines strip i inner.reference (drop inner.bits all) own stop left
+          → AreRead file p (place_on form p r inner) r (shown form own) (Reaches stop (r + length own))
+      lines_from inner r i [] None left r_is within begins lines =
+          let none : r + 0 ≡ r = omega arith in
+          none_read file p form _ r (Reaches None (r + 0)) (rw none (after_strip inner r (omega (arith, lines.1))))
+      lines_from inner r i [] (Some fault) left r_is within begins lines =
+          let number = numbers form p s i r inner r_is lines.1 in
+          let at = due_at form p s i r inner r_is lines.1 begins in
+          let none : r + 0 ≡ r = omega arith in
+          none_read file p form _ r (Reaches (Some fault) (r + 0))
+          (rw (none, at.1) (row_at r at.0 (Some bytes) (ends_as (Fault p r (Strip fault))) (rw number.0 bytes_are)
+          (fault, rw (number.1, at.2) lines.2, refl)))
+      lines_from inner r i (row ∷ rows) stop left r_is within begins (rest, due, line, more) =
+          let number = numbers form p s i r inner r_is due in
+          let at = due_at form p s i r inner r_is due begins in
+          let from = (lines_read strip i inner.reference).rest all inner.bits row rest line in
+          let item : RowItem = record { page = p; form = form; row = r; pels = exchanged form row; bits = from.0 } in
+          let twice = exchanged_twice form row in
+          let step =
+          row_at r at.0 (Some bytes) (goes_on item (place_after item)) (rw number.0 bytes_are) (
+            refl,
+            refl,
+            omega (arith, from.1, by_place.count form.order bytes),
+            rw
+                (number.0, number.1, at.2, from.2, twice) line,
+            refl,
+            refl,
+          ) in
+          let later =
+          lines_from (record { bits = from.0; reference = exchanged form item.pels }) (r + 1) (i + 1) rows stop left
+          (omega (arith, r_is))
+          (omega (arith, due)) (λ none. absurd (omega arith)) (rw (twice, from.2) more) in
+          let count : r + length (row ∷ rows) ≡ r + 1 + length rows = omega arith in
+          rw (at.1, shown_row form row rows, count) (record {
+            items = item ∷ later.items;
+            rows_are = ap (λ (l : List WalkedRow). walked item ∷ l) later.rows_are;
+            to = later.to;
+            lead = (place_after item, step, later.lead);
+            there = later.there;
+          })
 
-    -- all rows of the strip
-    pub strip_rows : (rows : List (List Colour)) (stop : Option StripFault) → IsStrip strip all rows stop
-        → AreRead file p (first_at p (s * n)) (s * n) (shown form rows) (Reaches stop (s * n + length rows))
-    strip_rows rows stop is =
-        let number = in_strip n s 0 (s * n) whole.some_in_strip (omega arith) in
-        rw (at_first form p (s * n) first below number.1) at
-        (lines_from first (s * n) 0 rows stop is.left (omega arith) (omega arith) (λ none. refl) is.lines)
+      -- all rows of the strip
+      pub strip_rows : (rows : List (List Colour)) (stop : Option StripFault) → IsStrip strip all rows stop
+          → AreRead file p (first_at p (s * n)) (s * n) (shown form rows) (Reaches stop (s * n + length rows))
+      strip_rows rows stop is =
+          let number = in_strip n s 0 (s * n) whole.some_in_strip (omega arith) in
+          rw (at_first form p (s * n) first below number.1) at
+          (lines_from first (s * n) 0 rows stop is.left (omega arith) (omega arith) (λ none. refl) is.lines)

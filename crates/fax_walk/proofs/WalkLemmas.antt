@@ -1,7 +1,8 @@
 -- A walk that goes on, or ends.
 use Rattle.std.proofs.lemmas.Grind.{common_steps}
 use Rattle.std.proofs.Common.{◌≡◌, ℕ, ◌+◌, ◌<◌, ◌⊎◌, inl, inr, List, [], ◌∷◌, ◌++◌, length, drop, Option, Some}
-use Rattle.std.proofs.Common.{None, Result, Ok, Err, ◌≤◌, refl, subst, sym, ap, ◌∙◌, arith, length-append, length-drop, append_assoc, append-nil}
+use Rattle.std.proofs.Common.{None, Result, Ok, Err, ◌≤◌, refl, subst, sym, ap, ◌∙◌, arith, length-append, length-drop}
+use Rattle.std.proofs.Common.{append_assoc, append-nil}
 use Rattle.std.proofs.lemmas.Bool.{cases_lt}
 use Rattle.std.specs.Prelude.{MatchResult, slice_get}
 use Rattle.fax_bits.specs.laws.Codes.{AreBitsByPlace}
@@ -15,19 +16,23 @@ use Rattle.fax_walk.specs.declared.opening.OpenFault.TheVariants.{Ended, Memory}
 use Rattle.fax_walk.specs.Pages.{AreFrom, FilePage, IsPageAt, LongPlace, ends_as}
 use Rattle.fax_walk.specs.views.InOrder.{EndsAfter, HasEndedAs, HasToldNoOther}
 use Rattle.fax_walk.specs.laws.InOrder.{LeadTo}
-use Rattle.fax_walk.specs.views.Walk.{AreRead, dropped, EndsBefore, EntersFirst, EntersPage, HasPage, IsCursorOf, IsItemNumber, IsLongOf, WalkView}
+use Rattle.fax_walk.specs.views.Walk.{AreRead, dropped, EndsBefore, EntersFirst, EntersPage, HasPage, IsCursorOf}
+use Rattle.fax_walk.specs.views.Walk.{IsItemNumber, IsLongOf, WalkView}
 use Rattle.fax_walk.specs.laws.Left.{IsLeft}
-use Rattle.fax_walk.specs.Items.{IsBegunOn, IsRow, IsTailFrom, RowItem, RowPlace, begun_cursor, cursor_after, first_at, long_at, place_after}
+use Rattle.fax_walk.specs.Items.{IsBegunOn, IsRow, IsTailFrom, RowItem, RowPlace, begun_cursor, cursor_after, first_at}
+use Rattle.fax_walk.specs.Items.{long_at, place_after}
 use Rattle.fax_walk.specs.code.Places.{cursor_at}
 use Rattle.fax_walk.specs.laws.Tails.{BeginningsHaveOneTail}
 use Rattle.fax_walk.specs.code.Stages.{GivesNone, GivesRow, IsOpen, PageState, place_of, row_of, skipped}
-use Rattle.fax_walk.specs.code.Walk.{IsAdvance, IsDueOn, IsEntered, answer_of, GoesOnFrom, HasCome, HasEndedOn, HasReadTo, IsAfterItem}
+use Rattle.fax_walk.specs.code.Walk.{IsAdvance, IsDueOn, IsEntered, answer_of, GoesOnFrom, HasCome, HasEndedOn}
+use Rattle.fax_walk.specs.code.Walk.{HasReadTo, IsAfterItem}
 use Rattle.fax_walk.specs.code.Walk.{IsReadNext, IsShown, IsSound, StandsAt, cursor_on}
 use Rattle.fax_walk.proofs.LeftLemmas.{left_after, left_ended}
 use Rattle.fax_walk.proofs.InOrderLemmas.{IsListed, joined, leads_both, number_dropped}
 use Rattle.fax_walk.proofs.RowLawLemmas.{LinesAreRead, cases_after, rows_listed}
 
-module _ (by_place : AreBitsByPlace) (lines_read : LinesAreRead) (chains : FilesHaveOneChain) (forms : FormsAreWhole) (file : List ℕ)
+module _ (by_place : AreBitsByPlace) (lines_read : LinesAreRead) (chains : FilesHaveOneChain) (forms : FormsAreWhole)
+    (file : List ℕ)
     (begun : Begun) (given : ℕ) (cursor : Cursor) where
   listed : (at : RowPlace) → IsListed (IsRow file) at
   listed at = rows_listed by_place lines_read chains forms file at
@@ -47,7 +52,8 @@ module _ (by_place : AreBitsByPlace) (lines_read : LinesAreRead) (chains : Files
     front_count = length-append come.items gives.front ∙ omega (arith, come.count, come.total, gives.count)
 
     all_is : all ≡ (come.items ++ gives.front) ++ gives.item ∷ []
-    all_is = ap (λ (l : List RowItem). come.items ++ l) gives.items_are ∙ sym (append_assoc come.items gives.front (gives.item ∷ []))
+    all_is = ap (λ (l : List RowItem). come.items ++ l) gives.items_are
+        ∙ sym (append_assoc come.items gives.front (gives.item ∷ []))
 
     number : IsItemNumber file begun given gives.item
     number =
@@ -56,7 +62,8 @@ module _ (by_place : AreBitsByPlace) (lines_read : LinesAreRead) (chains : Files
         let is : AreFrom (IsRow file) come.first whole more.end =
         joined (IsRow file) come.first (place_of new) all more.items more.end lead more.is in
         let parts : whole ≡ (come.items ++ gives.front) ++ gives.item ∷ more.items =
-        ap (λ (l : List RowItem). l ++ more.items) all_is ∙ append_assoc (come.items ++ gives.front) (gives.item ∷ []) more.items in (
+        ap (λ (l : List RowItem). l ++ more.items) all_is ∙ append_assoc (come.items ++ gives.front) (gives.item ∷ [])
+        more.items in (
           drop come.dropped whole,
           more.end,
           (Ok (come.first, come.dropped), come.begins, (whole, is, refl)),
@@ -73,7 +80,8 @@ module _ (by_place : AreBitsByPlace) (lines_read : LinesAreRead) (chains : Files
     last : IsAfterItem file begun (given + 1) (cursor_on new) (place_of new)
     last = grind (arith, number)
 
-    pub gone_on : GoesOnFrom file begun (given + 1) (cursor_on new) (Some new) × IsShown file begun (given + 1) (cursor_on new) new
+    pub gone_on : GoesOnFrom file begun (given + 1) (cursor_on new) (Some new)
+        × IsShown file begun (given + 1) (cursor_on new) new
     unfolding last
     gone_on = (
       (
@@ -117,7 +125,8 @@ module _ (file : List ℕ) (begun : Begun) (given : ℕ) (cursor : Cursor) (old 
   ended_lead : LeadTo (IsRow file) come_so_far.first (come_so_far.items ++ items) (place_of new)
   ended_lead = grind (arith, leads_both)
 
-  no_items : (is : List RowItem) → length is ≡ 0 → LeadTo (IsRow old.directory.file) (place_of old) is (place_of new) → place_of new ≡
+  no_items : (is : List RowItem) → length is ≡ 0 → LeadTo (IsRow old.directory.file) (place_of old) is (place_of new)
+      → place_of new ≡
       place_of old
   no_items is count lead = grind (arith, common_steps)
 
@@ -153,7 +162,8 @@ module _ (walk : WalkView) (cursor : Cursor) (page : Option PageState) where
   abbrev Sound : Option End → Type 0
   Sound told = IsSound file begun walk.given cursor page told
 
-  ended : (told : Option End) (end : End) → told ≡ Some end → Sound told → HasEndedOn file begun walk.given cursor page end
+  ended : (told : Option End) (end : End) → told ≡ Some end → Sound told
+      → HasEndedOn file begun walk.given cursor page end
   ended told end is sound = rw is at sound
 
   -- where the cursor stands
@@ -190,7 +200,8 @@ module _ (walk : WalkView) (cursor : Cursor) (page : Option PageState) where
         ];
       }
 
-  none_read : BeginningsHaveOneTail → (told : Option End) → walk.told ≡ told → IsSound file begun walk.given cursor None told
+  none_read : BeginningsHaveOneTail → (told : Option End) → walk.told ≡ told
+      → IsSound file begun walk.given cursor None told
       → AreRead walk 0
   none_read tails None is sound =
       let one = tails file begun in
@@ -219,19 +230,26 @@ module _ (walk : WalkView) (cursor : Cursor) (page : Option PageState) where
       by_told None untold =
           rw untold (left_after IsTailFrom walk begun_cursor cursor_after cursor (tails file begun) (cursor_is sound))
       by_told (Some end) told =
-          let ends = ended walk.told end told sound in
-          ([], end, rw told (left_ended (IsTailFrom file begun) walk.given end (ends_after file begun walk.given cursor page end ends)))
+          let ends = ended walk.told end told sound in (
+            [],
+            end,
+            rw told (left_ended (IsTailFrom file begun) walk.given end
+                (ends_after file begun walk.given cursor page end ends)),
+          )
 
 -- the rows have ended so
-pub advance_ends : (old new : WalkView) (end : End) → HasEndedAs IsTailFrom old end new → IsAdvance old (answer_of end) new
+pub advance_ends : (old new : WalkView) (end : End) → HasEndedAs IsTailFrom old end new
+    → IsAdvance old (answer_of end) new
 advance_ends old new end ended = grind arith
 
 pub ends_again : (walk : WalkView) (cursor : Cursor) (page : Option PageState) (end : End) → walk.told ≡ Some end
-    → IsSound walk.file walk.begun walk.given cursor page walk.told → HasEndedAs IsTailFrom walk end (record walk { told = Some end })
+    → IsSound walk.file walk.begun walk.given cursor page walk.told
+    → HasEndedAs IsTailFrom walk end (record walk { told = Some end })
 ends_again walk cursor page end told sound = has_ended walk cursor page end (rw told at sound) (rw told refl)
 
 pub ends_now : (walk : WalkView) (cursor : Cursor) (old new : Option PageState) (end : End) → walk.told ≡ None
-    → IsSound walk.file walk.begun walk.given cursor old walk.told → IsReadNext walk.file walk.begun old (Err (Ended end)) new
+    → IsSound walk.file walk.begun walk.given cursor old walk.told
+    → IsReadNext walk.file walk.begun old (Err (Ended end)) new
     → HasEndedAs IsTailFrom walk end (record walk { told = Some end })
 ends_now walk cursor old new end untold sound next = grind (arith, has_ended)
 
@@ -240,7 +258,8 @@ module _ (file : List ℕ) (begun : Begun) where
   all_read : (old : PageState) → row_of old ≡ old.form.rows → place_of old ≡ first_at (old.page + 1) 0
   all_read old all = grind arith
 
-  leads_nowhere : (items : List RowItem) (first to : RowPlace) → length items ≡ 0 → LeadTo (IsRow file) first items to → to ≡ first
+  leads_nowhere : (items : List RowItem) (first to : RowPlace) → length items ≡ 0 → LeadTo (IsRow file) first items to
+      → to ≡ first
   leads_nowhere [] first to count lead = lead
   leads_nowhere (item ∷ items) first to count lead = absurd (omega (arith, count))
 
@@ -252,7 +271,8 @@ module _ (file : List ℕ) (begun : Begun) where
   begun_past at here first n past begins = grind arith
 
   -- a page is read whole, and none of its rows was handed out: the walk began on it, or before it
-  enters_first : (from : Begun) (page n : ℕ) (first : RowPlace) (found : Result FilePage End) → IsPageAt file (begun_cursor from) found
+  enters_first : (from : Begun) (page n : ℕ) (first : RowPlace) (found : Result FilePage End)
+      → IsPageAt file (begun_cursor from) found
       → MatchResult found (λ here. IsBegunOn file from here (starts first n)) (λ none. starts first n ≡ Err none)
       → (n ≡ 0 → first_at (page + 1) 0 ≡ first) → HasPage file (page + 1) → EntersFirst file from
   enters_first from page n first (Err none) is begins same there = grind arith
@@ -270,7 +290,8 @@ module _ (file : List ℕ) (begun : Begun) where
       → (item.row + 1 ≡ item.form.rows) × (page + 1 ≡ item.page + 1)
   last_row page item within same = grind arith
 
-  enters : (given : ℕ) (cursor : Cursor) (old : PageState) → HasReadTo file begun given cursor old → IsOpen old → row_of old ≡ old.form.rows
+  enters : (given : ℕ) (cursor : Cursor) (old : PageState) → HasReadTo file begun given cursor old → IsOpen old
+      → row_of old ≡ old.form.rows
       → HasPage file (old.page + 1) → EntersPage file begun given
   enters given cursor old reads is_open all there =
       let place = all_read old all in
@@ -278,16 +299,23 @@ module _ (file : List ℕ) (begun : Begun) where
       elim reads.stands [
         | inl (zero, same) ↦
             let none : come.dropped ≡ 0 → length come.items ≡ 0 = λ n. omega (arith, n, come.count, come.total, zero) in
-            let same_place = λ (n : come.dropped ≡ 0). sym place ∙ leads_nowhere come.items come.first (place_of old) (none n) come.lead in
-            inl (zero, enters_first begun old.page come.dropped come.first come.begins.0 come.begins.1 come.begins.2 same_place there)
+            let same_place = λ (n : come.dropped ≡ 0). sym place ∙ leads_nowhere come.items come.first (place_of old)
+            (none n) come.lead in
+            inl (
+              zero,
+              enters_first begun old.page come.dropped come.first come.begins.0 come.begins.1 come.begins.2
+                  same_place there,
+            )
         | inr after ↦
             let last = last_row old.page after.item after.within (sym place ∙ after.to_is) in
             inr (after.before, after.item, after.count, after.number, last.0, subst (HasPage file) last.1 there)
       ]
 
   pub not_entered : (initial at new : Option PageState) (fault : OpenFault)
-      → ((given : ℕ) (cursor : Cursor) → GoesOnFrom file begun given cursor initial → GoesOnFrom file begun given cursor at)
-      → (at ≡ initial) ⊎ IsDueOn at → IsEntered file begun at (Err fault) new → IsReadNext file begun initial (Err fault) new
+      → ((given : ℕ) (cursor : Cursor) → GoesOnFrom file begun given cursor initial
+      → GoesOnFrom file begun given cursor at)
+      → (at ≡ initial) ⊎ IsDueOn at → IsEntered file begun at (Err fault) new
+      → IsReadNext file begun initial (Err fault) new
   not_entered initial None new Memory goes (inl here) (refused, first, same) =
       (same ∙ here, λ given cursor from. inl ((goes given cursor from).0, first refl))
   not_entered initial None new Memory goes (inr due) _ = absurd due
@@ -297,9 +325,11 @@ module _ (file : List ℕ) (begun : Begun) where
     same ∙ here,
     λ given cursor from.
         let goes_on = goes given cursor from in
-        enters given cursor old goes_on.1 goes_on.0 read (subst (λ f. HasPage f (old.page + 1)) goes_on.1.file_is (page refl)),
+        enters given cursor old goes_on.1 goes_on.0 read (subst (λ f. HasPage f (old.page + 1)) goes_on.1.file_is
+        (page refl)),
   )
-  not_entered initial (Some old) new Memory goes (inr due) (read, refused, page, same) = absurd (omega (arith, due, read))
+  not_entered initial (Some old) new Memory goes (inr due) (read, refused, page, same) =
+      absurd (omega (arith, due, read))
   not_entered initial (Some old) new (Ended end) goes there (read, stop, page, same) = λ given cursor from.
       let goes_on = goes given cursor from in
       let none : skipped old ≡ 0 = omega (arith, goes_on.0.first, read) in

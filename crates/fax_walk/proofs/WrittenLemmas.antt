@@ -1,5 +1,6 @@
 -- A written file has the rows and the forms of its pages.
-use Rattle.std.proofs.Common.{◌≡◌, ℕ, ◌+◌, List, [], ◌∷◌, ◌++◌, map, length, drop, None, Ok, Err, refl, sym, ap, ◌∙◌, subst, arith, true}
+use Rattle.std.proofs.Common.{◌≡◌, ℕ, ◌+◌, List, [], ◌∷◌, ◌++◌, map, length, drop, None, Ok, Err, refl, sym, ap, ◌∙◌}
+use Rattle.std.proofs.Common.{subst, arith, true}
 use Rattle.std.specs.Prelude.{nat_lt}
 use Rattle.std.proofs.lemmas.Bool.Decides.{nat_tests}
 use Rattle.std.specs.List.{AllZip}
@@ -9,13 +10,15 @@ use Rattle.fax_files.specs.declared.Endian.TheVariants.{Little}
 use Rattle.fax_files.specs.Directory.{Header, header, IsChain}
 use Rattle.fax_files.specs.laws.Files.{ArePageRows}
 use Rattle.fax_files.specs.Layout.{WrittenPage, file_of}
-use Rattle.fax_files.specs.laws.Files.{IsWritable, AreWritable, IsReadAt, WrittenFilesAreRead, WrittenRowsAreRead, FormsAreWhole}
+use Rattle.fax_files.specs.laws.Files.{IsWritable, AreWritable, IsReadAt, WrittenFilesAreRead, WrittenRowsAreRead}
+use Rattle.fax_files.specs.laws.Files.{FormsAreWhole}
 use Rattle.fax_walk.specs.declared.cursor.Cursor.{Cursor}
 use Rattle.fax_walk.specs.declared.end.End.TheVariants.{Proper}
 use Rattle.fax_walk.specs.Pages.{AreFrom, IsPageAt, IsForm}
 use Rattle.fax_walk.specs.code.Opening.{end_past_chain}
 use Rattle.fax_walk.specs.Items.{RowItem, first_at, IsRow}
-use Rattle.fax_walk.specs.laws.Written.{WalkedRow, walked, numbered, HoldsRows, rows_of, forms_of, WrittenFilesAreWalked}
+use Rattle.fax_walk.specs.laws.Written.{WalkedRow, walked, numbered, HoldsRows, rows_of, forms_of}
+use Rattle.fax_walk.specs.laws.Written.{WrittenFilesAreWalked}
 use Rattle.fax_walk.proofs.InOrderLemmas.{joined}
 use Rattle.fax_walk.proofs.PageLawLemmas.{no_page, some_page, next_dropped, proper_end}
 use Rattle.std.proofs.lemmas.List.{map-append}
@@ -24,8 +27,10 @@ use Rattle.fax_walk.proofs.RowLawLemmas.{LinesAreRead}
 use Rattle.fax_walk.proofs.StripRowLemmas.{AreRead}
 
 -- a page of this number ends the chain properly
-module _ (file : List ℕ) (head : Header) (is : header file ≡ Ok head) (offsets : List ℕ) (chain : IsChain head file offsets None) where
-  proper_after : (p : ℕ) → drop p offsets ≡ [] → p ≡ length offsets → IsPageAt file (record { page = p; row = 0 }) (Err Proper)
+module _ (file : List ℕ) (head : Header) (is : header file ≡ Ok head) (offsets : List ℕ)
+    (chain : IsChain head file offsets None) where
+  proper_after : (p : ℕ) → drop p offsets ≡ [] → p ≡ length offsets
+      → IsPageAt file (record { page = p; row = 0 }) (Err Proper)
   proper_after p e all =
       let at : Cursor = record { page = p; row = 0 } in
       let proper : end_past_chain (length offsets) None at ≡ Proper =
@@ -38,10 +43,13 @@ pub record AreAllFrom (file : List ℕ) (p : ℕ) (rows : List WalkedRow) : Type
   pub are : AreFrom (IsRow file) (first_at p 0) items Proper
   pub rows_are : map walked items ≡ rows
 
-module _ (by_place : AreBitsByPlace) (lines_read : LinesAreRead) (wholes : FormsAreWhole) (law : WrittenRowsAreRead) (file : List ℕ) (head : Header)
-    (is : header file ≡ Ok head) (little : head.endian ≡ Little) (offsets : List ℕ) (chain : IsChain head file offsets None) where
+module _ (by_place : AreBitsByPlace) (lines_read : LinesAreRead) (wholes : FormsAreWhole) (law : WrittenRowsAreRead)
+    (file : List ℕ) (head : Header)
+    (is : header file ≡ Ok head) (little : head.endian ≡ Little) (offsets : List ℕ)
+    (chain : IsChain head file offsets None) where
   -- the rows of a page that is read as it was written
-  page_read : (p q : ℕ) (later : List ℕ) (written : WrittenPage) (rows : List (List Colour)) → drop p offsets ≡ q ∷ later
+  page_read : (p q : ℕ) (later : List ℕ) (written : WrittenPage) (rows : List (List Colour))
+      → drop p offsets ≡ q ∷ later
       → IsWritable written → IsReadAt file q written → HoldsRows written rows
       → AreRead file p (first_at p 0) 0 rows (λ to. to ≡ first_at (p + 1) 0)
   page_read p q later written rows e writable read holds =
@@ -52,11 +60,14 @@ module _ (by_place : AreBitsByPlace) (lines_read : LinesAreRead) (wholes : Forms
       rw are.rows_are
       (rw some at
       (strips_from by_place lines_read file Little q written.form p
-      (λ r. rw (little, read.form) at (some_page file head is offsets None chain (record { page = p; row = r }) q later e))
+      (λ r. rw (little, read.form) at (some_page file head is offsets None chain (record { page = p; row = r }) q later
+      e))
       (wholes Little file q written.form read.form) are.strips 0 0 (omega arith) are.read))
 
-  pages_read : (later : List ℕ) (p : ℕ) (pages : List WrittenPage) (rows : List (List (List Colour))) → drop p offsets ≡ later
-      → p + length later ≡ length offsets → AreWritable pages → AllZip (IsReadAt file) later pages → AllZip HoldsRows pages rows
+  pages_read : (later : List ℕ) (p : ℕ) (pages : List WrittenPage) (rows : List (List (List Colour)))
+      → drop p offsets ≡ later
+      → p + length later ≡ length offsets → AreWritable pages → AllZip (IsReadAt file) later pages
+      → AllZip HoldsRows pages rows
       → AreAllFrom file p (rows_of p rows)
   pages_read [] p [] [] e count writable read holds = record {
     items = [];
@@ -70,18 +81,26 @@ module _ (by_place : AreBitsByPlace) (lines_read : LinesAreRead) (wholes : Forms
   pages_read (q ∷ later) p (written ∷ pages) (first ∷ rows) e count writable read holds =
       let here = page_read p q later written first e writable.0 read.0 holds.0 in
       let more =
-      pages_read later (p + 1) pages rows (next_dropped p offsets q later e) (omega (arith, count)) writable.1 read.1 holds.1 in
+      pages_read later (p + 1) pages rows (next_dropped p offsets q later e) (omega (arith, count)) writable.1 read.1
+      holds.1 in
       record {
         items = here.items ++ more.items;
-        are = joined (IsRow file) (first_at p 0) here.to here.items more.items Proper here.lead (rw here.there more.are);
+        are = joined (IsRow file) (first_at p 0) here.to here.items more.items Proper here.lead
+            (rw here.there more.are);
         rows_are =
-            map-append walked here.items more.items ∙ ap (λ (l : List WalkedRow). l ++ map walked more.items) here.rows_are
+            map-append walked here.items more.items ∙ ap (λ (l : List WalkedRow). l ++ map walked more.items)
+            here.rows_are
             ∙ ap (λ (l : List WalkedRow). numbered p 0 first ++ l) more.rows_are;
       }
 
-  forms_read : (later : List ℕ) (p : ℕ) (pages : List WrittenPage) → drop p offsets ≡ later → p + length later ≡ length offsets
+  forms_read : (later : List ℕ) (p : ℕ) (pages : List WrittenPage) → drop p offsets ≡ later
+      → p + length later ≡ length offsets
       → AllZip (IsReadAt file) later pages → AreFrom (IsForm file) p (forms_of p pages) Proper
-  forms_read [] p [] e count read = (Err Proper, proper_after file head is offsets chain p e (omega (arith, count)), refl)
+  forms_read [] p [] e count read = (
+    Err Proper,
+    proper_after file head is offsets chain p e (omega (arith, count)),
+    refl,
+  )
   forms_read [] p (written ∷ pages) e count read = absurd read
   forms_read (q ∷ later) p [] e count read = absurd read
   forms_read (q ∷ later) p (written ∷ pages) e count read =
@@ -92,18 +111,21 @@ module _ (by_place : AreBitsByPlace) (lines_read : LinesAreRead) (wholes : Forms
       )
 
 -- the law of written files
-pub written_files_are_walked : AreBitsByPlace → LinesAreRead → FormsAreWhole → WrittenFilesAreRead → WrittenRowsAreRead → WrittenFilesAreWalked
+pub written_files_are_walked : AreBitsByPlace → LinesAreRead → FormsAreWhole → WrittenFilesAreRead → WrittenRowsAreRead
+    → WrittenFilesAreWalked
 written_files_are_walked by_place lines_read wholes files law pages rows some few writable holds short =
     let file = file_of pages in
     let read = files pages some few writable short in
     let all =
-    pages_read by_place lines_read wholes law file read.head read.head_is read.little read.offsets read.chain read.offsets 0 pages rows refl
+    pages_read by_place lines_read wholes law file read.head read.head_is read.little read.offsets read.chain
+    read.offsets 0 pages rows refl
     (omega arith) writable read.read holds in
     record {
       items = all.items;
       are = all.are;
       rows_are = all.rows_are;
       forms =
-          forms_read by_place lines_read wholes law file read.head read.head_is read.little read.offsets read.chain read.offsets 0 pages refl
+          forms_read by_place lines_read wholes law file read.head read.head_is read.little read.offsets read.chain
+          read.offsets 0 pages refl
           (omega arith) read.read;
     }

@@ -15,7 +15,8 @@ pub returns : goal.returns
 returns c =
     let form_is = c.in-Ok.ensures.form in
     let middle = c.in_ok-note_if.ensures
-    ∙ ap (λ out. c.args.notes.now.items ++ note_if out c.args.page None EntriesOutOfOrder) (ap not c.in_order-out_of_order.ensures) in
+    ∙ ap (λ out. c.args.notes.now.items ++ note_if out c.args.page None EntriesOutOfOrder)
+    (ap not c.in_order-out_of_order.ensures) in
     IfOk-weaker c.check_strips.result _ _
     (λ read is. formed_page _ _ _ c.in-Ok.ensures.limits form_is c.requires _ _ _ read middle is)
     (rw c.in-Ok.ensures.directory at c.check_strips.ensures)

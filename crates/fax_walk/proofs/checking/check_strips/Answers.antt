@@ -20,7 +20,8 @@ loop-s-init c = record {
 pub returns-in-Err : goal.returns-in-Err
 returns-in-Err c =
     rw c.in-Err.ensures.fault
-    (strip_outside _ _ _ c.loop-s.invariant.on _ _ _ c.loop-s-test.true c.loop-s.invariant.checked c.in-Err.ensures.outside)
+    (strip_outside _ _ _ c.loop-s.invariant.on _ _ _ c.loop-s-test.true c.loop-s.invariant.checked
+    c.in-Err.ensures.outside)
 
 pub read_to-requires : goal.read_to-requires
 read_to-requires c =
@@ -31,7 +32,8 @@ pub returns-in-Err-notes : goal.returns-in-Err-notes
 returns-in-Err-notes c =
     IfOk-weaker c.read_to.result _ _
     (λ (read : PageRead) is.
-    strip_fault _ _ _ c.loop-s.invariant.on _ _ _ _ _ read c.loop-s-test.true c.loop-s.invariant.checked c.in-Ok.ensures.bytes
+    strip_fault _ _ _ c.loop-s.invariant.on _ _ _ _ _ read c.loop-s-test.true c.loop-s.invariant.checked
+    c.in-Ok.ensures.bytes
     (rw c.strip_form.ensures.exact at c.in-Err-notes.ensures.err) is)
     c.read_to.ensures
 

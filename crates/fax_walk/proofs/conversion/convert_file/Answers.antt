@@ -7,11 +7,13 @@ pub loop-walk-init : goal.loop-walk-init
 loop-walk-init c =
     let forms = c.form_tails_are_one.ensures.all in
     let its : IsFile c.args.file.now =
-    its_file c.files_have_one_chain.ensures forms c.tails_go_on.ensures.files c.tails_go_on.ensures.start c.args.file.now in
+    its_file c.files_have_one_chain.ensures forms c.tails_go_on.ensures.files c.tails_go_on.ensures.start
+    c.args.file.now in
     record {
       its = its;
       so_far = rw c.start-walk.ensures
-          (none_put c.files_are_paged.ensures forms c.args.file.now its c.args.options.now c.count_pages-count.result c.in_ok-output.output
+          (none_put c.files_are_paged.ensures forms c.args.file.now its c.args.options.now c.count_pages-count.result
+          c.in_ok-output.output
           c.count_pages-count.ensures (rw c.max.ensures at c.in_ok-output.ensures));
     }
 

@@ -13,7 +13,8 @@ returns-in-TooLarge c = λ at due.
     let height = c.args.image.now.rows in
     let raster = c.args.image.now.raster.now in
     let enough : height * packed_len width ≤ length raster = omega arith in
-    let begun = subst (λ s. IsPartWritten c.begin.new.self (no_rows at s)) c.of_image.ensures.exact (c.in_ok-begin.ensures at due) in
+    let begun = subst (λ s. IsPartWritten c.begin.new.self (no_rows at s)) c.of_image.ensures.exact
+    (c.in_ok-begin.ensures at due) in
     let large : BecomesTooLarge (no_rows at (image_sheet width height)) = rw c.in-TooLarge.is at begun.has in
     rw c.in-TooLarge.is
     (large (raster_rows width height raster) (raster_count width height raster)
@@ -24,7 +25,8 @@ put_row-requires c =
     let count = raster_count c.args.image.now.width c.loop-i.i c.args.image.now.raster.now in
     let sheet = image_sheet c.args.image.now.width c.args.image.now.rows in
     let at = c.requires.0 in
-    let begun = subst (λ s. IsPartWritten c.begin.new.self (no_rows at s)) c.of_image.ensures.exact (c.in_ok-begin.ensures at c.requires.1) in
+    let begun = subst (λ s. IsPartWritten c.begin.new.self (no_rows at s)) c.of_image.ensures.exact
+    (c.in_ok-begin.ensures at c.requires.1) in
     record {
       part = part_of at sheet (raster_rows c.args.image.now.width c.loop-i.i c.args.image.now.raster.now);
       written = c.loop-i.invariant.put at begun;
@@ -43,7 +45,8 @@ loop-i-preserved c =
     record {
       put = λ at begun.
           subst (λ l. IsPartWritten c.put_row.new.self (part_of at sheet l))
-          (ap (λ row. rows ++ row ∷ []) row_is ∙ sym (raster_next c.args.image.now.width c.loop-i.i c.args.image.now.raster.now))
+          (ap (λ row. rows ++ row ∷ []) row_is ∙ sym (raster_next c.args.image.now.width c.loop-i.i
+          c.args.image.now.raster.now))
           (c.in_ok-put_row.ensures (part_of at sheet rows) (c.loop-i.invariant.put at begun) due width);
       width = width;
     }
@@ -54,7 +57,8 @@ end-requires c =
     let height = c.args.image.now.rows in
     let raster = c.args.image.now.raster.now in
     let at = c.requires.0 in
-    let begun = subst (λ s. IsPartWritten c.begin.new.self (no_rows at s)) c.of_image.ensures.exact (c.in_ok-begin.ensures at c.requires.1) in
+    let begun = subst (λ s. IsPartWritten c.begin.new.self (no_rows at s)) c.of_image.ensures.exact
+    (c.in_ok-begin.ensures at c.requires.1) in
     let last : c.loop-i.i ≡ height = omega (arith, c.loop-i-test.false, c.loop-i.auto.i-end) in
     record {
       part = part_of at (image_sheet width height) (raster_rows width height raster);
@@ -67,7 +71,9 @@ returns c = on_ok c.end.result c.end.ensures (λ ends at due.
     let width = c.args.image.now.width in
     let height = c.args.image.now.rows in
     let raster = c.args.image.now.raster.now in
-    let begun = subst (λ s. IsPartWritten c.begin.new.self (no_rows at s)) c.of_image.ensures.exact (c.in_ok-begin.ensures at due) in
+    let begun = subst (λ s. IsPartWritten c.begin.new.self (no_rows at s)) c.of_image.ensures.exact
+    (c.in_ok-begin.ensures at due) in
     let last : c.loop-i.i ≡ height = omega (arith, c.loop-i-test.false, c.loop-i.auto.i-end) in
-    ends (part_of at (image_sheet width height) (raster_rows width height raster)) (rw last at (c.loop-i.invariant.put at begun))
+    ends (part_of at (image_sheet width height) (raster_rows width height raster))
+    (rw last at (c.loop-i.invariant.put at begun))
     (raster_count width height raster))

@@ -8,7 +8,8 @@ use Rattle.fax_walk.proofs.conversion.convert_images.Goals as goal
 pub loop-image-init : goal.loop-image-init
 loop-image-init c = record {
   none = ap (λ (r : PbmState). r.fault) c.new-reader.ensures;
-  so_far = subst (λ l. AreImagesWritten c.args.bytes.now l c.args.options.now c.in_ok-images.images c.in_ok-output.output)
+  so_far = subst (λ l. AreImagesWritten c.args.bytes.now l c.args.options.now c.in_ok-images.images
+      c.in_ok-output.output)
       (sym (ap (λ (r : PbmState). r.left) c.new-reader.ensures))
       (images_begun _ _ _ _ c.in_ok-images.ensures.ok c.in_ok-output.ensures);
 }
@@ -18,7 +19,8 @@ convert_image-requires c =
     let image = c.in-Ok-Some.image in
     let read = rw c.in-Ok-Some.field-0-is at c.in-Ok-Some.ensures.image in (
       _,
-      image_due c.images_are_read_in_one_way.ensures c.images_begin_in_one_way.ensures _ _ _ _ _ c.loop-image.invariant.so_far
+      image_due c.images_are_read_in_one_way.ensures c.images_begin_in_one_way.ensures _ _ _ _ _
+          c.loop-image.invariant.so_far
           (image_of image.width image.rows image.raster.now) c.next_image.new.self.left read.image_is,
     )
 
@@ -34,7 +36,8 @@ loop-image-preserved c =
     record {
       none = read.good;
       so_far = image_written reads begins _ _ _ _ _ so_far shown left read.image_is c.convert_image.new.output
-          (c.in_ok-convert_image-in-Ok-Some.ensures _ (image_due reads begins _ _ _ _ _ so_far shown left read.image_is));
+          (c.in_ok-convert_image-in-Ok-Some.ensures _ (image_due reads begins _ _ _ _ _ so_far shown left
+          read.image_is));
     }
 
 pub finish-requires : goal.finish-requires
@@ -44,7 +47,8 @@ finish-requires c =
     record {
       at = at c.images_are_read_in_one_way.ensures c.images_begin_in_one_way.ensures _ _ _ _ _ so_far;
       written = so_far.written;
-      all = all_written c.images_are_read_in_one_way.ensures c.images_begin_in_one_way.ensures _ _ _ _ _ so_far ended.empty;
+      all = all_written c.images_are_read_in_one_way.ensures c.images_begin_in_one_way.ensures _ _ _ _ _ so_far
+          ended.empty;
     }
 
 pub returns-in-Ok-None-clause-ok : goal.returns-in-Ok-None-clause-ok
@@ -70,5 +74,6 @@ returns-in-Ok-None-clause-err c =
 pub returns-in-Err-clause-err : goal.returns-in-Err-clause-err
 returns-in-Err-clause-err c =
     let so_far = c.loop-image.invariant.so_far in
-    absurd (no_fault c.images_are_read_in_one_way.ensures c.images_begin_in_one_way.ensures c.loop-image.reader.left so_far.rest c.in-Err.fault
+    absurd (no_fault c.images_are_read_in_one_way.ensures c.images_begin_in_one_way.ensures c.loop-image.reader.left
+    so_far.rest c.in-Err.fault
     so_far.left_are (c.in-Err.ensures.fault.first c.loop-image.invariant.none))

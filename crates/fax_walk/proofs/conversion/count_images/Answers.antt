@@ -11,7 +11,8 @@ returns-in-Ok-None-clause-ok c =
 pub returns-in-Err-clause-err : goal.returns-in-Err-clause-err
 returns-in-Err-clause-err c =
     let first = c.in-Err.ensures.fault.first c.loop-image.invariant.none in
-    fault_met c.args.bytes.now c.loop-image.reader.left c.loop-image.image c.in-Err.fault c.loop-image.invariant.read first.0 first.1
+    fault_met c.args.bytes.now c.loop-image.reader.left c.loop-image.image c.in-Err.fault c.loop-image.invariant.read
+    first.0 first.1
 
 pub loop-image-preserved : goal.loop-image-preserved
 loop-image-preserved c =

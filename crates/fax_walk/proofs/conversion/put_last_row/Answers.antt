@@ -15,18 +15,21 @@ use Rattle.fax_walk.specs.code.Walk.{IsLastOf}
 use Rattle.fax_walk.proofs.OutputLemmas.{on_ok}
 use Rattle.fax_walk.proofs.conversion.put_last_row.Goals as goal
 
-one_number : {A : Type 0} {tail : List A → End → Type 0} → IsOne tail → (n : ℕ) (x y : A) → IsNumber tail n x → IsNumber tail n y → x ≡ y
+one_number : {A : Type 0} {tail : List A → End → Type 0} → IsOne tail → (n : ℕ) (x y : A) → IsNumber tail n x
+    → IsNumber tail n y → x ≡ y
 one_number {A} only n x y (all, end, is, there) (all', end', is', there') =
     let same = (only.one all end is).0 ∙ sym (only.one all' end' is').0 in
     let both : Some x ≡ Some y = sym there ∙ ap (λ (l : List A). slice_get l n) same ∙ there' in
     cc
 
 -- the row that is lent is the one that is due
-lent_due : BeginningsHaveOneTail → (options : Options) (walk : WalkView) (output : Output) (last : LastRow) → IsLastOf walk (Some last)
+lent_due : BeginningsHaveOneTail → (options : Options) (walk : WalkView) (output : Output) (last : LastRow)
+    → IsLastOf walk (Some last)
     → (item : RowItem) (part : Part) → IsItemDue options walk output item part
     → IsLentDue options output last part × (item.pels ≡ last.row.now)
 lent_due tails options walk output last (before, lent, given, number, is, form, limits) item part due =
-    let there = subst (λ (n : ℕ). IsItemNumber walk.file walk.begun n item) (omega (arith, given, due.given)) due.number in
+    let there = subst (λ (n : ℕ). IsItemNumber walk.file walk.begun n item) (omega (arith, given, due.given)) due.number
+    in
     let same : item ≡ lent = one_number (tails walk.file walk.begun) before item lent there number in
     let rows : item.row ≡ last.place.row = ap (λ (i : RowItem). i.row) same ∙ is.1 in
     let pels : item.pels ≡ last.row.now = ap (λ (i : RowItem). i.pels) same ∙ is.2 in
@@ -40,5 +43,6 @@ put_lent-requires-clause-due c =
 
 pub returns : goal.returns
 returns c = on_ok c.put_lent.result c.put_lent.ensures (λ puts item part is.
-    let (lent, pels) = lent_due c.beginnings_have_one_tail.ensures _ _ _ c.in-Some.last c.in-Some.ensures item part is in
+    let (lent, pels) = lent_due c.beginnings_have_one_tail.ensures _ _ _ c.in-Some.last c.in-Some.ensures item part is
+    in
     rw pels (puts part lent))

@@ -7,18 +7,21 @@ use Rattle.fax_walk.specs.declared.sheet.Sheet.{Sheet}
 use Rattle.fax_walk.specs.code.Output.{Part, with_row, after, IsPartWritten, IsPutTo, IsRowDue, IsWrittenTo}
 use Rattle.fax_walk.proofs.conversion.put_lent.Goals as goal
 
-module _ (options : Options) (output : Output) (r : ℕ) (row : List Colour) (part : Part) (due : IsRowDue options output r row part) where
+module _ (options : Options) (output : Output) (r : ℕ) (row : List Colour) (part : Part)
+    (due : IsRowDue options output r row part) where
   more : length (part.rows ++ row ∷ []) ≡ r + 1
   more = length_push part.rows row ∙ ap (λ (n : ℕ). n + 1) due.count
 
-  put_last : (new : Output) → r + 1 ≡ part.sheet.rows → IsWrittenTo new (after (with_row part row)) → IsPutTo new (with_row part row)
+  put_last : (new : Output) → r + 1 ≡ part.sheet.rows → IsWrittenTo new (after (with_row part row))
+      → IsPutTo new (with_row part row)
   put_last new last written = record {
     none = λ empty. absurd (omega (arith, empty, more));
     some = λ some fewer. absurd (omega (arith, fewer, more, last));
     all = λ all. written;
   }
 
-  put_before : (new : Output) → (r + 1 ≡ part.sheet.rows → ⊥) → IsPartWritten new (with_row part row) → IsPutTo new (with_row part row)
+  put_before : (new : Output) → (r + 1 ≡ part.sheet.rows → ⊥) → IsPartWritten new (with_row part row)
+      → IsPutTo new (with_row part row)
   put_before new not_last written = record {
     none = λ empty. absurd (omega (arith, empty, more));
     some = λ some fewer. written;
@@ -48,7 +51,8 @@ end-requires c =
     let due = lent.due in
     record {
       part = with_row part c.args.last.now.row.now;
-      written = c.in_ok-put_row.ensures part (c.in_ok-begin_page.ensures part lent) (omega (arith, due.count, due.due)) due.width;
+      written = c.in_ok-put_row.ensures part (c.in_ok-begin_page.ensures part lent) (omega (arith, due.count, due.due))
+          due.width;
       all = more _ _ _ _ part due ∙ c.if-last.true ∙ ap (λ (s : Sheet). s.rows) (sym lent.sheet_is);
     }
 
@@ -64,5 +68,6 @@ returns-in_ok-end c = λ part lent.
 pub returns-else-last : goal.returns-else-last
 returns-else-last c = λ part lent.
     let due = lent.due in
-    put_before _ _ _ _ part due c.put_row.new.self (λ last. c.if-last.false (last ∙ ap (λ (s : Sheet). s.rows) lent.sheet_is))
+    put_before _ _ _ _ part due c.put_row.new.self (λ last. c.if-last.false
+    (last ∙ ap (λ (s : Sheet). s.rows) lent.sheet_is))
     (c.in_ok-put_row.ensures part (c.in_ok-begin_page.ensures part lent) (omega (arith, due.count, due.due)) due.width)

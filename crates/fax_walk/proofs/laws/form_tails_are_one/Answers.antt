@@ -1,4 +1,5 @@
-use Rattle.fax_walk.proofs.PageLawLemmas.{one_forms, one_form_tail, form_tail_of_page, form_tail_of_start, form_tails_go_on}
+use Rattle.fax_walk.proofs.PageLawLemmas.{one_forms, one_form_tail, form_tail_of_page, form_tail_of_start}
+use Rattle.fax_walk.proofs.PageLawLemmas.{form_tails_go_on}
 use Rattle.fax_walk.proofs.PageLawLemmas.{forms_stand_by_number}
 use Rattle.fax_walk.proofs.laws.form_tails_are_one.Goals as goal
 

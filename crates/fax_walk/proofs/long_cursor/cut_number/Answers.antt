@@ -10,7 +10,8 @@ returns-in_err-digits c =
 pub returns-in-Ok : goal.returns-in-Ok
 returns-in-Ok c =
     let cut = rw c.in_ok-digits.was at c.split_once.ensures.cases in
-    number_before c.args.text.now c.in_ok-digits.digits c.in_ok-digits.rest c.in-Ok.number cut (omega arith) c.in-Ok.ensures.ok
+    number_before c.args.text.now c.in_ok-digits.digits c.in_ok-digits.rest c.in-Ok.number cut (omega arith)
+    c.in-Ok.ensures.ok
 
 pub returns-in-Err : goal.returns-in-Err
 returns-in-Err c =

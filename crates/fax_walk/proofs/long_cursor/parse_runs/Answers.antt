@@ -13,7 +13,8 @@ loop-run-preserved c =
           (run_cut c.args.text.now c.loop-run.runs.items c.loop-run.rest.now c.in-Some.run' c.in-Some.after pushed.0
           c.loop-run.invariant.cut cut pushed.1);
       utf8 = search rules;
-      short = rw pushed.2 (All-push (λ run. run < 2 ^ 32) c.loop-run.runs.items pushed.0 c.loop-run.invariant.short pushed.3);
+      short = rw pushed.2 (All-push (λ run. run < 2 ^ 32) c.loop-run.runs.items pushed.0 c.loop-run.invariant.short
+          pushed.3);
     }
 
 pub returns-clause-ok : goal.returns-clause-ok

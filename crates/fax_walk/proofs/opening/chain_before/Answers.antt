@@ -11,7 +11,8 @@ pub returns-in-Err-next-clause-err : goal.returns-in-Err-next-clause-err
 returns-in-Err-next-clause-err c r =
     let past : c.loop-number.number ≤ c.args.page = omega (arith, c.loop-number-test.true) in
     rw c.of_file-in-Err-next.ensures
-    (fault_before_page _ _ _ _ c.loop-number.invariant c.files_have_one_chain.ensures c.next.ensures.answer _ _ c.in-Err-next.is past)
+    (fault_before_page _ _ _ _ c.loop-number.invariant c.files_have_one_chain.ensures c.next.ensures.answer _ _
+    c.in-Err-next.is past)
 
 pub loop-number-preserved : goal.loop-number-preserved
 loop-number-preserved c =

@@ -8,7 +8,8 @@ returns-in-Err-clause-refused c =
     let outside = c.in-Err.ensures.outside in
     let d = c.due.inside in
     rw (← c.due.view_is, c.of_file.ensures, c.in-Err.ensures.fault)
-    (refused_strip (record { page = d.page; chain = d.chain; directory = d.strips.directory; form = d.form }) c.args.first c.due.invariant.its
+    (refused_strip (record { page = d.page; chain = d.chain; directory = d.strips.directory; form = d.form })
+    c.args.first c.due.invariant.its
     c.due.invariant.limits there outside)
 
 pub returns-in-Err-clause-there : goal.returns-in-Err-clause-there

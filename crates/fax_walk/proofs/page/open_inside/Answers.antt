@@ -11,7 +11,8 @@ returns-in-Err-clause-refused c =
     let d = c.due.inside in
     let due : PageDue = record { page = d.page; chain = d.chain; directory = d.strips.directory; form = d.form } in
     rw (← c.due.view_is, ← c.place.view_is, c.of_file.ensures, c.in-Err.ensures.fault)
-    (no_strip due _ c.due.invariant.its same_page (omega (arith, c.if-row-form.false)) (omega (arith, c.if-row-form-eq0.false)) outside)
+    (no_strip due _ c.due.invariant.its same_page (omega (arith, c.if-row-form.false))
+    (omega (arith, c.if-row-form-eq0.false)) outside)
 
 pub invariant_of-result : goal.invariant_of-result
 invariant_of-result c = record {

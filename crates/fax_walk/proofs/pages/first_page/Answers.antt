@@ -13,7 +13,8 @@ returns-in_default-clause-err c = no_forms _ _ _ (inl (rw c.in_default.is at c.i
 
 pub returns-then-cursor-eq0-clause-ok : goal.returns-then-cursor-eq0-clause-ok
 returns-then-cursor-eq0-clause-ok c =
-    begins_here c.args.file.now c.args.cursor c.in-Some.page (rw c.in-Some.is at c.in_ok-page.ensures.ok) c.if-cursor-eq0.true
+    begins_here c.args.file.now c.args.cursor c.in-Some.page (rw c.in-Some.is at c.in_ok-page.ensures.ok)
+    c.if-cursor-eq0.true
 
 pub returns-else-cursor-eq0-clause-ok : goal.returns-else-cursor-eq0-clause-ok
 returns-else-cursor-eq0-clause-ok c = grind (arith, begins_after)

@@ -15,7 +15,8 @@ pub returns-then-branch : goal.returns-then-branch
 returns-then-branch c given cursor from =
     let goes = rw c.in-Some.is at (c.pages.invariant.goes_on given cursor from) in
     let gives = rw c.if-branch.true at c.in_ok-next.ensures.ok in
-    gone_on c.bits_stand_by_place.ensures c.lines_are_read_in_one_way.ensures c.files_have_one_chain.ensures c.forms_are_whole.ensures c.args.file.now
+    gone_on c.bits_stand_by_place.ensures c.lines_are_read_in_one_way.ensures c.files_have_one_chain.ensures
+    c.forms_are_whole.ensures c.args.file.now
     c.args.begun.now
     given cursor c.in-Some.open c.next.new.self goes.1 gives
 
@@ -27,5 +28,6 @@ returns-in_err-open_due c =
       | in_default w ↦ w.page-is
     ] in
     rw (p.1, p.2)
-    (not_entered c.args.file.now c.args.begun.now c.args.page.now c.pages.page c.open_due.new.page _ c.pages.invariant.goes_on
+    (not_entered c.args.file.now c.args.begun.now c.args.page.now c.pages.page c.open_due.new.page _
+    c.pages.invariant.goes_on
     c.pages.invariant.there (rw same at c.in_err-open_due.ensures))

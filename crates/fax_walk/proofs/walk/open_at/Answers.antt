@@ -1,7 +1,8 @@
 use Rattle.std.proofs.Common.{arith, ◌<◌, inl, sym}
 use Rattle.std.proofs.lemmas.Result.{err_from_is_err_and}
 use Rattle.fax_walk.specs.code.Opening.{PageDue}
-use Rattle.fax_walk.proofs.EnterLemmas.{enters_next, enters_on, no_page, opened_next, opened_on, refused_next, refused_on}
+use Rattle.fax_walk.proofs.EnterLemmas.{enters_next, enters_on, no_page, opened_next, opened_on, refused_next}
+use Rattle.fax_walk.proofs.EnterLemmas.{refused_on}
 use Rattle.fax_walk.proofs.walk.open_at.Goals as goal
 
 pub returns-in_err-due-clause-refused : goal.returns-in_err-due-clause-refused

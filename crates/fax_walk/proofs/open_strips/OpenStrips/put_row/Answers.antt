@@ -15,9 +15,11 @@ returns-in_ok-end_strip c = λ form k rows put due.
     let all = (rw (opened, put.count) at c.if-self-end.true) ∙ end_is in
     let ends = c.in_ok-end_strip.ensures in
     rw (ends.same, opened)
-    (whole c.strips_are_written_row_by_row.ensures form k rows old put due c.args.row.now c.in-Some.writer c.put_row.new.self ready
+    (whole c.strips_are_written_row_by_row.ensures form k rows old put due c.args.row.now c.in-Some.writer
+    c.put_row.new.self ready
     c.in_ok-put_row.ensures c.end_strip.new.self.done ends.bytes
-    (ends.done ∙ ap (λ (p : OpenStrips). p.done.items ++ ends.bytes ∷ []) opened) all (ends.finishes c.put_row.new.self refl))
+    (ends.done ∙ ap (λ (p : OpenStrips). p.done.items ++ ends.bytes ∷ []) opened) all
+    (ends.finishes c.put_row.new.self refl))
 
 pub returns-else-self-end : goal.returns-else-self-end
 returns-else-self-end c = λ form k rows put due.
@@ -29,5 +31,6 @@ returns-else-self-end c = λ form k rows put due.
     let ready = rw same at puts in
     let end_is = rw (n_is, opened, put.form_is) at c.min-end.ensures in
     rw opened
-    (kept c.strips_are_written_row_by_row.ensures form k rows old put due c.args.row.now c.in-Some.writer c.put_row.new.self ready
+    (kept c.strips_are_written_row_by_row.ensures form k rows old put due c.args.row.now c.in-Some.writer
+    c.put_row.new.self ready
     c.in_ok-put_row.ensures (λ all. c.if-self-end.false (rw (opened, put.count) (all ∙ sym end_is))))

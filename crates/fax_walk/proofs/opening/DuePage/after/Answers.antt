@@ -1,5 +1,6 @@
 use Rattle.std.proofs.Common.{◌≡◌, Ok, ap, ◌∙◌, arith}
-use Rattle.fax_walk.proofs.EndingLemmas.{page_due, proper_end_at, row_past, fault_before_page, fields_refused, same_file}
+use Rattle.fax_walk.proofs.EndingLemmas.{page_due, proper_end_at, row_past, fault_before_page, fields_refused}
+use Rattle.fax_walk.proofs.EndingLemmas.{same_file}
 use Rattle.fax_walk.proofs.opening.DuePage.after.Goals as goal
 
 pub invariant_of-result : goal.invariant_of-result
@@ -17,13 +18,15 @@ pub returns-in-Ok-None : goal.returns-in-Ok-None
 returns-in-Ok-None c =
     let is = c.in-Ok-None.is ∙ ap Ok c.in-Ok-None.field-0-is in (
       proper_end_at _ _ c.args.chain c.next.result c.requires c.files_have_one_chain.ensures c.next.ensures.answer is,
-      λ r some. row_past _ _ c.args.chain c.next.result c.requires c.files_have_one_chain.ensures c.next.ensures.answer r is some,
+      λ r some. row_past _ _ c.args.chain c.next.result c.requires c.files_have_one_chain.ensures c.next.ensures.answer
+          r is some,
     )
 
 pub returns-in-Err : goal.returns-in-Err
 returns-in-Err c r =
     rw (c.of_file.ensures, c.given-page.ensures)
-    (fault_before_page _ _ c.args.chain c.next.result c.requires c.files_have_one_chain.ensures c.next.ensures.answer _ _ c.in-Err.is
+    (fault_before_page _ _ c.args.chain c.next.result c.requires c.files_have_one_chain.ensures c.next.ensures.answer _
+    _ c.in-Err.is
     (omega arith))
 
 pub returns-in-Err-page_and_strips : goal.returns-in-Err-page_and_strips
@@ -32,4 +35,5 @@ returns-in-Err-page_and_strips c =
     let file : c.in-Ok-Some.directory.file ≡ c.args.chain.tiff.file =
     same_file _ _ c.args.chain c.next.result c.requires c.files_have_one_chain.ensures c.next.ensures.answer _ is in
     rw (c.of_file-in-Err-page_and_strips.ensures, c.given-page.ensures, ← file)
-    (fields_refused _ _ c.args.chain c.next.result c.requires c.files_have_one_chain.ensures c.next.ensures.answer _ is _ c.in-Err-page_and_strips.ensures.fault)
+    (fields_refused _ _ c.args.chain c.next.result c.requires c.files_have_one_chain.ensures c.next.ensures.answer _ is
+    _ c.in-Err-page_and_strips.ensures.fault)

@@ -17,7 +17,8 @@ returns-in_err-page-clause-err c =
 pub returns-then-cursor-page-clause-err : goal.returns-then-cursor-page-clause-err
 returns-then-cursor-page-clause-err c =
     let answers = rw (sym c.page.view_is) at (rw c.in-Some.is at c.in_ok-page.ensures) in
-    named_outside c.args.file.now c.args.cursor c.in_ok-chain.chain _ c.in_ok-chain.ensures.ok answers c.page.invariant.its
+    named_outside c.args.file.now c.args.cursor c.in_ok-chain.chain _ c.in_ok-chain.ensures.ok answers
+    c.page.invariant.its
     c.if-cursor-page.true
 
 pub returns-clause-ok : goal.returns-clause-ok
@@ -26,5 +27,6 @@ returns-clause-ok c =
     let page = c.page.inside in
     rw (← c.page.view_is)
     (named_page c.args.file.now c.args.cursor c.in_ok-chain.chain
-    (record { page = page.page; chain = page.chain; directory = page.strips.directory; form = page.form }) c.in_ok-chain.ensures.ok answers
+    (record { page = page.page; chain = page.chain; directory = page.strips.directory; form = page.form })
+    c.in_ok-chain.ensures.ok answers
     c.page.invariant.its c.if-cursor-page.false)

@@ -8,6 +8,7 @@ returns-clause-err c = (
   λ at written all.
       let large = rw c.in-TooLarge.is at written in
       let none = append-nil at.pages in
-      subst (λ (pages : List SourcePage). IsTooLarge at.options.target pages (target_bytes at.options.target at.options pages)) none
+      subst (λ (pages : List SourcePage). IsTooLarge at.options.target pages
+      (target_bytes at.options.target at.options pages)) none
       (large [] (ap (λ (pages : List SourcePage). length pages) none ∙ all)),
 )

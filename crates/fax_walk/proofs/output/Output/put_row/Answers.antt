@@ -14,7 +14,8 @@ pub returns-in-File-default-default-Some : goal.returns-in-File-default-default-
 returns-in-File-default-default-Some c =
     let page_is : c.in-File-default-default-Some.field-2 ≡ Some c.in-File-default-default-Some.page =
     c.in-File-default-default-Some.field-2-is in
-    on_ok c.put_row-in-File-default-default-Some.result c.put_row-in-File-default-default-Some.ensures (λ put part written due width.
+    on_ok c.put_row-in-File-default-default-Some.result c.put_row-in-File-default-default-Some.ensures
+    (λ put part written due width.
     let has = rw (c.in-File-default-default-Some.is, page_is) at written.has in
     record {
       widths = widths_more part.sheet.width part.rows c.args.row.now written.widths width;

@@ -8,11 +8,13 @@ returns-in-Ok-true-clause-ok c =
     let keeps = rw (sym c.self.view_is) at c.strips.invariant.keeps in
     let reads = rw c.in-Ok-true.field-0-test at c.in-Ok-true.ensures in
     let p = c.self.inside in
-    let page = state p.page p.chain p.strips.directory p.form p.first p.number p.strip (row_shown p.strip p.exchanged) (p.before + p.strip.read) in
+    let page = state p.page p.chain p.strips.directory p.form p.first p.number p.strip (row_shown p.strip p.exchanged)
+    (p.before + p.strip.read) in
     let inv = c.self.invariant in
     let few = few_read page inv.limits inv.within inv.strip_is.form_is inv.strip_is.within inv.some_page inv.few in
     rw c.exchange.ensures.same
-    (reads_kept _ page keeps c.advance.new.self c.exchange.new.self.shown c.requires c.self.invariant.limits c.self.invariant.strip_is
+    (reads_kept _ page keeps c.advance.new.self c.exchange.new.self.shown c.requires c.self.invariant.limits
+    c.self.invariant.strip_is
     c.self.invariant.its reads c.exchange.ensures.shown _ (omega (arith, reads.read, few)))
 
 pub returns-in-Err-clause-err : goal.returns-in-Err-clause-err

@@ -2,13 +2,15 @@ use Rattle.std.proofs.Common.{◌+◌, ◌<◌, ◌∙◌, inl, inr, ap, sym, ar
 use Rattle.fax_page.specs.declared.StripForm.{StripForm}
 use Rattle.fax_walk.specs.code.Stages.{row_shown}
 use Rattle.fax_walk.proofs.OpenPageLemmas.{long_none, long_some, state}
-use Rattle.fax_walk.proofs.page.OpenPage.lend_place.Goals.{then-row-eq0-via-then-row-eq0, then-row-eq0-via-else-row-eq0+then-row-strip_form}
+use Rattle.fax_walk.proofs.page.OpenPage.lend_place.Goals.{then-row-eq0-via-then-row-eq0}
+use Rattle.fax_walk.proofs.page.OpenPage.lend_place.Goals.{then-row-eq0-via-else-row-eq0+then-row-strip_form}
 use Rattle.fax_walk.proofs.page.OpenPage.lend_place.Goals as goal
 
 pub returns-then-row-eq0 : goal.returns-then-row-eq0
 returns-then-row-eq0 c =
     let p = c.self.inside in
-    let page = state p.page p.chain p.strips.directory p.form p.first p.number p.strip (row_shown p.strip p.exchanged) (p.before + p.strip.read) in
+    let page = state p.page p.chain p.strips.directory p.form p.first p.number p.strip (row_shown p.strip p.exchanged)
+    (p.before + p.strip.read) in
     rw (← c.self.view_is) (long_none page c.self.invariant.limits c.self.invariant.within c.self.invariant.strip_is (
     elim c.then-row-eq0.branch [
       | then-row-eq0-via-then-row-eq0 w ↦ inl (omega (arith, c.row-row.ensures.row, w.if-row-eq0.true))
@@ -21,7 +23,8 @@ returns-then-row-eq0 c =
 pub returns : goal.returns
 returns c =
     let p = c.self.inside in
-    let page = state p.page p.chain p.strips.directory p.form p.first p.number p.strip (row_shown p.strip p.exchanged) (p.before + p.strip.read) in
+    let page = state p.page p.chain p.strips.directory p.form p.first p.number p.strip (row_shown p.strip p.exchanged)
+    (p.before + p.strip.read) in
     let strip_is = c.self.invariant.strip_is in
     let count = ap (λ (f : StripForm). f.rows) (sym strip_is.form_is) in
     let exact = ap (λ (f : StripForm). f.rows) c.strip_form.ensures.exact in

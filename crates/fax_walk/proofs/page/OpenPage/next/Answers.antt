@@ -8,7 +8,8 @@ returns-then-due-self-clause-ok c =
     let reads = rw (c.if-not-branch.false, sym c.self.view_is) at c.in_ok-advance.ensures.ok in
     let inv = c.self.invariant in
     let p = c.self.inside in
-    let page = state p.page p.chain p.strips.directory p.form p.first p.number p.strip (row_shown p.strip p.exchanged) (p.before + p.strip.read) in
+    let page = state p.page p.chain p.strips.directory p.form p.first p.number p.strip (row_shown p.strip p.exchanged)
+    (p.before + p.strip.read) in
     rw (← c.self.view_is)
     (row_given c.args.self.now c.rows.self page c.rows.invariant.items c.rows.invariant.skips reads inv.its
     (rw (c.due.ensures.due, sym c.self.view_is) at c.if-due-self.true)
@@ -18,7 +19,8 @@ pub rows-preserved : goal.rows-preserved
 rows-preserved c =
     let reads = rw (c.if-not-branch.false, sym c.self.view_is) at c.in_ok-advance.ensures.ok in
     let p = c.self.inside in
-    let page = state p.page p.chain p.strips.directory p.form p.first p.number p.strip (row_shown p.strip p.exchanged) (p.before + p.strip.read) in
+    let page = state p.page p.chain p.strips.directory p.form p.first p.number p.strip (row_shown p.strip p.exchanged)
+    (p.before + p.strip.read) in
     let due = rw (sym c.self.view_is) at c.due.ensures.due in
     let before : row_of page ≤ page.first = omega (arith, due, c.if-due-self.false) in
     let first = reads.still_open.first in

@@ -17,4 +17,5 @@ returns-in-Err-clause-outside c _ =
     let due = rw (sym c.self.view_is) at c.requires.due in
     let all_read = rw (sym c.self.view_is) at c.requires.all_read in
     rw (← c.self.view_is)
-    (next_stops _ c.self.invariant.limits c.self.invariant.strip_is c.self.invariant.its all_read due c.in-Err.ensures.outside)
+    (next_stops _ c.self.invariant.limits c.self.invariant.strip_is c.self.invariant.its all_read due
+    c.in-Err.ensures.outside)

@@ -11,7 +11,8 @@ invariant_of-self c =
     let short : c.page.inside.page + 1 < 2 ^ 32 = omega (arith, after, c.given.type_inv) in
     let hands = page_given laws.one laws.first _ _ due c.page.invariant.its c.page.invariant.limits short in
     record {
-      come = given_more c.self.inside.file.now c.self.inside.begun c.self.inside.given _ due.come due.file_is c.page.invariant.its;
+      come = given_more c.self.inside.file.now c.self.inside.begun c.self.inside.given _ due.come due.file_is
+          c.page.invariant.its;
       cursor_is = inr (
         c.self.inside.given,
         record { page = c.page.inside.page; form = c.page.inside.form },

@@ -15,7 +15,8 @@ put_zeros-requires-clause-begun c =
 pub invariant_of-self : goal.invariant_of-self
 invariant_of-self c =
     let all =
-    spread_length c.self-2.inside.gaps.items c.self-2.inside.held.items c.self-2.inside.placed c.self-2.invariant.gaps_are in
+    spread_length c.self-2.inside.gaps.items c.self-2.inside.held.items c.self-2.inside.placed
+    c.self-2.invariant.gaps_are in
     let more = length-append c.self-2.inside.held.items (packed_row c.args.row.now) in
     let count = c.packing_undoes_unpacking.ensures.packed_count c.args.row.now in
     held_put _ _ _ _ c.self-2.invariant c.put_pbm_row.result _ _ c.put_pbm_row.ensures.ok c.put_pbm_row.ensures.err

@@ -12,7 +12,8 @@ overflow_sub-held c =
 pub overflow_add-index_mut : goal.overflow_add-index_mut
 overflow_add-index_mut c =
     let fit =
-    last_fit _ _ _ _ c.args.zeros c.self.invariant (rw c.self.view_is c.requires.room) (rw c.self.view_is c.requires.begun)
+    last_fit _ _ _ _ c.args.zeros c.self.invariant (rw c.self.view_is c.requires.room)
+    (rw c.self.view_is c.requires.begun)
     (omega (arith, c.if-held-eq0.true, c.len.ensures)) (c.len-last.result - 1) (omega (arith, c.len-last.ensures))
     c.index_mut.result.now c.index_mut.ensures.value in
     omega (arith, fit)

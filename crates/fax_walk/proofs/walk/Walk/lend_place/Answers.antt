@@ -6,5 +6,6 @@ pub returns-in-Some-clause-place : goal.returns-in-Some-clause-place
 returns-in-Some-clause-place c =
     let w = c.self.inside in
     rw (← c.self.view_is)
-    (λ _. long_is _ w.cursor w.page c.self.invariant c.if-self-gt0.true c.in-Some.page c.in-Some.is (place_inside c.lend_place.result)
+    (λ _. long_is _ w.cursor w.page c.self.invariant c.if-self-gt0.true c.in-Some.page c.in-Some.is
+    (place_inside c.lend_place.result)
     c.lend_place.ensures)
