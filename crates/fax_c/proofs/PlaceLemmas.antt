@@ -1,13 +1,14 @@
 -- The place after rows that were written.
-use Rattle.std.proofs.Common.{◌≡◌, ℕ, ◌+◌, ◌-◌, ◌<◌, ◌≤◌, List, [], ◌∷◌, length, take, drop, inl, inr, ap, sym}
+use Rattle.std.proofs.Common.{◌≡◌, ℕ, ◌+◌, ◌-◌, ◌<◌, ◌≤◌, List, [], ◌∷◌, length, take, drop, inl, inr, ap, refl, sym}
 use Rattle.std.proofs.Common.{subst, ◌∙◌, arith, length-append, length-drop}
-use Rattle.std.specs.Prelude.{Some}
+use Rattle.std.specs.Prelude.{Some, None}
 use Rattle.std.proofs.lemmas.List.{take_at, drop_at, drop-drop}
 use Rattle.fax_rows.specs.Rows.{Colour, other, runs_after, runs_of}
 use Rattle.fax_walk.specs.declared.begun.Begun.{Begun}
 use Rattle.fax_walk.specs.declared.cursor.Cursor.{Cursor}
 use Rattle.fax_walk.specs.declared.walk.PlaceInside.{PlaceInside}
 use Rattle.fax_walk.specs.Items.{begun_cursor}
+use Rattle.fax_walk.specs.Pages.{LongPlace}
 use Rattle.fax_walk.specs.views.Walk.{HasPage, IsLongOf, WalkView, place_inside}
 use Rattle.fax_c.specs.declared.places.FaxPlace.{FaxPlace}
 use Rattle.fax_c.specs.views.Filled.{TakesRuns}
@@ -44,6 +45,15 @@ inside_told walk lent count old old_runs runs long few (count_is, within, runs_a
         subst (λ ns. IsLongOf walk (Some (record { at = lent.at; bits = lent.bits; runs = ns }))) (sym same) long,
       ),
     )
+
+-- a place that is lent, and whose runs have no room, is not told
+pub inside_untold : (walk : WalkView) (lent : PlaceInside) (old : FaxPlace) (old_runs runs : List ℕ)
+    → IsLongOf walk (place_inside (Some lent)) → IsPutAt (runs_of lent.reference.now) old_runs 0 None runs
+    → IsInsideTold walk old old_runs old runs
+inside_untold walk lent old old_runs runs long (same, short) =
+    let len : length runs ≡ length old_runs = ap (λ (l : List ℕ). length l) same in
+    let found : LongPlace = record { at = lent.at; bits = lent.bits; runs = runs_of lent.reference.now } in
+    ((ap (drop most_runs) same, len), inl (refl, inr (found, long, omega (arith, len, short))))
 
 -- a walk from a place begins at its cursor
 pub begun_cursor-begun_of : (place : FaxPlace) (runs : List ℕ) → cursor_of place ≡ begun_cursor (place_begun place runs)
