@@ -6,3 +6,6 @@ mod RunGraph
 mod StepGraph
 mod StripGraph
 mod EndGraph
+mod ChainGraph
+mod FileGraph
+mod FileExampleLemmas

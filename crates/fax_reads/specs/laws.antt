@@ -1,2 +1,4 @@
 pub mod Graphs
 pub mod Examples
+pub mod Files
+pub mod FileExamples
