@@ -16,8 +16,8 @@ use Rattle.fax_files.specs.Page.{most_rows, strip_bytes, strip_form}
 use Rattle.fax_files.specs.laws.Files.{FilesHaveOneChain, FormsAreWhole}
 use Rattle.fax_walk.specs.declared.cursor.Cursor.{Cursor}
 use Rattle.fax_walk.specs.declared.end.End.{End}
-use Rattle.fax_walk.specs.Pages.{AreForms, AreFrom, FilePage, FormItem, IsForm, IsOnPage, IsPageAt, NextItem, goes_on, ends_as}
-use Rattle.fax_walk.specs.Items.{AreItems, Inner, IsInStrip, IsRow, RowItem, RowPlace, before, first_at}
+use Rattle.fax_walk.specs.Pages.{AreFrom, FilePage, FormItem, IsForm, IsOnPage, IsPageAt, NextItem, goes_on, ends_as}
+use Rattle.fax_walk.specs.Items.{Inner, IsInStrip, IsRow, RowItem, RowPlace, before, first_at}
 use Rattle.fax_walk.specs.code.Opening.{IsPageUnder}
 use Rattle.fax_walk.proofs.RowLawLemmas.{LinesAreRead, after_read, exchanged_twice, read_at, whole_page}
 use Rattle.fax_walk.proofs.RowLawLemmas.{one_row}
@@ -25,8 +25,8 @@ use Rattle.fax_walk.proofs.TailLawLemmas.{files_have_one_items}
 use Rattle.fax_walk.proofs.InOrderLemmas.{IsOneAnswer, same_answer, two_of}
 use Rattle.fax_walk.proofs.PageLawLemmas.{one_form, one_forms, one_page, page_few}
 use Rattle.fax_reads.specs.Lines.{read_line}
-use Rattle.fax_reads.specs.Files.{AllRead, ChainRead, all_after, page_under, read_all, read_chain, read_form, read_forms, read_in_strip}
-use Rattle.fax_reads.specs.Files.{read_page, read_row, read_rows, row_or_end}
+use Rattle.fax_reads.specs.Files.{AllRead, ChainRead, all_after, page_under, forms_from, read_all, read_chain, read_form, read_forms, read_in_strip}
+use Rattle.fax_reads.specs.Files.{read_page, read_row, read_rows, row_or_end, rows_from}
 use Rattle.fax_reads.specs.laws.Files.{FilesAreReadByFunctions}
 use Rattle.fax_reads.proofs.ChainGraph.{chain_is, chain_of}
 use Rattle.fax_reads.proofs.LineGraph.{line_is}
@@ -36,7 +36,7 @@ both_ways : {A : Type 0} {holds : A → Type 0} → IsOneAnswer holds → (read 
 both_ways {A} {holds} only read is answer = (λ at. same_answer only read answer is at, λ same. subst holds same is)
 
 -- so is one list with its end
-both_lists : {A : Type 0} {holds : List A → End → Type 0} → IsOne holds → (read : AllRead A) → holds read.items read.end → (items : List A)
+pub both_lists : {A : Type 0} {holds : List A → End → Type 0} → IsOne holds → (read : AllRead A) → holds read.items read.end → (items : List A)
     (end : End) → holds items end ↔ (read ≡ record { items = items; end = end })
 both_lists {A} {holds} only read is items end = (
   λ at. let same = two_of only read.items items read.end end is at in rw (← same.0, ← same.1) refl,
@@ -67,29 +67,27 @@ module _ (chains : FilesHaveOneChain) (file : List ℕ) where
   page_is : (at : Cursor) → IsPageAt file at (read_page file at)
   page_is at = by_header at (header file)
 
-  -- what is read on a page that is there
-  on_page : {A : Type 0} (at : Cursor) (asked : FilePage → A → Type 0) (ended : End → A) (read : FilePage → A)
-      → ((here : FilePage) → asked here (read here))
-      → IsOnPage file at (λ here. asked here (elim (read_page file at) [ Err end ↦ ended end | Ok here ↦ read here ]))
-      (λ end. elim (read_page file at) [ Err end ↦ ended end | Ok here ↦ read here ] ≡ ended end)
-  on_page {A} at asked ended read is = (read_page file at, page_is at, by_page (read_page file at))
+  -- what is made of the page that is read
+  pub on_page : {A : Type 0} (at : Cursor) (asked : FilePage → A → Type 0) (ended : End → A) (of : Result FilePage End → A)
+      → ((end : End) → of (Err end) ≡ ended end) → ((here : FilePage) → asked here (of (Ok here)))
+      → IsOnPage file at (λ here. asked here (of (read_page file at))) (λ end. of (read_page file at) ≡ ended end)
+  on_page {A} at asked ended of ends is = (read_page file at, page_is at, by_page (read_page file at))
     where
-      by_page : (found : Result FilePage End)
-          → MatchResult found (λ here. asked here (elim found [ Err end ↦ ended end | Ok here ↦ read here ]))
-          (λ end. elim found [ Err end ↦ ended end | Ok here ↦ read here ] ≡ ended end)
-      by_page (Err end) = refl
+      by_page : (found : Result FilePage End) → MatchResult found (λ here. asked here (of found)) (λ end. of found ≡ ended end)
+      by_page (Err end) = ends end
       by_page (Ok here) = is here
 
   form_is : (p : ℕ) → IsForm file p (read_form file p)
   form_is p =
       on_page (record { page = p; row = 0 }) (λ here (step : NextItem FormItem ℕ). step ≡ goes_on (record { page = p; form = here.form }) (p + 1))
-      ends_as (λ here. goes_on (record { page = p; form = here.form }) (p + 1)) (λ here. refl)
+      ends_as (λ found. elim found [ Err end ↦ ends_as end | Ok here ↦ goes_on (record { page = p; form = here.form }) (p + 1) ])
+      (λ end. refl) (λ here. refl)
 
   form_falls : (p : ℕ) (item : FormItem) (to : ℕ) → IsForm file p (goes_on item to) → length file - to < length file - p
   form_falls p item to h = grind (arith, page_few)
 
-  forms_are : AreForms file (read_forms file).items (read_forms file).end
-  forms_are = all_are (IsForm file) (read_form file) form_is (λ p. length file - p) form_falls (length file + 1) 0 (omega arith)
+  pub forms_are : (p : ℕ) → AreFrom (IsForm file) p (forms_from file p).items (forms_from file p).end
+  forms_are p = all_are (IsForm file) (read_form file) form_is (λ p. length file - p) form_falls (length file + 1) p (omega arith)
 
 module _ (runs_read : (colour : Colour) → ReadsRunsOneWay colour) (modes_read : ReadsOneWay modes) (by_place : AreBitsByPlace)
     (lines_read : LinesAreRead) where
@@ -132,18 +130,25 @@ module _ (runs_read : (colour : Colour) → ReadsRunsOneWay colour) (modes_read 
     row_is at =
         on_page chains file (record { page = at.page; row = at.row })
         (λ here. IsInStrip here.form at (strip_bytes here.endian file here.offset (at.row / here.form.rows_per_strip))) ends_as
-        (λ here. read_in_strip here.form at (strip_bytes here.endian file here.offset (at.row / here.form.rows_per_strip)))
+        (λ found. elim found [
+          | Err end ↦ ends_as end
+          | Ok here ↦ read_in_strip here.form at (strip_bytes here.endian file here.offset (at.row / here.form.rows_per_strip))
+        ])
+        (λ end. refl)
         (λ here. in_strip_is here.form at (strip_bytes here.endian file here.offset (at.row / here.form.rows_per_strip)))
 
     -- more than the rows that are left
     abbrev measure : RowPlace → ℕ
     measure at = (length file - at.page) * 1000001 + (1000000 - at.row)
 
+    below : (at : RowPlace) → measure at < (length file + 1) * (most_rows + 1)
+    below at = omega arith
+
     row_falls : (at : RowPlace) (item : RowItem) (to : RowPlace) → IsRow file at (goes_on item to) → measure to < measure at
     row_falls at item to step = grind (arith, read_at, page_few, whole_page, after_read)
 
-    rows_are : AreItems file (read_rows file).items (read_rows file).end
-    rows_are = all_are (IsRow file) (read_row file) row_is measure row_falls ((length file + 1) * (most_rows + 1)) (first_at 0 0) (omega arith)
+    pub rows_are : (at : RowPlace) → AreFrom (IsRow file) at (rows_from file at).items (rows_from file at).end
+    rows_are at = all_are (IsRow file) (read_row file) row_is measure row_falls ((length file + 1) * (most_rows + 1)) at (below at)
 
   pub files_graph : FilesHaveOneChain → FormsAreWhole → FilesAreReadByFunctions
   files_graph chains forms = record {
@@ -156,6 +161,6 @@ module _ (runs_read : (colour : Colour) → ReadsRunsOneWay colour) (modes_read 
     row = λ file at. both_ways (one_row by_place lines_read chains file at) (read_row file at) (row_is chains forms file at);
     form = λ file p. both_ways (one_form chains file p) (read_form file p) (form_is chains file p);
     rows = λ file items end. both_lists (files_have_one_items by_place lines_read chains forms file) (read_rows file)
-        (rows_are chains forms file) items end;
-    forms = λ file items end. both_lists (one_forms chains file) (read_forms file) (forms_are chains file) items end;
+        (rows_are chains forms file (first_at 0 0)) items end;
+    forms = λ file items end. both_lists (one_forms chains file) (read_forms file) (forms_are chains file 0) items end;
   }

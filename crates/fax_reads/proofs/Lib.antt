@@ -8,4 +8,6 @@ mod StripGraph
 mod EndGraph
 mod ChainGraph
 mod FileGraph
+mod TailGraph
 mod FileExampleLemmas
+mod TailExampleLemmas

@@ -131,10 +131,16 @@ abbrev pub read_all : {S A : Type 0} → ℕ → (S → NextItem A S) → S → 
 read_all zero next at = record { items = []; end = Outside }
 read_all (suc limit) next at = all_after (λ to. read_all limit next to) (next at)
 
--- all rows of a file, and their end
-abbrev pub read_rows : List ℕ → AllRead RowItem
-read_rows file = read_all ((length file + 1) * (most_rows + 1)) (read_row file) (first_at 0 0)
+-- the rows of a file from a place on, and all of them
+abbrev pub rows_from : List ℕ → RowPlace → AllRead RowItem
+rows_from file at = read_all ((length file + 1) * (most_rows + 1)) (read_row file) at
 
--- the forms of all pages of a file, and their end
+abbrev pub read_rows : List ℕ → AllRead RowItem
+read_rows file = rows_from file (first_at 0 0)
+
+-- the forms of a file's pages from a page on, and all of them
+abbrev pub forms_from : List ℕ → ℕ → AllRead FormItem
+forms_from file p = read_all (length file + 1) (read_form file) p
+
 abbrev pub read_forms : List ℕ → AllRead FormItem
-read_forms file = read_all (length file + 1) (read_form file) 0
+read_forms file = forms_from file 0

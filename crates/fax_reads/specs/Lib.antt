@@ -3,4 +3,5 @@ pub mod Rows
 pub mod Lines
 pub mod Uncounted
 pub mod Files
+pub mod Tails
 pub mod laws

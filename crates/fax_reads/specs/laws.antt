@@ -2,3 +2,4 @@ pub mod Graphs
 pub mod Examples
 pub mod Files
 pub mod FileExamples
+pub mod TailExamples

@@ -3,11 +3,14 @@
 use Rattle.std.specs.Prelude.{◌≡◌, ◌↔◌, ℕ, List, Option, Result}
 use Rattle.fax_files.specs.declared.FileFault.{FileFault}
 use Rattle.fax_files.specs.Directory.{Header, IsChain}
+use Rattle.fax_walk.specs.declared.begun.Begun.{Begun}
 use Rattle.fax_walk.specs.declared.cursor.Cursor.{Cursor}
 use Rattle.fax_walk.specs.declared.end.End.{End}
-use Rattle.fax_walk.specs.Pages.{AreForms, FilePage, FormItem, IsForm, IsPageAt, NextItem}
-use Rattle.fax_walk.specs.Items.{AreItems, IsRow, RowItem, RowPlace}
+use Rattle.fax_walk.specs.Pages.{AreForms, FilePage, FormItem, IsForm, IsFormTail}
+use Rattle.fax_walk.specs.Pages.{IsPageAt, NextItem}
+use Rattle.fax_walk.specs.Items.{AreItems, IsRow, IsTailFrom, RowItem, RowPlace}
 use Rattle.fax_reads.specs.Files.{read_chain, read_page, read_row, read_form, read_rows, read_forms}
+use Rattle.fax_reads.specs.Tails.{read_tail, read_form_tail}
 
 -- the chain of directories, the page that a cursor names, the row at a place, the form of a page,
 -- and all rows and all forms with their end
@@ -25,3 +28,12 @@ pub record FilesAreReadByFunctions : Type 0 where
       → AreItems file items end ↔ (read_rows file ≡ record { items = items; end = end })
   pub forms : (file : List ℕ) (items : List FormItem) (end : End)
       → AreForms file items end ↔ (read_forms file ≡ record { items = items; end = end })
+
+-- what is handed out from a cursor or a place inside a strip on
+pub record TailsAreReadByFunctions : Type 0 where
+  pub rows : (file : List ℕ) (begun : Begun) (items : List RowItem) (end : End)
+      → IsTailFrom file begun items end
+      ↔ (read_tail file begun ≡ record { items = items; end = end })
+  pub forms : (file : List ℕ) (at : Cursor) (items : List FormItem) (end : End)
+      → IsFormTail file at items end
+      ↔ (read_form_tail file at ≡ record { items = items; end = end })
