@@ -82,6 +82,11 @@ module _ (read : FilesAreReadByFunctions) where
     width_without_a_value = refused _ _ refl refl;
     lengths_outside = refused _ _ refl refl;
     strips_of_no_rows = refused _ _ refl refl;
+    bits_of_another_type = refused _ _ refl refl;
+    compression_of_another_type = refused _ _ refl refl;
+    interpretation_of_another_type = refused _ _ refl refl;
+    order_of_another_type = refused _ _ refl refl;
+    samples_of_another_type = refused _ _ refl refl;
     options_of_another_type = refused _ _ refl refl;
     too_few_offsets = refused _ _ refl refl;
     byte_counts_of_another_type = refused _ _ refl refl;
@@ -89,6 +94,7 @@ module _ (read : FilesAreReadByFunctions) where
     not_compressed = refused _ _ refl refl;
     lzw = refused _ _ refl refl;
     rgb = refused _ _ refl refl;
+    order_of_0 = refused _ _ refl refl;
     third_order = refused _ _ refl refl;
     three_samples = refused _ _ refl refl;
     no_pels = refused _ _ refl refl;
@@ -117,6 +123,7 @@ module _ (read : FilesAreReadByFunctions) where
       scalar rational_of form_in page strip_bytes field_bytes
   whole = record {
     page = has _ _ _ refl refl;
+    highest_byte_first = has _ _ _ refl refl;
     two_pages = has _ _ _ refl refl;
     strips = has _ _ _ refl refl;
     exchanged = has _ _ _ refl refl;

@@ -144,6 +144,12 @@ pub record AreFaultsOfFields : Type 0 where
   pub width_without_a_value : IsRefused (page_with (field_of 256 3 0 (four 8))) (BadField 256)
   pub lengths_outside : IsRefused (page_with (field_of 257 3 3 (four 1000))) (BadField 257)
   pub strips_of_no_rows : IsRefused (page_and (short 278 0)) (BadField 278)
+  pub bits_of_another_type : IsRefused (page_and (field_of 258 5 1 (four 8))) (BadField 258)
+  pub compression_of_another_type : IsRefused (page_with (field_of 259 1 1 (four 4))) (BadField 259)
+  pub interpretation_of_another_type : IsRefused (page_with (field_of 262 1 1 (four 0)))
+      (BadField 262)
+  pub order_of_another_type : IsRefused (page_and (field_of 266 1 1 (four 1))) (BadField 266)
+  pub samples_of_another_type : IsRefused (page_and (field_of 277 1 1 (four 1))) (BadField 277)
   pub options_of_another_type : IsRefused
       (file_of (field_of 292 5 1 (four 8) ∷ with (short 259 3) page_fields) []) (BadField 292)
   pub too_few_offsets : IsRefused (file_of (short 278 1 ∷ with (short 257 2) page_fields) [])
@@ -153,6 +159,7 @@ pub record AreFaultsOfFields : Type 0 where
   pub not_compressed : IsRefused (page_with (short 259 1)) (Unsupported 259)
   pub lzw : IsRefused (page_with (short 259 5)) (Unsupported 259)
   pub rgb : IsRefused (page_with (short 262 2)) (Unsupported 262)
+  pub order_of_0 : IsRefused (page_and (short 266 0)) (Unsupported 266)
   pub third_order : IsRefused (page_and (short 266 3)) (Unsupported 266)
   pub three_samples : IsRefused (page_and (short 277 3)) (Unsupported 277)
   pub no_pels : IsRefused (page_with (short 256 0)) (OutOfLimits 256)
@@ -179,9 +186,30 @@ pub record AreFaultsOfStrips : Type 0 where
       (Fault 0 1 (Strip DataEnds))
   pub no_code : HasRows (file_of page_fields (0x01 ∷ [])) [] (Fault 0 0 (Strip BadCode))
 
+-- the number of a digit, where 97 is the letter a
+abbrev pub digit : ℕ → ℕ
+digit character = if nat_lt character 97 then character - 48 else character - 87
+
+-- the bytes that a text spells, two digits each, without its blanks
+abbrev pub spelled_bytes : List ℕ → List ℕ
+spelled_bytes [] = []
+spelled_bytes (first ∷ []) = []
+spelled_bytes (first ∷ second ∷ text) =
+    if first == 32 then spelled_bytes (second ∷ text)
+    else (16 * digit first + digit second) ∷ spelled_bytes text
+
+-- the file of a page, big-endian
+abbrev pub big_endian : List ℕ
+big_endian =
+    spelled_bytes (codes "4d4d 002a 00000008 0006"
+    ++ codes " 0100 0003 00000001 0008 0000  0101 0003 00000001 0001 0000"
+    ++ codes " 0103 0003 00000001 0004 0000  0106 0003 00000001 0000 0000"
+    ++ codes " 0111 0004 00000001 00000056  0117 0004 00000001 00000001  00000000 80")
+
 -- files that end properly
 pub record AreWholeFiles : Type 0 where
   pub page : HasRows (page_before 0) (white_at 0 0 ∷ []) Proper
+  pub highest_byte_first : HasRows big_endian (white_at 0 0 ∷ []) Proper
   pub two_pages : HasRows (page_before 87 ++ directory page_fields 0)
       (white_at 0 0 ∷ white_at 1 0 ∷ []) Proper
   pub strips : HasRows (two_strips 98) (white_at 0 0 ∷ white_at 0 1 ∷ []) Proper
@@ -197,18 +225,6 @@ pub record AreWholeFiles : Type 0 where
   pub first_entry_counts : HasRows
       (file_of (with (short 273 98) page_fields ++ short 256 9 ∷ []) same_row)
       (white_at 0 0 ∷ []) Proper
-
--- the number of a digit, where 97 is the letter a
-abbrev pub digit : ℕ → ℕ
-digit character = if nat_lt character 97 then character - 48 else character - 87
-
--- the bytes that a text spells, two digits each, without its blanks
-abbrev pub spelled_bytes : List ℕ → List ℕ
-spelled_bytes [] = []
-spelled_bytes (first ∷ []) = []
-spelled_bytes (first ∷ second ∷ text) =
-    if first == 32 then spelled_bytes (second ∷ text)
-    else (16 * digit first + digit second) ∷ spelled_bytes text
 
 -- the file samples/one-mh-page.tif
 abbrev pub sample : List ℕ
