@@ -6,3 +6,8 @@ mod RunGraph
 mod StepGraph
 mod StripGraph
 mod EndGraph
+mod ChainGraph
+mod FileGraph
+mod TailGraph
+mod FileExampleLemmas
+mod TailExampleLemmas

@@ -1,2 +1,5 @@
 pub mod Graphs
 pub mod Examples
+pub mod Files
+pub mod FileExamples
+pub mod TailExamples

@@ -1,6 +1,9 @@
 //! Laws of the functions. These here compute nothing: each has a law as its contract.
 ghost use Rattle.fax_reads.specs.laws.Graphs as Law;
 ghost use Rattle.fax_reads.specs.laws.Examples.{AreRead};
+ghost use Rattle.fax_reads.specs.laws.Files.{FilesAreReadByFunctions, TailsAreReadByFunctions};
+ghost use Rattle.fax_reads.specs.laws.FileExamples.{AreFilesRead};
+ghost use Rattle.fax_reads.specs.laws.TailExamples.{AreTailsRead};
 
 /// A row of bits, or its fault, is what a function reads of them, in one-dimensional coding and in
 /// two-dimensional coding over a reference row (T.4, sections 4.1.1 and 4.2.1.3.3; T.6, section
@@ -30,3 +33,44 @@ pub fn ends_are_told_by_a_function()
 pub fn examples_are_read()
     ensures { AreRead }
 {}
+
+/// A file's chain of directories, the page that a cursor names, the row at a place, the form of a
+/// page, and all rows and all forms with their end are what functions read of its bytes (TIFF 6.0,
+/// section 2).
+pub fn files_are_read_by_functions()
+    ensures { FilesAreReadByFunctions }
+{
+    fax_bits::laws::run_codes_are_read_in_one_way();
+    fax_bits::laws::codes_are_read_in_one_way::<fax_bits::Modes>();
+    fax_bits::laws::bits_stand_by_place();
+    fax_page::laws::lines_are_read_in_one_way();
+    fax_files::laws::files_have_one_chain();
+    fax_files::laws::forms_are_whole();
+}
+
+/// Worked files are read as they are meant.
+pub fn worked_files_are_read()
+    ensures { AreFilesRead }
+{
+    files_are_read_by_functions();
+}
+
+/// What a walk hands out, and what a reader of pages does, from a cursor or a place inside a strip
+/// on, is what functions read of the file's bytes.
+pub fn tails_are_read_by_functions()
+    ensures { TailsAreReadByFunctions }
+{
+    fax_bits::laws::run_codes_are_read_in_one_way();
+    fax_bits::laws::codes_are_read_in_one_way::<fax_bits::Modes>();
+    fax_bits::laws::bits_stand_by_place();
+    fax_page::laws::lines_are_read_in_one_way();
+    fax_files::laws::files_have_one_chain();
+    fax_files::laws::forms_are_whole();
+}
+
+/// What is handed out from worked cursors and places on is what is meant.
+pub fn worked_tails_are_read()
+    ensures { AreTailsRead }
+{
+    tails_are_read_by_functions();
+}

@@ -1,0 +1,94 @@
+-- What is handed out from a cursor or a place inside a strip on is what functions say.
+use Rattle.std.proofs.Common.{arith, ◌≡◌, ℕ, inl, inr, List, [], drop, refl}
+use Rattle.std.proofs.Common.{Bool, true, false, Option, Some, None, Result, Ok, Err}
+use Rattle.std.specs.Prelude.{MatchResult, if◌then◌else◌}
+use Rattle.std.proofs.lemmas.Bool.Decides.{nat_tests}
+use Rattle.std.proofs.lemmas.Slice.Eq.{bytes_eq-Decides}
+use Rattle.fax_bits.specs.declared.Colour.{Colour}
+use Rattle.fax_bits.specs.laws.Codes.{AreBitsByPlace, ReadsOneWay, ReadsRunsOneWay}
+use Rattle.fax_bits.specs.Tables.{modes}
+use Rattle.fax_files.specs.laws.Files.{FilesHaveOneChain, FormsAreWhole}
+use Rattle.fax_walk.specs.declared.begun.Begun.{Begun}
+use Rattle.fax_walk.specs.declared.begun.Begun.TheVariants.{At, Inside}
+use Rattle.fax_walk.specs.declared.cursor.Cursor.{Cursor}
+use Rattle.fax_walk.specs.declared.end.End.{End}
+use Rattle.fax_walk.specs.declared.end.End.TheVariants.{Outside}
+use Rattle.fax_walk.specs.Pages.{AreFrom, FilePage, IsForm, IsFormTail, LongPlace}
+use Rattle.fax_walk.specs.Items.{IsBegunOn, IsInnerOn, IsRow, IsTailFrom, RowItem, RowPlace, begun_cursor, inner_at}
+use Rattle.fax_walk.specs.code.Places.{FitsStrip}
+use Rattle.fax_walk.proofs.RowLawLemmas.{LinesAreRead, one_tail_from}
+use Rattle.fax_walk.proofs.PageLawLemmas.{one_form_tail}
+use Rattle.fax_reads.specs.Codes.{◌>>=◌}
+use Rattle.fax_reads.specs.Files.{read_page, rows_from}
+use Rattle.fax_reads.specs.Tails.{begin_on, first_form, fits_strip, form_tail_from, is_inner_on, read_form_tail, read_tail, tail_from}
+use Rattle.fax_reads.specs.laws.Files.{TailsAreReadByFunctions}
+use Rattle.fax_reads.proofs.FileGraph.{both_lists, forms_are, on_page, rows_are}
+
+-- the tests of a place inside a strip decide whether it is one
+fits_so : (width : ℕ) (found : Option (List ℕ)) (place : LongPlace) → fits_strip width found place ≡ true → FitsStrip width found place
+fits_so width None place e = tt
+fits_so width (Some bytes) place e = grind (arith, nat_tests, bytes_eq-Decides)
+
+so_fits : (width : ℕ) (found : Option (List ℕ)) (place : LongPlace) → FitsStrip width found place → fits_strip width found place ≡ true
+so_fits width None place is = refl
+so_fits width (Some bytes) place is = grind (arith, nat_tests, bytes_eq-Decides)
+
+module _ (file : List ℕ) (here : FilePage) (place : LongPlace) where
+  is_inner : is_inner_on file here place ≡ true → IsInnerOn file here place
+  is_inner e = grind (arith, nat_tests, fits_so)
+
+  inner_is : IsInnerOn file here place → is_inner_on file here place ≡ true
+  inner_is is = grind (arith, nat_tests, so_fits)
+
+  by_test : (test : Bool) → is_inner_on file here place ≡ test
+      → IsBegunOn file (Inside place) here (if test then Ok (inner_at place, 0) else Err Outside)
+  by_test true e = inl (is_inner e, refl)
+  by_test false e = inr (λ is. let yes = inner_is is in absurd cc, refl)
+
+begun_on : (file : List ℕ) (begun : Begun) (here : FilePage) → IsBegunOn file begun here (begin_on file begun here)
+begun_on file (At at) here = refl
+begun_on file (Inside place) here = by_test file here place (is_inner_on file here place) refl
+
+module _ (chains : FilesHaveOneChain) (file : List ℕ) where
+  forms_by : (begin : Result ℕ End)
+      → MatchResult begin (λ p. AreFrom (IsForm file) p (form_tail_from file begin).items (form_tail_from file begin).end)
+      (λ none. ((form_tail_from file begin).items ≡ []) × ((form_tail_from file begin).end ≡ none))
+  forms_by (Err none) = (refl, refl)
+  forms_by (Ok p) = forms_are chains file p
+
+  form_tail_is : (at : Cursor) → IsFormTail file at (read_form_tail file at).items (read_form_tail file at).end
+  form_tail_is at = (
+    read_page file at >>= first_form at,
+    on_page chains file at (λ here (begin : Result ℕ End). begin ≡ first_form at here) Err (λ found. found >>= first_form at)
+        (λ end. refl)
+        (λ here. refl),
+    forms_by (read_page file at >>= first_form at),
+  )
+
+module _ (runs_read : (colour : Colour) → ReadsRunsOneWay colour) (modes_read : ReadsOneWay modes) (by_place : AreBitsByPlace)
+    (lines_read : LinesAreRead) (chains : FilesHaveOneChain) (forms : FormsAreWhole) where
+  module _ (file : List ℕ) where
+    rows_by : (begin : Result (RowPlace × ℕ) End)
+        → MatchResult begin (λ from. (all : List RowItem) × AreFrom (IsRow file) from.0 all (tail_from file begin).end
+        × ((tail_from file begin).items ≡ drop from.1 all))
+        (λ none. ((tail_from file begin).items ≡ []) × ((tail_from file begin).end ≡ none))
+    rows_by (Err none) = (refl, refl)
+    rows_by (Ok from) =
+        ((rows_from file from.0).items, rows_are runs_read modes_read by_place lines_read chains forms file from.0, refl)
+
+    tail_is : (begun : Begun) → IsTailFrom file begun (read_tail file begun).items (read_tail file begun).end
+    tail_is begun = (
+      read_page file (begun_cursor begun) >>= begin_on file begun,
+      on_page chains file (begun_cursor begun) (λ here (begin : Result (RowPlace × ℕ) End). IsBegunOn file begun here begin) Err
+          (λ found. found >>= begin_on file begun)
+          (λ end. refl)
+          (begun_on file begun),
+      rows_by (read_page file (begun_cursor begun) >>= begin_on file begun),
+    )
+
+  pub tails_graph : TailsAreReadByFunctions
+  tails_graph = record {
+    rows = λ file begun items end. both_lists (one_tail_from by_place lines_read chains forms file begun) (read_tail file begun)
+        (tail_is file begun) items end;
+    forms = λ file at items end. both_lists (one_form_tail chains file at) (read_form_tail file at) (form_tail_is chains file at) items end;
+  }
