@@ -10,8 +10,10 @@ use Rattle.fax_c.specs.code.Conversion.{refusal_status}
 -- a fault is told, or memory was refused
 abbrev pub IsRefusalTold : List ℕ → Options → ConvertFault → Type 0
 IsRefusalTold file options fault =
-    ((refusal_status fault ≡ 2) × IsNotConverted file options fault) ⊎ ((refusal_status fault ≡ 4) × (refusal_of fault ≡ no_output))
+    ((refusal_status fault ≡ 2) × IsNotConverted file options fault)
+    ⊎ ((refusal_status fault ≡ 4) × (refusal_of fault ≡ no_output))
 
-pub refusal : (file : List ℕ) (options : Options) (fault : ConvertFault) → (fault ≢ Refused.Memory → IsNotConverted file options fault)
+pub refusal : (file : List ℕ) (options : Options) (fault : ConvertFault)
+    → (fault ≢ Refused.Memory → IsNotConverted file options fault)
     → IsRefusalTold file options fault
 refusal file options fault why = grind arith

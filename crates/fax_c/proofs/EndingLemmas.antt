@@ -1,8 +1,10 @@
 -- Pages that are told how many they are: what is written of a page stands in three parts, what is
 -- before its total, the total, and what is after it; and what is written of later pages stays.
-use Rattle.std.proofs.Common.{◌≡◌, ℕ, zero, suc, ◌+◌, ◌-◌, ◌*◌, ◌%◌, ◌≤◌, ◌<◌, Bool, false, List, [], ◌∷◌, ◌++◌, length, take, drop}
+use Rattle.std.proofs.Common.{◌≡◌, ℕ, zero, suc, ◌+◌, ◌-◌, ◌*◌, ◌%◌, ◌≤◌, ◌<◌, Bool, false, List, [], ◌∷◌, ◌++◌, length}
+use Rattle.std.proofs.Common.{take, drop}
 use Rattle.std.proofs.Common.{refl, sym, ap, subst, ◌∙◌, arith, append_assoc, inl, inr}
-use Rattle.std.proofs.lemmas.List.{length-append, length-take-le, length-drop, length-replicate, take-append-le, drop_at, take_at, drop-drop, take-take}
+use Rattle.std.proofs.lemmas.List.{length-append, length-take-le, length-drop, length-replicate, take-append-le}
+use Rattle.std.proofs.lemmas.List.{drop_at, take_at, drop-drop, take-take}
 use Rattle.std.proofs.lemmas.List.{take-append-drop, append-nil}
 use Rattle.std.proofs.lemmas.List.Concat.{flat_map-append}
 use Rattle.std.proofs.lemmas.Bool.{ne_eqb}
@@ -13,17 +15,21 @@ use Rattle.fax_files.specs.declared.PageForm.{PageForm}
 use Rattle.fax_page.specs.declared.Coding.{Coding}
 use Rattle.fax_page.specs.declared.Coding.TheVariants.{Mh, Mr, Mmr}
 use Rattle.fax_files.specs.Directory.{number_at}
-use Rattle.fax_files.specs.Layout.{to_link, two, four, directory_place, page_bytes, Written, with_page, with_pages, WrittenPage, WrittenField}
-use Rattle.fax_files.specs.Layout.{field_bytes, field_of, fields_with, options_field, offsets_from, one_or_place, array_bytes, file_of}
+use Rattle.fax_files.specs.Layout.{to_link, two, four, directory_place, page_bytes, Written, with_page, with_pages}
+use Rattle.fax_files.specs.Layout.{WrittenPage, WrittenField}
+use Rattle.fax_files.specs.Layout.{field_bytes, field_of, fields_with, options_field, offsets_from, one_or_place}
+use Rattle.fax_files.specs.Layout.{array_bytes, file_of}
 use Rattle.fax_files.specs.views.Writing.{empty_file}
 use Rattle.fax_c.specs.declared.writing.FaxWritten.{FaxWritten}
 use Rattle.fax_c.specs.declared.forms.FaxForm.{FaxForm}
 use Rattle.fax_c.specs.Raster.{page_strips}
 use Rattle.fax_c.specs.views.Written.{TellsPageAdded, file_so_far}
-use Rattle.fax_c.specs.views.Ended.{next_link, IsLinkToPage, ArePagesAfter, with_total, with_totals, IsEndable, HasItsPages, TellsPagesEnded}
+use Rattle.fax_c.specs.views.Ended.{next_link, IsLinkToPage, ArePagesAfter, with_total, with_totals, IsEndable}
+use Rattle.fax_c.specs.views.Ended.{HasItsPages, TellsPagesEnded}
 use Rattle.fax_c.specs.views.Ended.{IsFileSoFar, AddsToPages, EndsWholeFile}
 
--- the bytes of a page before the total that it says, and after it: of the fields PageNumber (297, two SHORTs, of type 3) is the
+-- the bytes of a page before the total that it says, and after it: of the fields PageNumber (297, two SHORTs, of type
+-- 3) is the
 -- last; StripOffsets (273) and StripByteCounts (279) are LONGs, of type 4
 abbrev early_fields : ℕ → ℕ → PageForm → List (List ℕ) → List WrittenField
 early_fields start k form strips =
@@ -38,12 +44,14 @@ early_fields start k form strips =
 abbrev page_head : ℕ → ℕ → PageForm → List (List ℕ) → List ℕ
 page_head start k form strips =
     let all = flat_map (λ strip. strip) strips in
-    (all ++ replicate ((start + length all) % 2) 0) ++ (two 16 ++ (flat_map field_bytes (early_fields start k form strips)
+    (all ++ replicate ((start + length all) % 2) 0) ++ (two 16
+    ++ (flat_map field_bytes (early_fields start k form strips)
     ++ (two 297 ++ two 3 ++ four 2 ++ two k)))
 
 abbrev page_rest : ℕ → PageForm → List (List ℕ) → List ℕ
 page_rest start form strips =
-    four 0 ++ (four form.x.0 ++ four form.x.1 ++ (four form.y.0 ++ four form.y.1) ++ array_bytes (offsets_from start strips)
+    four 0 ++ (four form.x.0 ++ four form.x.1 ++ (four form.y.0 ++ four form.y.1)
+    ++ array_bytes (offsets_from start strips)
     ++ array_bytes (map length strips))
 
 joined : (A N E M T Z V : List ℕ) → A ++ (N ++ (E ++ (M ++ T))) ++ Z ++ V ≡ (A ++ (N ++ (E ++ M))) ++ (T ++ (Z ++ V))
@@ -57,7 +65,8 @@ page_parts start total k form strips =
     let A : List ℕ = all ++ replicate ((start + length all) % 2) 0 in
     let E = early_fields start k form strips in
     let M : List ℕ = two 297 ++ two 3 ++ four 2 ++ two k in
-    let V : List ℕ = four form.x.0 ++ four form.x.1 ++ (four form.y.0 ++ four form.y.1) ++ array_bytes (offsets_from start strips)
+    let V : List ℕ = four form.x.0 ++ four form.x.1 ++ (four form.y.0 ++ four form.y.1)
+    ++ array_bytes (offsets_from start strips)
     ++ array_bytes (map length strips) in
     let last = field_of 297 3 2 (two k ++ two total) in
     let split : flat_map field_bytes (E ++ last ∷ []) ≡ flat_map field_bytes E ++ (M ++ two total) =
@@ -76,7 +85,8 @@ unfolding field_bytes
 head_len start k form strips = grind (arith, length-append, length-replicate, options_len)
 
 -- a file's total is written
-total_of : (x y z : List ℕ) (total link : ℕ) → length x + 2 ≡ link → length y ≡ 2 → with_total total link (x ++ (y ++ z)) ≡ x ++ (two total ++ z)
+total_of : (x y z : List ℕ) (total link : ℕ) → length x + 2 ≡ link → length y ≡ 2
+    → with_total total link (x ++ (y ++ z)) ≡ x ++ (two total ++ z)
 total_of x y z total link e f =
     let front : take (link - 2) (x ++ (y ++ z)) ≡ x = take_at x (y ++ z) (link - 2) (omega (arith, e)) in
     let back : drop link (x ++ (y ++ z)) ≡ z =
@@ -104,7 +114,8 @@ len_patched : (bytes : List ℕ) (link n : ℕ) → link + 4 ≤ length bytes �
 len_patched bytes link n inside = grind (arith, length-append, length-take-le, length-drop)
 
 page_len : (old : Written) (total k : ℕ) (form : PageForm) (strips : List (List ℕ)) → old.link + 4 ≤ length old.bytes
-    → length (with_page old total k form strips).bytes ≡ length old.bytes + length (page_bytes (length old.bytes) total k form strips)
+    → length (with_page old total k form strips).bytes ≡ length old.bytes + length
+    (page_bytes (length old.bytes) total k form strips)
 unfolding with_page
 page_len old total k form strips inside = grind (arith, length-append, len_patched)
 
@@ -123,20 +134,25 @@ take-take-le : (n m : ℕ) (l : List ℕ) → n ≤ m → take n (take m l) ≡ 
 take-take-le n m l le = grind (arith, take-take)
 
 -- what stands before the link stays
-page_stays : (old : Written) (total k : ℕ) (form : PageForm) (strips : List (List ℕ)) (n : ℕ) → n ≤ old.link → old.link + 4 ≤ length old.bytes
+page_stays : (old : Written) (total k : ℕ) (form : PageForm) (strips : List (List ℕ)) (n : ℕ) → n ≤ old.link
+    → old.link + 4 ≤ length old.bytes
     → take n (with_page old total k form strips).bytes ≡ take n old.bytes
 unfolding with_page
 page_stays old total k form strips n before inside =
     let b = old.bytes in
     let len = length-take-le old.link b (omega (arith, inside)) in
     let q = directory_place (length b) strips in
-    let lens : length (take old.link b ++ four q ++ drop (old.link + 4) b) ≡ length b = len_patched b old.link q inside in
-    take-append-le n (patched b old.link q) (page_bytes (length b) total k form strips) (omega (arith, lens, inside, before))
-    ∙ take-append-le n (take old.link b ++ four q) (drop (old.link + 4) b) (omega (arith, len, before, length-append (take old.link b) (four q)))
+    let lens : length (take old.link b ++ four q ++ drop (old.link + 4) b) ≡ length b =
+    len_patched b old.link q inside in
+    take-append-le n (patched b old.link q) (page_bytes (length b) total k form strips)
+    (omega (arith, lens, inside, before))
+    ∙ take-append-le n (take old.link b ++ four q) (drop (old.link + 4) b)
+    (omega (arith, len, before, length-append (take old.link b) (four q)))
     ∙ take-append-le n (take old.link b) (four q) (omega (arith, len, before))
     ∙ take-take-le n old.link b before
 
-stays : (old : Written) (total k : ℕ) (pages : List WrittenPage) (n : ℕ) → n ≤ old.link → old.link + 4 ≤ length old.bytes
+stays : (old : Written) (total k : ℕ) (pages : List WrittenPage) (n : ℕ) → n ≤ old.link
+    → old.link + 4 ≤ length old.bytes
     → take n (with_pages old total k pages).bytes ≡ take n old.bytes
 unfolding with_pages
 stays old total k [] n before inside = refl
@@ -152,15 +168,22 @@ unfolding with_pages
 grows old total k [] inside = omega arith
 grows old total k (page ∷ pages) inside =
     let new = with_page old total k page.form page.strips in
-    omega (arith, grows new total (k + 1) pages (inside_with old total k page.form page.strips inside), page_len old total k page.form page.strips inside)
+    omega (
+      arith,
+      grows new total (k + 1) pages (inside_with old total k page.form page.strips inside),
+      page_len old
+          total k page.form page.strips inside,
+    )
 
 -- the number at the link is the place of the next page's directory
-number_here : (file : List ℕ) (p x : ℕ) (rest : List ℕ) → drop p file ≡ four x ++ rest → x < 4294967296 → number_at Little 4 file p ≡ x
+number_here : (file : List ℕ) (p x : ℕ) (rest : List ℕ) → drop p file ≡ four x ++ rest → x < 4294967296
+    → number_at Little 4 file p ≡ x
 unfolding number_at
 number_here file p x rest is lt = rw is (omega (arith, lt))
 
 front_with : (old : Written) (total k : ℕ) (form : PageForm) (strips : List (List ℕ)) → old.link + 4 ≤ length old.bytes
-    → take (old.link + 4) (with_page old total k form strips).bytes ≡ take old.link old.bytes ++ four (directory_place (length old.bytes) strips)
+    → take (old.link + 4) (with_page old total k form strips).bytes
+    ≡ take old.link old.bytes ++ four (directory_place (length old.bytes) strips)
 unfolding with_page
 front_with old total k form strips inside =
     let b = old.bytes in
@@ -179,9 +202,11 @@ link_with old total k form strips = refl
 joined_2 : (X Y A F B R : List ℕ) → X ++ Y ++ A ++ F ++ B ++ R ≡ X ++ (Y ++ (A ++ F ++ B ++ R))
 joined_2 X Y A F B R = grind (arith, append_assoc)
 
-link_here : (old : Written) (total k : ℕ) (page : WrittenPage) (pages : List WrittenPage) → old.link + 4 ≤ length old.bytes
+link_here : (old : Written) (total k : ℕ) (page : WrittenPage) (pages : List WrittenPage)
+    → old.link + 4 ≤ length old.bytes
     → length (with_pages old total k (page ∷ pages)).bytes < 4294967296
-    → number_at Little 4 (with_pages old total k (page ∷ pages)).bytes old.link ≡ directory_place (length old.bytes) page.strips
+    → number_at Little 4 (with_pages old total k (page ∷ pages)).bytes old.link
+    ≡ directory_place (length old.bytes) page.strips
 unfolding with_pages
 link_here old total k page pages inside small =
     let b = old.bytes in
@@ -192,11 +217,14 @@ link_here old total k page pages inside small =
     let after = after_with old total k page.form page.strips inside in
     let inside' = inside_with old total k page.form page.strips inside in
     let front : take n W ≡ take old.link b ++ four q =
-    stays new total (k + 1) pages n (omega (arith, after)) inside' ∙ front_with old total k page.form page.strips inside in
+    stays new total (k + 1) pages n (omega (arith, after)) inside'
+    ∙ front_with old total k page.form page.strips inside in
     let all : W ≡ take old.link b ++ (four q ++ drop n W) =
-    sym (take-append-drop n W) ∙ ap (λ (l : List ℕ). l ++ drop n W) front ∙ append_assoc (take old.link b) (four q) (drop n W) in
+    sym (take-append-drop n W) ∙ ap (λ (l : List ℕ). l ++ drop n W) front
+    ∙ append_assoc (take old.link b) (four q) (drop n W) in
     let there : drop old.link W ≡ four q ++ drop n W =
-    ap (drop old.link) all ∙ drop_at (take old.link b) (four q ++ drop n W) old.link (length-take-le old.link b (omega (arith, inside))) in
+    ap (drop old.link) all ∙ drop_at (take old.link b) (four q ++ drop n W) old.link
+    (length-take-le old.link b (omega (arith, inside))) in
     let long = grows new total (k + 1) pages inside' in
     let place : new.link ≡ q + to_link = link_with old total k page.form page.strips in
     number_here W old.link q (drop n W) there (omega (arith, long, inside', place, small))
@@ -215,8 +243,10 @@ split x y z R link m q is =
     rw (front, back) (joined_2 x y (take m z) (four q) (drop (m + 4) z) R)
 
 -- the same of one page
-commute_page : (b : List ℕ) (link T p t k : ℕ) (form : PageForm) (strips : List (List ℕ)) → 2 ≤ p → p ≤ link → link + 4 ≤ length b
-    → with_total T p (with_page (file_at b link) t k form strips).bytes ≡ (with_page (file_at (with_total T p b) link) t k form strips).bytes
+commute_page : (b : List ℕ) (link T p t k : ℕ) (form : PageForm) (strips : List (List ℕ)) → 2 ≤ p → p ≤ link
+    → link + 4 ≤ length b
+    → with_total T p (with_page (file_at b link) t k form strips).bytes
+    ≡ (with_page (file_at (with_total T p b) link) t k form strips).bytes
 unfolding with_page
 commute_page b link T p t k form strips some before inside =
     let x : List ℕ = take (p - 2) b in
@@ -226,10 +256,12 @@ commute_page b link T p t k form strips some before inside =
     let q = directory_place (length b) strips in
     let R = page_bytes (length b) t k form strips in
     let x_len : length x ≡ p - 2 = length-take-le (p - 2) b (omega (arith, before, inside)) in
-    let y_len : length y ≡ 2 = length-take-le 2 (drop (p - 2) b) (omega (arith, length-drop (p - 2) b, some, before, inside)) in
+    let y_len : length y ≡ 2 = length-take-le 2 (drop (p - 2) b)
+    (omega (arith, length-drop (p - 2) b, some, before, inside)) in
     let rest : drop 2 (drop (p - 2) b) ≡ z = drop-drop 2 (p - 2) b ∙ ap (λ n. drop n b) (omega (arith, some)) in
     let whole : b ≡ x ++ (y ++ z) =
-    sym (ap (λ (l : List ℕ). x ++ l) (ap (λ (l : List ℕ). y ++ l) (sym rest) ∙ take-append-drop 2 (drop (p - 2) b)) ∙ take-append-drop (p - 2) b) in
+    sym (ap (λ (l : List ℕ). x ++ l) (ap (λ (l : List ℕ). y ++ l) (sym rest) ∙ take-append-drop 2 (drop (p - 2) b))
+    ∙ take-append-drop (p - 2) b) in
     let new : with_total T p b ≡ x ++ (two T ++ z) = append_assoc x (two T) z in
     let new_len : length (with_total T p b) ≡ length b =
     omega (
@@ -244,20 +276,24 @@ commute_page b link T p t k form strips some before inside =
     ) in
     let end : List ℕ = take m z ++ four q ++ drop (m + 4) z ++ R in
     let before_is : patched b link q ++ R ≡ x ++ (y ++ end) =
-    ap (λ (l : List ℕ). patched l link q ++ R) whole ∙ split x y z R link m q (omega (arith, x_len, y_len, some, before)) in
+    ap (λ (l : List ℕ). patched l link q ++ R) whole ∙ split x y z R link m q
+    (omega (arith, x_len, y_len, some, before)) in
     let after_is : patched (with_total T p b) link q ++ R ≡ x ++ (two T ++ end) =
-    ap (λ (l : List ℕ). patched l link q ++ R) new ∙ split x (two T) z R link m q (omega (arith, x_len, some, before)) in
+    ap (λ (l : List ℕ). patched l link q ++ R) new ∙ split x (two T) z R link m q (omega (arith, x_len, some, before))
+    in
     ap (with_total T p) before_is
     ∙ total_of x y end T p (omega (arith, x_len, some)) y_len
     ∙ sym after_is
-    ∙ ap (λ (n : ℕ). patched (with_total T p b) link (directory_place n strips) ++ page_bytes n t k form strips) (sym new_len)
+    ∙ ap (λ (n : ℕ). patched (with_total T p b) link (directory_place n strips) ++ page_bytes n t k form strips)
+    (sym new_len)
 
 pub total_len : (b : List ℕ) (T p : ℕ) → 2 ≤ p → p ≤ length b → length (with_total T p b) ≡ length b
 total_len b T p some inside = grind (arith, length-append, length-take-le, length-drop)
 
 -- the same of pages
 commute : (b : List ℕ) (link T p t k : ℕ) (pages : List WrittenPage) → 2 ≤ p → p ≤ link → link + 4 ≤ length b
-    → with_total T p (with_pages (file_at b link) t k pages).bytes ≡ (with_pages (file_at (with_total T p b) link) t k pages).bytes
+    → with_total T p (with_pages (file_at b link) t k pages).bytes
+    ≡ (with_pages (file_at (with_total T p b) link) t k pages).bytes
 unfolding with_pages
 commute b link T p t k [] some before inside = refl
 commute b link T p t k (page ∷ pages) some before inside =
@@ -268,15 +304,18 @@ commute b link T p t k (page ∷ pages) some before inside =
     link_with (file_at b link) t k page.form page.strips
     ∙ ap (λ n. directory_place n page.strips + to_link) (sym len)
     ∙ sym (link_with (file_at (with_total T p b) link) t k page.form page.strips) in
-    let bytes_are : with_total T p new.bytes ≡ other.bytes = commute_page b link T p t k page.form page.strips some before inside in
+    let bytes_are : with_total T p new.bytes ≡ other.bytes = commute_page b link T p t k page.form page.strips some
+    before inside in
     let after = after_with (file_at b link) t k page.form page.strips inside in
-    commute new.bytes new.link T p t (k + 1) pages some (omega (arith, before, after)) (inside_with (file_at b link) t k page.form page.strips inside)
+    commute new.bytes new.link T p t (k + 1) pages some (omega (arith, before, after))
+    (inside_with (file_at b link) t k page.form page.strips inside)
     ∙ ap (λ (l : List ℕ). (with_pages (file_at l new.link) t (k + 1) pages).bytes) bytes_are
     ∙ ap (λ n. (with_pages (file_at other.bytes n) t (k + 1) pages).bytes) link_is
 
 -- the total of a page is that which it was written with, or another
 retotal : (old : Written) (T t k : ℕ) (form : PageForm) (strips : List (List ℕ)) → old.link + 4 ≤ length old.bytes
-    → with_total T (with_page old t k form strips).link (with_page old t k form strips).bytes ≡ (with_page old T k form strips).bytes
+    → with_total T (with_page old t k form strips).link (with_page old t k form strips).bytes
+    ≡ (with_page old T k form strips).bytes
 unfolding with_page
 retotal old T t k form strips inside =
     let b = old.bytes in
@@ -285,10 +324,12 @@ retotal old T t k form strips inside =
     let head = page_head (length b) k form strips in
     let rest = page_rest (length b) form strips in
     let is : (total : ℕ) → front ++ page_bytes (length b) total k form strips ≡ (front ++ head) ++ (two total ++ rest) =
-    λ total. ap (λ (l : List ℕ). front ++ l) (page_parts (length b) total k form strips) ∙ sym (append_assoc front head (two total ++ rest)) in
+    λ total. ap (λ (l : List ℕ). front ++ l) (page_parts (length b) total k form strips)
+    ∙ sym (append_assoc front head (two total ++ rest)) in
     let place : length (front ++ head) + 2 ≡ q + to_link =
     omega (arith, length-append front head, len_patched b old.link q inside, head_len (length b) k form strips) in
-    ap (with_total T (q + to_link)) (is t) ∙ total_of (front ++ head) (two t) rest T (q + to_link) place refl ∙ sym (is T)
+    ap (with_total T (q + to_link)) (is t) ∙ total_of (front ++ head) (two t) rest T (q + to_link) place refl
+    ∙ sym (is T)
 
 -- the pages are found from the link on
 pub are_pages : (old : Written) (t k : ℕ) (pages : List WrittenPage) → old.link + 4 ≤ length old.bytes
@@ -302,11 +343,13 @@ are_pages old t k (page ∷ pages) inside small =
     let here = link_here old t k page pages inside small in
     let inside' = inside_with old t k page.form page.strips inside in
     let long = grows new t (k + 1) pages inside' in
-    let place : new.link ≡ directory_place (length old.bytes) page.strips + to_link = link_with old t k page.form page.strips in
+    let place : new.link ≡ directory_place (length old.bytes) page.strips + to_link =
+    link_with old t k page.form page.strips in
     let next : number_at Little 4 W old.link + to_link ≡ new.link = ap (λ n. n + to_link) here ∙ sym place in
     let after = after_with old t k page.form page.strips inside in (
       (omega (arith, here, place, after), omega (arith, next, long, inside')),
-      subst (λ n. ArePagesAfter W (length pages) n (with_pages new t (k + 1) pages).link) (sym next) (are_pages new t (k + 1) pages inside' small),
+      subst (λ n. ArePagesAfter W (length pages) n (with_pages new t (k + 1) pages).link) (sym next)
+          (are_pages new t (k + 1) pages inside' small),
     )
 
 -- and what each says becomes another total
@@ -326,7 +369,8 @@ totals_are old T t k (page ∷ pages) inside small =
     let after = after_with old t k page.form page.strips inside in
     let written : with_total T new.link W ≡ (with_pages other t (k + 1) pages).bytes =
     commute new.bytes new.link T new.link t (k + 1) pages (omega (arith, after)) (omega arith) inside'
-    ∙ ap (λ (l : List ℕ). (with_pages (file_at l new.link) t (k + 1) pages).bytes) (retotal old T t k page.form page.strips inside) in
+    ∙ ap (λ (l : List ℕ). (with_pages (file_at l new.link) t (k + 1) pages).bytes)
+    (retotal old T t k page.form page.strips inside) in
     let len : length (with_pages other t (k + 1) pages).bytes ≡ length W =
     sym (ap (λ (l : List ℕ). length l) written) ∙ total_len W T new.link (omega (arith, after))
     (omega (arith, grows new t (k + 1) pages inside', inside')) in
@@ -338,15 +382,18 @@ totals_are old T t k (page ∷ pages) inside small =
 pub next_page : (file : List ℕ) (count i link last : ℕ) → i < count → ArePagesAfter file (count - i) link last
     → IsLinkToPage file link × ArePagesAfter file (count - (i + 1)) (next_link file link) last
 next_page file count i link last fewer are =
-    let e : count - i ≡ suc (count - (i + 1)) = omega (arith, fewer) in subst (λ n. ArePagesAfter file n link last) e are
+    let e : count - i ≡ suc (count - (i + 1)) = omega (arith, fewer) in
+    subst (λ n. ArePagesAfter file n link last) e are
 
 pub page_before : (file : List ℕ) (count i link last : ℕ) → i < count → IsLinkToPage file link
     → ArePagesAfter file (count - (i + 1)) (next_link file link) last → ArePagesAfter file (count - i) link last
 page_before file count i link last fewer is are =
-    let e : suc (count - (i + 1)) ≡ count - i = omega (arith, fewer) in subst (λ n. ArePagesAfter file n link last) e (is, are)
+    let e : suc (count - (i + 1)) ≡ count - i = omega (arith, fewer) in
+    subst (λ n. ArePagesAfter file n link last) e (is, are)
 
 pub one_total : (total count i link : ℕ) (file : List ℕ) → i < count
-    → with_totals total (count - i) link file ≡ with_totals total (count - (i + 1)) (next_link file link) (with_total total (next_link file link) file)
+    → with_totals total (count - i) link file ≡ with_totals total (count - (i + 1)) (next_link file link)
+    (with_total total (next_link file link) file)
 one_total total count i link file fewer =
     let e : count - i ≡ suc (count - (i + 1)) = omega (arith, fewer) in ap (λ n. with_totals total n link file) e
 
@@ -355,18 +402,21 @@ after_total : (file : List ℕ) (T p n : ℕ) → 2 ≤ p → p ≤ n → p ≤ 
 after_total file T p n some after inside =
     let front : List ℕ = take (p - 2) file ++ two T in
     let len : length front ≡ p =
-    omega (arith, length-append (take (p - 2) file) (two T), length-take-le (p - 2) file (omega (arith, inside)), some) in
+    omega (arith, length-append (take (p - 2) file) (two T), length-take-le (p - 2) file (omega (arith, inside)), some)
+    in
     ap (λ m. drop m (front ++ drop p file)) (omega (arith, len, after))
     ∙ drop-append-add front (drop p file) (n - p)
     ∙ drop-drop (n - p) p file
     ∙ ap (λ m. drop m file) (omega (arith, after))
 
-same_number : (file : List ℕ) (T p n : ℕ) → 2 ≤ p → p ≤ n → p ≤ length file → number_at Little 4 (with_total T p file) n ≡ number_at Little 4 file n
+same_number : (file : List ℕ) (T p n : ℕ) → 2 ≤ p → p ≤ n → p ≤ length file
+    → number_at Little 4 (with_total T p file) n ≡ number_at Little 4 file n
 unfolding number_at
 same_number file T p n some after inside = rw (after_total file T p n some after inside) refl
 
 -- so the pages after it stand there still
-pub still_pages : (file : List ℕ) (T p n link last : ℕ) → 2 ≤ p → p ≤ link → p ≤ length file → ArePagesAfter file n link last
+pub still_pages : (file : List ℕ) (T p n link last : ℕ) → 2 ≤ p → p ≤ link → p ≤ length file
+    → ArePagesAfter file n link last
     → ArePagesAfter (with_total T p file) n link last
 still_pages file T p zero link last some after inside are = are
 still_pages file T p (suc n) link last some after inside ((first, whole), rest) =
@@ -374,7 +424,8 @@ still_pages file T p (suc n) link last some after inside ((first, whole), rest) 
     let len = total_len file T p some inside in
     let next : next_link (with_total T p file) link ≡ next_link file link = ap (λ m. m + to_link) same in (
       (omega (arith, same, first), omega (arith, next, len, whole)),
-      subst (λ m. ArePagesAfter (with_total T p file) n m last) (sym next) (still_pages file T p n (next_link file link) last some
+      subst (λ m. ArePagesAfter (with_total T p file) n m last) (sym next)
+          (still_pages file T p n (next_link file link) last some
           (omega (arith, first, after)) inside rest),
     )
 
@@ -392,7 +443,8 @@ record IsWrittenSo (old : FaxWritten) (file : List ℕ) (so_far : Written) : Typ
   bytes : take old.len file ≡ so_far.bytes
   link : old.link ≡ so_far.link
 
-written_so : (old : FaxWritten) (file : List ℕ) (so_far : Written) → 1 ≤ old.added → file_so_far old file ≡ so_far → IsWrittenSo old file so_far
+written_so : (old : FaxWritten) (file : List ℕ) (so_far : Written) → 1 ≤ old.added → file_so_far old file ≡ so_far
+    → IsWrittenSo old file so_far
 written_so old file so_far some is =
     let there : (old.added == 0) ≡ false = ne_eqb _ _ (λ e. absurd (omega (arith, e, some))) in
     let whole : file_at (take old.len file) old.link ≡ so_far = rw there at is in
@@ -403,7 +455,8 @@ record IsOfPages (pages : List WrittenPage) (old : FaxWritten) (file : List ℕ)
   has : HasItsPages old file
   whole : with_totals old.added old.added 4 (take old.len file) ≡ file_of pages
 
-of_pages : (total : ℕ) (pages : List WrittenPage) (old : FaxWritten) (file : List ℕ) → IsEndable old → IsFileSoFar total pages old file
+of_pages : (total : ℕ) (pages : List WrittenPage) (old : FaxWritten) (file : List ℕ) → IsEndable old
+    → IsFileSoFar total pages old file
     → IsOfPages pages old file
 of_pages total pages old file e is =
     let W = with_pages empty_file total 0 pages in
@@ -424,7 +477,8 @@ of_pages total pages old file e is =
           ∙ totals_are empty_file (length pages) total 0 pages inside small;
     }
 
-ended_by : (old_file file : List ℕ) (old written : FaxWritten) (status total : ℕ) (pages : List WrittenPage) → IsEndable old
+ended_by : (old_file file : List ℕ) (old written : FaxWritten) (status total : ℕ) (pages : List WrittenPage)
+    → IsEndable old
     → IsFileSoFar total pages old old_file → TellsPagesEnded old_file file old written status
     → (status ≡ 0) × (file ≡ file_of pages ++ drop old.len old_file)
 ended_by old_file file old written status total pages e is (inl (some, held, has, done, file_is, told)) =
@@ -434,13 +488,16 @@ ended_by old_file file old written status total pages e is (inr (same, told, inl
 ended_by old_file file old written status total pages e is (inr (same, told, inr (none, others))) =
     absurd ((others e).1 (of_pages total pages old old_file e is).has)
 
-pub ends_whole : (old_file file : List ℕ) (old written : FaxWritten) (status : ℕ) → TellsPagesEnded old_file file old written status
+pub ends_whole : (old_file file : List ℕ) (old written : FaxWritten) (status : ℕ)
+    → TellsPagesEnded old_file file old written status
     → EndsWholeFile old_file file old status
-ends_whole old_file file old written status told = λ total pages e is. ended_by old_file file old written status total pages e is told
+ends_whole old_file file old written status told = λ total pages e is. ended_by old_file file old written status total
+    pages e is told
 
 -- one more page after others
 pages-push : (old : Written) (total k : ℕ) (pages : List WrittenPage) (page : WrittenPage)
-    → with_pages old total k (pages ++ page ∷ []) ≡ with_page (with_pages old total k pages) total (k + length pages) page.form page.strips
+    → with_pages old total k (pages ++ page ∷ []) ≡ with_page (with_pages old total k pages) total (k + length pages)
+    page.form page.strips
 unfolding with_pages
 pages-push old total k [] page = grind arith
 pages-push old total k (first ∷ pages) page =
@@ -450,15 +507,18 @@ pages-push old total k (first ∷ pages) page =
     ∙ ap (λ (n : ℕ). with_page (with_pages begun total (k + 1) pages) total n page.form page.strips) next
 
 -- a file whose bytes and whose link are told is the file so far
-told_so_far : (written : FaxWritten) (file rest : List ℕ) (next : Written) → 1 ≤ written.added → written.len ≡ length next.bytes
+told_so_far : (written : FaxWritten) (file rest : List ℕ) (next : Written) → 1 ≤ written.added
+    → written.len ≡ length next.bytes
     → written.link ≡ next.link → file ≡ next.bytes ++ rest → file_so_far written file ≡ file_at next.bytes next.link
 told_so_far written file rest next some len link is =
     let there : (written.added == 0) ≡ false = ne_eqb _ _ (λ e. absurd (omega (arith, e, some))) in
-    let bytes : take written.len file ≡ next.bytes = ap (λ n. take n file) len ∙ ap (take (length next.bytes)) is ∙ take-append_seam next.bytes rest in
+    let bytes : take written.len file ≡ next.bytes = ap (λ n. take n file) len ∙ ap (take (length next.bytes)) is
+    ∙ take-append_seam next.bytes rest in
     rw (there, bytes, link) refl
 
 -- a file so far with one more page
-pushed : (old written : FaxWritten) (old_file file rest : List ℕ) (form : PageForm) (strips : List (List ℕ)) (pages : List WrittenPage)
+pushed : (old written : FaxWritten) (old_file file rest : List ℕ) (form : PageForm) (strips : List (List ℕ))
+    (pages : List WrittenPage)
     → IsFileSoFar old.total pages old old_file
     → written.len ≡ length (with_page (file_so_far old old_file) old.total old.added form strips).bytes
     → written.link ≡ (with_page (file_so_far old old_file) old.total old.added form strips).link
@@ -478,30 +538,37 @@ pushed old written old_file file rest form strips pages so_far len link added is
           ∙ sym (pages-push empty_file old.total 0 pages (record { form = form; strips = strips }));
     }
 
-added_by : (given : FaxForm) (k : ℕ) (raster : List ℕ) (stride : ℕ) (old_file file : List ℕ) (old written : FaxWritten) (status : ℕ)
+added_by : (given : FaxForm) (k : ℕ) (raster : List ℕ) (stride : ℕ) (old_file file : List ℕ) (old written : FaxWritten)
+    (status : ℕ)
     → TellsPageAdded given k raster stride old_file file old written status
     → AddsToPages given k raster stride old_file file old written status
 added_by given k raster stride old_file file old written status
     (inl (form, addable, inl (held, said, inl (done, limit, room, file_is, written_is)))) pages so_far is = (
       form,
       addable.0,
-      pushed old written old_file file _ form (page_strips form k stride raster) pages so_far (ap (λ (w : FaxWritten). w.len) written_is)
+      pushed old written old_file file _ form (page_strips form k stride raster) pages so_far
+          (ap (λ (w : FaxWritten). w.len) written_is)
           (ap (λ (w : FaxWritten). w.link) written_is) (ap (λ (w : FaxWritten). w.added) written_is) file_is,
     )
 added_by given k raster stride old_file file old written status
-    (inl (form, addable, inl (held, said, inr (same, told, inl (no_room, limit, more))))) pages so_far is = absurd (omega (arith, is, no_room))
+    (inl (form, addable, inl (held, said, inr (same, told, inl (no_room, limit, more))))) pages so_far is =
+    absurd (omega (arith, is, no_room))
 added_by given k raster stride old_file file old written status
-    (inl (form, addable, inl (held, said, inr (same, told, inr (inl (too_large, more)))))) pages so_far is = absurd (omega (arith, is, too_large))
+    (inl (form, addable, inl (held, said, inr (same, told, inr (inl (too_large, more)))))) pages so_far is =
+    absurd (omega (arith, is, too_large))
 added_by given k raster stride old_file file old written status
-    (inl (form, addable, inl (held, said, inr (same, told, inr (inr memory))))) pages so_far is = absurd (omega (arith, is, memory))
+    (inl (form, addable, inl (held, said, inr (same, told, inr (inr memory))))) pages so_far is =
+    absurd (omega (arith, is, memory))
 added_by given k raster stride old_file file old written status
     (inl (form, addable, inr (inl (held, no_room, same, told)))) pages so_far is = absurd (omega (arith, is, no_room))
 added_by given k raster stride old_file file old written status
-    (inl (form, addable, inr (inr (held, said, no_options, same, told)))) pages so_far is = absurd (omega (arith, is, no_options))
+    (inl (form, addable, inr (inr (held, said, no_options, same, told)))) pages so_far is =
+    absurd (omega (arith, is, no_options))
 added_by given k raster stride old_file file old written status (inr (no_options, same, told, none)) pages so_far is =
     absurd (omega (arith, is, no_options))
 
-pub adds_to_pages : (given : FaxForm) (k : ℕ) (raster : List ℕ) (stride : ℕ) (old_file file : List ℕ) (old written : FaxWritten) (status : ℕ)
+pub adds_to_pages : (given : FaxForm) (k : ℕ) (raster : List ℕ) (stride : ℕ) (old_file file : List ℕ)
+    (old written : FaxWritten) (status : ℕ)
     → TellsPageAdded given k raster stride old_file file old written status
     → AddsToPages given k raster stride old_file file old written status
 adds_to_pages = added_by

@@ -1,5 +1,6 @@
 -- Rows that are written one after another.
-use Rattle.std.proofs.Common.{◌≡◌, ℕ, suc, ◌+◌, ◌<◌, ◌≤◌, List, [], ◌∷◌, ◌++◌, length, set, take, drop, refl, ap, sym, ◌∙◌, subst}
+use Rattle.std.proofs.Common.{◌≡◌, ℕ, suc, ◌+◌, ◌<◌, ◌≤◌, List, [], ◌∷◌, ◌++◌, length, set, take, drop, refl, ap, sym}
+use Rattle.std.proofs.Common.{◌∙◌, subst}
 use Rattle.std.proofs.Common.{append_assoc, append-nil, arith, inl, inr, length-append, Ok, Err}
 use Rattle.std.specs.Prelude.{Some, slice_get}
 use Rattle.std.proofs.lemmas.List.{length-drop, length-take-le}
@@ -16,7 +17,8 @@ use Rattle.fax_walk.specs.laws.Tails.{BeginningsHaveOneTail}
 use Rattle.fax_c.specs.declared.filled.Stop.{Stop}
 use Rattle.fax_c.specs.declared.filled.Stop.TheVariants.{Done, Ended, Memory, NoRoom}
 use Rattle.fax_c.specs.declared.rows.FaxRow.{FaxRow}
-use Rattle.fax_c.specs.views.Filled.{AreRowsFilled, StopsAfterRows, TakesRuns, all_numbers, cursor_after_rows, row_at, rows_at}
+use Rattle.fax_c.specs.views.Filled.{AreRowsFilled, StopsAfterRows, TakesRuns, all_numbers, cursor_after_rows, row_at}
+use Rattle.fax_c.specs.views.Filled.{rows_at}
 use Rattle.fax_c.specs.code.Put.{IsPut, IsPutAt, IsPutTo, IsRefusedAt, IsWalkAfter}
 use Rattle.fax_c.proofs.ListLemmas.{more_put, one_set, take_at}
 use Rattle.fax_c.proofs.NumberLemmas.{end_is, number_is}
@@ -27,7 +29,8 @@ numbers-push numbers [] item = append-nil (numbers item.pels)
 numbers-push numbers (first ∷ items) item = grind (arith, append_assoc, numbers-push numbers items item)
 
 rows-push : {N : Type 0} (numbers : List Colour → List N) (at : ℕ) (items : List RowItem) (item : RowItem)
-    → rows_at numbers at (items ++ item ∷ []) ≡ rows_at numbers at items ++ row_at numbers (at + length (all_numbers numbers items)) item ∷ []
+    → rows_at numbers at (items ++ item ∷ []) ≡ rows_at numbers at items
+    ++ row_at numbers (at + length (all_numbers numbers items)) item ∷ []
 rows-push numbers at [] item = let none : at + 0 ≡ at = omega arith in rw none refl
 rows-push numbers at (first ∷ items) item =
     let next = at + length (numbers first.pels) in
@@ -37,16 +40,19 @@ rows-push numbers at (first ∷ items) item =
     (rows-push numbers next items item
     ∙ ap (λ n. rows_at numbers next items ++ row_at numbers n item ∷ []) place)
 
-length-rows_at : {N : Type 0} (numbers : List Colour → List N) (at : ℕ) (items : List RowItem) → length (rows_at numbers at items) ≡ length items
+length-rows_at : {N : Type 0} (numbers : List Colour → List N) (at : ℕ) (items : List RowItem)
+    → length (rows_at numbers at items) ≡ length items
 length-rows_at numbers at [] = refl
 length-rows_at numbers at (first ∷ items) = ap suc (length-rows_at numbers (at + length (numbers first.pels)) items)
 
-cursor-push : (from : Cursor) (items : List RowItem) (item : RowItem) → cursor_after_rows from (items ++ item ∷ []) ≡ cursor_after item
+cursor-push : (from : Cursor) (items : List RowItem) (item : RowItem)
+    → cursor_after_rows from (items ++ item ∷ []) ≡ cursor_after item
 cursor-push from [] item = refl
 cursor-push from (first ∷ items) item = cursor-push (cursor_after first) items item
 
 -- so many rows of a walk are written, in so many numbers
-pub record AreRowsWritten {N : Type 0} (numbers : List Colour → List N) (file : List ℕ) (begun : Begun) (walk : WalkView) (count used : ℕ)
+pub record AreRowsWritten {N : Type 0} (numbers : List Colour → List N) (file : List ℕ) (begun : Begun)
+    (walk : WalkView) (count used : ℕ)
     (old_rows rows : List FaxRow) (old out : List N) : Type 0 where
   pub items : List RowItem
   pub end : End
@@ -82,20 +88,24 @@ none_written numbers walk rows out one none =
       written = refl;
     }
 
-module _ {N : Type 0} (numbers : List Colour → List N) (file : List ℕ) (begun : Begun) (walk : WalkView) (count used : ℕ)
+module _ {N : Type 0} (numbers : List Colour → List N) (file : List ℕ) (begun : Begun) (walk : WalkView)
+    (count used : ℕ)
     (old_rows rows : List FaxRow) (old out : List N) (law : BeginningsHaveOneTail)
     (so_far : AreRowsWritten numbers file begun walk count used old_rows rows old out) where
   tail_here : IsTailFrom walk.file walk.begun so_far.items so_far.end
   tail_here = grind arith
 
-  item_is : (n : ℕ) (item : RowItem) → IsNumber (IsTailFrom walk.file walk.begun) n item → slice_get so_far.items n ≡ Some item
+  item_is : (n : ℕ) (item : RowItem) → IsNumber (IsTailFrom walk.file walk.begun) n item
+      → slice_get so_far.items n ≡ Some item
   item_is n item =
       number_is (IsTailFrom walk.file walk.begun) (law walk.file walk.begun) so_far.items so_far.end tail_here n item
 
-  next_is : (item : RowItem) → IsNumber (IsTailFrom walk.file walk.begun) walk.given item → slice_get so_far.items count ≡ Some item
+  next_is : (item : RowItem) → IsNumber (IsTailFrom walk.file walk.begun) walk.given item
+      → slice_get so_far.items count ≡ Some item
   next_is item number = subst (λ n. slice_get so_far.items n ≡ Some item) so_far.given (item_is walk.given item number)
 
-  pub cursor_is : (at : Cursor) → IsCursorOf walk at → at ≡ cursor_after_rows (begun_cursor begun) (take count so_far.items)
+  pub cursor_is : (at : Cursor) → IsCursorOf walk at → at ≡ cursor_after_rows (begun_cursor begun)
+      (take count so_far.items)
   cursor_is at (inl (none, is)) = grind arith
   cursor_is at (inr (before, item, given, number, is)) =
       let count_is : count ≡ before + 1 = sym so_far.given ∙ given in
@@ -103,7 +113,8 @@ module _ {N : Type 0} (numbers : List Colour → List N) (file : List ℕ) (begu
       (sym (ap (cursor_after_rows (begun_cursor begun)) (take_at so_far.items before item (item_is before item number))
       ∙ cursor-push (begun_cursor begun) (take before so_far.items) item))
 
-  pub one_more : (row : FaxRow) (new : WalkView) (new_out : List N) → count < length old_rows → IsPut numbers walk out used (Ok row) new new_out
+  pub one_more : (row : FaxRow) (new : WalkView) (new_out : List N) → count < length old_rows
+      → IsPut numbers walk out used (Ok row) new new_out
       → AreRowsWritten numbers file begun new (count + 1) (used + row.len) old_rows (set rows count row) old new_out
   one_more row new new_out below (item, hands, row_is, put) =
       let here = next_is item hands.number in
@@ -117,7 +128,8 @@ module _ {N : Type 0} (numbers : List Colour → List N) (file : List ℕ) (begu
       ap (all_numbers numbers) (take_at so_far.items count item here) ∙ numbers-push numbers items item in
       let written : new_out ≡ (front ++ more) ++ drop (used + length more) old =
       more_put front old out more new_out used (used + length more) (sym so_far.used_is) so_far.written refl put.2 in
-      let count_is : length (rows_at numbers 0 items) ≡ count = length-rows_at numbers 0 items ∙ length-take-le count so_far.items so_far.few in
+      let count_is : length (rows_at numbers 0 items) ≡ count =
+      length-rows_at numbers 0 items ∙ length-take-le count so_far.items so_far.few in
       let place : row_at numbers (0 + length front) item ≡ row =
       let zero_more : 0 + length front ≡ used = omega (arith, so_far.used_is) in rw zero_more (sym row_is) in
       let rows_are : rows_at numbers 0 (take (count + 1) so_far.items) ≡ rows_at numbers 0 items ++ row ∷ [] =
@@ -143,29 +155,37 @@ module _ {N : Type 0} (numbers : List Colour → List N) (file : List ℕ) (begu
         given = ap (λ (w : WalkView). w.given) hands.new_is ∙ ap (λ n. n + 1) so_far.given;
         few = omega (arith, inside);
         asked = omega (arith, below);
-        used_is = to_is ∙ ap (λ n. n + length more) so_far.used_is ∙ sym (length-append front more) ∙ ap (λ (l : List N). length l) (sym all);
+        used_is = to_is ∙ ap (λ n. n + length more) so_far.used_is ∙ sym (length-append front more)
+            ∙ ap (λ (l : List N). length l) (sym all);
         room = omega (arith, len, put.1, same_len, so_far.same_len);
         same_len = same_len;
         lie =
             one_set (rows_at numbers 0 items) old_rows rows count row count_is below so_far.lie
             ∙ ap (λ (l : List FaxRow). l ++ drop (count + 1) old_rows) (sym rows_are);
-        written = written ∙ ap (λ (l : List N). l ++ drop (used + length more) old) (sym all) ∙ ap (λ n. all_numbers numbers (take (count + 1) so_far.items) ++ drop n old) (sym to_is);
+        written = written ∙ ap (λ (l : List N). l ++ drop (used + length more) old) (sym all)
+            ∙ ap (λ n. all_numbers numbers (take (count + 1) so_far.items) ++ drop n old) (sym to_is);
       }
 
   -- the same of a row that no table has
-  pub put_row : (to : ℕ) (new : WalkView) (new_out : List N) → count < length old_rows → (put : IsPutTo numbers walk out used (Ok to) new new_out)
-      → AreRowsWritten numbers file begun new (count + 1) to old_rows (set rows count (row_at numbers used put.0)) old new_out
+  pub put_row : (to : ℕ) (new : WalkView) (new_out : List N) → count < length old_rows
+      → (put : IsPutTo numbers walk out used (Ok to) new new_out)
+      → AreRowsWritten numbers file begun new (count + 1) to old_rows (set rows count (row_at numbers used put.0)) old
+      new_out
   put_row to new new_out below (item, hands, put) =
       let there : IsPutAt (numbers item.pels) out used (Some (used + length (numbers item.pels))) new_out =
       subst (λ n. IsPutAt (numbers item.pels) out used (Some n) new_out) put.0 put in
-      subst (λ n. AreRowsWritten numbers file begun new (count + 1) n old_rows (set rows count (row_at numbers used item)) old new_out) (sym put.0)
+      subst (λ n. AreRowsWritten numbers file begun new (count + 1) n old_rows
+      (set rows count (row_at numbers used item)) old new_out) (sym put.0)
       (one_more (row_at numbers used item) new new_out below (item, hands, refl, there))
 
-  stops : (stop : Stop) (new : WalkView) (new_out : List N) → count < length old_rows → IsPut numbers walk out used (Err stop) new new_out
-      → StopsAfterRows numbers file begun so_far.items so_far.end (length old_rows) (length old) count used stop × (new_out ≡ out)
+  stops : (stop : Stop) (new : WalkView) (new_out : List N) → count < length old_rows
+      → IsPut numbers walk out used (Err stop) new new_out
+      → StopsAfterRows numbers file begun so_far.items so_far.end (length old_rows) (length old) count used stop
+      × (new_out ≡ out)
   stops Done new new_out below put = absurd put
   stops (Ended end) new new_out below ((ends, no_other, new_is), same) =
-      let are = end_is (IsTailFrom walk.file walk.begun) (law walk.file walk.begun) so_far.items so_far.end tail_here walk.given end ends in
+      let are = end_is (IsTailFrom walk.file walk.begun) (law walk.file walk.begun) so_far.items so_far.end tail_here
+      walk.given end ends in
       ((below, sym so_far.given ∙ are.0, are.1), same)
   stops NoRoom new new_out below (item, hands, (same, small)) =
       ((below, (item, next_is item hands.number, omega (arith, small, so_far.same_len))), same)
@@ -176,7 +196,8 @@ module _ {N : Type 0} (numbers : List Colour → List N) (file : List ℕ) (begu
 
   pub stopped : (stop : Stop) (new : WalkView) (new_out : List N) (at : Cursor) → count < length old_rows
       → IsPut numbers walk out used (Err stop) new new_out → IsCursorOf walk at
-      → AreRowsFilled numbers file begun old_rows old (record { cursor = at; count = count; used = used; stop = stop }) rows new_out
+      → AreRowsFilled numbers file begun old_rows old (record { cursor = at; count = count; used = used; stop = stop })
+      rows new_out
   stopped stop new new_out at below put is =
       let so = stops stop new new_out below put in
       record {
@@ -193,7 +214,8 @@ module _ {N : Type 0} (numbers : List Colour → List N) (file : List ℕ) (begu
       }
 
   pub all_asked : (at : Cursor) → length old_rows ≤ count → IsCursorOf walk at
-      → AreRowsFilled numbers file begun old_rows old (record { cursor = at; count = count; used = used; stop = Done }) rows out
+      → AreRowsFilled numbers file begun old_rows old (record { cursor = at; count = count; used = used; stop = Done })
+      rows out
   all_asked at all is = record {
     items = so_far.items;
     end = so_far.end;
@@ -207,13 +229,15 @@ module _ {N : Type 0} (numbers : List Colour → List N) (file : List ℕ) (begu
     stops = omega (arith, so_far.asked, all);
   }
 
-  pub walk_stopped : (first : WalkView) (stop : Stop) (new : WalkView) (new_out : List N) (at : Cursor) → file ≡ first.file
+  pub walk_stopped : (first : WalkView) (stop : Stop) (new : WalkView) (new_out : List N) (at : Cursor)
+      → file ≡ first.file
       → begun ≡ first.begun → IsPut numbers walk out used (Err stop) new new_out
       → IsWalkAfter first (record { cursor = at; count = count; used = used; stop = stop }) new
   walk_stopped first stop new new_out at of begins put = grind arith
 
 -- where memory is refused before a walk begins, nothing is written
-module _ {N : Type 0} (numbers : List Colour → List N) (file : List ℕ) (begun : Begun) (at : Cursor) (rows : List FaxRow) (out : List N)
+module _ {N : Type 0} (numbers : List Colour → List N) (file : List ℕ) (begun : Begun) (at : Cursor)
+    (rows : List FaxRow) (out : List N)
     (is : at ≡ begun_cursor begun) where
   none_filled : (stop : Stop) (items : List RowItem) (end : End) → IsTailFrom file begun items end
       → StopsAfterRows numbers file begun items end (length rows) (length out) 0 0 stop
@@ -234,9 +258,14 @@ module _ {N : Type 0} (numbers : List Colour → List N) (file : List ℕ) (begu
   pub refused_at_once : (stop : Stop) → BeginningsHaveOneTail → (HasPage file at.page → TakesRuns file begun 0)
       → IsRefusedAt file at (length rows) stop
       → AreRowsFilled numbers file begun rows out (record { cursor = at; count = 0; used = 0; stop = stop }) rows out
-  refused_at_once Done one takes none = let tail = one file begun in none_filled Done tail.items tail.end tail.is (sym none)
+  refused_at_once Done one takes none = let tail = one file begun in
+      none_filled Done tail.items tail.end tail.is (sym none)
   refused_at_once Memory one takes (some, page) =
       let tail = one file begun in none_filled Memory tail.items tail.end tail.is (some, inr (takes page))
   refused_at_once (Ended end) one takes (some, none) =
-      none_filled (Ended end) [] end (Err end, (Err end, subst (λ c. IsPageAt file c (Err end)) is none, refl), (refl, refl)) (some, refl, refl)
+      none_filled (Ended end) [] end (
+        Err end,
+        (Err end, subst (λ c. IsPageAt file c (Err end)) is none, refl),
+        (refl, refl),
+      ) (some, refl, refl)
   refused_at_once NoRoom one takes refused = absurd refused

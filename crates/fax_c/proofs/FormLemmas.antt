@@ -1,5 +1,6 @@
 -- Forms that are written one after another.
-use Rattle.std.proofs.Common.{◌≡◌, ℕ, ◌+◌, ◌<◌, ◌≤◌, List, [], ◌∷◌, ◌++◌, length, set, map, take, drop, refl, ap, sym, ◌∙◌, subst}
+use Rattle.std.proofs.Common.{◌≡◌, ℕ, ◌+◌, ◌<◌, ◌≤◌, List, [], ◌∷◌, ◌++◌, length, set, map, take, drop, refl, ap, sym}
+use Rattle.std.proofs.Common.{◌∙◌, subst}
 use Rattle.std.proofs.Common.{arith, inl, inr}
 use Rattle.std.proofs.lemmas.Grind.{common_steps}
 use Rattle.std.specs.Prelude.{MatchResult, Result, Ok, Err, Some, slice_get}
@@ -30,7 +31,8 @@ pages-push from [] item = refl
 pages-push from (first ∷ items) item = pages-push (record { page = first.page + 1; row = 0 }) items item
 
 -- so many forms of a reader are written
-pub record AreFormsWritten (file : List ℕ) (from : Cursor) (pages : PagesView) (count : ℕ) (old forms : List FaxForm) : Type 0 where
+pub record AreFormsWritten (file : List ℕ) (from : Cursor) (pages : PagesView) (count : ℕ) (old forms : List FaxForm) :
+    Type 0 where
   pub items : List FormItem
   pub end : End
   pub tail : IsFormTail file from items end
@@ -57,7 +59,8 @@ none_written pages old one none =
       written = refl;
     }
 
-module _ (file : List ℕ) (from : Cursor) (pages : PagesView) (count : ℕ) (old forms : List FaxForm) (law : CursorsHaveOneFormTail)
+module _ (file : List ℕ) (from : Cursor) (pages : PagesView) (count : ℕ) (old forms : List FaxForm)
+    (law : CursorsHaveOneFormTail)
     (so_far : AreFormsWritten file from pages count old forms) where
   one_here : IsOne (IsFormTail pages.file pages.begun)
   one_here = law pages.file pages.begun
@@ -65,7 +68,8 @@ module _ (file : List ℕ) (from : Cursor) (pages : PagesView) (count : ℕ) (ol
   tail_here : IsFormTail pages.file pages.begun so_far.items so_far.end
   tail_here = grind arith
 
-  item_is : (n : ℕ) (item : FormItem) → IsNumber (IsFormTail pages.file pages.begun) n item → slice_get so_far.items n ≡ Some item
+  item_is : (n : ℕ) (item : FormItem) → IsNumber (IsFormTail pages.file pages.begun) n item
+      → slice_get so_far.items n ≡ Some item
   item_is n item = number_is (IsFormTail pages.file pages.begun) one_here so_far.items so_far.end tail_here n item
 
   pub cursor_is : (at : Cursor) → IsCursorOfPages pages at → at ≡ cursor_after_pages from (take count so_far.items)
@@ -80,13 +84,15 @@ module _ (file : List ℕ) (from : Cursor) (pages : PagesView) (count : ℕ) (ol
       → AreFormsWritten file from new (count + 1) old (set forms count (form_numbers item.form))
   one_more new item below hands =
       let there = item_is pages.given item hands.0.number in
-      let here : slice_get so_far.items count ≡ Some item = subst (λ n. slice_get so_far.items n ≡ Some item) so_far.given there in
+      let here : slice_get so_far.items count ≡ Some item = subst (λ n. slice_get so_far.items n ≡ Some item)
+      so_far.given there in
       let inside = slice_get_within so_far.items count item here in
       let front = forms_of (take count so_far.items) in
       let len : length front ≡ count =
       length-map (take count so_far.items) (λ i. form_numbers i.form) ∙ length-take-le count so_far.items so_far.few in
       let all : forms_of (take (count + 1) so_far.items) ≡ front ++ form_numbers item.form ∷ [] =
-      ap forms_of (take_at so_far.items count item here) ∙ map-append (λ i. form_numbers i.form) (take count so_far.items) (item ∷ []) in
+      ap forms_of (take_at so_far.items count item here) ∙ map-append (λ i. form_numbers i.form)
+      (take count so_far.items) (item ∷ []) in
       record {
         items = so_far.items;
         end = so_far.end;
@@ -97,13 +103,16 @@ module _ (file : List ℕ) (from : Cursor) (pages : PagesView) (count : ℕ) (ol
         few = omega (arith, inside);
         asked = omega (arith, below);
         written =
-            one_set front old forms count (form_numbers item.form) len below so_far.written ∙ ap (λ (l : List FaxForm). l ++ drop (count + 1) old) (sym all);
+            one_set front old forms count (form_numbers item.form) len below so_far.written
+            ∙ ap (λ (l : List FaxForm). l ++ drop (count + 1) old) (sym all);
       }
 
-  pub ended : (end : End) (new : PagesView) (at : Cursor) → count < length old → HasEndedAs IsFormTail pages end new → IsCursorOfPages pages at
+  pub ended : (end : End) (new : PagesView) (at : Cursor) → count < length old → HasEndedAs IsFormTail pages end new
+      → IsCursorOfPages pages at
       → AreFormsFilled file from old (record { cursor = at; count = count; used = 0; stop = Ended end }) forms
   ended end new at below ends is =
-      let are = end_is (IsFormTail pages.file pages.begun) one_here so_far.items so_far.end tail_here pages.given end ends.0 in
+      let are = end_is (IsFormTail pages.file pages.begun) one_here so_far.items so_far.end tail_here pages.given end
+      ends.0 in
       record {
         items = so_far.items;
         end = so_far.end;
@@ -131,16 +140,19 @@ module _ (file : List ℕ) (from : Cursor) (pages : PagesView) (count : ℕ) (ol
   }
 
 -- a file has no page with this number, and ends so there
-no_page_from : (file : List ℕ) (page : ℕ) (end : End) (all : List FormItem) (begin : Result ℕ End) (found : Result FilePage End)
+no_page_from : (file : List ℕ) (page : ℕ) (end : End) (all : List FormItem) (begin : Result ℕ End)
+    (found : Result FilePage End)
     → IsPageAt file (record { page = page; row = 0 }) found
     → MatchResult found (λ here. begin ≡ Ok page) (λ none. begin ≡ Err none)
     → MatchResult begin (λ p. AreFrom (IsForm file) p all end) (λ none. (all ≡ []) × (end ≡ none)) → length all ≡ 0
     → IsPageAt file (record { page = page; row = 0 }) (Err end)
 no_page_from file page end all begin found is on rest none = grind (arith, common_steps)
 
-pub no_page : (file : List ℕ) (page : ℕ) (end : End) → EndsAfter (IsFormTail file (record { page = page; row = 0 })) 0 end
+pub no_page : (file : List ℕ) (page : ℕ) (end : End) → EndsAfter (IsFormTail file (record { page = page; row = 0 })) 0
+    end
     → IsPageAt file (record { page = page; row = 0 }) (Err end)
-no_page file page end (all, (begin, (found, is, on), rest), none) = no_page_from file page end all begin found is on rest none
+no_page file page end (all, (begin, (found, is, on), rest), none) =
+    no_page_from file page end all begin found is on rest none
 
 -- how it ends at each row of it
 pub no_row : (file : List ℕ) (page row : ℕ) (end : End) → IsPageAt file (record { page = page; row = 0 }) (Err end)

@@ -23,15 +23,22 @@ pub record AreRunsPut (all left : List ℕ) (at to : ℕ) (old now : List ℕ) :
   pub room : at + length all ≤ length old
   pub now_is : now ≡ (take at old ++ front) ++ drop to old
 
-pub one_put : (all left rest : List ℕ) (at to run : ℕ) (old now : List ℕ) → AreRunsPut all left at to old now → left ≡ run ∷ rest
+pub one_put : (all left rest : List ℕ) (at to run : ℕ) (old now : List ℕ) → AreRunsPut all left at to old now
+    → left ≡ run ∷ rest
     → AreRunsPut all rest at (to + 1) old (set now to run)
 one_put all left rest at to run old now so_far is =
     let front = so_far.front in
     let begin = take at old ++ front in
     let all_is : all ≡ front ++ run ∷ rest = so_far.all_is ∙ ap (λ l. front ++ l) is in
-    let len_all : length all ≡ length front + length (run ∷ rest) = ap length all_is ∙ length-append front (run ∷ rest) in
+    let len_all : length all ≡ length front + length (run ∷ rest) =
+    ap length all_is ∙ length-append front (run ∷ rest) in
     let within : at ≤ length old = omega (arith, so_far.room) in
-    let len : length begin ≡ to = omega (arith, length-append (take at old) front, length-take-le at old within, so_far.to_is) in
+    let len : length begin ≡ to = omega (
+      arith,
+      length-append (take at old) front,
+      length-take-le at old within,
+      so_far.to_is,
+    ) in
     let below : to < length old = omega (arith, len_all, so_far.room, so_far.to_is) in
     record {
       front = front ++ run ∷ [];

@@ -11,11 +11,14 @@ use Rattle.fax_c.proofs.ListLemmas.{one_set}
 abbrev pub AreFirstPut : List Note → ℕ → List FaxNote → List FaxNote → Type 0
 AreFirstPut found count old now = now ≡ map note_of (take count found) ++ drop count old
 
-pub one_more : (found : List Note) (count : ℕ) (default : Note) (made : FaxNote) (old now : List FaxNote) → AreFirstPut found count old now
-    → made ≡ note_of (get_or found count default) → count < length found → count < length old → AreFirstPut found (count + 1) old (set now count made)
+pub one_more : (found : List Note) (count : ℕ) (default : Note) (made : FaxNote) (old now : List FaxNote)
+    → AreFirstPut found count old now
+    → made ≡ note_of (get_or found count default) → count < length found → count < length old
+    → AreFirstPut found (count + 1) old (set now count made)
 one_more found count default made old now so_far is within room =
     grind (arith, common_steps, length-map, length-take-le, one_set)
 
-pub all_put : (found : List Note) (count : ℕ) (old now : List FaxNote) → AreFirstPut found count old now → count ≤ length found → count ≤ length old
+pub all_put : (found : List Note) (count : ℕ) (old now : List FaxNote) → AreFirstPut found count old now
+    → count ≤ length found → count ≤ length old
     → min (length found) (length old) ≤ count → AreNotesPut found old now
 all_put found count old now so_far few room least = grind (arith, common_steps)

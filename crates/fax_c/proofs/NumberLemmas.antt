@@ -5,7 +5,8 @@ use Rattle.fax_bits.specs.laws.Codes.{IsOne}
 use Rattle.fax_walk.specs.declared.end.End.{End}
 use Rattle.fax_walk.specs.views.InOrder.{EndsAfter, IsNumber}
 
-module _ {A : Type 0} (tail : List A → End → Type 0) (one : IsOne tail) (items : List A) (end : End) (is : tail items end) where
+module _ {A : Type 0} (tail : List A → End → Type 0) (one : IsOne tail) (items : List A) (end : End)
+    (is : tail items end) where
   same : (others : List A) (other : End) → tail others other → (others ≡ items) × (other ≡ end)
   same others other there = grind arith
 

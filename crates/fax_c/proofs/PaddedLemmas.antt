@@ -1,5 +1,6 @@
 -- A row in a raster: its bytes, and zeros after them.
-use Rattle.std.proofs.Common.{◌≡◌, ℕ, ◌+◌, ◌-◌, ◌≤◌, List, ◌++◌, length, take, drop, max, replicate, append_assoc, arith, length-append}
+use Rattle.std.proofs.Common.{◌≡◌, ℕ, ◌+◌, ◌-◌, ◌≤◌, List, ◌++◌, length, take, drop, max, replicate, append_assoc}
+use Rattle.std.proofs.Common.{arith, length-append}
 use Rattle.std.specs.Prelude.{Some}
 use Rattle.std.proofs.lemmas.List.{length-replicate, length-take-le}
 use Rattle.fax_rows.specs.Rows.{Colour}
@@ -9,11 +10,13 @@ use Rattle.fax_c.specs.code.Put.{IsPutAt}
 use Rattle.fax_c.proofs.ListLemmas.{more_put}
 use Rattle.fax_c.proofs.PackedLemmas.{has_packed_len}
 
-pub length-padded : (stride : ℕ) (row : List Colour) → length (padded_row stride row) ≡ max (packed_len (length row)) stride
+pub length-padded : (stride : ℕ) (row : List Colour) → length (padded_row stride row)
+    ≡ max (packed_len (length row)) stride
 length-padded stride row = grind (arith, length-replicate, length-append, has_packed_len)
 
 -- a row fills its place in a raster
-pub fills_stride : (stride : ℕ) (row : List Colour) → packed_len (length row) ≤ stride → length (padded_row stride row) ≡ stride
+pub fills_stride : (stride : ℕ) (row : List Colour) → packed_len (length row) ≤ stride
+    → length (padded_row stride row) ≡ stride
 fills_stride stride row short = omega (arith, length-padded stride row, short)
 
 -- a row is written, and then zeros after it

@@ -1,5 +1,6 @@
 -- What is told of the first bytes of a strip holds of all bytes, whatever follows.
-use Rattle.std.proofs.Common.{◌≡◌, ℕ, zero, suc, ◌+◌, ◌-◌, ◌*◌, ◌<◌, ◌≤◌, List, [], ◌∷◌, ◌++◌, length, drop, replicate, Bool, true, false, refl, ap, sym, ◌∙◌}
+use Rattle.std.proofs.Common.{◌≡◌, ℕ, zero, suc, ◌+◌, ◌-◌, ◌*◌, ◌<◌, ◌≤◌, List, [], ◌∷◌, ◌++◌, length, drop, replicate}
+use Rattle.std.proofs.Common.{Bool, true, false, refl, ap, sym, ◌∙◌}
 use Rattle.std.proofs.Common.{subst, arith, inl, inr, Option, Some, None, length-append}
 use Rattle.std.specs.Prelude.{◌⊎◌, flat_map}
 use Rattle.std.proofs.lemmas.List.{drop-append-le}
@@ -32,8 +33,10 @@ use Rattle.fax_c.specs.declared.told.FaxTold.{FaxTold}
 use Rattle.fax_c.specs.Told.{IsTold, fault_of}
 use Rattle.fax_c.specs.views.Places.{most_runs}
 use Rattle.fax_c.specs.views.Strips.{HasRoom, IsPlace, IsPlaceAfter, IsReadable, IsReadableUncounted}
-use Rattle.fax_c.specs.views.Strips.{IsStopTold, IsUncountedTold, ReadsNone, ReadsOn, ReadsTo, StopsAt, StripPlace, TellsStripRows}
-use Rattle.fax_c.specs.views.StripParts.{ArePartRead, AwaitsMore, IsNothingRead, IsUnsettled, IsUnsettledAt, MayChange, TellsStripPart}
+use Rattle.fax_c.specs.views.Strips.{IsStopTold, IsUncountedTold, ReadsNone, ReadsOn, ReadsTo, StopsAt, StripPlace}
+use Rattle.fax_c.specs.views.Strips.{TellsStripRows}
+use Rattle.fax_c.specs.views.StripParts.{ArePartRead, AwaitsMore, IsNothingRead, IsUnsettled, IsUnsettledAt, MayChange}
+use Rattle.fax_c.specs.views.StripParts.{TellsStripPart}
 use Rattle.fax_c.specs.code.StripParts.{IsAhead, IsMoreTold, Stays, StopMayChange}
 use Rattle.fax_c.specs.code.Strips.{IsMetBy, IsMetInStrip, IsRowsEndTold}
 
@@ -55,19 +58,22 @@ no_mark_after Mmr mark = let is = mark.1 in cc
 mark_within : (coding : Coding) (n : ℕ) (b : List Bool) → HasEndMark coding (drop n b) → n ≤ length b
 mark_within coding n b mark =
     elim (cases_lt (length b) n) [
-      | inl beyond ↦ absurd (no_mark_after coding (subst (HasEndMark coding) (drop_of_length-le b (omega (arith, beyond))) mark))
+      | inl beyond ↦ absurd (no_mark_after coding (subst (HasEndMark coding)
+          (drop_of_length-le b (omega (arith, beyond))) mark))
       | inr within ↦ within
     ]
 
 -- rows that are read begin and end inside the bits
-ends_within : (form : StripForm) (all : List Bool) (from : StripPlace) (rows : List (List Colour)) (to : StripPlace) → from.bits ≤ length all
+ends_within : (form : StripForm) (all : List Bool) (from : StripPlace) (rows : List (List Colour)) (to : StripPlace)
+    → from.bits ≤ length all
     → ReadsTo form all from rows to → to.bits ≤ length all
 ends_within form all from [] to within reads = subst (λ (p : StripPlace). p.bits ≤ length all) reads within
 ends_within form all from (row ∷ rows) to within (after, inside, due, line, reads) =
     ends_within form all (record { row = from.row + 1; bits = after; reference = row }) rows to inside reads
 
 -- the place in memory of the caller is the one up to which rows are read
-place_is_to : (form : StripForm) (all : List Bool) (from : StripPlace) (rows : List (List Colour)) (to : StripPlace) (count : ℕ)
+place_is_to : (form : StripForm) (all : List Bool) (from : StripPlace) (rows : List (List Colour)) (to : StripPlace)
+    (count : ℕ)
     (old place : FaxPlace) (old_runs runs : List ℕ) → ReadsTo form all from rows to → count ≡ length rows
     → IsPlace form.width old old_runs from → IsPlaceAfter form.width count old old_runs place runs to
     → (to.row ≡ place.row) × (to.bits ≡ place.bits)
@@ -75,12 +81,15 @@ place_is_to form all from [] to count old place old_runs runs reads count_is at 
   sym (ap (λ (p : StripPlace). p.row) reads) ∙ at.row ∙ sym (ap (λ (p : FaxPlace). p.row) none.1),
   sym (ap (λ (p : StripPlace). p.bits) reads) ∙ at.bits ∙ sym (ap (λ (p : FaxPlace). p.bits) none.1),
 )
-place_is_to form all from (row ∷ rows) to count old place old_runs runs reads count_is at (inl none) = absurd (omega (arith, count_is, none.0))
+place_is_to form all from (row ∷ rows) to count old place old_runs runs reads count_is at (inl none) =
+    absurd (omega (arith, count_is, none.0))
 place_is_to form all from rows to count old place old_runs runs reads count_is at (inr some) = (some.2.row, some.2.bits)
 
 -- why the row at a place is not settled, by the stop
-unsettled_by : (given : FaxStrip) (form : StripForm) (strip : List ℕ) (place : FaxPlace) (to : StripPlace) (page stride left : ℕ) (stop : Stop)
-    → StopMayChange form strip place stop → StopsAt form (bits form.order strip) to page stride left stop → IsUnsettled given form strip to
+unsettled_by : (given : FaxStrip) (form : StripForm) (strip : List ℕ) (place : FaxPlace) (to : StripPlace)
+    (page stride left : ℕ) (stop : Stop)
+    → StopMayChange form strip place stop → StopsAt form (bits form.order strip) to page stride left stop
+    → IsUnsettled given form strip to
 unsettled_by given form strip place to page stride left Done changes stops = absurd changes
 unsettled_by given form strip place to page stride left (Ended Proper) changes stops = absurd changes
 unsettled_by given form strip place to page stride left (Ended (Fault p r (File fault))) changes stops = absurd changes
@@ -91,7 +100,8 @@ unsettled_by given form strip place to page stride left Memory changes stops = a
 unsettled_by given form strip place to page stride left NoRoom changes stops = absurd changes
 
 -- what of the strip is in the way there
-lines_by : (form : StripForm) (all : List Bool) (to : StripPlace) (page stride left : ℕ) (stop : Stop) (met : Option StripFault)
+lines_by : (form : StripForm) (all : List Bool) (to : StripPlace) (page stride left : ℕ) (stop : Stop)
+    (met : Option StripFault)
     → IsMetBy stop (Some met) → StopsAt form all to page stride left stop
     → AreLines form to.row to.reference (drop to.bits all) [] met (drop to.bits all)
 lines_by form all to page stride left Done met is stops = cc
@@ -107,7 +117,8 @@ lines_by form all to page stride left Memory met is stops = absurd stops
 lines_by form all to page stride left NoRoom met is stops = absurd stops
 
 -- a stop that is met in the strip, where nothing is read, is its end
-none_by : (form : StripForm) (strip : List ℕ) (stride : ℕ) (place : FaxPlace) (runs : List ℕ) (room : ℕ) (stop : Stop) (met : Option StripFault)
+none_by : (form : StripForm) (strip : List ℕ) (stride : ℕ) (place : FaxPlace) (runs : List ℕ) (room : ℕ) (stop : Stop)
+    (met : Option StripFault)
     → IsMetBy stop (Some met) → ReadsNone form strip stride place runs room stop
     → HasRoom form stride room × (place.row ≡ form.rows) × (met ≡ None)
 none_by form strip stride place runs room Done met is none = absurd none
@@ -130,7 +141,8 @@ ahead_by form strip stride place runs room (Ended Outside) changes none = (none.
 ahead_by form strip stride place runs room Memory changes none = absurd changes
 ahead_by form strip stride place runs room NoRoom changes none = absurd changes
 
-module _ (stays : (form : StripForm) (i : ℕ) (reference : List Colour) → StaysWhateverFollows form i reference) (end_stays : EndsStayWhateverFollows)
+module _ (stays : (form : StripForm) (i : ℕ) (reference : List Colour) → StaysWhateverFollows form i reference)
+    (end_stays : EndsStayWhateverFollows)
     (stand : AreBitsByPlace) (form : StripForm) (strip more : List ℕ) where
   abbrev all : List Bool
   all = bits form.order strip
@@ -148,9 +160,15 @@ module _ (stays : (form : StripForm) (i : ℕ) (reference : List Colour) → Sta
   longer = omega (arith, length-append strip more)
 
   longer_bits : length all ≤ length whole
-  longer_bits = omega (arith, ap (λ (b : List Bool). length b) (bits_follow form.order strip more), length-append all rest)
+  longer_bits = omega (
+    arith,
+    ap (λ (b : List Bool). length b) (bits_follow form.order strip more),
+    length-append all
+        rest,
+  )
 
-  reads_stay : (from : StripPlace) (rows : List (List Colour)) (to : StripPlace) → from.bits ≤ length all → ReadsTo form all from rows to
+  reads_stay : (from : StripPlace) (rows : List (List Colour)) (to : StripPlace) → from.bits ≤ length all
+      → ReadsTo form all from rows to
       → ReadsTo form whole from rows to
   reads_stay from [] to within reads = reads
   reads_stay from (row ∷ rows) to within (after, inside, due, line, reads) =
@@ -159,12 +177,14 @@ module _ (stays : (form : StripForm) (i : ℕ) (reference : List Colour) → Sta
         omega (arith, inside, longer_bits),
         due,
         subst (λ b. IsLine form from.row from.reference b row (drop after whole)) (sym (from_place from.bits within))
-            (subst (λ c. IsLine form from.row from.reference (drop from.bits all ++ rest) row c) (sym (from_place after inside)) stay),
+            (subst (λ c. IsLine form from.row from.reference (drop from.bits all ++ rest) row c)
+            (sym (from_place after inside)) stay),
         reads_stay (record { row = from.row + 1; bits = after; reference = row }) rows to inside reads,
       )
 
   stop_stays : (place : FaxPlace) (to : StripPlace) (page stride left : ℕ) (stop : Stop) → to.bits ≤ length all
-      → (StopMayChange form strip place stop → ⊥) → StopsAt form all to page stride left stop → StopsAt form whole to page stride left stop
+      → (StopMayChange form strip place stop → ⊥) → StopsAt form all to page stride left stop
+      → StopsAt form whole to page stride left stop
   stop_stays place to page stride left Done within stay stops = stops
   stop_stays place to page stride left (Ended Proper) within stay stops = stops
   stop_stays place to page stride left (Ended (Fault p r (File fault))) within stay stops = stops
@@ -180,7 +200,8 @@ module _ (stays : (form : StripForm) (i : ℕ) (reference : List Colour) → Sta
   stop_stays place to page stride left Memory within stay stops = stops
   stop_stays place to page stride left NoRoom within stay stops = stops
 
-  none_stays : (stride : ℕ) (place : FaxPlace) (runs : List ℕ) (room : ℕ) (stop : Stop) → (StopMayChange form strip place stop → ⊥)
+  none_stays : (stride : ℕ) (place : FaxPlace) (runs : List ℕ) (room : ℕ) (stop : Stop)
+      → (StopMayChange form strip place stop → ⊥)
       → ReadsNone form strip stride place runs room stop → ReadsNone form (strip ++ more) stride place runs room stop
   none_stays stride place runs room Done stay none = none
   none_stays stride place runs room (Ended Proper) stay none = none
@@ -202,8 +223,10 @@ module _ (stays : (form : StripForm) (i : ℕ) (reference : List Colour) → Sta
   count_bits = stand.count form.order strip
 
   -- what is read of these bytes is read of all
-  pub reads_on_stays : (stride : ℕ) (old_place : FaxPlace) (old_runs old : List ℕ) (filled : Filled) (place : FaxPlace) (runs new : List ℕ)
-      → (StopMayChange form strip place filled.stop → ⊥) → ReadsOn form strip stride old_place old_runs old filled place runs new
+  pub reads_on_stays : (stride : ℕ) (old_place : FaxPlace) (old_runs old : List ℕ) (filled : Filled) (place : FaxPlace)
+      (runs new : List ℕ)
+      → (StopMayChange form strip place filled.stop → ⊥) → ReadsOn form strip stride old_place old_runs old filled place
+      runs new
       → ReadsOn form (strip ++ more) stride old_place old_runs old filled place runs new
   reads_on_stays stride old_place old_runs old filled place runs new stay (inl (room, from, to, due, read, after)) =
       let within : from.bits ≤ length all = omega (arith, due.2, count_bits) in
@@ -220,12 +243,14 @@ module _ (stays : (form : StripForm) (i : ℕ) (reference : List Colour) → Sta
           written = read.written;
           cursor = read.cursor;
           stops =
-              stop_stays place to old_place.page stride (length old - filled.used) filled.stop (ends_within form all from read.rows to within read.read)
+              stop_stays place to old_place.page stride (length old - filled.used) filled.stop
+              (ends_within form all from read.rows to within read.read)
               stay read.stops;
         },
         after,
       )
-  reads_on_stays stride old_place old_runs old filled place runs new stay (inr (none, count, used, cursor, same, same_runs, same_bytes)) =
+  reads_on_stays stride old_place old_runs old filled place runs new stay
+      (inr (none, count, used, cursor, same, same_runs, same_bytes)) =
       inr (
         none_stays stride old_place old_runs (length old) filled.stop
             (subst (λ (p : FaxPlace). StopMayChange form strip p filled.stop → ⊥) same stay) none,
@@ -244,18 +269,22 @@ module _ (stays : (form : StripForm) (i : ℕ) (reference : List Colour) → Sta
     within : place.bits ≤ length all
     cause : IsCause form i reference (drop place.bits all) fault
 
-  cause_in_lines : (i : ℕ) (reference : List Colour) (b : List Bool) (met : Option StripFault) (fault : StripFault) → met ≡ Some fault
+  cause_in_lines : (i : ℕ) (reference : List Colour) (b : List Bool) (met : Option StripFault) (fault : StripFault)
+      → met ≡ Some fault
       → AreLines form i reference b [] met b → IsCause form i reference b fault
   cause_in_lines i reference b None fault is lines = cc
   cause_in_lines i reference b (Some other) fault is lines =
       let same : other ≡ fault = cc in subst (λ f. IsCause form i reference b f) same lines.2
 
-  cause_there : (stride : ℕ) (old_place : FaxPlace) (old_runs old : List ℕ) (filled : Filled) (place : FaxPlace) (runs new : List ℕ)
+  cause_there : (stride : ℕ) (old_place : FaxPlace) (old_runs old : List ℕ) (filled : Filled) (place : FaxPlace)
+      (runs new : List ℕ)
       (met : Option StripFault) (fault : StripFault) → IsMetBy filled.stop (Some met) → met ≡ Some fault
       → ReadsOn form strip stride old_place old_runs old filled place runs new → HasCause place fault
-  cause_there stride old_place old_runs old filled place runs new met fault by is (inl (room, from, to, due, read, after)) =
+  cause_there stride old_place old_runs old filled place runs new met fault by is
+      (inl (room, from, to, due, read, after)) =
       let within : from.bits ≤ length all = omega (arith, due.2, count_bits) in
-      let there = place_is_to form all from read.rows to filled.count old_place place old_runs runs read.read read.count due.0 after in
+      let there = place_is_to form all from read.rows to filled.count old_place place old_runs runs read.read read.count
+      due.0 after in
       let inside = ends_within form all from read.rows to within read.read in
       let lines = lines_by form all to old_place.page stride (length old - filled.used) filled.stop met by read.stops in
       record {
@@ -265,13 +294,16 @@ module _ (stays : (form : StripForm) (i : ℕ) (reference : List Colour) → Sta
         cause = subst (λ n. IsCause form to.row to.reference (drop n all) fault) there.1
             (cause_in_lines to.row to.reference (drop to.bits all) met fault is lines);
       }
-  cause_there stride old_place old_runs old filled place runs new met fault by is (inr (none, count, used, cursor, same_place, same_runs, same_bytes)) =
+  cause_there stride old_place old_runs old filled place runs new met fault by is
+      (inr (none, count, used, cursor, same_place, same_runs, same_bytes)) =
       let none = none_by form strip stride old_place old_runs (length old) filled.stop met by none in
       let same = sym is ∙ none.2 in
       cc
 
-  ends_so_stays : (place : FaxPlace) (met : Option StripFault) (end : RowsEnd) → ((fault : StripFault) → met ≡ Some fault → HasCause place fault)
-      → Stays end → EndsSo form.coding place.row (drop place.bits all) met end → EndsSo form.coding place.row (drop place.bits whole) met end
+  ends_so_stays : (place : FaxPlace) (met : Option StripFault) (end : RowsEnd)
+      → ((fault : StripFault) → met ≡ Some fault → HasCause place fault)
+      → Stays end → EndsSo form.coding place.row (drop place.bits all) met end
+      → EndsSo form.coding place.row (drop place.bits whole) met end
   ends_so_stays place met ends.Marked known stay so =
       let within = mark_within form.coding place.bits all so in
       subst (λ b. EndsSo form.coding place.row b met ends.Marked) (sym (from_place place.bits within))
@@ -281,25 +313,32 @@ module _ (stays : (form : StripForm) (i : ℕ) (reference : List Colour) → Sta
       let there = known fault so.2 in
       subst (λ b. EndsSo form.coding place.row b met (ends.Fault fault)) (sym (from_place place.bits there.within))
       (subst (λ m. EndsSo form.coding place.row (drop place.bits all ++ rest) m (ends.Fault fault)) (sym so.2)
-      (end_stays.fault form there.i place.row there.reference (drop place.bits all) rest fault stay.0 stay.1 there.cause))
+      (end_stays.fault form there.i place.row there.reference (drop place.bits all) rest fault stay.0 stay.1
+      there.cause))
   ends_so_stays place met ends.TooMany known stay so = absurd stay
 
   -- the end of these bytes is that of all
-  pub end_told_of_all : (stride : ℕ) (old_place : FaxPlace) (old_runs old : List ℕ) (filled : Filled) (place : FaxPlace) (runs new : List ℕ)
+  pub end_told_of_all : (stride : ℕ) (old_place : FaxPlace) (old_runs old : List ℕ) (filled : Filled) (place : FaxPlace)
+      (runs new : List ℕ)
       (met : Option StripFault) (end : RowsEnd) → IsMetBy filled.stop (Some met)
       → ReadsOn form strip stride old_place old_runs old filled place runs new → Stays end
-      → EndsSo form.coding place.row (drop place.bits all) met end → EndsSo form.coding place.row (drop place.bits whole) met end
+      → EndsSo form.coding place.row (drop place.bits all) met end
+      → EndsSo form.coding place.row (drop place.bits whole) met end
   end_told_of_all stride old_place old_runs old filled place runs new met end by reads stay so =
-      ends_so_stays place met end (λ fault is. cause_there stride old_place old_runs old filled place runs new met fault by is reads) stay so
+      ends_so_stays place met end (λ fault is. cause_there stride old_place old_runs old filled place runs new met fault
+      by is reads) stay so
 
-  pub rows_of_all : (from : StripPlace) (rows : List (List Colour)) (to : StripPlace) → from.bits ≤ 8 * length strip → ReadsTo form all from rows to
+  pub rows_of_all : (from : StripPlace) (rows : List (List Colour)) (to : StripPlace) → from.bits ≤ 8 * length strip
+      → ReadsTo form all from rows to
       → ReadsTo form whole from rows to
   rows_of_all from rows to within reads = reads_stay from rows to (omega (arith, within, count_bits)) reads
 
 -- what is told of rows that nobody counted, where they end so
-end_told : (form : StripForm) (strip : List ℕ) (place : FaxPlace) (filled : Filled) (met : Option StripFault) (end : RowsEnd) (told : FaxTold)
+end_told : (form : StripForm) (strip : List ℕ) (place : FaxPlace) (filled : Filled) (met : Option StripFault)
+    (end : RowsEnd) (told : FaxTold)
     (status : ℕ) → IsMetInStrip filled.stop (Some met) → IsRowsEndTold filled place end told status
-    → EndsSo form.coding place.row (drop place.bits (bits form.order strip)) met end → IsUncountedTold form strip place filled told status
+    → EndsSo form.coding place.row (drop place.bits (bits form.order strip)) met end
+    → IsUncountedTold form strip place filled told status
 end_told form strip place filled met end told status in_strip is so = record {
   count = is.count;
   used = is.used;
@@ -317,20 +356,25 @@ stop_told form strip place filled told status in_strip is = record {
   page = is.page;
   row = is.row;
   stop = subst (λ f. IsStopTold form strip place filled.stop f status) (sym is.fault)
-      (subst (λ n. IsStopTold form strip place filled.stop (fault_of filled.stop) n) (sym is.answer) (in_strip form strip place));
+      (subst (λ n. IsStopTold form strip place filled.stop (fault_of filled.stop) n) (sym is.answer)
+      (in_strip form strip place));
 }
 
-module _ (stays : (form : StripForm) (i : ℕ) (reference : List Colour) → StaysWhateverFollows form i reference) (end_stays : EndsStayWhateverFollows)
-    (stand : AreBitsByPlace) (given : FaxStrip) (form : StripForm) (strip : List ℕ) (stride : ℕ) (old_place : FaxPlace) (old_runs old : List ℕ)
+module _ (stays : (form : StripForm) (i : ℕ) (reference : List Colour) → StaysWhateverFollows form i reference)
+    (end_stays : EndsStayWhateverFollows)
+    (stand : AreBitsByPlace) (given : FaxStrip) (form : StripForm) (strip : List ℕ) (stride : ℕ) (old_place : FaxPlace)
+    (old_runs old : List ℕ)
     (filled : Filled) (place : FaxPlace) (runs new : List ℕ) (old_told told : FaxTold) (status : ℕ)
-    (reads : ReadsOn form strip stride old_place old_runs old filled place runs new) (room_of_runs : most_runs ≤ length old_runs) where
+    (reads : ReadsOn form strip stride old_place old_runs old filled place runs new)
+    (room_of_runs : most_runs ≤ length old_runs) where
   abbrev IsTell : List ℕ → Type 0
   IsTell bytes = TellsStripRows bytes given stride old_place old_runs old place runs new old_told told status
 
   abbrev IsPart : Type 0
   IsPart = TellsStripPart strip given stride old_place old_runs old place runs new old_told told status
 
-  pub counted_told : IsReadable strip given form → (StopMayChange form strip place filled.stop → ⊥) → IsTold filled told status → IsPart
+  pub counted_told : IsReadable strip given form → (StopMayChange form strip place filled.stop → ⊥)
+      → IsTold filled told status → IsPart
   counted_told readable stay is = inl (
     inl (form, readable, room_of_runs, filled, reads, is),
     λ more few.
@@ -339,12 +383,14 @@ module _ (stays : (form : StripForm) (i : ℕ) (reference : List Colour) → Sta
           (readable.0, few),
           room_of_runs,
           filled,
-          reads_on_stays stays end_stays stand form strip more stride old_place old_runs old filled place runs new stay reads,
+          reads_on_stays stays end_stays stand form strip more stride old_place old_runs old filled place runs new stay
+              reads,
           is,
         ),
   )
 
-  pub other_told : IsReadableUncounted strip given form → (StopMayChange form strip place filled.stop → ⊥) → IsMetInStrip filled.stop None
+  pub other_told : IsReadableUncounted strip given form → (StopMayChange form strip place filled.stop → ⊥)
+      → IsMetInStrip filled.stop None
       → IsTold filled told status → IsPart
   other_told readable stay in_strip is = inl (
     inr (inl (form, readable, room_of_runs, filled, reads, stop_told form strip place filled told status in_strip is)),
@@ -354,31 +400,45 @@ module _ (stays : (form : StripForm) (i : ℕ) (reference : List Colour) → Sta
           (readable.0, (readable.1.0, few)),
           room_of_runs,
           filled,
-          reads_on_stays stays end_stays stand form strip more stride old_place old_runs old filled place runs new stay reads,
+          reads_on_stays stays end_stays stand form strip more stride old_place old_runs old filled place runs new stay
+              reads,
           stop_told form (strip ++ more) place filled told status in_strip is,
         )),
   )
 
   pub uncounted_told : (met : Option StripFault) (end : RowsEnd) → IsReadableUncounted strip given form
-      → (StopMayChange form strip place filled.stop → ⊥) → IsMetInStrip filled.stop (Some met) → IsMetBy filled.stop (Some met) → Stays end
-      → EndsSo form.coding place.row (drop place.bits (bits form.order strip)) met end → IsRowsEndTold filled place end told status → IsPart
+      → (StopMayChange form strip place filled.stop → ⊥) → IsMetInStrip filled.stop (Some met)
+      → IsMetBy filled.stop (Some met) → Stays end
+      → EndsSo form.coding place.row (drop place.bits (bits form.order strip)) met end
+      → IsRowsEndTold filled place end told status → IsPart
   uncounted_told met end readable stay in_strip by end_stay so is = inl (
-    inr (inl (form, readable, room_of_runs, filled, reads, end_told form strip place filled met end told status in_strip is so)),
+    inr (inl (
+      form,
+      readable,
+      room_of_runs,
+      filled,
+      reads,
+      end_told form strip place filled met end told status in_strip
+          is so,
+    )),
     λ more few.
         inr (inl (
           form,
           (readable.0, (readable.1.0, few)),
           room_of_runs,
           filled,
-          reads_on_stays stays end_stays stand form strip more stride old_place old_runs old filled place runs new stay reads,
+          reads_on_stays stays end_stays stand form strip more stride old_place old_runs old filled place runs new stay
+              reads,
           end_told form (strip ++ more) place filled met end told status in_strip is
-              (end_told_of_all stays end_stays stand form strip more stride old_place old_runs old filled place runs new met end by reads end_stay so),
+              (end_told_of_all stays end_stays stand form strip more stride old_place old_runs old filled place runs new
+              met end by reads end_stay so),
         )),
   )
 
   -- rows are read up to one that is not settled, for this reason
   module _ (is : IsMoreTold filled told status)
-      (in_rows : (to : StripPlace) → StopsAt form (bits form.order strip) to old_place.page stride (length old - filled.used) filled.stop
+      (in_rows : (to : StripPlace) → StopsAt form (bits form.order strip) to old_place.page stride
+      (length old - filled.used) filled.stop
       → to.row ≡ place.row → to.bits ≡ place.bits → IsUnsettled given form strip to)
       (at_once : place ≡ old_place → ReadsNone form strip stride old_place old_runs (length old) filled.stop
       → HasRoom form stride (length old) × IsUnsettledAt given form strip old_place) where
@@ -386,7 +446,8 @@ module _ (stays : (form : StripForm) (i : ℕ) (reference : List Colour) → Sta
         → AwaitsMore given form strip stride old_place old_runs old place runs new told
     awaits (inl (room, from, to, due, read, after)) =
         let all = bits form.order strip in
-        let there = place_is_to form all from read.rows to filled.count old_place place old_runs runs read.read read.count due.0 after in
+        let there = place_is_to form all from read.rows to filled.count old_place place old_runs runs read.read
+        read.count due.0 after in
         let part : ArePartRead form strip stride old_place old_runs old place runs new told to = record {
           from = from;
           due = due;
@@ -421,7 +482,8 @@ module _ (stays : (form : StripForm) (i : ℕ) (reference : List Colour) → Sta
       → StopMayChange form strip place filled.stop → IsPart
   stop_waits readable is changes =
       waits is
-      (λ to stops row bits_are. unsettled_by given form strip place to old_place.page stride (length old - filled.used) filled.stop changes stops)
+      (λ to stops row bits_are. unsettled_by given form strip place to old_place.page stride (length old - filled.used)
+      filled.stop changes stops)
       (λ same none.
       let ahead = ahead_by form strip stride old_place old_runs (length old) filled.stop
       (subst (λ (p : FaxPlace). StopMayChange form strip p filled.stop) same changes) none in
@@ -429,8 +491,10 @@ module _ (stays : (form : StripForm) (i : ℕ) (reference : List Colour) → Sta
       readable
 
   -- or the end may
-  pub end_waits : (met : Option StripFault) (end : RowsEnd) → IsReadableUncounted strip given form → IsMoreTold filled told status
-      → IsMetBy filled.stop (Some met) → MayChange end → EndsSo form.coding place.row (drop place.bits (bits form.order strip)) met end → IsPart
+  pub end_waits : (met : Option StripFault) (end : RowsEnd) → IsReadableUncounted strip given form
+      → IsMoreTold filled told status
+      → IsMetBy filled.stop (Some met) → MayChange end → EndsSo form.coding place.row
+      (drop place.bits (bits form.order strip)) met end → IsPart
   end_waits met end readable is by changes so =
       let all = bits form.order strip in
       waits is

@@ -25,20 +25,32 @@ has_a_run colour n (first ∷ pels) = grind (arith, has_a_run colour (n + 1) pel
 kept_past : (n m : ℕ) (runs old : List ℕ) → n ≤ m → drop n runs ≡ drop n old → drop m runs ≡ drop m old
 kept_past n m runs old before same =
     let more : m ≡ n + (m - n) = omega (arith, before) in
-    ap (λ k. drop k runs) more ∙ sym (drop-drop (m - n) n runs) ∙ ap (drop (m - n)) same ∙ drop-drop (m - n) n old ∙ sym (ap (λ k. drop k old) more)
+    ap (λ k. drop k runs) more ∙ sym (drop-drop (m - n) n runs) ∙ ap (drop (m - n)) same ∙ drop-drop (m - n) n old
+    ∙ sym (ap (λ k. drop k old) more)
 
 -- a place that is lent, and whose runs are written, is told
 pub inside_told : (walk : WalkView) (lent : PlaceInside) (count : ℕ) (old : FaxPlace) (old_runs runs : List ℕ)
     → IsLongOf walk (place_inside (Some lent)) → length (runs_of lent.reference.now) ≤ most_runs
     → IsPutAt (runs_of lent.reference.now) old_runs 0 (Some count) runs
-    → IsInsideTold walk old old_runs (record { page = lent.at.page; row = lent.at.row; bits = lent.bits; runs = count }) runs
+    → IsInsideTold walk old old_runs (record { page = lent.at.page; row = lent.at.row; bits = lent.bits; runs = count })
+    runs
 inside_told walk lent count old old_runs runs long few (count_is, within, runs_are) =
     let numbers = runs_of lent.reference.now in
     let some = has_a_run Colour.White 0 lent.reference.now in
-    let same : take count runs ≡ numbers = ap (take count) runs_are ∙ take_at numbers (drop count old_runs) count (omega (arith, count_is)) in
-    let rest : drop count runs ≡ drop count old_runs = ap (drop count) runs_are ∙ drop_at numbers (drop count old_runs) count (omega (arith, count_is)) in
+    let same : take count runs ≡ numbers = ap (take count) runs_are
+    ∙ take_at numbers (drop count old_runs) count (omega (arith, count_is)) in
+    let rest : drop count runs ≡ drop count old_runs = ap (drop count) runs_are
+    ∙ drop_at numbers (drop count old_runs) count (omega (arith, count_is)) in
     let len : length runs ≡ length old_runs =
-    omega (arith, ap (λ (l : List ℕ). length l) runs_are, length-append numbers (drop count old_runs), length-drop count old_runs, count_is, within) in (
+    omega (
+      arith,
+      ap (λ (l : List ℕ). length l) runs_are,
+      length-append numbers (drop count old_runs),
+      length-drop count
+          old_runs,
+      count_is,
+      within,
+    ) in (
       (kept_past count most_runs runs old_runs (omega (arith, few, count_is)) rest, len),
       inr (
         (omega (arith, count_is, some), omega (arith, within, len)),
@@ -70,8 +82,10 @@ pub stays : (file : List ℕ) (place : FaxPlace) (runs : List ℕ) (cursor : Cur
 stays file place runs cursor (some, within) = grind arith
 
 -- the place after the rows that a walk has handed out is told
-pub after_told : (walk : WalkView) (cursor : Cursor) (count : ℕ) (old place : FaxPlace) (old_runs runs : List ℕ) → walk.given ≡ count
-    → old ≡ place_at cursor → IsInsideTold walk old old_runs place runs → IsAfterRows walk.file walk.begun cursor count place runs
+pub after_told : (walk : WalkView) (cursor : Cursor) (count : ℕ) (old place : FaxPlace) (old_runs runs : List ℕ)
+    → walk.given ≡ count
+    → old ≡ place_at cursor → IsInsideTold walk old old_runs place runs
+    → IsAfterRows walk.file walk.begun cursor count place runs
 after_told walk cursor count old place old_runs runs given at (kept, told) =
     subst (λ n. IsAfterRows walk.file walk.begun cursor n place runs) given
     (elim told [
@@ -80,8 +94,10 @@ after_told walk cursor count old place old_runs runs given at (kept, told) =
     ])
 
 -- a place is the one after the rows of the same walk, however it is named
-pub after_of : (file other : List ℕ) (begun another : Begun) (cursor : Cursor) (count : ℕ) (place : FaxPlace) (runs : List ℕ)
-    → file ≡ other → begun ≡ another → IsAfterRows file begun cursor count place runs → IsAfterRows other another cursor count place runs
+pub after_of : (file other : List ℕ) (begun another : Begun) (cursor : Cursor) (count : ℕ) (place : FaxPlace)
+    (runs : List ℕ)
+    → file ≡ other → begun ≡ another → IsAfterRows file begun cursor count place runs
+    → IsAfterRows other another cursor count place runs
 after_of file other begun another cursor count place runs same begins is = rw (same, begins) at is
 
 -- what one step keeps, and then the next

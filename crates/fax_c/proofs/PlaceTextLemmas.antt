@@ -20,7 +20,8 @@ decimal_utf8 n short = IsUtf8-from_ascii (decimal n) (IsAscii-decimal n (omega (
 
 -- one character of ASCII
 one_utf8 : (b : ℕ) → b < 128 → IsUtf8 (b ∷ [])
-one_utf8 b short = IsUtf8-from_ascii (b ∷ []) (IsAscii-from_all (b ∷ []) (All-cons (λ n. n < 128) b [] short (All-nil (λ n. n < 128))))
+one_utf8 b short = IsUtf8-from_ascii (b ∷ []) (IsAscii-from_all (b ∷ [])
+    (All-cons (λ n. n < 128) b [] short (All-nil (λ n. n < 128))))
 
 colon : IsUtf8 (codes ":")
 colon = one_utf8 58 (omega arith)
@@ -42,25 +43,33 @@ cursor_text_utf8 at is =
     let begin = IsUtf8-append (codes "1:") (decimal at.page) first_kind (decimal_utf8 at.page is.page) in
     with_number (codes "1:" ++ decimal at.page) at.row begin is.row
 
-more_runs_utf8 : (runs : List ℕ) → All (λ run. run < 2 ^ 32) runs → IsUtf8 (flat_map (λ run. codes "," ++ decimal run) runs)
+more_runs_utf8 : (runs : List ℕ) → All (λ run. run < 2 ^ 32) runs
+    → IsUtf8 (flat_map (λ run. codes "," ++ decimal run) runs)
 more_runs_utf8 [] all = IsUtf8-nil
 more_runs_utf8 (run ∷ runs) all =
     IsUtf8-append (codes "," ++ decimal run) (flat_map (λ run. codes "," ++ decimal run) runs)
-    (IsUtf8-append (codes ",") (decimal run) (one_utf8 44 (omega arith)) (decimal_utf8 run (All-head (λ n. n < 2 ^ 32) run runs all)))
+    (IsUtf8-append (codes ",") (decimal run) (one_utf8 44 (omega arith))
+    (decimal_utf8 run (All-head (λ n. n < 2 ^ 32) run runs all)))
     (more_runs_utf8 runs (All-tail (λ n. n < 2 ^ 32) run runs all))
 
 runs_text_utf8 : (runs : List ℕ) → All (λ run. run < 2 ^ 32) runs → IsUtf8 (runs_text runs)
 runs_text_utf8 [] all = IsUtf8-nil
 runs_text_utf8 (run ∷ runs) all =
-    IsUtf8-append (decimal run) (flat_map (λ run. codes "," ++ decimal run) runs) (decimal_utf8 run (All-head (λ n. n < 2 ^ 32) run runs all)) (more_runs_utf8 runs (All-tail (λ n. n < 2 ^ 32) run runs all))
+    IsUtf8-append (decimal run) (flat_map (λ run. codes "," ++ decimal run) runs)
+    (decimal_utf8 run (All-head (λ n. n < 2 ^ 32) run runs all))
+    (more_runs_utf8 runs (All-tail (λ n. n < 2 ^ 32) run runs all))
 
 pub long_cursor_text_utf8 : (place : LongPlace) → IsLongCursor place → IsUtf8 (long_cursor_text place)
 long_cursor_text_utf8 place is =
-    let begin = IsUtf8-append (codes "2:") (decimal place.at.page) second_kind (decimal_utf8 place.at.page is.cursor.page) in
+    let begin = IsUtf8-append (codes "2:") (decimal place.at.page) second_kind
+    (decimal_utf8 place.at.page is.cursor.page) in
     let row = with_number (codes "2:" ++ decimal place.at.page) place.at.row begin is.cursor.row in
-    let bits = with_number (codes "2:" ++ decimal place.at.page ++ codes ":" ++ decimal place.at.row) place.bits row is.bits in
-    let colons = IsUtf8-append (codes "2:" ++ decimal place.at.page ++ codes ":" ++ decimal place.at.row ++ codes ":" ++ decimal place.bits) (codes ":") bits colon in
-    IsUtf8-append (codes "2:" ++ decimal place.at.page ++ codes ":" ++ decimal place.at.row ++ codes ":" ++ decimal place.bits ++ codes ":") (runs_text place.runs) colons
+    let bits = with_number (codes "2:" ++ decimal place.at.page ++ codes ":" ++ decimal place.at.row) place.bits row
+    is.bits in
+    let colons = IsUtf8-append (codes "2:" ++ decimal place.at.page ++ codes ":" ++ decimal place.at.row ++ codes ":"
+    ++ decimal place.bits) (codes ":") bits colon in
+    IsUtf8-append (codes "2:" ++ decimal place.at.page ++ codes ":" ++ decimal place.at.row ++ codes ":"
+    ++ decimal place.bits ++ codes ":") (runs_text place.runs) colons
     (runs_text_utf8 place.runs is.runs)
 
 -- bytes that are no UTF-8 are the text of no place
@@ -71,11 +80,13 @@ no_text text not = (
 )
 
 -- the place inside a strip that a text names is told, or it is not, and why
-pub place_read : (text : List ℕ) (found : LongPlace) (old place : FaxPlace) (old_runs runs : List ℕ) (status : ℕ) → TextsNameOne
+pub place_read : (text : List ℕ) (found : LongPlace) (old place : FaxPlace) (old_runs runs : List ℕ) (status : ℕ)
+    → TextsNameOne
     → IsLongCursor found → text ≡ long_cursor_text found → IsPlaceTold found old old_runs status place runs
     → ReadsPlace text old old_runs place runs status
 place_read text found old place old_runs runs status names is text_is (inl (done, has, few, same, kept)) = grind arith
-place_read text found old place old_runs runs status names is text_is (inr (same, same_runs, inl (no_room, longer, few))) = grind arith
+place_read text found old place old_runs runs status names is text_is
+    (inr (same, same_runs, inl (no_room, longer, few))) = grind arith
 place_read text found old place old_runs runs status names is text_is (inr (same, same_runs, inr (status_is, many))) =
     inr (
       same,
@@ -85,7 +96,8 @@ place_read text found old place old_runs runs status names is text_is (inr (same
         (
           λ at at_is other_text. names.apart at found (sym other_text ∙ text_is),
           λ other other_is other_text.
-              subst (λ (p : LongPlace). most_runs < length p.runs) (names.places found other is other_is (sym text_is ∙ other_text)) many,
+              subst (λ (p : LongPlace). most_runs < length p.runs) (names.places found other is other_is
+              (sym text_is ∙ other_text)) many,
         ),
       )),
     )

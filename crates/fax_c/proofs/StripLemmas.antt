@@ -1,5 +1,6 @@
 -- The rows of a strip, written one after another.
-use Rattle.std.proofs.Common.{◌≡◌, ℕ, ◌+◌, ◌-◌, ◌*◌, ◌<◌, ◌≤◌, Bool, List, [], ◌∷◌, ◌++◌, length, drop, ap, sym, ◌∙◌, subst, refl, inl, inr}
+use Rattle.std.proofs.Common.{◌≡◌, ℕ, ◌+◌, ◌-◌, ◌*◌, ◌<◌, ◌≤◌, Bool, List, [], ◌∷◌, ◌++◌, length, drop, ap, sym, ◌∙◌}
+use Rattle.std.proofs.Common.{subst, refl, inl, inr}
 use Rattle.std.proofs.Common.{append_assoc, append-nil, arith, length-append}
 use Rattle.std.specs.Prelude.{Some, None, Err, flat_map}
 use Rattle.fax_bits.specs.Bits.{bits}
@@ -33,15 +34,18 @@ the_cursor page row = record { page = page; row = row }
 pub not_begun : (form : StripForm) (strip : List ℕ) (place : FaxPlace) (runs : List ℕ) (before : RowBefore)
     → IsRowBefore place runs (Some before) → IsBegunInside form strip place.row place.bits before (Err Outside)
     → (at : StripPlace) → IsDueAt form strip place runs at → ⊥
-not_begun form strip place runs White its none at (is, below, within) = none (omega (arith, is.bits, within)) (white_row form.width) refl
+not_begun form strip place runs White its none at (is, below, within) =
+    none (omega (arith, is.bits, within)) (white_row form.width) refl
 not_begun form strip place runs (Runs those) (has, same) none at (is, below, within) = elim is.reference [
   | inl (zero, white) ↦ omega (arith, zero, has.0)
   | inr (there, runs_are) ↦ none (omega (arith, is.bits, within)) at.reference (is.width_is, runs_are ∙ sym same)
 ]
 
 -- one row more is read
-reads_more : (form : StripForm) (all : List Bool) (from : StripPlace) (rows : List (List Colour)) (mid : StripPlace) (n : ℕ) (row : List Colour)
-    → ReadsTo form all from rows mid → n ≤ length all → mid.row < form.rows → IsLine form mid.row mid.reference (drop mid.bits all) row (drop n all)
+reads_more : (form : StripForm) (all : List Bool) (from : StripPlace) (rows : List (List Colour)) (mid : StripPlace)
+    (n : ℕ) (row : List Colour)
+    → ReadsTo form all from rows mid → n ≤ length all → mid.row < form.rows
+    → IsLine form mid.row mid.reference (drop mid.bits all) row (drop n all)
     → ReadsTo form all from (rows ++ row ∷ []) (record { row = mid.row + 1; bits = n; reference = row })
 reads_more form all from [] mid n row same inside due line = grind arith
 reads_more form all from (first ∷ rows) mid n row (bits, within, before, first_line, reads) inside due line = (
@@ -49,7 +53,8 @@ reads_more form all from (first ∷ rows) mid n row (bits, within, before, first
   within,
   before,
   first_line,
-  reads_more form all (record { row = from.row + 1; bits = bits; reference = first }) rows mid n row reads inside due line,
+  reads_more form all (record { row = from.row + 1; bits = bits; reference = first }) rows mid n row reads inside due
+      line,
 )
 
 rows-push : (stride : ℕ) (rows : List (List Colour)) (row : List Colour)
@@ -58,7 +63,8 @@ rows-push stride [] row = append-nil (padded_row stride row)
 rows-push stride (first ∷ rows) row = grind (arith, append_assoc, rows-push stride rows row)
 
 -- so many rows are read from a place on, and written
-pub record AreReadSoFar (form : StripForm) (bytes : List ℕ) (stride : ℕ) (from : StripPlace) (old : List ℕ) (count used : ℕ) (state : StripState)
+pub record AreReadSoFar (form : StripForm) (bytes : List ℕ) (stride : ℕ) (from : StripPlace) (old : List ℕ)
+    (count used : ℕ) (state : StripState)
     (now : List ℕ) : Type 0 where
   pub same_form : state.form ≡ form
   pub same_bytes : state.bytes ≡ bytes
@@ -72,12 +78,14 @@ pub record AreReadSoFar (form : StripForm) (bytes : List ℕ) (stride : ℕ) (fr
   pub written : now ≡ flat_map (padded_row stride) rows ++ drop used old
 
 -- a row of a form has room where its width has
-pub fits : (row : List Colour) (form first : StripForm) (stride : ℕ) → length row ≡ form.width → form ≡ first → packed_len first.width ≤ stride
+pub fits : (row : List Colour) (form first : StripForm) (stride : ℕ) → length row ≡ form.width → form ≡ first
+    → packed_len first.width ≤ stride
     → packed_len (length row) ≤ stride
 fits row form first stride len same short = grind arith
 
 -- the place of a row that is due, where the runs of the row before it are written
-pub due_told : (width : ℕ) (reference : List Colour) (row bits count page : ℕ) (old_runs runs : List ℕ) → length reference ≡ width
+pub due_told : (width : ℕ) (reference : List Colour) (row bits count page : ℕ) (old_runs runs : List ℕ)
+    → length reference ≡ width
     → IsPutAt (runs_of reference) old_runs 0 (Some count) runs
     → let place : FaxPlace = record { page = page; row = row; bits = bits; runs = count } in
     HasRuns place runs × IsPlace width place runs (record { row = row; bits = bits; reference = reference })
@@ -86,57 +94,76 @@ due_told width reference row bits count page old_runs runs len (count_is, within
     grind (arith, has_a_run, take_at, drop_at, length-append)
 
 -- what was read is all that is, where it stops
-pub stops_after : (form : StripForm) (bytes : List ℕ) (page stride : ℕ) (from : StripPlace) (old : List ℕ) (count used row : ℕ)
-    (state next : StripState) (now : List ℕ) (stop : Stop) → AreReadSoFar form bytes stride from old count used state now
+pub stops_after : (form : StripForm) (bytes : List ℕ) (page stride : ℕ) (from : StripPlace) (old : List ℕ)
+    (count used row : ℕ)
+    (state next : StripState) (now : List ℕ) (stop : Stop) → AreReadSoFar form bytes stride from old count used state
+    now
     → place_due next ≡ place_due state → row ≡ next.row
     → StopsAt form (bits form.order bytes) (place_due next) page stride (length old - used) stop
     → AreStripRows form (bits form.order bytes) page stride from old
-    (record { cursor = record { page = page; row = row }; count = count; used = used; stop = stop }) (place_due next) now
+    (record { cursor = record { page = page; row = row }; count = count; used = used; stop = stop }) (place_due next)
+    now
 stops_after form bytes page stride from old count used row state next now stop so_far same row_is why = grind arith
 
 -- why no row is read
-pub why_none : (form : StripForm) (bytes : List ℕ) (page stride left : ℕ) (old next : StripState) (stop : Stop) → old.form ≡ form → old.bytes ≡ bytes
-    → stride ≤ left → IsReadNext page old (Some stop) next → StopsAt form (bits form.order bytes) (place_due next) page stride left stop
+pub why_none : (form : StripForm) (bytes : List ℕ) (page stride left : ℕ) (old next : StripState) (stop : Stop)
+    → old.form ≡ form → old.bytes ≡ bytes
+    → stride ≤ left → IsReadNext page old (Some stop) next → StopsAt form (bits form.order bytes) (place_due next) page
+    stride left stop
 why_none form bytes page stride left old next stop same_form same_bytes room h = grind arith
 
-module _ (form : StripForm) (bytes : List ℕ) (stride : ℕ) (from : StripPlace) (old : List ℕ) (count used : ℕ) (state : StripState) (now : List ℕ)
+module _ (form : StripForm) (bytes : List ℕ) (stride : ℕ) (from : StripPlace) (old : List ℕ) (count used : ℕ)
+    (state : StripState) (now : List ℕ)
     (so_far : AreReadSoFar form bytes stride from old count used state now) (bits_stand : AreBitsByPlace) where
-  pub one_more : (next : StripState) (to : ℕ) (new : List ℕ) → ReadsRow state next → packed_len (length next.reference) ≤ stride
+  pub one_more : (next : StripState) (to : ℕ) (new : List ℕ) → ReadsRow state next
+      → packed_len (length next.reference) ≤ stride
       → IsPutAt (padded_row stride next.reference) now used (Some to) new → length now ≡ length old
       → AreReadSoFar form bytes stride from old (count + 1) to next new
   one_more next to new reads short (to_is, within, new_is) same_len =
       let row = next.reference in
       let fills = fills_stride stride row short in
       let front = flat_map (padded_row stride) so_far.rows in
-      let step : IsLine form state.row state.reference (drop state.place (bits form.order bytes)) row (drop next.place (bits form.order bytes)) =
+      let step : IsLine form state.row state.reference (drop state.place (bits form.order bytes)) row
+      (drop next.place (bits form.order bytes)) =
       rw (reads.same_form, reads.same_bytes, so_far.same_form, so_far.same_bytes) at reads.line in
       let due : state.row < form.rows = subst (λ (f : StripForm). state.row < f.rows) so_far.same_form reads.due in
       let same_bytes = reads.same_bytes ∙ so_far.same_bytes in
       let inside : next.place ≤ length (bits form.order bytes) =
       omega (arith, reads.within, ap (λ (l : List ℕ). length l) same_bytes, bits_stand.count form.order bytes) in
-      let more = reads_more form (bits form.order bytes) from so_far.rows (place_due state) next.place row so_far.read inside due step in
+      let more = reads_more form (bits form.order bytes) from so_far.rows (place_due state) next.place row so_far.read
+      inside due step in
       let rows_len : length (so_far.rows ++ row ∷ []) ≡ length so_far.rows + 1 = length-append so_far.rows (row ∷ []) in
       let product : (length so_far.rows + 1) * stride ≡ length so_far.rows * stride + stride = omega arith in
       let used_next : to ≡ length (so_far.rows ++ row ∷ []) * stride =
-      to_is ∙ ap (λ n. used + n) fills ∙ ap (λ n. n + stride) so_far.used_is ∙ sym product ∙ sym (ap (λ n. n * stride) rows_len) in
+      to_is ∙ ap (λ n. used + n) fills ∙ ap (λ n. n + stride) so_far.used_is ∙ sym product
+      ∙ sym (ap (λ n. n * stride) rows_len) in
       let all = rows-push stride so_far.rows row in
       record {
         same_form = reads.same_form ∙ so_far.same_form;
         same_bytes = same_bytes;
         no_fault = reads.still_no_fault;
         rows = so_far.rows ++ row ∷ [];
-        read = subst (λ n. ReadsTo form (bits form.order bytes) from (so_far.rows ++ row ∷ []) (record { row = n; bits = next.place; reference = row }))
+        read = subst (λ n. ReadsTo form (bits form.order bytes) from (so_far.rows ++ row ∷ [])
+            (record { row = n; bits = next.place; reference = row }))
             (sym reads.next_row) more;
         count_is = ap (λ n. n + 1) so_far.count_is ∙ sym rows_len;
         used_is = used_next;
-        len = omega (arith, ap (λ (l : List ℕ). length l) all, length-append front (padded_row stride row), so_far.len, to_is);
+        len = omega (
+          arith,
+          ap (λ (l : List ℕ). length l) all,
+          length-append front (padded_row stride row),
+          so_far.len,
+          to_is,
+        );
         room = omega (arith, within, same_len);
         written = more_put front old now (padded_row stride row) new used to so_far.len so_far.written to_is new_is
             ∙ ap (λ (l : List ℕ). l ++ drop to old) (sym all);
       }
 
 -- nothing is read from a place, for this reason
-pub none_for : (form : StripForm) (strip : List ℕ) (stride : ℕ) (place : FaxPlace) (runs old : List ℕ) (stop : Stop) (at : Cursor) (filled : Filled)
+pub none_for : (form : StripForm) (strip : List ℕ) (stride : ℕ) (place : FaxPlace) (runs old : List ℕ) (stop : Stop)
+    (at : Cursor) (filled : Filled)
     → at ≡ cursor_of place → filled ≡ record { cursor = at; count = 0; used = 0; stop = stop }
-    → ReadsNone form strip stride place runs (length old) stop → ReadsOn form strip stride place runs old filled place runs old
+    → ReadsNone form strip stride place runs (length old) stop
+    → ReadsOn form strip stride place runs old filled place runs old
 none_for form strip stride place runs old stop at filled at_is filled_is why = grind arith

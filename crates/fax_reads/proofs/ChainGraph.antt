@@ -21,7 +21,8 @@ chain_from (suc limit) endian file before due [] None few is = rw (is, read_chai
 chain_from (suc limit) endian file before due [] (Some fault) few is =
     rw (not_last due is.0, is.1, read_chain_from) refl
 chain_from (suc limit) endian file before due (q ∷ offsets) end few (is, some, good, rest) =
-    let more = chain_from limit endian file (due ∷ before) (next_offset endian file due) offsets end (omega (arith, few)) rest in
+    let more = chain_from limit endian file (due ∷ before) (next_offset endian file due) offsets end
+    (omega (arith, few)) rest in
     rw (not_last due some, good, more, is, read_chain_from) refl
 
 module _ (chains : FilesHaveOneChain) (head : Header) (file : List ℕ) where

@@ -14,8 +14,10 @@ use Rattle.fax_walk.specs.declared.end.End.TheVariants.{Fault}
 use Rattle.fax_walk.specs.Pages.{FormItem, File}
 use Rattle.fax_reads.specs.Files.{read_rows, read_forms}
 use Rattle.fax_reads.specs.laws.Files.{FilesAreReadByFunctions}
-use Rattle.fax_reads.specs.laws.FileExamples.{AreFaultsOfHeaders, AreFaultsOfChains, AreFaultsOfFields, AreFaultsOfStrips}
-use Rattle.fax_reads.specs.laws.FileExamples.{AreWholeFiles, IsSampleRead, AreFilesRead, HasForms, HasRows, IsRefused, shown}
+use Rattle.fax_reads.specs.laws.FileExamples.{AreFaultsOfHeaders, AreFaultsOfChains, AreFaultsOfFields}
+use Rattle.fax_reads.specs.laws.FileExamples.{AreFaultsOfStrips}
+use Rattle.fax_reads.specs.laws.FileExamples.{AreWholeFiles, IsSampleRead, AreFilesRead, HasForms, HasRows, IsRefused}
+use Rattle.fax_reads.specs.laws.FileExamples.{shown}
 
 module _ (read : FilesAreReadByFunctions) where
   refused : (file : List ℕ) (fault : FileFault) → read_rows file ≡ record { items = []; end = Fault 0 0 (File fault) }
@@ -25,7 +27,7 @@ module _ (read : FilesAreReadByFunctions) where
     forms = (read.forms file [] (Fault 0 0 (File fault))).1 forms;
   }
 
-  has : (file : List ℕ) (rows : List (ℕ × ℕ × List Colour)) (end : End)
+  pub has : (file : List ℕ) (rows : List (ℕ × ℕ × List Colour)) (end : End)
       → map shown (read_rows file).items ≡ rows → (read_rows file).end ≡ end → HasRows file rows end
   has file rows end rows_are end_is = record {
     items = (read_rows file).items;
@@ -39,7 +41,8 @@ module _ (read : FilesAreReadByFunctions) where
 
   headers : AreFaultsOfHeaders
   unfolding bits byte_bits code_bits modes white_runs black_runs white_terminating black_terminating white_make_up
-      black_make_up common_make_up first_place next_change b1 number_at header entries_at values_place value_at has_integers
+      black_make_up common_make_up first_place next_change b1 number_at header entries_at values_place value_at
+      has_integers
       scalar rational_of form_in page strip_bytes field_bytes
   headers = record {
     no_bytes = refused _ _ refl refl;
@@ -53,7 +56,8 @@ module _ (read : FilesAreReadByFunctions) where
 
   chains : AreFaultsOfChains
   unfolding bits byte_bits code_bits modes white_runs black_runs white_terminating black_terminating white_make_up
-      black_make_up common_make_up first_place next_change b1 number_at header entries_at values_place value_at has_integers
+      black_make_up common_make_up first_place next_change b1 number_at header entries_at values_place value_at
+      has_integers
       scalar rational_of form_in page strip_bytes field_bytes
   chains = record {
     directory_at_the_end = refused _ _ refl refl;
@@ -68,7 +72,8 @@ module _ (read : FilesAreReadByFunctions) where
 
   fields : AreFaultsOfFields
   unfolding bits byte_bits code_bits modes white_runs black_runs white_terminating black_terminating white_make_up
-      black_make_up common_make_up first_place next_change b1 number_at header entries_at values_place value_at has_integers
+      black_make_up common_make_up first_place next_change b1 number_at header entries_at values_place value_at
+      has_integers
       scalar rational_of form_in page strip_bytes field_bytes
   fields = record {
     no_fields = refused _ _ refl refl;
@@ -106,7 +111,8 @@ module _ (read : FilesAreReadByFunctions) where
 
   strips : AreFaultsOfStrips
   unfolding bits byte_bits code_bits modes white_runs black_runs white_terminating black_terminating white_make_up
-      black_make_up common_make_up first_place next_change b1 number_at header entries_at values_place value_at has_integers
+      black_make_up common_make_up first_place next_change b1 number_at header entries_at values_place value_at
+      has_integers
       scalar rational_of form_in page strip_bytes field_bytes
   strips = record {
     strip_at_the_end = has _ _ _ refl refl;
@@ -119,7 +125,8 @@ module _ (read : FilesAreReadByFunctions) where
 
   whole : AreWholeFiles
   unfolding bits byte_bits code_bits modes white_runs black_runs white_terminating black_terminating white_make_up
-      black_make_up common_make_up first_place next_change b1 number_at header entries_at values_place value_at has_integers
+      black_make_up common_make_up first_place next_change b1 number_at header entries_at values_place value_at
+      has_integers
       scalar rational_of form_in page strip_bytes field_bytes
   whole = record {
     page = has _ _ _ refl refl;
@@ -135,7 +142,8 @@ module _ (read : FilesAreReadByFunctions) where
 
   sample : IsSampleRead
   unfolding bits byte_bits code_bits modes white_runs black_runs white_terminating black_terminating white_make_up
-      black_make_up common_make_up first_place next_change b1 number_at header entries_at values_place value_at has_integers
+      black_make_up common_make_up first_place next_change b1 number_at header entries_at values_place value_at
+      has_integers
       scalar rational_of form_in page strip_bytes field_bytes
   sample = record {
     bytes = refl;
@@ -144,4 +152,12 @@ module _ (read : FilesAreReadByFunctions) where
   }
 
   pub files_read : AreFilesRead
-  files_read = record { headers = headers; chains = chains; fields = fields; strips = strips; whole = whole; sample = sample }
+  files_read = record {
+    headers = headers;
+    chains = chains;
+    fields = fields;
+    strips = strips;
+    whole = whole;
+    sample =
+        sample;
+  }

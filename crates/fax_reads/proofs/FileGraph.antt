@@ -1,5 +1,6 @@
 -- What functions read of a file is what is defined.
-use Rattle.std.proofs.Common.{arith, ◌≡◌, ℕ, zero, suc, ◌+◌, ◌-◌, ◌*◌, ◌<◌, List, length, drop, refl, sym, ap, ◌∙◌, subst}
+use Rattle.std.proofs.Common.{arith, ◌≡◌, ℕ, zero, suc, ◌+◌, ◌-◌, ◌*◌, ◌<◌, List, length, drop, refl, sym, ap, ◌∙◌}
+use Rattle.std.proofs.Common.{subst}
 use Rattle.std.proofs.Common.{Bool, Option, Some, None, Result, Ok, Err, length-drop}
 use Rattle.std.specs.Prelude.{MatchResult, ◌↔◌, ◌/◌, ◌%◌}
 use Rattle.fax_bits.specs.declared.Colour.{Colour}
@@ -25,18 +26,21 @@ use Rattle.fax_walk.proofs.TailLawLemmas.{files_have_one_items}
 use Rattle.fax_walk.proofs.InOrderLemmas.{IsOneAnswer, same_answer, two_of}
 use Rattle.fax_walk.proofs.PageLawLemmas.{one_form, one_forms, one_page, page_few}
 use Rattle.fax_reads.specs.Lines.{read_line}
-use Rattle.fax_reads.specs.Files.{AllRead, ChainRead, all_after, page_under, forms_from, read_all, read_chain, read_form, read_forms, read_in_strip}
+use Rattle.fax_reads.specs.Files.{AllRead, ChainRead, all_after, page_under, forms_from, read_all, read_chain}
+use Rattle.fax_reads.specs.Files.{read_form, read_forms, read_in_strip}
 use Rattle.fax_reads.specs.Files.{read_page, read_row, read_rows, row_or_end, rows_from}
 use Rattle.fax_reads.specs.laws.Files.{FilesAreReadByFunctions}
 use Rattle.fax_reads.proofs.ChainGraph.{chain_is, chain_of}
 use Rattle.fax_reads.proofs.LineGraph.{line_is}
 
 -- one answer that a function gives is the one that is defined, and the other way round
-both_ways : {A : Type 0} {holds : A → Type 0} → IsOneAnswer holds → (read : A) → holds read → (answer : A) → holds answer ↔ (read ≡ answer)
+both_ways : {A : Type 0} {holds : A → Type 0} → IsOneAnswer holds → (read : A) → holds read → (answer : A)
+    → holds answer ↔ (read ≡ answer)
 both_ways {A} {holds} only read is answer = (λ at. same_answer only read answer is at, λ same. subst holds same is)
 
 -- so is one list with its end
-pub both_lists : {A : Type 0} {holds : List A → End → Type 0} → IsOne holds → (read : AllRead A) → holds read.items read.end → (items : List A)
+pub both_lists : {A : Type 0} {holds : List A → End → Type 0} → IsOne holds → (read : AllRead A)
+    → holds read.items read.end → (items : List A)
     (end : End) → holds items end ↔ (read ≡ record { items = items; end = end })
 both_lists {A} {holds} only read is items end = (
   λ at. let same = two_of only read.items items read.end end is at in rw (← same.0, ← same.1) refl,
@@ -44,18 +48,22 @@ both_lists {A} {holds} only read is items end = (
 )
 
 -- what is handed out from a place on is read, where the limit is above what is left
-module _ {S A : Type 0} (next : S → NextItem A S → Type 0) (read : S → NextItem A S) (is : (at : S) → next at (read at)) (measure : S → ℕ)
+module _ {S A : Type 0} (next : S → NextItem A S → Type 0) (read : S → NextItem A S) (is : (at : S) → next at (read at))
+    (measure : S → ℕ)
     (falls : (at : S) (item : A) (to : S) → next at (goes_on item to) → measure to < measure at) where
   by_step : (limit : ℕ) (at : S) (step : NextItem A S) → next at step
-      → ((item : A) (to : S) → next at (goes_on item to) → AreFrom next to (read_all limit read to).items (read_all limit read to).end)
+      → ((item : A) (to : S) → next at (goes_on item to) → AreFrom next to (read_all limit read to).items
+      (read_all limit read to).end)
       → AreFrom next at (all_after (read_all limit read) step).items (all_after (read_all limit read) step).end
   by_step limit at (ends_as end) here more = here
   by_step limit at (goes_on item to) here more = (to, here, more item to here)
 
-  all_are : (limit : ℕ) (at : S) → measure at < limit → AreFrom next at (read_all limit read at).items (read_all limit read at).end
+  all_are : (limit : ℕ) (at : S) → measure at < limit → AreFrom next at (read_all limit read at).items
+      (read_all limit read at).end
   all_are zero at few = absurd (omega (arith, few))
   all_are (suc limit) at few =
-      by_step limit at (read at) (is at) (λ item to here. let less = falls at item to here in all_are limit to (omega (arith, few, less)))
+      by_step limit at (read at) (is at) (λ item to here. let less = falls at item to here in
+      all_are limit to (omega (arith, few, less)))
 
 module _ (chains : FilesHaveOneChain) (file : List ℕ) where
   -- the page that a cursor names, with what the header says
@@ -68,28 +76,37 @@ module _ (chains : FilesHaveOneChain) (file : List ℕ) where
   page_is at = by_header at (header file)
 
   -- what is made of the page that is read
-  pub on_page : {A : Type 0} (at : Cursor) (asked : FilePage → A → Type 0) (ended : End → A) (of : Result FilePage End → A)
+  pub on_page : {A : Type 0} (at : Cursor) (asked : FilePage → A → Type 0) (ended : End → A)
+      (of : Result FilePage End → A)
       → ((end : End) → of (Err end) ≡ ended end) → ((here : FilePage) → asked here (of (Ok here)))
       → IsOnPage file at (λ here. asked here (of (read_page file at))) (λ end. of (read_page file at) ≡ ended end)
   on_page {A} at asked ended of ends is = (read_page file at, page_is at, by_page (read_page file at))
     where
-      by_page : (found : Result FilePage End) → MatchResult found (λ here. asked here (of found)) (λ end. of found ≡ ended end)
+      by_page : (found : Result FilePage End) → MatchResult found (λ here. asked here (of found))
+          (λ end. of found ≡ ended end)
       by_page (Err end) = ends end
       by_page (Ok here) = is here
 
   form_is : (p : ℕ) → IsForm file p (read_form file p)
   form_is p =
-      on_page (record { page = p; row = 0 }) (λ here (step : NextItem FormItem ℕ). step ≡ goes_on (record { page = p; form = here.form }) (p + 1))
-      ends_as (λ found. elim found [ Err end ↦ ends_as end | Ok here ↦ goes_on (record { page = p; form = here.form }) (p + 1) ])
+      on_page (record { page = p; row = 0 }) (λ here (step : NextItem FormItem ℕ). step
+      ≡ goes_on (record { page = p; form = here.form }) (p + 1))
+      ends_as (λ found. elim found [
+        | Err end ↦ ends_as end
+        | Ok here ↦ goes_on (record { page = p; form = here.form })
+            (p + 1)
+      ])
       (λ end. refl) (λ here. refl)
 
   form_falls : (p : ℕ) (item : FormItem) (to : ℕ) → IsForm file p (goes_on item to) → length file - to < length file - p
   form_falls p item to h = grind (arith, page_few)
 
   pub forms_are : (p : ℕ) → AreFrom (IsForm file) p (forms_from file p).items (forms_from file p).end
-  forms_are p = all_are (IsForm file) (read_form file) form_is (λ p. length file - p) form_falls (length file + 1) p (omega arith)
+  forms_are p = all_are (IsForm file) (read_form file) form_is (λ p. length file - p) form_falls (length file + 1) p
+      (omega arith)
 
-module _ (runs_read : (colour : Colour) → ReadsRunsOneWay colour) (modes_read : ReadsOneWay modes) (by_place : AreBitsByPlace)
+module _ (runs_read : (colour : Colour) → ReadsRunsOneWay colour) (modes_read : ReadsOneWay modes)
+    (by_place : AreBitsByPlace)
     (lines_read : LinesAreRead) where
   -- the row at a place of a strip
   module _ (form : PageForm) (at : RowPlace) (bytes : List ℕ) where
@@ -112,8 +129,10 @@ module _ (runs_read : (colour : Colour) → ReadsRunsOneWay colour) (modes_read 
     by_line (Err fault) cause = (fault, cause, refl)
     by_line (Ok (row, rest)) line =
         let (after, within, rest_is) = (lines_read strip i inner.reference).rest all inner.bits row rest line in
-        let left : length all - after ≡ length rest = sym (length-drop after all) ∙ ap (λ (b : List Bool). length b) rest_is in
-        let place : 8 * length bytes - length rest ≡ after = omega (arith, left, within, by_place.count form.order bytes) in
+        let left : length all - after ≡ length rest = sym (length-drop after all)
+        ∙ ap (λ (b : List Bool). length b) rest_is in
+        let place : 8 * length bytes - length rest ≡ after = omega
+        (arith, left, within, by_place.count form.order bytes) in
         (refl, refl, omega arith, rw (place, rest_is, exchanged_twice form row) line, refl, refl)
 
     in_bytes : IsInStrip form at (Some bytes) (read_in_strip form at (Some bytes))
@@ -121,7 +140,8 @@ module _ (runs_read : (colour : Colour) → ReadsRunsOneWay colour) (modes_read 
         by_line (read_line strip i inner.reference (drop inner.bits all))
         (line_is runs_read modes_read strip i inner.reference (drop inner.bits all))
 
-  in_strip_is : (form : PageForm) (at : RowPlace) (found : Option (List ℕ)) → IsInStrip form at found (read_in_strip form at found)
+  in_strip_is : (form : PageForm) (at : RowPlace) (found : Option (List ℕ))
+      → IsInStrip form at found (read_in_strip form at found)
   in_strip_is form at None = refl
   in_strip_is form at (Some bytes) = in_bytes form at bytes
 
@@ -129,13 +149,16 @@ module _ (runs_read : (colour : Colour) → ReadsRunsOneWay colour) (modes_read 
     row_is : (at : RowPlace) → IsRow file at (read_row file at)
     row_is at =
         on_page chains file (record { page = at.page; row = at.row })
-        (λ here. IsInStrip here.form at (strip_bytes here.endian file here.offset (at.row / here.form.rows_per_strip))) ends_as
+        (λ here. IsInStrip here.form at (strip_bytes here.endian file here.offset (at.row / here.form.rows_per_strip)))
+        ends_as
         (λ found. elim found [
           | Err end ↦ ends_as end
-          | Ok here ↦ read_in_strip here.form at (strip_bytes here.endian file here.offset (at.row / here.form.rows_per_strip))
+          | Ok here ↦ read_in_strip here.form at (strip_bytes here.endian file here.offset
+              (at.row / here.form.rows_per_strip))
         ])
         (λ end. refl)
-        (λ here. in_strip_is here.form at (strip_bytes here.endian file here.offset (at.row / here.form.rows_per_strip)))
+        (λ here. in_strip_is here.form at (strip_bytes here.endian file here.offset
+        (at.row / here.form.rows_per_strip)))
 
     -- more than the rows that are left
     abbrev measure : RowPlace → ℕ
@@ -144,11 +167,13 @@ module _ (runs_read : (colour : Colour) → ReadsRunsOneWay colour) (modes_read 
     below : (at : RowPlace) → measure at < (length file + 1) * (most_rows + 1)
     below at = omega arith
 
-    row_falls : (at : RowPlace) (item : RowItem) (to : RowPlace) → IsRow file at (goes_on item to) → measure to < measure at
+    row_falls : (at : RowPlace) (item : RowItem) (to : RowPlace) → IsRow file at (goes_on item to)
+        → measure to < measure at
     row_falls at item to step = grind (arith, read_at, page_few, whole_page, after_read)
 
     pub rows_are : (at : RowPlace) → AreFrom (IsRow file) at (rows_from file at).items (rows_from file at).end
-    rows_are at = all_are (IsRow file) (read_row file) row_is measure row_falls ((length file + 1) * (most_rows + 1)) at (below at)
+    rows_are at = all_are (IsRow file) (read_row file) row_is measure row_falls ((length file + 1) * (most_rows + 1)) at
+        (below at)
 
   pub files_graph : FilesHaveOneChain → FormsAreWhole → FilesAreReadByFunctions
   files_graph chains forms = record {
@@ -158,7 +183,8 @@ module _ (runs_read : (colour : Colour) → ReadsRunsOneWay colour) (modes_read 
           subst (λ (read : ChainRead). IsChain head file read.offsets read.end) at (chain_is chains head file),
     );
     page = λ file at. both_ways (one_page chains file at) (read_page file at) (page_is chains file at);
-    row = λ file at. both_ways (one_row by_place lines_read chains file at) (read_row file at) (row_is chains forms file at);
+    row = λ file at. both_ways (one_row by_place lines_read chains file at) (read_row file at)
+        (row_is chains forms file at);
     form = λ file p. both_ways (one_form chains file p) (read_form file p) (form_is chains file p);
     rows = λ file items end. both_lists (files_have_one_items by_place lines_read chains forms file) (read_rows file)
         (rows_are chains forms file (first_at 0 0)) items end;

@@ -11,3 +11,5 @@ mod FileGraph
 mod TailGraph
 mod FileExampleLemmas
 mod TailExampleLemmas
+pub mod SampleExampleLemmas
+pub mod CodedExampleLemmas

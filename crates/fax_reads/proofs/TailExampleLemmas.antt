@@ -13,7 +13,8 @@ use Rattle.fax_walk.specs.declared.end.End.{End}
 use Rattle.fax_reads.specs.Tails.{read_tail, read_form_tail}
 use Rattle.fax_reads.specs.laws.Files.{TailsAreReadByFunctions}
 use Rattle.fax_reads.specs.laws.FileExamples.{shown}
-use Rattle.fax_reads.specs.laws.TailExamples.{AreTailsOfCursors, AreTailsOfPlaces, AreTailsOfForms, AreTailsRead, HasFormTail, HasTail}
+use Rattle.fax_reads.specs.laws.TailExamples.{AreTailsOfCursors, AreTailsOfPlaces, AreTailsOfForms, AreTailsRead}
+use Rattle.fax_reads.specs.laws.TailExamples.{HasFormTail, HasTail}
 
 module _ (read : TailsAreReadByFunctions) where
   has : (file : List ℕ) (begun : Begun) (rows : List (ℕ × ℕ × List Colour)) (end : End)
@@ -27,7 +28,8 @@ module _ (read : TailsAreReadByFunctions) where
       }
 
   has_forms : (file : List ℕ) (at : Cursor) (pages : List ℕ) (end : End)
-      → map (λ item. item.page) (read_form_tail file at).items ≡ pages → (read_form_tail file at).end ≡ end → HasFormTail file at pages end
+      → map (λ item. item.page) (read_form_tail file at).items ≡ pages → (read_form_tail file at).end ≡ end
+      → HasFormTail file at pages end
   has_forms file at pages end pages_are end_is =
       let tail = read_form_tail file at in
       record {
@@ -37,7 +39,8 @@ module _ (read : TailsAreReadByFunctions) where
       }
 
   cursors : AreTailsOfCursors
-  unfolding bits byte_bits code_bits modes first_place next_change b1 number_at header entries_at values_place value_at has_integers
+  unfolding bits byte_bits code_bits modes first_place next_change b1 number_at header entries_at values_place value_at
+      has_integers
       scalar rational_of form_in page strip_bytes field_bytes runs_after
   cursors = record {
     first_page = has _ _ _ _ refl refl;
@@ -57,7 +60,8 @@ module _ (read : TailsAreReadByFunctions) where
   }
 
   places : AreTailsOfPlaces
-  unfolding bits byte_bits code_bits modes first_place next_change b1 number_at header entries_at values_place value_at has_integers
+  unfolding bits byte_bits code_bits modes first_place next_change b1 number_at header entries_at values_place value_at
+      has_integers
       scalar rational_of form_in page strip_bytes field_bytes runs_after
   places = record {
     second_row = has _ _ _ _ refl refl;
@@ -71,7 +75,8 @@ module _ (read : TailsAreReadByFunctions) where
   }
 
   forms : AreTailsOfForms
-  unfolding bits byte_bits code_bits modes first_place next_change b1 number_at header entries_at values_place value_at has_integers
+  unfolding bits byte_bits code_bits modes first_place next_change b1 number_at header entries_at values_place value_at
+      has_integers
       scalar rational_of form_in page strip_bytes field_bytes runs_after
   forms = record {
     first_page = has_forms _ _ _ _ refl refl;

@@ -20,16 +20,19 @@ use Rattle.fax_walk.proofs.RowLawLemmas.{LinesAreRead, one_tail_from}
 use Rattle.fax_walk.proofs.PageLawLemmas.{one_form_tail}
 use Rattle.fax_reads.specs.Codes.{◌>>=◌}
 use Rattle.fax_reads.specs.Files.{read_page, rows_from}
-use Rattle.fax_reads.specs.Tails.{begin_on, first_form, fits_strip, form_tail_from, is_inner_on, read_form_tail, read_tail, tail_from}
+use Rattle.fax_reads.specs.Tails.{begin_on, first_form, fits_strip, form_tail_from, is_inner_on, read_form_tail}
+use Rattle.fax_reads.specs.Tails.{read_tail, tail_from}
 use Rattle.fax_reads.specs.laws.Files.{TailsAreReadByFunctions}
 use Rattle.fax_reads.proofs.FileGraph.{both_lists, forms_are, on_page, rows_are}
 
 -- the tests of a place inside a strip decide whether it is one
-fits_so : (width : ℕ) (found : Option (List ℕ)) (place : LongPlace) → fits_strip width found place ≡ true → FitsStrip width found place
+fits_so : (width : ℕ) (found : Option (List ℕ)) (place : LongPlace) → fits_strip width found place ≡ true
+    → FitsStrip width found place
 fits_so width None place e = tt
 fits_so width (Some bytes) place e = grind (arith, nat_tests, bytes_eq-Decides)
 
-so_fits : (width : ℕ) (found : Option (List ℕ)) (place : LongPlace) → FitsStrip width found place → fits_strip width found place ≡ true
+so_fits : (width : ℕ) (found : Option (List ℕ)) (place : LongPlace) → FitsStrip width found place
+    → fits_strip width found place ≡ true
 so_fits width None place is = refl
 so_fits width (Some bytes) place is = grind (arith, nat_tests, bytes_eq-Decides)
 
@@ -51,7 +54,8 @@ begun_on file (Inside place) here = by_test file here place (is_inner_on file he
 
 module _ (chains : FilesHaveOneChain) (file : List ℕ) where
   forms_by : (begin : Result ℕ End)
-      → MatchResult begin (λ p. AreFrom (IsForm file) p (form_tail_from file begin).items (form_tail_from file begin).end)
+      → MatchResult begin (λ p. AreFrom (IsForm file) p (form_tail_from file begin).items
+      (form_tail_from file begin).end)
       (λ none. ((form_tail_from file begin).items ≡ []) × ((form_tail_from file begin).end ≡ none))
   forms_by (Err none) = (refl, refl)
   forms_by (Ok p) = forms_are chains file p
@@ -59,13 +63,15 @@ module _ (chains : FilesHaveOneChain) (file : List ℕ) where
   form_tail_is : (at : Cursor) → IsFormTail file at (read_form_tail file at).items (read_form_tail file at).end
   form_tail_is at = (
     read_page file at >>= first_form at,
-    on_page chains file at (λ here (begin : Result ℕ End). begin ≡ first_form at here) Err (λ found. found >>= first_form at)
+    on_page chains file at (λ here (begin : Result ℕ End). begin ≡ first_form at here) Err
+        (λ found. found >>= first_form at)
         (λ end. refl)
         (λ here. refl),
     forms_by (read_page file at >>= first_form at),
   )
 
-module _ (runs_read : (colour : Colour) → ReadsRunsOneWay colour) (modes_read : ReadsOneWay modes) (by_place : AreBitsByPlace)
+module _ (runs_read : (colour : Colour) → ReadsRunsOneWay colour) (modes_read : ReadsOneWay modes)
+    (by_place : AreBitsByPlace)
     (lines_read : LinesAreRead) (chains : FilesHaveOneChain) (forms : FormsAreWhole) where
   module _ (file : List ℕ) where
     rows_by : (begin : Result (RowPlace × ℕ) End)
@@ -73,13 +79,17 @@ module _ (runs_read : (colour : Colour) → ReadsRunsOneWay colour) (modes_read 
         × ((tail_from file begin).items ≡ drop from.1 all))
         (λ none. ((tail_from file begin).items ≡ []) × ((tail_from file begin).end ≡ none))
     rows_by (Err none) = (refl, refl)
-    rows_by (Ok from) =
-        ((rows_from file from.0).items, rows_are runs_read modes_read by_place lines_read chains forms file from.0, refl)
+    rows_by (Ok from) = (
+      (rows_from file from.0).items,
+      rows_are runs_read modes_read by_place lines_read chains forms file from.0,
+      refl,
+    )
 
     tail_is : (begun : Begun) → IsTailFrom file begun (read_tail file begun).items (read_tail file begun).end
     tail_is begun = (
       read_page file (begun_cursor begun) >>= begin_on file begun,
-      on_page chains file (begun_cursor begun) (λ here (begin : Result (RowPlace × ℕ) End). IsBegunOn file begun here begin) Err
+      on_page chains file (begun_cursor begun) (λ here (begin : Result (RowPlace × ℕ) End). IsBegunOn file begun here
+          begin) Err
           (λ found. found >>= begin_on file begun)
           (λ end. refl)
           (begun_on file begun),
@@ -88,7 +98,9 @@ module _ (runs_read : (colour : Colour) → ReadsRunsOneWay colour) (modes_read 
 
   pub tails_graph : TailsAreReadByFunctions
   tails_graph = record {
-    rows = λ file begun items end. both_lists (one_tail_from by_place lines_read chains forms file begun) (read_tail file begun)
+    rows = λ file begun items end. both_lists (one_tail_from by_place lines_read chains forms file begun)
+        (read_tail file begun)
         (tail_is file begun) items end;
-    forms = λ file at items end. both_lists (one_form_tail chains file at) (read_form_tail file at) (form_tail_is chains file at) items end;
+    forms = λ file at items end. both_lists (one_form_tail chains file at) (read_form_tail file at)
+        (form_tail_is chains file at) items end;
   }

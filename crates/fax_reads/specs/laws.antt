@@ -3,3 +3,5 @@ pub mod Examples
 pub mod Files
 pub mod FileExamples
 pub mod TailExamples
+pub mod SampleExamples
+pub mod CodedExamples

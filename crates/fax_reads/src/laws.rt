@@ -3,6 +3,8 @@ ghost use Rattle.fax_reads.specs.laws.Graphs as Law;
 ghost use Rattle.fax_reads.specs.laws.Examples.{AreRead};
 ghost use Rattle.fax_reads.specs.laws.Files.{FilesAreReadByFunctions, TailsAreReadByFunctions};
 ghost use Rattle.fax_reads.specs.laws.FileExamples.{AreFilesRead};
+ghost use Rattle.fax_reads.specs.laws.CodedExamples.{AreChosenSo};
+ghost use Rattle.fax_reads.specs.laws.SampleExamples.{AreSamplesRead};
 ghost use Rattle.fax_reads.specs.laws.TailExamples.{AreTailsRead};
 
 /// A row of bits, or its fault, is what a function reads of them, in one-dimensional coding and in
@@ -74,3 +76,15 @@ pub fn worked_tails_are_read()
 {
     tails_are_read_by_functions();
 }
+
+/// The samples are read as they are meant.
+pub fn samples_are_read()
+    ensures { AreSamplesRead }
+{
+    files_are_read_by_functions();
+}
+
+/// Worked runs and rows have the codes that T.4 chooses (T.4, sections 4.1.1 and 4.2.1.3.3).
+pub fn codes_are_chosen_so()
+    ensures { AreChosenSo }
+{}

@@ -26,7 +26,8 @@ row_due form k stride first i raster writer put =
 pub put_row-requires-clause-due : goal.put_row-requires-clause-due
 put_row-requires-clause-due c =
     let put = c.loop-i.invariant.put in
-    let due = row_due c.args.form c.args.k c.args.stride c.args.first c.loop-i.i c.args.raster.now c.loop-i.writer put in
+    let due = row_due c.args.form c.args.k c.args.stride c.args.first c.loop-i.i c.args.raster.now c.loop-i.writer put
+    in
     let rows = ap (λ (w : WriterState). w.form.rows) put in
     omega (arith, due, rows, c.loop-i-test.true)
 
@@ -39,8 +40,10 @@ loop-i-preserved c =
     let all = rows_of_raster form.width c.args.stride raster c.args.first i in
     let row_is : row ≡ raster_row form.width c.args.stride raster (c.args.first + i) =
     c.set_packed.ensures.pels
-    ∙ ap (λ n. unpacked_row n (between ((c.args.first + i) * c.args.stride) ((c.args.first + i) * c.args.stride + c.packed_len-len.result) raster)) c.loop-i.invariant.width
-    ∙ ap (unpacked_row form.width) (cut raster ((c.args.first + i) * c.args.stride) c.packed_len-len.result (packed_len form.width) c.packed_len-len.ensures) in
+    ∙ ap (λ n. unpacked_row n (between ((c.args.first + i) * c.args.stride)
+    ((c.args.first + i) * c.args.stride + c.packed_len-len.result) raster)) c.loop-i.invariant.width
+    ∙ ap (unpacked_row form.width) (cut raster ((c.args.first + i) * c.args.stride) c.packed_len-len.result
+    (packed_len form.width) c.packed_len-len.ensures) in
     let more : rows_of_raster form.width c.args.stride raster c.args.first (i + 1) ≡ all ++ row ∷ [] =
     map-range_with_len_more (raster_row form.width c.args.stride raster) c.args.first i (c.args.first + i) refl
     ∙ ap (λ r. all ++ r ∷ []) (sym row_is) in
@@ -54,7 +57,8 @@ loop-i-preserved c =
 pub finish-requires : goal.finish-requires
 finish-requires c =
     let put = c.loop-i.invariant.put in
-    let due = row_due c.args.form c.args.k c.args.stride c.args.first c.loop-i.i c.args.raster.now c.loop-i.writer put in
+    let due = row_due c.args.form c.args.k c.args.stride c.args.first c.loop-i.i c.args.raster.now c.loop-i.writer put
+    in
     let rows = ap (λ (w : WriterState). w.form.rows) put in
     record { all_put = λ fine. omega (arith, due, rows, c.loop-i-test.false, c.loop-i.auto.i-end) }
 
@@ -63,7 +67,9 @@ returns c =
     let put = c.loop-i.invariant.put in
     let i_is : c.loop-i.i ≡ c.args.form.rows = omega (arith, c.loop-i-test.false, c.loop-i.auto.i-end) in
     let all = rows_of_raster c.args.form.width c.args.stride c.args.raster.now c.args.first c.args.form.rows in
-    let whole = subst (λ n. HasPut c.args.form c.args.k (rows_of_raster c.args.form.width c.args.stride c.args.raster.now c.args.first n) c.loop-i.writer) i_is put in
+    let whole = subst (λ n. HasPut c.args.form c.args.k (rows_of_raster c.args.form.width c.args.stride
+    c.args.raster.now c.args.first n) c.loop-i.writer) i_is put in
     if_ok-weaker c.finish.result
-    (λ bytes ends. c.strips_are_written_row_by_row.ensures.finishes c.args.form c.args.k all c.loop-i.writer bytes.items whole ends)
+    (λ bytes ends. c.strips_are_written_row_by_row.ensures.finishes c.args.form c.args.k all c.loop-i.writer bytes.items
+    whole ends)
     c.finish.ensures

@@ -7,5 +7,7 @@ returns-in_default c = inr (refl, refl, inr (inl (refl, no_text c.args.text.now 
 
 pub returns-in-Ok-parse-2 : goal.returns-in-Ok-parse-2
 returns-in-Ok-parse-2 c =
-    place_read c.args.text.now c.in-Ok-parse-2.found c.args.place.now c.tell_place.new.place c.args.runs.now c.tell_place.new.runs
-    c.tell_place.result c.cursors_are_named.ensures.one c.in-Ok-parse-2.ensures.range (sym c.in-Ok.ensures.cases.0 ∙ c.in-Ok-parse-2.ensures.ok) c.tell_place.ensures
+    place_read c.args.text.now c.in-Ok-parse-2.found c.args.place.now c.tell_place.new.place c.args.runs.now
+    c.tell_place.new.runs
+    c.tell_place.result c.cursors_are_named.ensures.one c.in-Ok-parse-2.ensures.range
+    (sym c.in-Ok.ensures.cases.0 ∙ c.in-Ok-parse-2.ensures.ok) c.tell_place.ensures

@@ -6,7 +6,8 @@ use Rattle.fax_c.proofs.ending.are_pages.Goals as goal
 pub returns-in_default-clause-none : goal.returns-in_default-clause-none
 returns-in_default-clause-none c =
     λ is are. c.in_default.ensures.page
-    (next_page c.args.file.now c.args.count c.loop.counter c.loop.link c.args.last (omega (arith, c.loop-test.true)) (c.loop.invariant.2 are)).0
+    (next_page c.args.file.now c.args.count c.loop.counter c.loop.link c.args.last (omega (arith, c.loop-test.true))
+    (c.loop.invariant.2 are)).0
 
 pub loop-preserved : goal.loop-preserved
 loop-preserved c =

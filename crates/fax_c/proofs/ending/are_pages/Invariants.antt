@@ -6,5 +6,7 @@ use Rattle.fax_c.proofs.ending.are_pages.Given as goal
 abbrev pub invariant-loop : goal.invariant-loop
 invariant-loop l =
     (l.link + 4 ≤ length l.fn.file)
-    × (ArePagesAfter l.fn.file (l.fn.count - l.counter) l.link l.fn.last → ArePagesAfter l.fn.file l.fn.count 4 l.fn.last)
-    × (ArePagesAfter l.fn.file l.fn.count 4 l.fn.last → ArePagesAfter l.fn.file (l.fn.count - l.counter) l.link l.fn.last)
+    × (ArePagesAfter l.fn.file (l.fn.count - l.counter) l.link l.fn.last
+    → ArePagesAfter l.fn.file l.fn.count 4 l.fn.last)
+    × (ArePagesAfter l.fn.file l.fn.count 4 l.fn.last → ArePagesAfter l.fn.file (l.fn.count - l.counter) l.link
+    l.fn.last)

@@ -15,12 +15,14 @@ loop-preserved c =
     let place = ap (λ n. n + 194) c.four_at.ensures in
     let some : 2 ≤ next = omega (arith, page.0.0, place) in
     let inside : next ≤ length old = omega (arith, page.0.1, place) in
-    let is = total_is old new c.to_le_bytes.result c.args.pages (c.four_at.result + 194) next place some c.to_le_bytes.ensures c.put_bytes.ensures in
+    let is = total_is old new c.to_le_bytes.result c.args.pages (c.four_at.result + 194) next place some
+    c.to_le_bytes.ensures c.put_bytes.ensures in
     let still = still_pages old c.args.pages next left next last some (omega arith) inside page.1 in (
       omega (arith, ap (λ l. length l) is, total_len old c.args.pages next some inside, place, page.0.1),
       (
         last,
-        subst (λ l. ArePagesAfter l left (c.four_at.result + 194) last) (sym is) (subst (λ n. ArePagesAfter (with_total c.args.pages next old) left n last) (sym place) still),
+        subst (λ l. ArePagesAfter l left (c.four_at.result + 194) last) (sym is)
+            (subst (λ n. ArePagesAfter (with_total c.args.pages next old) left n last) (sym place) still),
       ),
       ap (λ l. with_totals c.args.pages left (c.four_at.result + 194) l) is
           ∙ ap (λ n. with_totals c.args.pages left n (with_total c.args.pages next old)) place

@@ -17,7 +17,8 @@ loop-count-init c =
       table = table;
       lie = table;
       asked = length-replicate c.args.asked no_row;
-      so_far = none_written (padded_row c.args.stride) c.args.walk.now table c.args.out.now c.beginnings_have_one_tail.ensures c.requires;
+      so_far = none_written (padded_row c.args.stride) c.args.walk.now table c.args.out.now
+          c.beginnings_have_one_tail.ensures c.requires;
     }
 
 pub loop-count-preserved : goal.loop-count-preserved
@@ -29,9 +30,11 @@ loop-count-preserved c =
       table = so.table;
       lie = set so.lie c.loop-count.count row;
       asked = so.asked;
-      so_far = put_row (padded_row c.args.stride) c.args.walk.now.file c.args.walk.now.begun c.loop-count.walk c.loop-count.count c.loop-count.used
+      so_far = put_row (padded_row c.args.stride) c.args.walk.now.file c.args.walk.now.begun c.loop-count.walk
+          c.loop-count.count c.loop-count.used
           so.table so.lie c.args.out.now c.loop-count.out so.law so.so_far
-          c.in-Ok.to c.put_next_padded.new.walk c.put_next_padded.new.out (omega (arith, c.loop-count-test.true, so.asked)) c.in-Ok.ensures;
+          c.in-Ok.to c.put_next_padded.new.walk c.put_next_padded.new.out
+          (omega (arith, c.loop-count-test.true, so.asked)) c.in-Ok.ensures;
     }
 
 pub returns-in-Err : goal.returns-in-Err
@@ -40,9 +43,11 @@ returns-in-Err c =
       so.table,
       so.lie,
       so.asked,
-      stopped (padded_row c.args.stride) c.args.walk.now.file c.args.walk.now.begun c.loop-count.walk c.loop-count.count c.loop-count.used
+      stopped (padded_row c.args.stride) c.args.walk.now.file c.args.walk.now.begun c.loop-count.walk c.loop-count.count
+          c.loop-count.used
           so.table so.lie c.args.out.now c.loop-count.out so.law so.so_far
-          c.in-Err.stop c.put_next_padded.new.walk c.put_next_padded.new.out c.cursor-cursor.result (omega (arith, c.loop-count-test.true, so.asked))
+          c.in-Err.stop c.put_next_padded.new.walk c.put_next_padded.new.out c.cursor-cursor.result
+          (omega (arith, c.loop-count-test.true, so.asked))
           c.in-Err.ensures c.cursor-cursor.ensures,
     )
 
@@ -52,7 +57,8 @@ returns c =
       so.table,
       so.lie,
       so.asked,
-      all_asked (padded_row c.args.stride) c.args.walk.now.file c.args.walk.now.begun c.loop-count.walk c.loop-count.count c.loop-count.used
+      all_asked (padded_row c.args.stride) c.args.walk.now.file c.args.walk.now.begun c.loop-count.walk
+          c.loop-count.count c.loop-count.used
           so.table so.lie c.args.out.now c.loop-count.out so.law so.so_far
           c.cursor.result (omega (arith, c.loop-count-test.false, so.asked)) c.cursor.ensures,
     )

@@ -12,9 +12,11 @@ returns-in-Some c =
     let none = c.in-Some.ensures in (
       none.1 ∙ so_far.same_form,
       none.2 ∙ so_far.same_bytes,
-      stops_after old.form old.bytes c.args.page c.args.stride (place_due old) c.args.out.now c.loop-out.count c.loop-out.used c.row-row.result
+      stops_after old.form old.bytes c.args.page c.args.stride (place_due old) c.args.out.now c.loop-out.count
+          c.loop-out.used c.row-row.result
           c.loop-out.reader next c.loop-out.out c.in-Some.stop so_far none.0 c.row-row.ensures.row
-          (why_none old.form old.bytes c.args.page c.args.stride _ c.loop-out.reader next c.in-Some.stop so_far.same_form so_far.same_bytes
+          (why_none old.form old.bytes c.args.page c.args.stride _ c.loop-out.reader next c.in-Some.stop
+          so_far.same_form so_far.same_bytes
           (omega (arith, c.loop-out-test.true, c.loop-out.auto.out)) none),
     )
 
@@ -23,8 +25,15 @@ unreachable-requires c =
     let so_far = c.loop-out.invariant in
     let next = c.read_next.new.reader in
     let same = c.in_default.ensures.same_form ∙ so_far.same_form in
-    let short = fits c.reference.result.now next.form c.args.reader.now.form c.args.stride c.reference.ensures.width same c.requires.stride in
-    omega (arith, c.loop-out-test.true, c.in_default-put_padded.ensures.1, fills_stride c.args.stride c.reference.result.now short)
+    let short = fits c.reference.result.now next.form c.args.reader.now.form c.args.stride c.reference.ensures.width
+    same c.requires.stride in
+    omega (
+      arith,
+      c.loop-out-test.true,
+      c.in_default-put_padded.ensures.1,
+      fills_stride c.args.stride
+          c.reference.result.now short,
+    )
 
 pub loop-out-preserved : goal.loop-out-preserved
 loop-out-preserved c =
@@ -32,7 +41,10 @@ loop-out-preserved c =
     let so_far = c.loop-out.invariant in
     let next = c.read_next.new.reader in
     let same = c.in_default.ensures.same_form ∙ so_far.same_form in
-    let short = fits c.reference.result.now next.form old.form c.args.stride c.reference.ensures.width same c.requires.stride in
-    one_more old.form old.bytes c.args.stride (place_due old) c.args.out.now c.loop-out.count c.loop-out.used c.loop-out.reader c.loop-out.out so_far
-    c.bits_stand_by_place.ensures next c.in-Some-put_padded.to c.put_padded.new.out c.in_default.ensures (rw c.reference.ensures.pels at short)
+    let short = fits c.reference.result.now next.form old.form c.args.stride c.reference.ensures.width same
+    c.requires.stride in
+    one_more old.form old.bytes c.args.stride (place_due old) c.args.out.now c.loop-out.count c.loop-out.used
+    c.loop-out.reader c.loop-out.out so_far
+    c.bits_stand_by_place.ensures next c.in-Some-put_padded.to c.put_padded.new.out c.in_default.ensures
+    (rw c.reference.ensures.pels at short)
     (rw c.reference.ensures.pels at c.in-Some-put_padded.ensures) c.loop-out.auto.out

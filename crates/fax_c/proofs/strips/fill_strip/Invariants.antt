@@ -5,7 +5,8 @@ use Rattle.fax_c.proofs.strips.fill_strip.Given as goal
 
 abbrev pub invariant-loop-out : goal.invariant-loop-out
 invariant-loop-out l =
-    AreReadSoFar l.initial.reader.form l.initial.reader.bytes l.fn.stride (place_due l.initial.reader) l.initial.out l.count l.used l.reader l.out
+    AreReadSoFar l.initial.reader.form l.initial.reader.bytes l.fn.stride (place_due l.initial.reader) l.initial.out
+    l.count l.used l.reader l.out
 
 abbrev pub decreases-loop-out : goal.decreases-loop-out
 decreases-loop-out l = length l.initial.out - l.used

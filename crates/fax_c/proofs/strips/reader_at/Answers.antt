@@ -5,4 +5,8 @@ use Rattle.fax_c.proofs.strips.reader_at.Goals as goal
 pub returns-in-Err-Outside : goal.returns-in-Err-Outside
 returns-in-Err-Outside c =
     let none = rw c.in-Err-Outside.field-0-is at c.in-Err-Outside.ensures in
-    inr (refl, not_begun c.args.form c.args.strip.now c.args.place.now c.args.runs.now c.in-Some.before c.in-Some.ensures none)
+    inr (
+      refl,
+      not_begun c.args.form c.args.strip.now c.args.place.now c.args.runs.now c.in-Some.before
+          c.in-Some.ensures none,
+    )

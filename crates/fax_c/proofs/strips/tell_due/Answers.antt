@@ -7,5 +7,12 @@ returns c =
     let state = c.args.reader.now in
     let put = rw c.reference.ensures.pels at c.in-Some.ensures.put in
     let width = rw c.reference.ensures.pels at c.reference.ensures.width in
-    let told = due_told state.form.width state.reference state.row state.place c.in-Some.to c.args.place.now.page c.args.runs.now c.put.new.out width put in
-    rw (c.row.ensures.row, c.bit_place.ensures.place) (inr (omega (arith, c.if-count-eq0.false), told.0, told.1, refl, told.2))
+    let told = due_told state.form.width state.reference state.row state.place c.in-Some.to c.args.place.now.page
+    c.args.runs.now c.put.new.out width put in
+    rw (c.row.ensures.row, c.bit_place.ensures.place) (inr (
+      omega (arith, c.if-count-eq0.false),
+      told.0,
+      told.1,
+      refl,
+      told.2,
+    ))

@@ -12,10 +12,12 @@ write_page-requires-clause-strips c =
 pub returns-in-Err-OutputTooLarge : goal.returns-in-Err-OutputTooLarge
 returns-in-Err-OutputTooLarge c =
     let strips = ap contents c.deref.ensures.value ∙ c.in-Ok.ensures in
-    let too_large = c.write_page.ensures.too_large (c.in-Err-OutputTooLarge.is ∙ ap Err c.in-Err-OutputTooLarge.field-0-is) in
+    let too_large = c.write_page.ensures.too_large (c.in-Err-OutputTooLarge.is
+    ∙ ap Err c.in-Err-OutputTooLarge.field-0-is) in
     let long = rw strips at too_large in
     let len = page_len c.args.written.now c.args.file.now c.args.form.now
-    (page_strips c.args.form.now c.args.k c.args.stride c.args.raster.now) c.place_of-start.result.0 (c.requires.writing, c.requires.held)
+    (page_strips c.args.form.now c.args.k c.args.stride c.args.raster.now) c.place_of-start.result.0
+    (c.requires.writing, c.requires.held)
     (ap (λ p. p.0) c.place_of-start.ensures) in
     inr (refl, refl, inr (inl (refl, omega (arith, long, len))))
 
@@ -24,7 +26,8 @@ returns-then-not-has_room c =
     let strips = ap contents c.deref.ensures.value ∙ c.in-Ok.ensures in
     let page = rw strips at c.in-Ok-write_page.ensures.bytes in
     let len = page_len c.args.written.now c.args.file.now c.args.form.now
-    (page_strips c.args.form.now c.args.k c.args.stride c.args.raster.now) c.place_of-start.result.0 (c.requires.writing, c.requires.held)
+    (page_strips c.args.form.now c.args.k c.args.stride c.args.raster.now) c.place_of-start.result.0
+    (c.requires.writing, c.requires.held)
     (ap (λ p. p.0) c.place_of-start.ensures) in
     let none = c.has_room.ensures.none c.if-not-has_room.true in
     let count = ap (λ (l : List ℕ). length l) page in
@@ -40,8 +43,10 @@ returns c =
     let page = rw strips at c.in-Ok-write_page.ensures.bytes in
     let place = rw strips at c.in-Ok-write_page.ensures.directory in
     let all = page_added c.args.written.now old mid c.put_page.new.file c.args.form.now
-    (page_strips c.args.form.now c.args.k c.args.stride c.args.raster.now) c.deref-2.result.now c.in-Ok-write_page.page.directory
-    c.place_of-start.result.0 c.place_of-start.result.1 (c.requires.writing, c.requires.held) (ap (λ p. p.0) at) (ap (λ p. p.1) at)
+    (page_strips c.args.form.now c.args.k c.args.stride c.args.raster.now) c.deref-2.result.now
+    c.in-Ok-write_page.page.directory
+    c.place_of-start.result.0 c.place_of-start.result.1 (c.requires.writing, c.requires.held) (ap (λ p. p.0) at)
+    (ap (λ p. p.1) at)
     (ap (λ p. take p.0 mid) at ∙ c.put_header.ensures.front)
     (ap (λ p. drop p.0 mid) at ∙ c.put_header.ensures.rest ∙ sym (ap (λ p. drop p.0 old) at))
     (c.deref-2.ensures.value ∙ page) place c.put_page.ensures in

@@ -6,4 +6,5 @@ use Rattle.fax_c.proofs.writing.code_strips.Given as goal
 
 -- the strips so far are coded
 abbrev pub invariant-loop-s : goal.invariant-loop-s
-invariant-loop-s l = contents l.strips.items ≡ map (the_strip l.fn.form l.fn.k l.fn.stride l.fn.raster) (range_with_len 0 l.s)
+invariant-loop-s l = contents l.strips.items ≡ map (the_strip l.fn.form l.fn.k l.fn.stride l.fn.raster)
+    (range_with_len 0 l.s)
