@@ -1,5 +1,5 @@
-//! Rows and strips read by functions: what the definitions of `fax_rows` and `fax_page` say by
-//! relations, computed.
+//! Rows, strips and files read by functions: what the definitions of `fax_rows`, `fax_page`,
+//! `fax_files` and `fax_walk` say by relations, computed.
 #![tactic(auto)]
 
 pub mod laws;
