@@ -13,7 +13,8 @@ returns c =
     let max : rule_of c.number-max.result ≡ number_rule (codes "max") most_lines = search rules in
     let file : rule_of c.new-3.result ≡ file_rule = search rules in
     let file_local : c.new-3.result.global ≡ false = search rules in
-    let none = bare c.disable_help_flag.result c.new.result c.disable_help_flag.ensures c.new.ensures.app c.new.ensures.local in
+    let none = bare c.disable_help_flag.result c.new.result c.disable_help_flag.ensures c.new.ensures.app
+    c.new.ensures.local in
     let one = argument_added c.in_ok-arg.ensures none local cursor in
     let two = argument_added c.in_ok-arg-2.ensures one c.number-max.ensures.local max in
     IfOk-weaker c.arg-3.result _ _ (λ r adds. argument_added adds two file_local file) c.arg-3.ensures
