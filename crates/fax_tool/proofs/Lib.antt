@@ -1,5 +1,6 @@
 pub mod TransferLemmas
 mod NumberLemmas
+mod clap
 mod RunTextLemmas
 mod RememberedLemmas
 mod BeginLemmas
@@ -9,9 +10,6 @@ mod GetterLemmas
 mod ExampleLemmas
 mod RuleLemmas
 mod UseLemmas
-mod ViewLemmas
-mod TurnLemmas
-mod WalkLemmas
 mod RowLemmas
 mod ReadLemmas
 mod AgreeLemmas
