@@ -1,10 +1,10 @@
 -- What the entries of a command are, of the uses that its words spell.
-use Rattle.std.proofs.Common.{◌≡◌, ◌∙◌, ◌==◌, ◌||◌, ◌⊎◌, ◌++◌, ap, arith, cond, codes, inl, inr, refl, sym, subst, Bool, true, false, ℕ}
+use Rattle.std.proofs.Common.{◌≡◌, ◌==◌, ◌||◌, ◌⊎◌, ◌++◌, arith, cond, codes, inl, inr, refl, sym, subst, Bool, true, false, ℕ}
 use Rattle.std.proofs.Common.{List, [], ◌∷◌, Option, Some, None, map}
 use Rattle.std.specs.Prelude.{find, not, option_and_then, slice_get}
 use Rattle.std.specs.List.{All, fold, list_all}
 use Rattle.std.specs.Option.{ForSome}
-use Rattle.std.specs.Str.{IsUtf8, bytes_eq}
+use Rattle.std.specs.Str.{bytes_eq}
 use Rattle.std.proofs.lemmas.List.Elements.{All-cons, All-contains, All-from_recursion, All-head, All-nil, All-tail}
 use Rattle.clap.specs.Values.{read_as}
 use Rattle.clap.specs.Walk.{Row, first_of, has_row, row_text, with_default}

@@ -26,7 +26,7 @@ use Rattle.fax_tool.proofs.SpellLemmas.{IsRead, letter_read, spelled}
 use Rattle.fax_tool.proofs.ShapeLemmas.{all_spelled}
 use Rattle.fax_tool.proofs.clap.Flat.{IsFlat, guard, read}
 use Rattle.fax_tool.proofs.clap.FlatLemmas.{Form, found as found_in, as_end, as_letter, as_long, as_place, form}
-use Rattle.fax_tool.proofs.RowLemmas.{ended, entered_from, filled_rows, flag_filled, given_filled, is_no_flag, is_true, lacks, level, rows_entered, text_filled}
+use Rattle.fax_tool.proofs.RowLemmas.{ended, entered_from, filled_rows, flag_filled, given_filled, is_true, lacks, level, rows_entered, text_filled}
 
 -- each text is one that its item takes
 use_taken : (item : Item) (value : Text) (own : List Text) → IsSpelled item value own → takes item value ≡ true
@@ -117,11 +117,11 @@ pub record Agrees (entries : List Row) (uses : List Use) : Type 0 where
   pub long : is_true (first_of (codes "long") entries) ≡ is_true (text_in uses (codes "long"))
   pub align : is_true (first_of (codes "align") entries) ≡ is_true (text_in uses (codes "align"))
 
-agree_by : (items : List Item)
-    → is_no_flag (codes "cursor") items ≡ true → is_no_flag (codes "max") items ≡ true → is_no_flag (codes "o") items ≡ true
-    → is_no_flag (codes "order") items ≡ true → is_no_flag (codes "k") items ≡ true → is_no_flag (codes "strip") items ≡ true
-    → is_no_flag (codes "FILE") items ≡ true → (uses : List Use) → Agrees (filled_rows items uses) uses
-agree_by items cursor max target order k strip name uses = grind (arith, text_filled, flag_filled)
+abbrev AreAgreeing : Text × List Item → Type 0
+AreAgreeing command = (uses : List Use) → Agrees (filled_rows command.1 uses) uses
+
+all_agree : All AreAgreeing commands
+all_agree = grind (arith, text_filled, flag_filled)
 
 -- the words are those of this command, and the entries are those of its uses, with which they agree
 abbrev pub IsReadAs : List Text → Text → List Row → Type 0
@@ -148,7 +148,6 @@ pub record IsOwn (command : Text × List Item) : Type 0 where
   second : arg_by_index (rules_of command.1) 2 ≡ None
   has_file : Contains command.1 file
   each : AllByRecursion (IsKnown (rules_of command.1)) command.1
-  agrees : (uses : List Use) → Agrees (filled_rows command.1 uses) uses
   target : (uses : List Use) → lacks command.1 (filled_rows command.1 uses) ≡ true → LacksTarget command.0 uses
 
 flat_item : (c : List Rule) (item : Item) → arg_by_id c (name_of item) ≡ Some (rule_of item) → IsFlat c (rule_of item)
@@ -173,16 +172,15 @@ lacks_target uses lacking = go (text_in uses (codes "o")) (given_filled (codes "
 own_of : (name : Text) (items : List Item) → subcommand_met (names_of program) idle name ≡ Some name
     → find (λ s. answers_to name (label_of s)) program.subs ≡ Some (leaf name items)
     → arg_by_index (rules_of items) 1 ≡ Some (rule_of file) → arg_by_index (rules_of items) 2 ≡ None → Contains items file
-    → AllByRecursion (IsKnown (rules_of items)) items → ((uses : List Use) → Agrees (filled_rows items uses) uses)
+    → AllByRecursion (IsKnown (rules_of items)) items
     → ((uses : List Use) → lacks items (filled_rows items uses) ≡ true → LacksTarget name uses) → IsOwn (name, items)
-own_of name items met named first second has_file each agrees target = record {
+own_of name items met named first second has_file each target = record {
   met = met;
   named = named;
   first = first;
   second = second;
   has_file = has_file;
   each = each;
-  agrees = agrees;
   target = target;
 }
 
@@ -191,11 +189,11 @@ unfolding clap_on_literals
 own_commands = All-from_recursion IsOwn commands (
   own_of (codes "list") (items_at 0) refl refl refl refl (2, lit< tt, refl)
       ((refl, (λ value. refl, refl), tt), ((refl, (λ value. refl, refl), lit< tt), ((refl, tt, tt), tt)))
-      (agree_by (items_at 0) refl refl refl refl refl refl refl) (λ uses lacking. cc),
+      (λ uses lacking. cc),
   (
     own_of (codes "rows") (items_at 1) refl refl refl refl (2, lit< tt, refl)
         ((refl, (λ value. refl, refl), tt), ((refl, (λ value. refl, refl), lit< tt), ((refl, tt, tt), ((refl, refl, tt), tt))))
-        (agree_by (items_at 1) refl refl refl refl refl refl refl) (λ uses lacking. cc),
+        (λ uses lacking. cc),
     (
       own_of (codes "convert") (items_at 2) refl refl refl refl (5, lit< tt, refl) (
         (refl, (λ value. refl, letter_read (items_at 2) 111 (λ b bs. refl), refl), (refl, lit< tt)),
@@ -204,10 +202,10 @@ own_commands = All-from_recursion IsOwn commands (
           ((refl, (λ value. refl, refl), lit< tt), ((refl, (λ value. refl, refl), lit< tt), ((refl, refl, tt), ((refl, tt, tt), tt)))),
         ),
       )
-          (agree_by (items_at 2) refl refl refl refl refl refl refl) (λ uses lacking. (refl, lacks_target uses lacking)),
+          (λ uses lacking. (refl, lacks_target uses lacking)),
       (
         own_of (codes "check") (items_at 3) refl refl refl refl (0, lit< tt, refl) ((refl, tt, tt), tt)
-            (agree_by (items_at 3) refl refl refl refl refl refl refl) (λ uses lacking. cc),
+            (λ uses lacking. cc),
         tt,
       ),
     ),
@@ -338,7 +336,7 @@ outcome name items among own rest utf8 =
               name,
               entries,
               command_named own name rest (leaf name items) is.met is.named,
-              (uses, are, subst (λ entries. Agrees entries uses) (sym same) (is.agrees uses), same ∙ ap (λ items. filled_rows items uses) (sym items_are)),
+              (uses, are, subst (λ entries. Agrees entries uses) (sym same) (All-contains AreAgreeing commands (name, items) all_agree among uses), same ∙ ap (λ items. filled_rows items uses) (sym items_are)),
             )
 
 -- no command is met by a word that is no command's name
