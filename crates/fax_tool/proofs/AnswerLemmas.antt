@@ -1,11 +1,14 @@
 -- The answers of words exclude one another.
-use Rattle.std.proofs.Common.{arith, ◌≡◌, ◌∙◌, Bool, ap, codes, inl, inr, refl, subst, sym, List, Option, Some, None}
+use Rattle.std.proofs.Common.{arith, ◌≡◌, ◌∙◌, Bool, ap, codes, inl, inr, refl, subst, sym, List, Option, Some, None, map}
 use mathlib.Core.HLevel.{Π_prop, is_prop→PathP, ⊥_prop}
 use native.Mathlib.Bridge.{le_prop}
 use Rattle.std.specs.Prelude.{IfSome, false, true, ◌⊎◌, ◌≢◌, ◌<◌}
 use Rattle.std.specs.Option.{ForSome}
 use Rattle.fax_tool.specs.Grammar.{AreOfCommand, Text, Use, text_in}
-use Rattle.fax_tool.proofs.SpellLemmas.{command_is_read}
+use Rattle.clap.specs.Walk.{Row, first_of}
+use Rattle.fax_tool.proofs.ReadLemmas.{command_is_read}
+use Rattle.fax_tool.proofs.RowLemmas.{first_use}
+use Rattle.fax_tool.proofs.UseLemmas.{row_of}
 use Rattle.fax_walk.specs.Pages.{IsCursor, IsLongCursor, LongPlace}
 use Rattle.fax_tool.specs.Text.{Begun}
 use Rattle.fax_walk.specs.declared.options.Options.{Options}
@@ -36,11 +39,15 @@ name_of Check = codes "check"
 named : (name : Text) (given : Given) (command : Command) → IsCommand name given command → name ≡ name_of command
 named name given command is = grind arith
 
+-- the words name one command, and give one text for a name
 same_uses : (words : List Text) (a b : Text) (xs ys : List Use) → AreOfCommand words a xs → AreOfCommand words b ys
-    → ◌≡◌ {A = Text × List Use} (a, xs) (b, ys)
+    → ◌≡◌ {A = Text × Given} (a, text_in xs) (b, text_in ys)
 same_uses words a b xs ys left right =
-    let both : ◌≡◌ {A = Option (Text × List Use)} (Some (a, xs)) (Some (b, ys)) =
-    sym (command_is_read words a xs left) ∙ command_is_read words b ys right in cc
+    let both : ◌≡◌ {A = Option (Text × List Row)} (Some (a, map row_of xs)) (Some (b, map row_of ys)) =
+    sym (command_is_read words a xs left) ∙ command_is_read words b ys right in
+    let pair : ◌≡◌ {A = Text × List Row} (a, map row_of xs) (b, map row_of ys) = cc in
+    let rows = ap (λ (c : Text × List Row). c.1) pair in
+    λ i. ((pair i).0, λ id. (sym (first_use id xs) ∙ ap (first_of id) rows ∙ first_use id ys) i)
 
 command_or_usage : (name : Text) (given : Given) (command : Command) → IsCommand name given command → name ≡ codes "convert"
     → HasNoTarget given → ⊥
@@ -50,7 +57,7 @@ job_or_usage : (words : List Text) (job : Job) → IsJob words job → IsFault w
 job_or_usage words job is (inl none) = none is.name is.uses is.named
 job_or_usage words job is (inr refused) =
     let same = same_uses words refused.name is.name refused.uses is.uses refused.named is.named in
-    let command = subst (λ (c : Text × List Use). (c.0 ≡ codes "convert") × HasNoTarget (text_in c.1)) same refused.command in
+    let command = subst (λ (c : Text × Given). (c.0 ≡ codes "convert") × HasNoTarget c.1) same refused.command in
     command_or_usage is.name (text_in is.uses) job.command is.command command.0 command.1
 
 usage_or_no_cursor : (words : List Text) → IsFault words Usage → IsFault words NotACursor → ⊥
@@ -74,7 +81,7 @@ job_or_no_cursor : (words : List Text) (job : Job) → IsJob words job → IsFau
 job_or_no_cursor words job is none =
     let same = same_uses words none.name is.name none.uses is.uses none.named is.named in
     command_or_no_cursor is.name (text_in is.uses) job.command is.cursors is.command
-    (subst (λ (c : Text × List Use). HasNoCursor c.0 (text_in c.1)) same none.command)
+    (subst (λ (c : Text × Given). HasNoCursor c.0 c.1) same none.command)
 
 -- the numbers of what a part begins with are in their ranges
 begun_in_range : (part : Part) → HasCursors (Rows part) → IsBegun (begun_of part)
@@ -134,8 +141,8 @@ one_command names name given command other in_range in_range' first second = gri
 one_job : TextsNameOne → (words : List Text) (job other : Job) → IsJob words job → IsJob words other → AskTheSame job other
 one_job names words job other first second =
     let same = same_uses words second.name first.name second.uses first.uses second.named first.named in
-    let command = subst (λ (c : Text × List Use). IsCommand c.0 (text_in c.1) other.command) same second.command in
-    let file = subst (λ (c : Text × List Use). file_name other ≡ text_in c.1 (codes "FILE")) same second.file in
+    let command = subst (λ (c : Text × Given). IsCommand c.0 c.1 other.command) same second.command in
+    let file = subst (λ (c : Text × Given). file_name other ≡ c.1 (codes "FILE")) same second.file in
     record {
       command = one_command names first.name (text_in first.uses) job.command other.command first.cursors second.cursors first.command command;
       file = first.file ∙ sym file;

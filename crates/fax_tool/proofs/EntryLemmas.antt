@@ -1,10 +1,10 @@
 -- What the entries of a command are, of the uses that its words spell.
-use Rattle.std.proofs.Common.{◌≡◌, ◌∙◌, ◌==◌, ◌||◌, ◌⊎◌, ◌++◌, ap, arith, cond, codes, inl, inr, refl, sym, subst, Bool, true, false, ℕ}
+use Rattle.std.proofs.Common.{◌≡◌, ◌==◌, ◌||◌, ◌⊎◌, ◌++◌, arith, cond, codes, inl, inr, refl, sym, subst, Bool, true, false, ℕ}
 use Rattle.std.proofs.Common.{List, [], ◌∷◌, Option, Some, None, map}
 use Rattle.std.specs.Prelude.{find, not, option_and_then, slice_get}
 use Rattle.std.specs.List.{All, fold, list_all}
 use Rattle.std.specs.Option.{ForSome}
-use Rattle.std.specs.Str.{IsUtf8, bytes_eq}
+use Rattle.std.specs.Str.{bytes_eq}
 use Rattle.std.proofs.lemmas.List.Elements.{All-cons, All-contains, All-from_recursion, All-head, All-nil, All-tail}
 use Rattle.clap.specs.Values.{read_as}
 use Rattle.clap.specs.Walk.{Row, first_of, has_row, row_text, with_default}
@@ -16,8 +16,7 @@ use Rattle.fax_tool.specs.code.Entries.{HasEntries, HasFlag, HasNumber}
 use Rattle.fax_tool.proofs.RuleLemmas.{items_at, rule_of, rules_of}
 use Rattle.fax_tool.proofs.UseLemmas.{row_of}
 use Rattle.fax_tool.proofs.RowLemmas.{default_row, filled_rows, flag_default, is_flag, same_either}
-use Rattle.fax_tool.proofs.ReadLemmas.{IsOwn, IsReadAs, own_commands}
-use Rattle.fax_tool.proofs.ShapeLemmas.{read_is_of_command}
+use Rattle.fax_tool.proofs.ReadLemmas.{IsReadAs}
 
 module _ (name : Text) (holds : Text → Type 0) where
   -- this holds of the text of an item, as it is written and as it is left out, where it has the name
@@ -173,10 +172,6 @@ have_entries = All-from_recursion HasItsEntries commands (
 )
 
 -- the entries after a command are read as they stand
-pub taken_entries : (words : List Text) (name : Text) (entries : List Row) → All IsUtf8 words → IsReadAs words name entries
-    → HasEntries name entries
-taken_entries words name entries utf8 (uses, reads, agrees, entries_are) =
-    let named = read_is_of_command words name uses utf8 reads in
-    let own = (All-contains IsOwn commands (name, named.items) own_commands named.known).items_are in
-    let has = All-contains HasItsEntries commands (name, named.items) have_entries named.known uses named.others named.written in
-    subst (HasEntries name) (sym (entries_are ∙ ap (λ items. filled_rows items uses) own)) has
+pub taken_entries : (words : List Text) (name : Text) (entries : List Row) → IsReadAs words name entries → HasEntries name entries
+taken_entries words name entries (uses, are, agrees, entries_are) = subst (HasEntries name) (sym entries_are)
+    (All-contains HasItsEntries commands (name, are.items) have_entries are.known uses are.others are.written)

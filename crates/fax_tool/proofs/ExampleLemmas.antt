@@ -1,19 +1,20 @@
 -- The examples of words, computed.
-use Rattle.std.proofs.Common.{◌≡◌, ◌<◌, arith, codes, refl, Bool, true, List, [], ◌∷◌, Option, Some, None, ℕ}
+use Rattle.std.proofs.Common.{◌≡◌, ◌∙◌, ◌<◌, ap, arith, codes, refl, Bool, true, List, [], ◌∷◌, Option, Some, None, ℕ, sym}
 use Rattle.std.specs.Prelude.{nat_lt, option_map}
 use Rattle.std.specs.List.{All, list_all}
-use Rattle.std.specs.Str.{IsUtf8, chars}
+use Rattle.std.specs.Str.{IsUtf8}
 use Rattle.std.proofs.lemmas.List.Elements.{All-cons, All-nil}
 use Rattle.std.proofs.lemmas.Bool.Decides.{nat_tests}
 use Rattle.std.proofs.lemmas.Str.{IsUtf8-from_ascii}
 use Rattle.std.proofs.lemmas.Str.Ascii.{IsAscii-from_all}
+use Rattle.clap.proofs.OnLiterals.{clap_on_literals}
 use Rattle.clap.proofs.WalkLemmas.{both}
-use Rattle.fax_tool.specs.Grammar.{Text, Use, text_in}
+use Rattle.clap.specs.Walk.{Row, first_of}
+use Rattle.fax_tool.specs.Grammar.{Text}
 use Rattle.fax_tool.specs.Job.{Given}
-use Rattle.fax_tool.specs.code.Scan.{read}
 use Rattle.fax_tool.specs.laws.Examples.{AreNotTaken, AreSpellingsRead, Gives, GivesNothing, words_of}
-use Rattle.fax_tool.proofs.ShapeLemmas.{read_is_of_command}
-use Rattle.fax_tool.proofs.SpellLemmas.{unread_is_no_command}
+use Rattle.fax_tool.proofs.ReadLemmas.{command_rows, read_is_of_command, unread_is_no_command}
+use Rattle.fax_tool.proofs.RowLemmas.{first_use}
 
 -- each byte is ASCII
 abbrev is_ascii : Text → Bool
@@ -34,29 +35,31 @@ all_utf8 (word ∷ words) ascii =
 
 -- what is read of a line is what it gives
 gives : {A : Type 0} (line : List ℕ) (view : Given → A) (value : A) → list_all is_ascii (words_of line) ≡ true
-    → option_map (λ c. view (text_in c.1)) (read (words_of line)) ≡ Some value → Gives line view value
-gives {A} line view value ascii is = go (read (words_of line)) refl is
+    → option_map (λ c. view (λ id. first_of id c.1)) (command_rows (words_of line)) ≡ Some value → Gives line view value
+gives {A} line view value ascii is = go (command_rows (words_of line)) refl is
   where
-    go : (o : Option (Text × List Use)) → read (words_of line) ≡ o → option_map (λ c. view (text_in c.1)) o ≡ Some value
+    go : (o : Option (Text × List Row)) → command_rows (words_of line) ≡ o → option_map (λ c. view (λ id. first_of id c.1)) o ≡ Some value
         → Gives line view value
     go None reads is = cc
     go (Some c) reads is =
+        let of = read_is_of_command (words_of line) c.0 c.1 (all_utf8 (words_of line) ascii) reads in
+        let viewed : view (λ id. first_of id c.1) ≡ value = cc in
         record {
           name = c.0;
-          uses = c.1;
-          are = read_is_of_command (words_of line) c.0 c.1 (all_utf8 (words_of line) ascii) reads;
-          gives = cc;
+          uses = of.0;
+          are = of.1;
+          gives = ap view (λ i id. sym (first_use id of.0) i) ∙ ap (λ (rows : List Row). view (λ id. first_of id rows)) (sym of.2) ∙ viewed;
         }
 
-nothing : (line : List ℕ) → read (words_of line) ≡ None → GivesNothing line
+nothing : (line : List ℕ) → command_rows (words_of line) ≡ None → GivesNothing line
 nothing line is = unread_is_no_command (words_of line) is
 
 pub are_read : AreSpellingsRead
-unfolding chars
+unfolding clap_on_literals
 are_read = grind (arith, gives)
 
 pub are_not_taken : AreNotTaken
-unfolding chars
+unfolding clap_on_literals
 are_not_taken = record {
   none = unread_is_no_command (codes "faxpages" ∷ []) refl;
   name = nothing (codes "row") refl;

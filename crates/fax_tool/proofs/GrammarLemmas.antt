@@ -1,59 +1,18 @@
 -- What the grammar says of one word, of numbers and of uses that differ, and what scanning computes of them.
-use Rattle.std.proofs.Common.{◌≡◌, ◌≢◌, ◌<◌, ◌==◌, ◌||◌, ◌++◌, ap, arith, inl, inr, lit<, refl, sym, subst}
-use Rattle.std.proofs.Common.{Bool, true, false, ℕ, zero, suc, List, [], ◌∷◌, Some, None, length}
-use Rattle.std.specs.Prelude.{nat_lt, not, slice_get}
+use Rattle.std.proofs.Common.{◌≡◌, ◌≢◌, ◌<◌, ◌||◌, ◌++◌, arith, refl}
+use Rattle.std.proofs.Common.{Bool, true, false, ℕ, zero, suc, List, [], ◌∷◌, length}
+use Rattle.std.specs.Prelude.{nat_lt, not}
 use Rattle.std.specs.Char.{digit_value}
 use Rattle.std.specs.List.{All, AllPairs, list_all, slice_index_or}
-use Rattle.std.specs.Str.{IsUtf8, bytes_eq, chars, encode_utf8_all}
+use Rattle.std.specs.Str.{bytes_eq}
 use Rattle.std.specs.Str.Parse.{AllDigits}
-use Rattle.std.proofs.lemmas.Bool.Decides.{nat_tests}
 use Rattle.std.proofs.lemmas.List.Elements.{All-cons, All-head, All-nil, All-tail}
 use Rattle.std.proofs.lemmas.List.Folds.{list_any-append}
 use Rattle.std.proofs.lemmas.Bool.{lt-ltb, ltb-true}
 use Rattle.clap.proofs.WalkLemmas.{both}
 use Rattle.std.proofs.lemmas.Slice.Eq.{bytes_eq-Decides}
-use Rattle.std.proofs.lemmas.Str.{IsUtf8-past_char, encode_ascii, encodes-chars}
-use Rattle.fax_tool.specs.Grammar.{IsNumberText, IsPlain, Text, Use, name_of}
-use Rattle.fax_tool.specs.code.Scan.{are_apart, first_char, is_number, is_plain, is_used}
-
--- ---- a word that is no option
-
-pub plain_scanned : (word : Text) → IsPlain word → is_plain word ≡ true
-unfolding chars
-plain_scanned [] plain = refl
-plain_scanned (x ∷ xs) plain = go (x == 45) refl plain
-  where
-    go : (b : Bool) → (x == 45) ≡ b → IsPlain (x ∷ xs) → is_plain (x ∷ xs) ≡ true
-    go true same (inl other) = let is : x ≡ 45 = grind (arith, nat_tests) in absurd (other (ap Some is))
-    go true same (inr alone) = subst (λ word. is_plain word ≡ true) (sym alone) refl
-    go false other plain = rw other refl
-
--- the first character of a text of UTF-8 is missing only where there is no byte
-no_first : (b : ℕ) (bs : Text) → IsUtf8 (45 ∷ b ∷ bs) → first_char (b ∷ bs) ≢ None
-no_first b bs utf8 none =
-    let rest : IsUtf8 (b ∷ bs) = IsUtf8-past_char (45 ∷ b ∷ bs) (b ∷ bs) 45 utf8
-    (ap (λ l. l ++ b ∷ bs) (sym (encode_ascii 45 (lit< tt)))) in
-    go (chars (b ∷ bs)) none (encodes-chars (b ∷ bs) rest)
-  where
-    go : (cs : Text) → slice_get cs 0 ≡ None → encode_utf8_all cs ≡ b ∷ bs → ⊥
-    go [] none spells = cc
-    go (c ∷ cs) none spells = cc
-
-pub scanned_plain : (word : Text) → IsUtf8 word → is_plain word ≡ true → IsPlain word
-scanned_plain [] utf8 plain = inl (λ is. cc)
-scanned_plain (x ∷ xs) utf8 plain = go (x == 45) refl
-  where
-    more : (ys : Text) → x ≡ 45 → IsUtf8 (x ∷ ys) → is_plain (x ∷ ys) ≡ true → IsPlain (x ∷ ys)
-    more [] is utf8 plain = inr (ap (λ x. x ∷ []) is)
-    more (y ∷ ys) is utf8 plain = grind (arith, no_first)
-
-    go : (b : Bool) → (x == 45) ≡ b → IsPlain (x ∷ xs)
-    go true same = let is : x ≡ 45 = grind (arith, nat_tests) in more xs is utf8 plain
-    go false other = inl (λ is.
-        let same : x ≡ 45 = cc in
-        let no : ⊥ = grind (arith, nat_tests) in no)
-
--- ---- a text in the word of its letter
+use Rattle.fax_tool.specs.Grammar.{IsNumberText, Text, Use, name_of}
+use Rattle.fax_tool.specs.code.Scan.{are_apart, is_number, is_used}
 
 -- ---- numbers
 

@@ -1,5 +1,6 @@
 pub mod TransferLemmas
 mod NumberLemmas
+mod clap
 mod RunTextLemmas
 mod RememberedLemmas
 mod BeginLemmas
@@ -10,9 +11,6 @@ mod CommandLineLemmas
 mod ExampleLemmas
 mod RuleLemmas
 mod UseLemmas
-mod ViewLemmas
-mod TurnLemmas
-mod WalkLemmas
 mod RowLemmas
 mod ReadLemmas
 mod AgreeLemmas

@@ -1,37 +1,48 @@
 -- Where clap takes the words, they are read, and the entries are as they say.
-use Rattle.std.proofs.Common.{arith, ◌≡◌, ◌∙◌, ◌⊎◌, ◌||◌, ◌++◌, ap, ap₂, append-nil, append_assoc, cond, codes, inl, inr, lit<, refl, sym}
+use Rattle.std.proofs.Common.{arith, ◌≡◌, ◌∙◌, ◌⊎◌, ◌||◌, ap, ap₂, codes, inl, inr, lit<, refl, sym}
 use Rattle.std.proofs.Common.{subst, Bool, true, false, List, [], ◌∷◌, Option, Some, None, is_some, map}
 use Rattle.std.specs.Prelude.{find, not, option_and_then, option_map}
-use Rattle.std.specs.List.{All, AllByRecursion, fold}
-use Rattle.std.proofs.lemmas.List.Elements.{All-contains, All-from_recursion}
+use Rattle.std.specs.List.{All, AllByRecursion, Contains, fold, list_all}
+use Rattle.std.proofs.lemmas.List.Elements.{All-contains, All-from_recursion, All-tail}
 use Rattle.std.proofs.Math.Bool.{and-false}
-use Rattle.std.specs.Option.{option_map_or}
-use Rattle.std.specs.Str.{bytes_eq}
+use Rattle.std.specs.Str.{IsUtf8, bytes_eq}
 use Rattle.std.proofs.lemmas.Slice.Eq.{bytes_eq-Decides}
 use Rattle.clap.specs.Takes.{is_given}
 use Rattle.clap.specs.Kinds.{Kinds, or_else}
-use Rattle.clap.specs.Walk.{Names, Row, Rule, Text, Walk, arg_by_index, bundle_met, answers_to, first_of, idle, nothing_held, rows_after, finished}
-use Rattle.clap.specs.Walk.{settled, subcommand_met, walk_from, walked}
+use Rattle.clap.specs.Walk.{Row, Rule, Text, Walk, arg_by_id, arg_by_index, bundle_met, answers_to, first_of, idle, nothing_held}
+use Rattle.clap.specs.Walk.{rows_after, finished, settled, subcommand_met, walk_from, walked}
 use Rattle.clap.specs.Simple.{App, Shape, built, entered, label_of, names_of, subcommand_of}
 use Rattle.clap.specs.Faults.{check_fault, defaults_fault, entered_fault, fault_of, flags_fault, level_fault, settle_fault, walk_fault}
 use Rattle.clap.proofs.FaultLemmas.{stopped_fault}
+use Rattle.clap.proofs.WalkLemmas.{walk_stopped}
 use Rattle.clap.proofs.OnLiterals.{clap_on_literals}
 use Rattle.fax_tool.specs.code.CommandLine.{faxpages_app}
-use Rattle.fax_tool.specs.Grammar.{Item, Use, commands, file, text_in}
-use Rattle.fax_tool.specs.code.Scan.{read, uses_of}
-use Rattle.fax_tool.proofs.RuleLemmas.{found as found_in, items_at, rule_of, rules_of}
-use Rattle.fax_tool.proofs.UseLemmas.{guard}
-use Rattle.fax_tool.proofs.ViewLemmas.{View, as_end, as_long, as_plain, as_short, view}
-use Rattle.fax_tool.proofs.TurnLemmas.{IsOf, leaf}
-use Rattle.fax_tool.proofs.RowLemmas.{IsLevel, filled_rows, flag_filled, given_filled, is_no_flag, is_true, lacks, level, text_filled}
+use Rattle.fax_tool.specs.Grammar.{AreOfCommand, AreOfNoCommand, AreSpelled, IsSpelled, Item, Use, commands, file, flag, name_of, number, text_in}
+use Rattle.fax_tool.specs.code.Scan.{is_taken, takes}
+use Rattle.fax_tool.proofs.GrammarLemmas.{apart_scanned, number_scanned, scanned_apart}
+use Rattle.fax_tool.proofs.RuleLemmas.{items_at, rule_of, rules_of}
+use Rattle.fax_tool.proofs.UseLemmas.{IsItem, leaf, row_of}
+use Rattle.fax_tool.proofs.SpellLemmas.{IsRead, letter_read, spelled}
+use Rattle.fax_tool.proofs.ShapeLemmas.{all_spelled}
+use Rattle.fax_tool.proofs.clap.Flat.{IsFlat, guard, read}
+use Rattle.fax_tool.proofs.clap.FlatLemmas.{Form, found as found_in, as_end, as_letter, as_long, as_place, form}
+use Rattle.fax_tool.proofs.RowLemmas.{ended, entered_from, filled_rows, flag_filled, given_filled, is_true, lacks, level, rows_entered, text_filled}
+
+-- each text is one that its item takes
+use_taken : (item : Item) (value : Text) (own : List Text) → IsSpelled item value own → takes item value ≡ true
+use_taken (number name most) value own is = number_scanned most value is.1
+use_taken item value own is = refl
+
+uses_taken : (items : List Item) (uses : List Use) (words : List Text) → AreSpelled items uses words → list_all is_taken uses ≡ true
+uses_taken items [] words is = refl
+uses_taken items (u ∷ us) words (inl (own, others, split, among, is, more)) = grind (arith, use_taken, uses_taken items us others more)
+uses_taken items (u ∷ us) words (inr (as_file, none, is)) = rw (as_file, none) refl
+
+-- what is known of an item: its rule is found by its name, and how it is read
+abbrev IsKnown : List Rule → Item → Type 0
+IsKnown c item = (arg_by_id c (name_of item) ≡ Some (rule_of item)) × IsRead c item × IsItem item
 
 -- ---- the command's name
-
-stopped_walk : (c : List Rule) (names : Names) (w : Walk) (name : Text) (before words : List Text)
-    → fold (walked c names) (record w { stopped = Some (name, before) }) words ≡ record w { stopped = Some (name, before ++ words) }
-unfolding walked
-stopped_walk c names w name before [] = ap (λ after. record w { stopped = Some (name, after) }) (sym (append-nil before))
-stopped_walk c names w name before (word ∷ words) = grind (arith, append_assoc, stopped_walk c names w name (before ++ word ∷ []) words)
 
 abbrev program : App
 program = built faxpages_app
@@ -54,14 +65,17 @@ named_fault name rest met = rw (met, and-false (bytes_eq name (codes "help")))
 named_walk : (name : Text) (rest : List Text) → subcommand_met (names_of program) idle name ≡ Some name
     → fold (walked program.top.rules (names_of program)) stand_at (name ∷ rest) ≡ record stand_at { stopped = Some (name, rest) }
 unfolding walked
-named_walk name rest met = rw met (stopped_walk program.top.rules (names_of program) stand_at name [] rest)
+named_walk name rest met = rw met (sym (walk_stopped program.top.rules (names_of program) stand_at name [] rest))
+
+or_nothing : (a : Kinds) → or_else a [] ≡ a
+or_nothing a = grind arith
 
 fault_named : (own name : Text) (rest : List Text) (s : Shape) → subcommand_met (names_of program) idle name ≡ Some name
     → find (λ s. answers_to name (label_of s)) program.subs ≡ Some s
-    → fault_of faxpages_app (own ∷ name ∷ rest) ≡ or_else (level_fault s [] nothing_held rest false []) []
+    → fault_of faxpages_app (own ∷ name ∷ rest) ≡ level_fault s [] nothing_held rest false []
 unfolding defaults_fault
 fault_named own name rest s met found =
-    ap₂ level_body (named_fault name rest met) (named_walk name rest met) ∙ rw found refl
+    ap₂ level_body (named_fault name rest met) (named_walk name rest met) ∙ rw found (or_nothing _)
 
 command_named : (own name : Text) (rest : List Text) (s : Shape) → subcommand_met (names_of program) idle name ≡ Some name
     → find (λ s. answers_to name (label_of s)) program.subs ≡ Some s
@@ -70,16 +84,16 @@ command_named own name rest s met found = grind (arith, named_walk)
 
 -- ---- a word that names no command
 
-unnamed : (word : Text) (rest : List Text) → View word → subcommand_met (names_of program) idle word ≡ None
+unnamed : (word : Text) (rest : List Text) → Form word → subcommand_met (names_of program) idle word ≡ None
     → level_body (walk_fault program.top (names_of program) stand_at (word ∷ rest))
     (fold (walked program.top.rules (names_of program)) stand_at (word ∷ rest)) ≡ [] → ⊥
 unfolding walk_fault walked bundle_met flags_fault defaults_fault
-unnamed word [] (as_end is_end says_is not_plain) met none = let h = rw (met, is_end) at none in cc
-unnamed word (other ∷ rest) (as_end is_end says_is not_plain) met none = let h = rw (met, is_end) at none in cc
-unnamed word rest (as_long own v no_end form says_is not_plain) met none = let h = rw (met, no_end, form) at none in cc
-unnamed word rest (as_short b bs x no_end no_long form char says_is not_plain) met none = grind arith
-unnamed word rest (as_plain no_end no_long (inl short) says_is plain) met none = let h = rw (met, no_end, no_long, short) at none in cc
-unnamed word rest (as_plain no_end no_long (inr (b, bs, form, short)) says_is plain) met none = grind arith
+unnamed word [] (as_end is_end says_is) met none = let h = rw (met, is_end) at none in cc
+unnamed word (other ∷ rest) (as_end is_end says_is) met none = let h = rw (met, is_end) at none in cc
+unnamed word rest (as_long p no_end form says_is) met none = let h = rw (met, no_end, form) at none in cc
+unnamed word rest (as_letter b bs x no_end no_long form char says_is) met none = grind arith
+unnamed word rest (as_place no_end no_long (inl short) says_is) met none = let h = rw (met, no_end, no_long, short) at none in cc
+unnamed word rest (as_place no_end no_long (inr (b, bs, form, short)) says_is) met none = grind arith
 
 -- ---- one command
 
@@ -88,61 +102,6 @@ AreTaken words = fault_of faxpages_app words ≡ []
 
 abbrev pub command_of : List Text → Option (Text × List Row)
 command_of = subcommand_of faxpages_app
-
-none_first : (a b : Kinds) → or_else a b ≡ [] → a ≡ []
-none_first a b none = grind arith
-
-module _ (name : Text) (items : List Item) (met : subcommand_met (names_of program) idle name ≡ Some name)
-    (found : find (λ s. answers_to name (label_of s)) program.subs ≡ Some (leaf name items)) (is_level : IsLevel name items) where
-  abbrev IsOfUses : Text → List Row → List Text → Type 0
-  IsOfUses given entries rest = (uses : List Use) × (uses_of items rest ≡ Some uses) × (given ≡ name) × (entries ≡ filled_rows items uses)
-
-  taken_at : (own : Text) (rest : List Text) (given : Text) (entries : List Row) → AreTaken (own ∷ name ∷ rest)
-      → command_of (own ∷ name ∷ rest) ≡ Some (given, entries) → IsOfUses given entries rest
-  taken_at own rest given entries taken named =
-      let fault = level_fault (leaf name items) [] nothing_held rest false [] in
-      let none : fault ≡ [] = none_first fault [] (sym (fault_named own name rest (leaf name items) met found) ∙ taken) in
-      let row_is : ◌≡◌ {A = Text × List Row} (name, rows_after (rules_of items) [] rest) (given, entries) =
-      let both = sym (command_named own name rest (leaf name items) met found) ∙ named in cc in
-      let at : Some (rows_after (rules_of items) [] rest)
-      ≡ option_and_then (λ uses. cond (lacks items (filled_rows items uses)) None (Some (filled_rows items uses))) (uses_of items rest) =
-      ap (λ k. guard k (Some (rows_after (rules_of items) [] rest))) (sym none) ∙ is_level rest in
-      go (uses_of items rest) refl row_is at
-    where
-      pass : (uses : List Use) (b : Bool) → Some (rows_after (rules_of items) [] rest) ≡ cond b None (Some (filled_rows items uses))
-          → rows_after (rules_of items) [] rest ≡ filled_rows items uses
-      pass uses b at = grind arith
-
-      go : (o : Option (List Use)) → uses_of items rest ≡ o
-          → ◌≡◌ {A = Text × List Row} (name, rows_after (rules_of items) [] rest) (given, entries)
-          → Some (rows_after (rules_of items) [] rest)
-          ≡ option_and_then (λ uses. cond (lacks items (filled_rows items uses)) None (Some (filled_rows items uses))) o
-          → IsOfUses given entries rest
-      go None is row_is at = cc
-      go (Some uses) is row_is at = grind (arith, pass)
-
-  abbrev IsUntaken : List Text → Type 0
-  IsUntaken rest = (uses_of items rest ≡ None)
-      ⊎ ((uses : List Use) × (uses_of items rest ≡ Some uses) × (lacks items (filled_rows items uses) ≡ true))
-
-  untaken_at : (own : Text) (rest : List Text) → (AreTaken (own ∷ name ∷ rest) → ⊥) → IsUntaken rest
-  untaken_at own rest untaken =
-      go (uses_of items rest) refl (level_fault (leaf name items) [] nothing_held rest false [])
-      (fault_named own name rest (leaf name items) met found)
-      (is_level rest)
-    where
-      pass : (uses : List Use) → uses_of items rest ≡ Some uses → (b : Bool) → lacks items (filled_rows items uses) ≡ b → (fault : Kinds)
-          → fault_of faxpages_app (own ∷ name ∷ rest) ≡ or_else fault []
-          → guard fault (Some (rows_after (rules_of items) [] rest)) ≡ cond b None (Some (filled_rows items uses))
-          → IsUntaken rest
-      pass uses is b lacks_it fault fault_is at = grind arith
-
-      go : (o : Option (List Use)) → uses_of items rest ≡ o → (fault : Kinds)
-          → fault_of faxpages_app (own ∷ name ∷ rest) ≡ or_else fault []
-          → guard fault (Some (rows_after (rules_of items) [] rest))
-          ≡ option_and_then (λ uses. cond (lacks items (filled_rows items uses)) None (Some (filled_rows items uses))) o
-          → IsUntaken rest
-      go o is fault fault_is at = grind (arith, pass)
 
 -- ---- all commands
 
@@ -158,50 +117,46 @@ pub record Agrees (entries : List Row) (uses : List Use) : Type 0 where
   pub long : is_true (first_of (codes "long") entries) ≡ is_true (text_in uses (codes "long"))
   pub align : is_true (first_of (codes "align") entries) ≡ is_true (text_in uses (codes "align"))
 
-agree_by : (items : List Item)
-    → is_no_flag (codes "cursor") items ≡ true → is_no_flag (codes "max") items ≡ true → is_no_flag (codes "o") items ≡ true
-    → is_no_flag (codes "order") items ≡ true → is_no_flag (codes "k") items ≡ true → is_no_flag (codes "strip") items ≡ true
-    → is_no_flag (codes "FILE") items ≡ true → (uses : List Use) → Agrees (filled_rows items uses) uses
-agree_by items cursor max target order k strip name uses = grind (arith, text_filled, flag_filled)
+abbrev AreAgreeing : Text × List Item → Type 0
+AreAgreeing command = (uses : List Use) → Agrees (filled_rows command.1 uses) uses
 
--- what may stand after a command's name
-abbrev pub items_of : Text → List Item
-items_of name = option_map_or (λ command. command.1) (find (λ command. bytes_eq command.0 name) commands) []
+all_agree : All AreAgreeing commands
+all_agree = grind (arith, text_filled, flag_filled)
 
--- the words are read as this command, and the entries are those of its uses, with which they agree
+-- the words are those of this command, and the entries are those of its uses, with which they agree
 abbrev pub IsReadAs : List Text → Text → List Row → Type 0
-IsReadAs words name entries = (uses : List Use) × (read words ≡ Some (name, uses)) × Agrees entries uses
-    × (entries ≡ filled_rows (items_of name) uses)
+IsReadAs words name entries = (uses : List Use) × (are : AreOfCommand words name uses) × Agrees entries uses
+    × (entries ≡ filled_rows are.items uses)
 
 -- what is required and lacks is the target of `convert`
 abbrev pub LacksTarget : Text → List Use → Type 0
 LacksTarget name uses = (name ≡ codes "convert") × (text_in uses (codes "o") ≡ None)
 
 abbrev pub IsUnread : List Text → Type 0
-IsUnread words = (read words ≡ None) ⊎ ((name : Text) × (uses : List Use) × (read words ≡ Some (name, uses)) × LacksTarget name uses)
+IsUnread words = AreOfNoCommand words ⊎ ((name : Text) × (uses : List Use) × AreOfCommand words name uses × LacksTarget name uses)
 
--- words that clap takes are read, and those that it does not take are not read, or lack what is to be written
-abbrev pub ReadsTaken : List Text → Type 0
-ReadsTaken words = (name : Text) (entries : List Row) → AreTaken words → command_of words ≡ Some (name, entries)
-    → IsReadAs words name entries
-
-abbrev pub ReadsUntaken : List Text → Type 0
-ReadsUntaken words = (AreTaken words → ⊥) → IsUnread words
+-- clap takes the words and they are read, or neither
+abbrev Outcome : List Text → Type 0
+Outcome words = ((AreTaken words → ⊥) × IsUnread words)
+    ⊎ (AreTaken words × (name : Text) × (entries : List Row) × (command_of words ≡ Some (name, entries)) × IsReadAs words name entries)
 
 -- what is known of a command
 pub record IsOwn (command : Text × List Item) : Type 0 where
   met : subcommand_met (names_of program) idle command.0 ≡ Some command.0
   named : find (λ s. answers_to command.0 (label_of s)) program.subs ≡ Some (leaf command.0 command.1)
-  pub items_are : items_of command.0 ≡ command.1
-  is_level : IsLevel command.0 command.1
-  agrees : (uses : List Use) → Agrees (filled_rows command.1 uses) uses
+  first : arg_by_index (rules_of command.1) 1 ≡ Some (rule_of file)
+  second : arg_by_index (rules_of command.1) 2 ≡ None
+  has_file : Contains command.1 file
+  each : AllByRecursion (IsKnown (rules_of command.1)) command.1
   target : (uses : List Use) → lacks command.1 (filled_rows command.1 uses) ≡ true → LacksTarget command.0 uses
 
--- of each item, that its rule is found, and what is to be known of it
-level_of : (name : Text) (items : List Item) → arg_by_index (rules_of items) 1 ≡ Some (rule_of file) → arg_by_index (rules_of items) 2 ≡ None
-    → IsOf items file → AllByRecursion (IsOf items) items → IsLevel name items
-level_of name items first second of_file are = level name items first second of_file (λ test item is.
-    All-contains (IsOf items) items item (All-from_recursion (IsOf items) items are) (found_in test items item is).0)
+flat_item : (c : List Rule) (item : Item) → arg_by_id c (name_of item) ≡ Some (rule_of item) → IsFlat c (rule_of item)
+flat_item c (flag own) id = inr (refl, refl, refl, refl)
+flat_item c item id = inl (id, refl, refl, refl, refl)
+
+flat_items : (c : List Rule) (items : List Item) → AllByRecursion (IsKnown c) items → AllByRecursion (IsFlat c) (rules_of items)
+flat_items c [] known = tt
+flat_items c (item ∷ items) known = (flat_item c item known.0.0, flat_items c items known.1)
 
 -- `convert` has to have a target
 lacks_target : (uses : List Use) → lacks (items_at 2) (filled_rows (items_at 2) uses) ≡ true → text_in uses (codes "o") ≡ None
@@ -213,73 +168,176 @@ lacks_target uses lacking = go (text_in uses (codes "o")) (given_filled (codes "
         → is_given (codes "o") (filled_rows (items_at 2) uses) ≡ b → (not b || false) ≡ true → o ≡ None
     go o given b is lacking = grind arith
 
+-- a command, by what computes at its words
+own_of : (name : Text) (items : List Item) → subcommand_met (names_of program) idle name ≡ Some name
+    → find (λ s. answers_to name (label_of s)) program.subs ≡ Some (leaf name items)
+    → arg_by_index (rules_of items) 1 ≡ Some (rule_of file) → arg_by_index (rules_of items) 2 ≡ None → Contains items file
+    → AllByRecursion (IsKnown (rules_of items)) items
+    → ((uses : List Use) → lacks items (filled_rows items uses) ≡ true → LacksTarget name uses) → IsOwn (name, items)
+own_of name items met named first second has_file each target = record {
+  met = met;
+  named = named;
+  first = first;
+  second = second;
+  has_file = has_file;
+  each = each;
+  target = target;
+}
+
 pub own_commands : All IsOwn commands
 unfolding clap_on_literals
 own_commands = All-from_recursion IsOwn commands (
-  record {
-    met = refl;
-    named = refl;
-    items_are = refl;
-    is_level = level_of (codes "list") (items_at 0) refl refl (refl, tt) ((refl, tt), ((refl, lit< tt), ((refl, tt), tt)));
-    agrees = agree_by (items_at 0) refl refl refl refl refl refl refl;
-    target = λ uses lacking. cc;
-  },
+  own_of (codes "list") (items_at 0) refl refl refl refl (2, lit< tt, refl)
+      ((refl, (λ value. refl, refl), tt), ((refl, (λ value. refl, refl), lit< tt), ((refl, tt, tt), tt)))
+      (λ uses lacking. cc),
   (
-    record {
-      met = refl;
-      named = refl;
-      items_are = refl;
-      is_level = level_of (codes "rows") (items_at 1) refl refl (refl, tt) ((refl, tt), ((refl, lit< tt), ((refl, tt), ((refl, tt), tt))));
-      agrees = agree_by (items_at 1) refl refl refl refl refl refl refl;
-      target = λ uses lacking. cc;
-    },
+    own_of (codes "rows") (items_at 1) refl refl refl refl (2, lit< tt, refl)
+        ((refl, (λ value. refl, refl), tt), ((refl, (λ value. refl, refl), lit< tt), ((refl, tt, tt), ((refl, refl, tt), tt))))
+        (λ uses lacking. cc),
     (
-      record {
-        met = refl;
-        named = refl;
-        items_are = refl;
-        is_level = level_of (codes "convert") (items_at 2) refl refl (refl, tt)
-            ((refl, refl), ((refl, lit< tt), ((refl, lit< tt), ((refl, lit< tt), ((refl, tt), ((refl, tt), tt))))));
-        agrees = agree_by (items_at 2) refl refl refl refl refl refl refl;
-        target = λ uses lacking. (refl, lacks_target uses lacking);
-      },
+      own_of (codes "convert") (items_at 2) refl refl refl refl (5, lit< tt, refl) (
+        (refl, (λ value. refl, letter_read (items_at 2) 111 (λ b bs. refl), refl), (refl, lit< tt)),
+        (
+          (refl, (λ value. refl, refl), lit< tt),
+          ((refl, (λ value. refl, refl), lit< tt), ((refl, (λ value. refl, refl), lit< tt), ((refl, refl, tt), ((refl, tt, tt), tt)))),
+        ),
+      )
+          (λ uses lacking. (refl, lacks_target uses lacking)),
       (
-        record {
-          met = refl;
-          named = refl;
-          items_are = refl;
-          is_level = level_of (codes "check") (items_at 3) refl refl (refl, tt) ((refl, tt), tt);
-          agrees = agree_by (items_at 3) refl refl refl refl refl refl refl;
-          target = λ uses lacking. cc;
-        },
+        own_of (codes "check") (items_at 3) refl refl refl refl (0, lit< tt, refl) ((refl, tt, tt), tt)
+            (λ uses lacking. cc),
         tt,
       ),
     ),
   ),
 )
 
--- words of this command
-reads_own : (command : Text × List Item) → IsOwn command → (own : Text) (rest : List Text)
-    → read (own ∷ command.0 ∷ rest) ≡ option_map {U = Text × List Use} (λ uses. (command.0, uses)) (uses_of command.1 rest)
-    → ReadsTaken (own ∷ command.0 ∷ rest) × ReadsUntaken (own ∷ command.0 ∷ rest)
-reads_own (name, items) is own rest reads = (
-  λ given entries taken named.
-      let of = taken_at name items is.met is.named is.is_level own rest given entries taken named in (
-        of.0,
-        reads ∙ ap (option_map {U = Text × List Use} (λ uses. (name, uses))) of.1 ∙ ap (λ name. Some (name, of.0)) (sym of.2),
-        subst (λ entries. Agrees entries of.0) (sym of.3) (is.agrees of.0),
-        of.3 ∙ ap (λ items. filled_rows items of.0) (sym is.items_are) ∙ ap (λ name. filled_rows (items_of name) of.0) (sym of.2),
-      ),
-  λ untaken. elim (untaken_at name items is.met is.named is.is_level own rest untaken) [
-    | inl none ↦ inl (reads ∙ ap (option_map {U = Text × List Use} (λ uses. (name, uses))) none)
-    | inr of ↦ inr (
-      name,
-      of.0,
-      reads ∙ ap (option_map {U = Text × List Use} (λ uses. (name, uses))) of.1,
-      is.target of.0 of.2,
+-- ---- the commands' words
+
+-- the command that the words name, and the rows of the words after it
+abbrev pub command_rows : List Text → Option (Text × List Row)
+command_rows (own ∷ name ∷ words) = option_and_then (λ c. option_map {U = Text × List Row} (λ rows. (c.0, rows))
+    (read (leaf c.0 c.1) words false None 1 [])) (find (λ c. bytes_eq c.0 name) commands)
+command_rows words = None
+
+known_item : (command : Text × List Item) → IsOwn command → (item : Item) → Contains command.1 item → IsKnown (rules_of command.1) item
+known_item command is item among =
+    All-contains (IsKnown (rules_of command.1)) command.1 item (All-from_recursion (IsKnown (rules_of command.1)) command.1 is.each) among
+
+abbrev IsNamed : Text × List Item → Type 0
+IsNamed command = (program : Text) (words : List Text) → command_rows (program ∷ command.0 ∷ words)
+    ≡ option_map {U = Text × List Row} (λ rows. (command.0, rows)) (read (leaf command.0 command.1) words false None 1 [])
+
+all_named : All IsNamed commands
+all_named = grind arith
+
+-- the words of a command are read as the rows of its uses
+pub command_is_read : (words : List Text) (name : Text) (uses : List Use) → AreOfCommand words name uses
+    → command_rows words ≡ Some (name, map row_of uses)
+command_is_read words name uses is =
+    let own = All-contains IsOwn commands (name, is.items) own_commands is.known in
+    let named = All-contains IsNamed commands (name, is.items) all_named is.known is.program is.others in
+    let reads = spelled name is.items own.first own.second (λ item among. (known_item (name, is.items) own item among).1) (λ item among. (known_item (name, is.items) own item among).2) uses is.others false [] tt is.written in
+    rw (is.are, named, reads, entered_from [] uses, apart_scanned uses is.once, uses_taken is.items uses is.others is.written) refl
+
+-- and words that are not read are those of no command
+pub unread_is_no_command : (words : List Text) → command_rows words ≡ None → AreOfNoCommand words
+unread_is_no_command words none name uses is = let read_is = sym none ∙ command_is_read words name uses is in cc
+
+-- rows that are read are those of uses that the words spell
+of_command : (command : Text × List Item) → Contains commands command → (own : Text) (rest : List Text) (rows : List Row)
+    → All IsUtf8 rest → read (leaf command.0 command.1) rest false None 1 [] ≡ Some rows
+    → (uses : List Use) × (are : AreOfCommand (own ∷ command.0 ∷ rest) command.0 uses) × (rows ≡ map row_of uses) × (are.items ≡ command.1)
+of_command command among own rest rows utf8 is =
+    let known = All-contains IsOwn commands command own_commands among in
+    let (uses, written, into) = (all_spelled command.0 command.1 known.first known.second known.has_file
+    (λ item of. (known_item command known item of).2) rest).0 false [] rows utf8 is in
+    let of = rows_entered uses rows into in (
+      uses,
+      record { program = own; items = command.1; others = rest; are = refl; known = among; written = written; once = scanned_apart uses of.0 },
+      of.1,
+      refl,
     )
-  ],
-)
+
+-- where a word names a command
+named_command : (word : Text) → (find (λ c. bytes_eq c.0 word) commands ≡ None) ⊎ ((items : List Item) × Contains commands (word, items))
+named_command word = go (find (λ c. bytes_eq c.0 word) commands) refl
+  where
+    go : (o : Option (Text × List Item)) → find (λ c. bytes_eq c.0 word) commands ≡ o
+        → (find (λ c. bytes_eq c.0 word) commands ≡ None) ⊎ ((items : List Item) × Contains commands (word, items))
+    go None at = inl at
+    go (Some (name, items)) at =
+        let (among, named) = found_in (λ c. bytes_eq c.0 word) commands (name, items) at in
+        inr (items, subst (λ (name : Text). Contains commands (name, items)) ((bytes_eq-Decides name word).0 named) among)
+
+pub read_is_of_command : (words : List Text) (name : Text) (rows : List Row) → All IsUtf8 words → command_rows words ≡ Some (name, rows)
+    → (uses : List Use) × AreOfCommand words name uses × (rows ≡ map row_of uses)
+read_is_of_command [] name rows utf8 is = cc
+read_is_of_command (own ∷ []) name rows utf8 is = cc
+read_is_of_command (own ∷ word ∷ rest) name rows utf8 is = elim (named_command word) [
+  | inl none ↦ let no = rw none at is in cc
+  | inr (items, among) ↦ go items among (read (leaf word items) rest false None 1 []) refl
+      (sym (All-contains IsNamed commands (word, items) all_named among own rest) ∙ is)
+]
+  where
+    go : (items : List Item) → Contains commands (word, items) → (o : Option (List Row)) → read (leaf word items) rest false None 1 [] ≡ o
+        → option_map {U = Text × List Row} (λ rows. (word, rows)) o ≡ Some (name, rows)
+        → (uses : List Use) × AreOfCommand (own ∷ word ∷ rest) name uses × (rows ≡ map row_of uses)
+    go items among None reads is = cc
+    go items among (Some r) reads is =
+        let pair : ◌≡◌ {A = Text × List Row} (word, r) (name, rows) = cc in
+        let of = of_command (word, items) among own rest r (All-tail IsUtf8 word rest (All-tail IsUtf8 own (word ∷ rest) utf8)) reads in
+        subst (λ (c : Text × List Row). (uses : List Use) × AreOfCommand (own ∷ word ∷ rest) c.0 uses × (c.1 ≡ map row_of uses)) pair
+        (of.0, of.1, of.2)
+
+guard_none : {A : Type 0} (k : Kinds) (x : A) → guard k (Some x) ≡ None → k ≡ [] → ⊥
+guard_none k x is none = grind arith
+
+guard_some : {A : Type 0} (k : Kinds) (x y : A) → guard k (Some x) ≡ Some y → (k ≡ []) × (x ≡ y)
+guard_some [] x y is = (refl, cc)
+guard_some (k ∷ ks) x y is = cc
+
+-- words of this command
+outcome : (name : Text) (items : List Item) → Contains commands (name, items) → (own : Text) (rest : List Text) → All IsUtf8 rest
+    → Outcome (own ∷ name ∷ rest)
+outcome name items among own rest utf8 =
+    go (read (leaf name items) rest false None 1 []) refl (level name items (All-from_recursion (IsFlat (rules_of items)) (rules_of items) (flat_items (rules_of items) items is.each)) rest)
+  where
+    is : IsOwn (name, items)
+    is = All-contains IsOwn commands (name, items) own_commands among
+
+    entries : List Row
+    entries = rows_after (rules_of items) [] rest
+
+    fault_is : fault_of faxpages_app (own ∷ name ∷ rest) ≡ level_fault (leaf name items) [] nothing_held rest false []
+    fault_is = fault_named own name rest (leaf name items) is.met is.named
+
+    go : (o : Option (List Row)) → read (leaf name items) rest false None 1 [] ≡ o
+        → guard (level_fault (leaf name items) [] nothing_held rest false []) (Some entries) ≡ option_and_then (ended name items) o
+        → Outcome (own ∷ name ∷ rest)
+    go None none at = inl (
+      λ taken. guard_none _ entries at (sym fault_is ∙ taken),
+      inl (unread_is_no_command (own ∷ name ∷ rest) (All-contains IsNamed commands (name, items) all_named among own rest
+          ∙ ap (option_map {U = Text × List Row} (λ rows. (name, rows))) none)),
+    )
+    go (Some rows) reads at =
+        let (uses, are, same, items_are) = of_command (name, items) among own rest rows utf8 reads in
+        last uses are items_are (lacks items (filled_rows items uses)) refl (at ∙ ap (ended name items) same)
+      where
+        last : (uses : List Use) (are : AreOfCommand (own ∷ name ∷ rest) name uses) → are.items ≡ items → (b : Bool) → lacks items (filled_rows items uses) ≡ b
+            → guard (level_fault (leaf name items) [] nothing_held rest false []) (Some entries) ≡ ended name items (map row_of uses)
+            → Outcome (own ∷ name ∷ rest)
+        last uses are items_are true lacking at =
+            inl (λ taken. guard_none _ entries (at ∙ rw lacking refl) (sym fault_is ∙ taken), inr (name, uses, are, is.target uses lacking))
+        last uses are items_are false lacking at =
+            let (none, same) = guard_some _ entries (filled_rows items uses) (at ∙ rw lacking refl) in
+            inr (
+              fault_is ∙ none,
+              name,
+              entries,
+              command_named own name rest (leaf name items) is.met is.named,
+              (uses, are, subst (λ entries. Agrees entries uses) (sym same) (All-contains AreAgreeing commands (name, items) all_agree among uses), same ∙ ap (λ items. filled_rows items uses) (sym items_are)),
+            )
 
 -- no command is met by a word that is no command's name
 unnamed_met : (word : Text) (all : List (Text × List Item)) → find (λ command. bytes_eq command.0 word) all ≡ None
@@ -287,23 +345,25 @@ unnamed_met : (word : Text) (all : List (Text × List Item)) → find (λ comman
 unnamed_met word [] none = refl
 unnamed_met word (command ∷ all) none = grind (arith, unnamed_met word all)
 
-pub read_as : (words : List Text) → ReadsTaken words × ReadsUntaken words
+read_or_not : (words : List Text) → All IsUtf8 words → Outcome words
 unfolding clap_on_literals
-read_as [] = (λ name entries taken named. cc, λ untaken. inl refl)
-read_as (own ∷ []) = (λ name entries taken named. cc, λ untaken. inl refl)
-read_as (own ∷ word ∷ rest) = go (find (λ command. bytes_eq command.0 word) commands) refl
-  where
-    go : (o : Option (Text × List Item)) → find (λ command. bytes_eq command.0 word) commands ≡ o
-        → ReadsTaken (own ∷ word ∷ rest) × ReadsUntaken (own ∷ word ∷ rest)
-    go None none = (
-      λ name entries taken named. absurd (unnamed word rest (view word) (unnamed_met word commands none) taken),
-      λ untaken. inl (ap (option_and_then (λ c. option_map (λ uses. (c.0, uses)) (uses_of c.1 rest))) none),
-    )
-    go (Some command) is =
-        let of = found_in (λ command. bytes_eq command.0 word) commands command is in
-        let same : command.0 ≡ word = (bytes_eq-Decides command.0 word).0 of.1 in
-        let known = All-contains IsOwn commands command own_commands of.0 in
-        let reads : read (own ∷ word ∷ rest) ≡ option_map {U = Text × List Use} (λ uses. (command.0, uses)) (uses_of command.1 rest) =
-        ap (option_and_then (λ c. option_map (λ uses. (c.0, uses)) (uses_of c.1 rest))) is in
-        subst (λ word. read (own ∷ word ∷ rest) ≡ option_map {U = Text × List Use} (λ uses. (command.0, uses)) (uses_of command.1 rest)
-        → ReadsTaken (own ∷ word ∷ rest) × ReadsUntaken (own ∷ word ∷ rest)) same (reads_own command known own rest) reads
+read_or_not [] utf8 = inl (λ taken. cc, inl (unread_is_no_command [] refl))
+read_or_not (own ∷ []) utf8 = inl (λ taken. cc, inl (unread_is_no_command (own ∷ []) refl))
+read_or_not (own ∷ word ∷ rest) utf8 = elim (named_command word) [
+  | inl none ↦ inl (unnamed word rest (form word) (unnamed_met word commands none), inl (unread_is_no_command (own ∷ word ∷ rest) (rw none refl)))
+  | inr (items, among) ↦ outcome word items among own rest (All-tail IsUtf8 word rest (All-tail IsUtf8 own (word ∷ rest) utf8))
+]
+
+-- words that clap takes are read
+pub taken_is_read : (words : List Text) (name : Text) (entries : List Row) → All IsUtf8 words → AreTaken words
+    → command_of words ≡ Some (name, entries) → IsReadAs words name entries
+taken_is_read words name entries utf8 taken named = elim (read_or_not words utf8) [
+  | inl (untaken, unread) ↦ absurd (untaken taken)
+  | inr (_, own, rows, own_is, reads) ↦
+      let pair : ◌≡◌ {A = Text × List Row} (own, rows) (name, entries) = let both = sym own_is ∙ named in cc in
+      subst (λ (c : Text × List Row). IsReadAs words c.0 c.1) pair reads
+]
+
+-- and those that it does not take are not read, or lack what is to be written
+pub untaken_is_unread : (words : List Text) → All IsUtf8 words → (AreTaken words → ⊥) → IsUnread words
+untaken_is_unread words utf8 untaken = elim (read_or_not words utf8) [ inl (_, unread) ↦ unread | inr of ↦ absurd (untaken of.0) ]

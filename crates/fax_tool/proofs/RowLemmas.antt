@@ -2,25 +2,27 @@
 use Rattle.std.proofs.Common.{arith, ◌≡◌, ◌∙◌, ◌&&◌, ◌++◌, ap, append_assoc, cond, codes, refl, sym, Bool, true, false, List, [], ◌∷◌}
 use Rattle.std.proofs.Common.{Option, Some, None, append-nil, is_some, map}
 use Rattle.std.specs.Prelude.{find, not, slice_get, option_and_then, option_map}
-use Rattle.std.specs.List.{fold, list_all, list_any}
+use Rattle.std.specs.List.{All, fold, list_all, list_any}
 use Rattle.std.specs.Option.{option_map_or}
 use Rattle.std.specs.Str.{bytes_eq}
 use Rattle.std.proofs.lemmas.List.{map-append}
 use Rattle.clap.proofs.WalkLemmas.{find-map, list_any-map}
 use Rattle.clap.specs.Kinds.{or_else}
-use Rattle.clap.specs.Walk.{Row, Text, arg_by_index, first_of, has_row, reading_by, rows_after, idle, nothing_held, with_default}
+use Rattle.clap.specs.Walk.{Row, Text, first_of, has_row, reading_by, rows_after, idle, nothing_held, with_default}
 use Rattle.clap.specs.Takes.{is_given}
 use Rattle.clap.specs.Facts.{explicit_source}
 use Rattle.clap.specs.Faults.{check_fault, defaults_fault, level_fault}
 use Rattle.clap.specs.declared.parser.matches.ValueSource.TheVariants.{DefaultValue}
-use Rattle.fax_tool.specs.Grammar.{Item, Use, file, flag, name_of, text_in}
-use Rattle.fax_tool.specs.code.Scan.{are_apart, checked, is_taken, is_used, uses_of}
+use Rattle.fax_tool.specs.Grammar.{Item, Use, flag, name_of, text_in}
+use Rattle.fax_tool.specs.code.Scan.{are_apart, is_taken, is_used}
 use Rattle.fax_tool.proofs.RuleLemmas.{rule_of, rules_of}
-use Rattle.fax_tool.proofs.UseLemmas.{at_end, guard, guard_twice, row_of}
-use Rattle.fax_tool.proofs.TurnLemmas.{IsOf, leaf, run, stand}
-use Rattle.fax_tool.proofs.WalkLemmas.{entered, whole_walk}
+use Rattle.fax_tool.proofs.UseLemmas.{at_end, leaf, row_of}
+use Rattle.fax_tool.proofs.SpellLemmas.{entered}
+use Rattle.fax_tool.proofs.clap.Flat.{IsFlat, guard, read, run, stand}
+use Rattle.fax_tool.proofs.clap.FlatLemmas.{guard_twice, walk_is_read}
 
-entered_from : (before uses : List Use)
+-- the rows of uses
+pub entered_from : (before uses : List Use)
     → entered (map row_of before) uses ≡ cond (are_apart before uses && list_all is_taken uses) (Some (map row_of (before ++ uses))) None
 entered_from before [] = ap (λ us. Some (map row_of us)) (sym (append-nil before))
 entered_from before (u ∷ us) =
@@ -39,12 +41,13 @@ entered_from before (u ∷ us) =
     go false false true all later = refl
     go false false false all later = refl
 
--- the rows of uses that pass
-pub entered_is : (uses : List Use) → entered [] uses ≡ option_map (map row_of) (checked uses)
-entered_is uses = entered_from [] uses ∙ go (are_apart [] uses && list_all is_taken uses)
+-- rows that come of uses
+pub rows_entered : (uses : List Use) (rows : List Row) → entered [] uses ≡ Some rows → (are_apart [] uses ≡ true) × (rows ≡ map row_of uses)
+rows_entered uses rows is = go (are_apart [] uses) (list_all is_taken uses) refl (sym (entered_from [] uses) ∙ is)
   where
-    go : (b : Bool) → cond b (Some (map row_of uses)) None ≡ option_map (map row_of) (cond b (Some uses) None)
-    go b = grind arith
+    go : (apart all : Bool) → are_apart [] uses ≡ apart → cond (apart && all) (Some (map row_of uses)) None ≡ Some rows
+        → (are_apart [] uses ≡ true) × (rows ≡ map row_of uses)
+    go apart all apart_is into = grind arith
 
 -- ---- defaults
 
@@ -129,7 +132,7 @@ defaults_set id (item ∷ items) rows = defaults_set id items (with_default rows
 row_used : (id : Text) (uses : List Use) → row_at id (map row_of uses) ≡ option_map row_of (find (λ u. bytes_eq (name_of u.item) id) uses)
 row_used id uses = sym (find-map (λ r. bytes_eq r.id id) row_of uses)
 
-first_use : (id : Text) (uses : List Use) → first_at (row_at id (map row_of uses)) ≡ text_in uses id
+pub first_use : (id : Text) (uses : List Use) → first_at (row_at id (map row_of uses)) ≡ text_in uses id
 first_use id uses = grind (arith, row_used)
 
 abbrev explicit : Option Row → Bool
@@ -172,15 +175,14 @@ module _ (name : Text) (items : List Item) where
   -- a level without a fault, and its rows
   pub level_is : (words : List Text)
       → guard (level_fault (leaf name items) [] nothing_held words false []) (Some (rows_after (rules_of items) [] words))
-      ≡ option_and_then ended (run name items (stand [] None idle 1 false) words)
+      ≡ option_and_then ended (run (leaf name items) (stand [] None idle 1 false) words)
   level_is words = grind (arith, leaf, rules_of, guard_twice, last_checks)
 
-  -- a level, by the uses that its words make
+  -- a level, by how its words are read
   abbrev pub IsLevel : Type 0
   IsLevel = (words : List Text)
       → guard (level_fault (leaf name items) [] nothing_held words false []) (Some (rows_after (rules_of items) [] words))
-      ≡ option_and_then (λ uses. cond (lacks items (filled_rows items uses)) None (Some (filled_rows items uses))) (uses_of items words)
+      ≡ option_and_then ended (read (leaf name items) words false None 1 [])
 
-  pub level : arg_by_index (rules_of items) 1 ≡ Some (rule_of file) → arg_by_index (rules_of items) 2 ≡ None → IsOf items file
-      → ((test : Item → Bool) (item : Item) → find test items ≡ Some item → IsOf items item) → IsLevel
-  level first second file_is each words = grind (arith, level_is, whole_walk, entered_is)
+  pub level : All (IsFlat (rules_of items)) (rules_of items) → IsLevel
+  level flat words = level_is words ∙ ap (option_and_then ended) (walk_is_read (leaf name items) flat words)

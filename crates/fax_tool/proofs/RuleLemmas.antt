@@ -1,12 +1,12 @@
 -- What clap's rules are of items, and what it finds by a name.
-use Rattle.std.proofs.Common.{◌≡◌, ◌∙◌, ◌&&◌, ap, arith, cond, refl, sym, Bool, true, false, ℕ, suc, List, [], ◌∷◌, Some, is_some, map}
+use Rattle.std.proofs.Common.{◌≡◌, ◌∙◌, ◌&&◌, ap, arith, refl, sym, Bool, true, ℕ, List, [], ◌∷◌, Some, is_some, map}
 use Rattle.std.proofs.Math.Bool.{or-false}
 use Rattle.clap.proofs.WalkLemmas.{find-map}
 use Rattle.std.specs.Prelude.{find, not, option_map}
 use Rattle.std.specs.Str.{bytes_eq}
 use Rattle.clap.specs.Walk.{Rule, arg_by_long, arg_by_short, has_long as rule_has_long, has_short}
 use Rattle.clap.specs.Simple.{filled, with_index, new_rule}
-use Rattle.std.specs.List.{Contains, slice_index_or}
+use Rattle.std.specs.List.{slice_index_or}
 use Rattle.fax_tool.specs.code.CommandLine.{file_rule, flag_rule, number_rule, text_rule}
 use Rattle.fax_tool.specs.Grammar.{Item, Text, commands, file, flag, letter, name_of, number, text}
 use Rattle.fax_tool.specs.code.Scan.{has_letter, has_long}
@@ -27,19 +27,6 @@ rules_of = map rule_of
 
 abbrev pub items_at : ℕ → List Item
 items_at i = (slice_index_or commands i ([], [])).1
-
--- what is found is among the list, and passes
-pub found : {A : Type 0} (test : A → Bool) (xs : List A) (x : A) → find test xs ≡ Some x → Contains xs x × (test x ≡ true)
-found test [] x is = cc
-found test (first ∷ xs) x is = go (test first) refl is (found test xs x)
-  where
-    go : (t : Bool) → test first ≡ t → cond t (Some first) (find test xs) ≡ Some x
-        → (find test xs ≡ Some x → Contains xs x × (test x ≡ true)) → Contains (first ∷ xs) x × (test x ≡ true)
-    go true here is later = grind arith
-    go false here is later =
-        let of = later is in
-        let low = of.0.1 in
-        ((suc of.0.0, omega arith, of.0.2), of.1)
 
 long_test : (name : Text) (item : Item) → (not (is_some (rule_of item).index) && rule_has_long (rule_of item) name) ≡ has_long name item
 long_test name (letter x) = refl

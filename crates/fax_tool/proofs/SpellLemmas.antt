@@ -1,125 +1,116 @@
--- The words of a command are scanned as its uses.
-use Rattle.std.proofs.lemmas.Grind.{common_steps}
-use Rattle.std.proofs.Common.{arith, ◌≡◌, ◌∙◌, ◌++◌, ap, codes, inl, inr, refl, sym, true, ℕ, List, [], ◌∷◌, Some, None}
-use Rattle.std.specs.Prelude.{option_map}
-use Rattle.std.specs.List.{All, AllByRecursion, Contains, list_all}
+-- The words of a command are read as its uses.
+use Rattle.std.proofs.Common.{arith, ◌≡◌, ◌∙◌, ◌==◌, ◌++◌, ap, codes, inl, inr, refl, subst, sym, Bool, true, false, ℕ, List, [], ◌∷◌, Option, Some, None}
+use Rattle.std.specs.Prelude.{option_and_then}
+use Rattle.std.specs.List.{Contains}
 use Rattle.std.specs.Str.{chars}
-use Rattle.std.proofs.lemmas.List.Elements.{All-contains, All-from_recursion}
-use Rattle.fax_tool.specs.Grammar.{AreOfCommand, AreOfNoCommand, AreSpelled, IsPlain, IsSpelled, Item, Text, Use, commands, file, flag}
+use Rattle.std.proofs.lemmas.Bool.Decides.{nat_tests}
+use Rattle.std.proofs.lemmas.List.Folds.{list_any-append}
+use Rattle.std.proofs.Math.Bool.{or-true}
+use Rattle.clap.specs.Walk.{Row, Rule, arg_by_index, attached_value, has_row}
+use Rattle.fax_tool.specs.Grammar.{AreSpelled, IsPlain, IsSpelled, Item, Text, Use, file, flag}
 use Rattle.fax_tool.specs.Grammar.{letter, number, text}
-use Rattle.fax_tool.specs.code.Scan.{attached, is_plain, is_taken, option_word, read, says, takes, use_of, uses_from, uses_of, waits}
-use Rattle.fax_tool.specs.code.Scan.{word_of}
-use Rattle.fax_tool.proofs.GrammarLemmas.{apart_scanned, number_scanned, plain_scanned}
-use Rattle.fax_tool.proofs.RuleLemmas.{items_at}
-use Rattle.fax_tool.proofs.ViewLemmas.{View, as_end, as_long, as_plain, as_short, view}
+use Rattle.fax_tool.specs.code.Scan.{use_of}
+use Rattle.fax_tool.proofs.clap.Flat.{place, read, rule_said, said, says, waits}
+use Rattle.fax_tool.proofs.clap.FlatLemmas.{and_then_at}
+use Rattle.fax_tool.proofs.RuleLemmas.{rule_of, rules_of}
+use Rattle.fax_tool.proofs.UseLemmas.{IsItem, enter, flag_used, leaf, option_used, row_of}
 
--- what one word of an item says
-abbrev IsRead : List Item → Item → Type 0
-IsRead items (text name) =
-    ((value : Text) → word_of items (codes "--" ++ name ++ codes "=" ++ value) ≡ says (use_of (text name) value))
-    × (word_of items (codes "--" ++ name) ≡ waits (text name))
-IsRead items (number name most) =
-    ((value : Text) → word_of items (codes "--" ++ name ++ codes "=" ++ value) ≡ says (use_of (number name most) value))
-    × (word_of items (codes "--" ++ name) ≡ waits (number name most))
-IsRead items (letter x) =
-    ((value : Text) → word_of items (codes "-" ++ x ∷ codes "=" ++ value) ≡ says (use_of (letter x) value))
-    × ((value : Text) → attached value ≡ Some value → word_of items (codes "-" ++ x ∷ value) ≡ says (use_of (letter x) value))
-    × (word_of items (codes "-" ++ x ∷ []) ≡ waits (letter x))
-IsRead items (flag name) = word_of items (codes "--" ++ name) ≡ says (use_of (flag name) (codes "true"))
-IsRead items file = Unit {0}
-
-plain_read : (items : List Item) (word : Text) → is_plain word ≡ true → word_of items word ≡ says (use_of file word)
-plain_read items word is = go (view word)
-  where
-    go : View word → word_of items word ≡ says (use_of file word)
-    go (as_end is_end says_is not_plain) = let no = sym is ∙ not_plain in cc
-    go (as_long own v no_end form says_is not_plain) = let no = sym is ∙ not_plain in cc
-    go (as_short b bs x no_end no_long form char says_is not_plain) = let no = sym is ∙ not_plain in cc
-    go (as_plain no_end no_long form says_is plain) = says_is items
-
-module _ (items : List Item) (each : (item : Item) → Contains items item → IsRead items item) where
-  -- a word that waits for the next one
-  two_words : (item : Item) (name value : Text) (us : List Use) (own others words : List Text) → words ≡ own ++ others
-      → (own ≡ name ∷ value ∷ []) × IsPlain value → word_of items name ≡ waits item → uses_from items None others ≡ Some us
-      → uses_from items None words ≡ Some (use_of item value ∷ us)
-  two_words item name value us own others words split is waits_is more = rw (split, is.0, waits_is, plain_scanned value is.1, more) refl
-
-  spelled_use : (item : Item) (value : Text) (us : List Use) (own others words : List Text) → words ≡ own ++ others → IsRead items item
-      → IsSpelled item value own → uses_from items None others ≡ Some us → uses_from items None words ≡ Some (use_of item value ∷ us)
-  spelled_use (text name) value us own others words split reads (inl is) more = grind arith
-  spelled_use (text name) value us own others words split reads (inr is) more =
-      two_words (text name) _ value us own others words split is reads.1 more
-  spelled_use (number name most) value us own others words split reads (inl is, digits) more = grind arith
-  spelled_use (number name most) value us own others words split reads (inr is, digits) more = grind arith
-  spelled_use (letter x) value us own others words split reads (inl (inl is)) more = grind arith
-  spelled_use (letter x) value us own others words split reads (inl (inr is)) more =
-      two_words (letter x) _ value us own others words split is reads.2 more
-  spelled_use (letter x) value us own others words split reads (inr is) more = grind arith
-  spelled_use (flag name) value us own others words split reads is more = grind arith
-  spelled_use file value us own others words split reads is more = grind (arith, plain_read, plain_scanned)
-
-  spelled : (uses : List Use) (words : List Text) → AreSpelled items uses words → uses_from items None words ≡ Some uses
-  unfolding chars
-  spelled [] words (inl none) = rw none refl
-  spelled [] words (inr ends) = rw ends refl
-  spelled (u ∷ us) words (inl (own, others, split, among, is, more)) =
-      spelled_use u.item u.value us own others words split (each u.item among) is (spelled us others more)
-  spelled (u ∷ us) words (inr (as_file, none, is)) = grind arith
-
-each_read : (items : List Item) → AllByRecursion (IsRead items) items → (item : Item) → Contains items item → IsRead items item
-each_read items are item among = grind (arith, common_steps)
-
-letter_read : (items : List Item) (x : ℕ) →
-    ((b : ℕ) (bs : Text) → word_of items (codes "-" ++ x ∷ b ∷ bs) ≡ option_word (attached (b ∷ bs)) (letter x))
-    → (value : Text) → attached value ≡ Some value → word_of items (codes "-" ++ x ∷ value) ≡ says (use_of (letter x) value)
-letter_read items x of [] is = cc
-letter_read items x of (b ∷ bs) is = of b bs ∙ ap (λ v. option_word v (letter x)) is
-
-abbrev IsReadOf : List Item → Type 0
-IsReadOf items = (uses : List Use) (words : List Text) → AreSpelled items uses words → uses_from items None words ≡ Some uses
-
-spelled_words_are_read : All (λ command. IsReadOf command.1) commands
+-- a word that is no option goes to a place
+plain_said : (c : List Rule) (word : Text) → IsPlain word → said c false word ≡ place
 unfolding chars
-spelled_words_are_read = All-from_recursion (λ command. IsReadOf command.1) commands (
-  spelled (items_at 0) (each_read (items_at 0) ((λ value. refl, refl), ((λ value. refl, refl), (tt, tt)))),
-  (
-    spelled (items_at 1) (each_read (items_at 1) ((λ value. refl, refl), ((λ value. refl, refl), (tt, (refl, tt))))),
-    (
-      spelled (items_at 2) (each_read (items_at 2) (
-        (λ value. refl, letter_read (items_at 2) 111 (λ b bs. refl), refl),
-        ((λ value. refl, refl), ((λ value. refl, refl), ((λ value. refl, refl), (refl, (tt, tt))))),
-      )),
-      (spelled (items_at 3) (each_read (items_at 3) (tt, tt)), tt),
-    ),
-  ),
-)
+plain_said c [] plain = refl
+plain_said c (x ∷ xs) plain = go (x == 45) refl plain
+  where
+    go : (b : Bool) → (x == 45) ≡ b → IsPlain (x ∷ xs) → said c false (x ∷ xs) ≡ place
+    go true same (inl other) = let is : x ≡ 45 = grind (arith, nat_tests) in absurd (other (ap Some is))
+    go true same (inr alone) = subst (λ word. said c false word ≡ place) (sym alone) refl
+    go false other plain = simp other
 
--- and each text is one that its item takes
-use_taken : (item : Item) (value : Text) (own : List Text) → IsSpelled item value own → takes item value ≡ true
-use_taken (number name most) value own is = number_scanned most value is.1
-use_taken item value own is = refl
+-- what the words of an item say
+abbrev pub IsRead : List Rule → Item → Type 0
+IsRead c (text name) =
+    ((value : Text) → said c false (codes "--" ++ name ++ codes "=" ++ value) ≡ says (rule_of (text name)) (value ∷ []))
+    × (said c false (codes "--" ++ name) ≡ waits (rule_of (text name)))
+IsRead c (number name most) =
+    ((value : Text) → said c false (codes "--" ++ name ++ codes "=" ++ value) ≡ says (rule_of (number name most)) (value ∷ []))
+    × (said c false (codes "--" ++ name) ≡ waits (rule_of (number name most)))
+IsRead c (letter x) =
+    ((value : Text) → said c false (codes "-" ++ x ∷ codes "=" ++ value) ≡ says (rule_of (letter x)) (value ∷ []))
+    × ((value : Text) → attached_value value ≡ Some value → said c false (codes "-" ++ x ∷ value) ≡ says (rule_of (letter x)) (value ∷ []))
+    × (said c false (codes "-" ++ x ∷ []) ≡ waits (rule_of (letter x)))
+IsRead c (flag name) = said c false (codes "--" ++ name) ≡ says (rule_of (flag name)) []
+IsRead c file = Unit {0}
 
-uses_taken : (items : List Item) (uses : List Use) (words : List Text) → AreSpelled items uses words → list_all is_taken uses ≡ true
-uses_taken items [] words is = refl
-uses_taken items (u ∷ us) words (inl (own, others, split, among, is, more)) = grind (arith, use_taken, uses_taken items us others more)
-uses_taken items (u ∷ us) words (inr (as_file, none, is)) = rw (as_file, none) refl
+-- the place of the next word for one, and after an item
+abbrev pub place_of : Bool → ℕ
+place_of false = 1
+place_of true = 2
 
--- a command's items are found by its name
-abbrev IsNamed : Text × List Item → Type 0
-IsNamed command = (program : Text) (words : List Text) → read (program ∷ command.0 ∷ words)
-    ≡ option_map {U = Text × List Use} (λ uses. (command.0, uses)) (uses_of command.1 words)
+abbrev is_filed : Item → Bool → Bool
+is_filed file filed = true
+is_filed item filed = filed
 
-all_named : All IsNamed commands
-all_named = grind arith
+-- the file's place is filled only where there is a row of it
+abbrev IsFiled : Bool → List Row → Type 0
+IsFiled false rows = Unit {0}
+IsFiled true rows = has_row (codes "FILE") rows ≡ true
 
--- the words of a command are read as its uses
-pub command_is_read : (words : List Text) (name : Text) (uses : List Use) → AreOfCommand words name uses → read words ≡ Some (name, uses)
-command_is_read words name uses is =
-    let named = All-contains IsNamed commands (name, is.items) all_named is.known is.program is.others in
-    let scans = All-contains (λ command. IsReadOf command.1) commands (name, is.items) spelled_words_are_read is.known uses is.others
-    is.written in
-    rw (is.are, named, scans, apart_scanned uses is.once, uses_taken is.items uses is.others is.written) refl
+filed_more : (u : Use) (filed : Bool) (rows : List Row) → IsFiled filed rows → IsFiled (is_filed u.item filed) (rows ++ row_of u ∷ [])
+filed_more u filed rows is = grind (arith, list_any-append, or-true)
 
--- and words that are not read are those of no command
-pub unread_is_no_command : (words : List Text) → read words ≡ None → AreOfNoCommand words
-unread_is_no_command words none name uses is = let read_is = sym none ∙ command_is_read words name uses is in cc
+filed_after : (u : Use) (filed : Bool) (rows r : List Row) → IsFiled filed rows → enter rows u ≡ Some r → IsFiled (is_filed u.item filed) r
+filed_after u filed rows r is entered = grind (arith, filed_more)
+
+-- the rows after some uses
+abbrev pub entered : List Row → List Use → Option (List Row)
+entered rows [] = Some rows
+entered rows (u ∷ us) = option_and_then (λ r. entered r us) (enter rows u)
+
+module _ (name : Text) (items : List Item) (first : arg_by_index (rules_of items) 1 ≡ Some (rule_of file))
+    (second : arg_by_index (rules_of items) 2 ≡ None)
+    (each : (item : Item) → Contains items item → IsRead (rules_of items) item) (fits : (item : Item) → Contains items item → IsItem item) where
+  abbrev reads : List Text → Bool → List Row → Option (List Row)
+  reads words filed rows = read (leaf name items) words false None (place_of filed) rows
+
+  spelled_use : (item : Item) (value : Text) (own others : List Text) (filed : Bool) (rows : List Row) → IsFiled filed rows
+      → IsRead (rules_of items) item → IsItem item → IsSpelled item value own
+      → reads (own ++ others) filed rows ≡ option_and_then (reads others (is_filed item filed)) (enter rows (use_of item value))
+  spelled_use (text n) value own others filed rows is reads fits (inl spells) =
+      rw (spells, reads.0 value, option_used name items (text n) value rows fits refl) refl
+  spelled_use (text n) value own others filed rows is reads fits (inr (spells, plain)) =
+      rw (spells, reads.1, plain_said (rules_of items) value plain, option_used name items (text n) value rows fits refl) refl
+  spelled_use (number n most) value own others filed rows is reads fits (inl spells, digits) =
+      rw (spells, reads.0 value, option_used name items (number n most) value rows fits refl) refl
+  spelled_use (number n most) value own others filed rows is reads fits (inr (spells, plain), digits) =
+      rw (spells, reads.1, plain_said (rules_of items) value plain, option_used name items (number n most) value rows fits refl) refl
+  spelled_use (letter x) value own others filed rows is reads fits (inl (inl spells)) =
+      rw (spells, reads.0 value, option_used name items (letter x) value rows fits refl) refl
+  spelled_use (letter x) value own others filed rows is reads fits (inl (inr (spells, plain))) =
+      rw (spells, reads.2, plain_said (rules_of items) value plain, option_used name items (letter x) value rows fits refl) refl
+  spelled_use (letter x) value own others filed rows is reads fits (inr (spells, some, no_equals)) =
+      let attached : attached_value value ≡ Some value = grind arith in
+      rw (spells, reads.1 value attached, option_used name items (letter x) value rows fits refl) refl
+  spelled_use (flag n) value own others filed rows is reads fits (spells, true_is) =
+      rw (spells, true_is, reads, flag_used name items n rows) refl
+  spelled_use file value own others false rows is reads fits (spells, plain) =
+      rw (spells, plain_said (rules_of items) value plain, first, option_used name items file value rows fits refl) refl
+  spelled_use file value own others true rows is reads fits (spells, plain) =
+      rw (spells, plain_said (rules_of items) value plain, second, is) refl
+
+  pub spelled : (uses : List Use) (words : List Text) (filed : Bool) (rows : List Row) → IsFiled filed rows → AreSpelled items uses words
+      → reads words filed rows ≡ entered rows uses
+  spelled [] words filed rows is (inl none) = rw none refl
+  spelled [] words filed rows is (inr ends) = rw ends refl
+  spelled (u ∷ us) words filed rows is (inl (own, others, split, among, spells, more)) =
+      rw split (spelled_use u.item u.value own others filed rows is (each u.item among) (fits u.item among) spells
+      ∙ and_then_at (enter rows u) _ _ (λ r into. spelled us others (is_filed u.item filed) r (filed_after u filed rows r is into) more))
+  spelled (u ∷ us) words false rows is (inr (as_file, none, ends)) =
+      rw (none, ends, first, as_file, option_used name items file u.value rows tt refl) refl
+  spelled (u ∷ us) words true rows is (inr (as_file, none, ends)) = rw (none, ends, second, as_file, is) refl
+
+pub letter_read : (items : List Item) (x : ℕ) →
+    ((b : ℕ) (bs : Text) → said (rules_of items) false (codes "-" ++ x ∷ b ∷ bs) ≡ rule_said (Some (rule_of (letter x))) (attached_value (b ∷ bs)))
+    → (value : Text) → attached_value value ≡ Some value
+    → said (rules_of items) false (codes "-" ++ x ∷ value) ≡ says (rule_of (letter x)) (value ∷ [])
+letter_read items x of [] is = cc
+letter_read items x of (b ∷ bs) is = of b bs ∙ ap (rule_said (Some (rule_of (letter x)))) is

@@ -18,9 +18,7 @@ use Rattle.fax_tool.specs.declared.words.WordsFault.{WordsFault}
 use Rattle.fax_tool.specs.declared.words.WordsFault.TheVariants.{NotACursor, Usage}
 use Rattle.fax_tool.proofs.AgreeLemmas.{command_agrees}
 use Rattle.fax_tool.proofs.EntryLemmas.{taken_entries}
-use Rattle.fax_tool.proofs.ReadLemmas.{AreTaken, IsReadAs, command_of, read_as}
-use Rattle.fax_tool.proofs.ShapeLemmas.{read_is_of_command}
-use Rattle.fax_tool.proofs.SpellLemmas.{unread_is_no_command}
+use Rattle.fax_tool.proofs.ReadLemmas.{AreTaken, IsReadAs, command_of, taken_is_read, untaken_is_unread}
 use Rattle.fax_tool.proofs.words.parse_words.Goals as goal
 use Rattle.fax_tool.proofs.words.parse_words.Goals.{In-Some}
 
@@ -37,15 +35,15 @@ utf8 c = search rules
 -- what the words are read as
 of_words : (c : In-Some) → IsReadAs (texts c.args.words.now) c.in-Some.name.now (entries_of c.in-Some.of_command.now)
 of_words c =
-    (read_as (texts c.args.words.now)).0 c.in-Some.name.now (entries_of c.in-Some.of_command.now) (taken c) (named c)
+    taken_is_read (texts c.args.words.now) c.in-Some.name.now (entries_of c.in-Some.of_command.now) (utf8 c) (taken c) (named c)
 
 pub command_of-requires : goal.command_of-requires
 command_of-requires c =
-    taken_entries (texts c.args.words.now) c.in-Some.name.now (entries_of c.in-Some.of_command.now) (utf8 c) (of_words c)
+    taken_entries (texts c.args.words.now) c.in-Some.name.now (entries_of c.in-Some.of_command.now) (of_words c)
 
-refused : (words : List Text) (name : Text) (entries : List Row) (fault : WordsFault) → All IsUtf8 words → IsReadAs words name entries
+refused : (words : List Text) (name : Text) (entries : List Row) (fault : WordsFault) → IsReadAs words name entries
     → IsCommandFault name (given_by entries) fault → IsFault words fault
-refused words name entries fault utf8 of is = grind (arith, read_is_of_command)
+refused words name entries fault of is = grind arith
 
 pub returns-in_err-command_of-clause-fault : goal.returns-in_err-command_of-clause-fault
 returns-in_err-command_of-clause-fault c =
@@ -53,7 +51,7 @@ returns-in_err-command_of-clause-fault c =
     let words = texts c.args.words.now in
     passed_up c.from_residual-in_err-command_of.result c.in_err-command_of.field-0.0 (IsFault words)
     c.from_residual-in_err-command_of.ensures.1
-    (refused words c.in-Some.name.now (entries_of c.in-Some.of_command.now) c.in_err-command_of.field-0.0 (utf8 at) (of_words at)
+    (refused words c.in-Some.name.now (entries_of c.in-Some.of_command.now) c.in_err-command_of.field-0.0 (of_words at)
     c.in_err-command_of.ensures.fault)
 
 pub returns-clause-job : goal.returns-clause-job
@@ -63,7 +61,7 @@ returns-clause-job c =
     record {
       name = c.in-Some.name.now;
       uses = of.0;
-      named = read_is_of_command (texts c.args.words.now) c.in-Some.name.now of.0 (utf8 (goal.at.returns-clause-job c).In-Some) of.1;
+      named = of.1;
       command = command_agrees entries of.0 of.2 c.in-Some.name.now c.in_ok-command_of.field-0 c.in_ok-command_of.ensures.command;
       cursors = c.in_ok-command_of.ensures.cursors;
       file = c.in_ok-file_of.ensures ∙ of.2.name;
@@ -71,12 +69,12 @@ returns-clause-job c =
 
 -- words that clap does not take
 unread : (words : List Text) → All IsUtf8 words → (AreTaken words → ⊥) → IsFault words Usage
-unread words utf8 untaken = elim ((read_as words).1 untaken) [
-  | inl none ↦ inl (unread_is_no_command words none)
+unread words utf8 untaken = elim (untaken_is_unread words utf8 untaken) [
+  | inl none ↦ inl none
   | inr of ↦ inr (record {
     name = of.0;
     uses = of.1;
-    named = read_is_of_command words of.0 of.1 utf8 of.2;
+    named = of.2;
     command = (of.3.0, inl (ap (option_and_then target_of) of.3.1));
   })
 ]

@@ -1,4 +1,4 @@
-use Rattle.std.proofs.Common.{◌≤◌, ◌-◌, length, arith}
+use Rattle.std.proofs.Common.{◌≤◌, length, arith}
 use Rattle.std.proofs.KnownBytes.{Appends-trans}
 use Rattle.clap.proofs.TakesLemmas.{passed_up}
 use Rattle.fax_tool.proofs.TransferLemmas.{zeros_more, zeros_given_in_part}

@@ -1,0 +1,3 @@
+-- How clap reads the words of any flat command.
+pub mod Flat
+pub mod FlatLemmas
