@@ -8,5 +8,6 @@ use Rattle.fax_tool.specs.declared.words.Command.{Command}
 use Rattle.fax_tool.proofs.ReadLemmas.{Agrees}
 
 module _ (entries : List Row) (uses : List Use) (agrees : Agrees entries uses) where
-  pub command_agrees : (name : Text) (command : Command) → IsCommand name (given_by entries) command → IsCommand name (text_in uses) command
+  pub command_agrees : (name : Text) (command : Command) → IsCommand name (given_by entries) command
+      → IsCommand name (text_in uses) command
   command_agrees name command is = grind arith

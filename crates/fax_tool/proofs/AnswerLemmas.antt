@@ -1,5 +1,6 @@
 -- The answers of words exclude one another.
-use Rattle.std.proofs.Common.{arith, ◌≡◌, ◌∙◌, Bool, ap, codes, inl, inr, refl, subst, sym, List, Option, Some, None, map}
+use Rattle.std.proofs.Common.{arith, ◌≡◌, ◌∙◌, Bool, ap, codes, inl, inr, refl, subst, sym, List, Option, Some, None}
+use Rattle.std.proofs.Common.{map}
 use mathlib.Core.HLevel.{Π_prop, is_prop→PathP, ⊥_prop}
 use native.Mathlib.Bridge.{le_prop}
 use Rattle.std.specs.Prelude.{IfSome, false, true, ◌⊎◌, ◌≢◌, ◌<◌}
@@ -16,7 +17,8 @@ use Rattle.fax_walk.specs.declared.options.Target.TheVariants.{Mmr, Pbm}
 use Rattle.fax_walk.specs.views.Walk.{begun_place}
 use Rattle.fax_tool.specs.laws.Runs.{IsBegun}
 use Rattle.fax_tool.proofs.BeginLemmas.{IsBegunBy, inside_of, one_begun}
-use Rattle.fax_tool.specs.Job.{AreOptions, Given, HasCursors, HasNoCursor, HasNoTarget, IsCommand, IsFault, IsJob, IsPart, is_set}
+use Rattle.fax_tool.specs.Job.{AreOptions, Given, HasCursors, HasNoCursor, HasNoTarget, IsCommand, IsFault, IsJob}
+use Rattle.fax_tool.specs.Job.{IsPart, is_set}
 use Rattle.fax_tool.specs.Run.{begun_of}
 use Rattle.fax_walk.specs.Items.{begun_cursor}
 use Rattle.fax_tool.specs.code.Entries.{IsNoCursor, IsNoLongCursor}
@@ -49,7 +51,8 @@ same_uses words a b xs ys left right =
     let rows = ap (λ (c : Text × List Row). c.1) pair in
     λ i. ((pair i).0, λ id. (sym (first_use id xs) ∙ ap (first_of id) rows ∙ first_use id ys) i)
 
-command_or_usage : (name : Text) (given : Given) (command : Command) → IsCommand name given command → name ≡ codes "convert"
+command_or_usage : (name : Text) (given : Given) (command : Command) → IsCommand name given command
+    → name ≡ codes "convert"
     → HasNoTarget given → ⊥
 command_or_usage name given command is convert none = grind arith
 
@@ -65,7 +68,8 @@ usage_or_no_cursor words (inl none) no_cursor = none no_cursor.name no_cursor.us
 usage_or_no_cursor words (inr refused) no_cursor = grind arith
 
 -- a text of no cursor, nor of a long one where the part may have one, names nothing that the part begins with
-no_begun : (o : Option Text) (text : Text) (part : Part) → o ≡ Some text → HasCursors (Rows part) → IsBegunBy o (begun_of part)
+no_begun : (o : Option Text) (text : Text) (part : Part) → o ≡ Some text → HasCursors (Rows part)
+    → IsBegunBy o (begun_of part)
     → IsNoCursor text → (part.from ≡ None) ⊎ IsNoLongCursor text → ⊥
 no_begun o text part given in_range begins none others = grind arith
 
@@ -73,7 +77,8 @@ no_begun o text part given in_range begins none others = grind arith
 without_place : (part : Part) → part.from ≡ None → IsCursor part.cursor → HasCursors (Rows part)
 without_place part none in_range = (in_range, subst (λ (o : Option LongPlace). IfSome o IsLongCursor) (sym none) tt)
 
-command_or_no_cursor : (name : Text) (given : Given) (command : Command) → HasCursors command → IsCommand name given command
+command_or_no_cursor : (name : Text) (given : Given) (command : Command) → HasCursors command
+    → IsCommand name given command
     → HasNoCursor name given → ⊥
 command_or_no_cursor name given command in_range is none = grind (arith, no_begun)
 
@@ -88,11 +93,13 @@ begun_in_range : (part : Part) → HasCursors (Rows part) → IsBegun (begun_of 
 begun_in_range part in_range = grind arith
 
 -- a text names one thing to begin with
-one_named : TextsNameOne → (o : Option Text) (begun other : Begun) → IsBegun begun → IsBegun other → IsBegunBy o begun → IsBegunBy o other
+one_named : TextsNameOne → (o : Option Text) (begun other : Begun) → IsBegun begun → IsBegun other → IsBegunBy o begun
+    → IsBegunBy o other
     → begun ≡ other
 one_named names o begun other in_range in_range' is is' = grind (arith, one_begun)
 
-one_part : TextsNameOne → (given : Given) (long : Bool) (part other : Part) → HasCursors (Rows part) → HasCursors (Rows other)
+one_part : TextsNameOne → (given : Given) (long : Bool) (part other : Part) → HasCursors (Rows part)
+    → HasCursors (Rows other)
     → IsPart given long part → IsPart given long other → part ≡ other
 one_part names given long part other in_range in_range' first second =
     let begun = one_named names (given (codes "cursor")) (begun_of part) (begun_of other) (begun_in_range part in_range)
@@ -103,7 +110,8 @@ one_part names given long part other in_range in_range' first second =
     let flag = first.long_is ∙ sym second.long_is in
     λ i. record { cursor = cursor i; max = max i; long = flag i; from = from i }
 
-one_options : (given : Given) (options other : Options) → AreOptions given options → AreOptions given other → options ≡ other
+one_options : (given : Given) (options other : Options) → AreOptions given options → AreOptions given other
+    → options ≡ other
 one_options given options other first second =
     let target : options.target ≡ other.target = let both = sym first.target ∙ second.target in cc both in
     let order = first.order ∙ sym second.order in
@@ -117,34 +125,41 @@ one_options given options other first second =
       strip = strip i;
       aligned = aligned i;
       some_k = is_prop→PathP (λ j. 0 < k j) (λ j. le_prop) options.some_k other.some_k i;
-      some_strip = is_prop→PathP (λ j. ForSome (strip j) (λ rows. 0 < rows)) (λ j. Π_prop (λ rows. Π_prop (λ is. le_prop)))
+      some_strip = is_prop→PathP (λ j. ForSome (strip j) (λ rows. 0 < rows))
+          (λ j. Π_prop (λ rows. Π_prop (λ is. le_prop)))
           options.some_strip other.some_strip i;
-      aligned_is_no_pbm = is_prop→PathP (λ j. aligned j ≡ true → target j ≢ Pbm) (λ j. Π_prop (λ is. Π_prop (λ is_pbm. ⊥_prop)))
+      aligned_is_no_pbm = is_prop→PathP (λ j. aligned j ≡ true → target j ≢ Pbm)
+          (λ j. Π_prop (λ is. Π_prop (λ is_pbm. ⊥_prop)))
           options.aligned_is_no_pbm other.aligned_is_no_pbm i;
-      aligned_is_no_mmr = is_prop→PathP (λ j. aligned j ≡ true → target j ≢ Mmr) (λ j. Π_prop (λ is. Π_prop (λ is_mmr. ⊥_prop)))
+      aligned_is_no_mmr = is_prop→PathP (λ j. aligned j ≡ true → target j ≢ Mmr)
+          (λ j. Π_prop (λ is. Π_prop (λ is_mmr. ⊥_prop)))
           options.aligned_is_no_mmr other.aligned_is_no_mmr i;
     }
 
 -- a command's name and what is given after it give one command
-one_command : TextsNameOne → (name : Text) (given : Given) (command other : Command) → HasCursors command → HasCursors other
+one_command : TextsNameOne → (name : Text) (given : Given) (command other : Command) → HasCursors command
+    → HasCursors other
     → IsCommand name given command → IsCommand name given other → command ≡ other
 one_command names name given (Forms part) (Forms other) in_range in_range' first second =
     ap (λ (p : Part). Forms p) (one_part names given false part other (without_place part first.2 in_range)
     (without_place other second.2 in_range') first.1 second.1)
 one_command names name given (Rows part) (Rows other) in_range in_range' first second =
-    ap (λ (p : Part). Rows p) (one_part names given (is_set (codes "long") given) part other in_range in_range' first.1 second.1)
+    ap (λ (p : Part). Rows p) (one_part names given (is_set (codes "long") given) part other in_range in_range' first.1
+    second.1)
 one_command names name given (Convert options) (Convert other) in_range in_range' first second =
     ap (λ (o : Options). Convert o) (one_options given options other first.1 second.1)
 one_command names name given Check Check in_range in_range' first second = refl
 one_command names name given command other in_range in_range' first second = grind arith
 
-one_job : TextsNameOne → (words : List Text) (job other : Job) → IsJob words job → IsJob words other → AskTheSame job other
+one_job : TextsNameOne → (words : List Text) (job other : Job) → IsJob words job → IsJob words other
+    → AskTheSame job other
 one_job names words job other first second =
     let same = same_uses words second.name first.name second.uses first.uses second.named first.named in
     let command = subst (λ (c : Text × Given). IsCommand c.0 c.1 other.command) same second.command in
     let file = subst (λ (c : Text × Given). file_name other ≡ c.1 (codes "FILE")) same second.file in
     record {
-      command = one_command names first.name (text_in first.uses) job.command other.command first.cursors second.cursors first.command command;
+      command = one_command names first.name (text_in first.uses) job.command other.command first.cursors second.cursors
+          first.command command;
       file = first.file ∙ sym file;
     }
 

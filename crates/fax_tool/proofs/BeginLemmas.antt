@@ -27,7 +27,8 @@ pub inside_of : (place : Option LongPlace) (at : Cursor) → begun_place (begun_
 inside_of place at = grind arith
 
 -- what a run begins with has one text
-pub one_begun : TextsNameOne → (begun other : Begun) → IsBegun begun → IsBegun other → begun_text begun ≡ begun_text other → begun ≡ other
+pub one_begun : TextsNameOne → (begun other : Begun) → IsBegun begun → IsBegun other
+    → begun_text begun ≡ begun_text other → begun ≡ other
 one_begun names (At at) (At other) is is_too e = ap At (names.cursors at other is is_too e)
 one_begun names (At at) (Inside place) is is_too e = absurd (names.apart at place e)
 one_begun names (Inside place) (At at) is is_too e = absurd (names.apart at place (sym e))

@@ -14,10 +14,12 @@ use Rattle.fax_tool.specs.declared.refusal.Refusal.TheVariants.{Memory, Read, Wr
 use Rattle.fax_tool.specs.declared.words.Command.{Command}
 use Rattle.fax_tool.specs.declared.words.Command.TheVariants.{List as Forms, Rows}
 use Rattle.fax_tool.specs.declared.words.Part.{Part}
-use Rattle.fax_tool.specs.Run.{Counts, Input, Output, HasWorked, IsRead, IsTextAfterMemory, IsTextOf, IsTextOfFirst, begun_of}
+use Rattle.fax_tool.specs.Run.{Counts, Input, Output, HasWorked, IsRead, IsTextAfterMemory, IsTextOf, IsTextOfFirst}
+use Rattle.fax_tool.specs.Run.{begun_of}
 use Rattle.fax_tool.specs.Streams.{input_after, output_after}
 use Rattle.fax_tool.specs.Text.{PrintedLine, Printed, next_line}
-use Rattle.fax_tool.specs.code.Outcome.{HasReadReason, IsDone, IsStopped, StopsAtBeginning, StopsPrinting, StopsWith, error_of, status_of}
+use Rattle.fax_tool.specs.code.Outcome.{HasReadReason, IsDone, IsStopped, StopsAtBeginning, StopsPrinting, StopsWith}
+use Rattle.fax_tool.specs.code.Outcome.{error_of, status_of}
 use Rattle.fax_tool.specs.code.Transfers.{IsGivenInPart}
 use Rattle.fax_tool.proofs.LineLemmas.{one_pages, one_rows}
 use Rattle.fax_tool.proofs.StopLemmas.{NoText, leaves_more, of_some_file, stops_in_part}
@@ -27,12 +29,23 @@ no_lines : (max : Option ℕ) → IfSome max (λ limit. 0 ≤ limit)
 no_lines max = grind arith
 
 -- the text of no line: where to go on
-of_none : (are : List PrintedLine → End → Type 0) (max : Option ℕ) (begun : Begun) → ((lines : List PrintedLine) × (end : End) × are lines end)
+of_none : (are : List PrintedLine → End → Type 0) (max : Option ℕ) (begun : Begun)
+    → ((lines : List PrintedLine) × (end : End) × are lines end)
     → (text : List ℕ) → text ≡ next_line (At (begun_cursor begun)) → IsTextOfFirst are max begun text
-of_none are max begun all text is = (all.0, all.1, all.2, 0, omega arith, no_lines max, is ∙ sym (first_text begun 0 all.0 all.1 (omega arith)))
+of_none are max begun all text is = (
+  all.0,
+  all.1,
+  all.2,
+  0,
+  omega arith,
+  no_lines max,
+  is
+      ∙ sym (first_text begun 0 all.0 all.1 (omega arith)),
+)
 
 -- the input was not read
-pub unread : (text : List ℕ) (refusal : Refusal) (input : Input) (old : Option (List ℕ)) (counts : Counts) → refusal ≢ Memory
+pub unread : (text : List ℕ) (refusal : Refusal) (input : Input) (old : Option (List ℕ)) (counts : Counts)
+    → refusal ≢ Memory
     → HasReadReason refusal input → HasWorked counts → StopsAtBeginning text refusal input (output_after old old counts)
 unread text refusal input old counts other reason worked = grind (arith, common_steps)
 
@@ -58,30 +71,36 @@ module _ (command : Command) (bytes : Option (List ℕ)) (taken : ℕ) (counts :
 
   module _ (file : List ℕ) (same : IfSome bytes (λ b. file ≡ b)) (read : IsRead input) where
     pub command_stops : (refusal : Refusal)
-        → StopsPrinting (IsTextOf command file) (IsTextAfterMemory command file) refusal output → IsStopped command refusal input output
+        → StopsPrinting (IsTextOf command file) (IsTextAfterMemory command file) refusal output
+        → IsStopped command refusal input output
     command_stops refusal stops = grind arith
 
 -- rows were not read, and where to go on was to be written
-pub rows_unread : BeginningsHaveOneTail → (part : Part) (refusal : Refusal) (bytes : Option (List ℕ)) (taken : ℕ) (counts : Counts)
+pub rows_unread : BeginningsHaveOneTail → (part : Part) (refusal : Refusal) (bytes : Option (List ℕ)) (taken : ℕ)
+    (counts : Counts)
     (output : Output)
     → StopsAtBeginning (next_line (At (begun_cursor (begun_of part)))) refusal (input_after bytes taken counts) output
     → IsStopped (Rows part) refusal (input_after bytes taken counts) output
 rows_unread tails part refusal bytes taken counts output stops =
-    stopped_first (Rows part) bytes taken counts output (next_line (At (begun_cursor (begun_of part)))) refusal (λ file text is.
+    stopped_first (Rows part) bytes taken counts output (next_line (At (begun_cursor (begun_of part)))) refusal
+    (λ file text is.
     let one = one_rows file tails (begun_of part) in
     of_none _ part.max (begun_of part) (one.items, one.end, one.is) text is) stops
 
 -- the part's beginning was refused
-pub rows_unbegun : BeginningsHaveOneTail → (part : Part) (refusal : Refusal) (bytes : Option (List ℕ)) (taken : ℕ) (counts : Counts)
+pub rows_unbegun : BeginningsHaveOneTail → (part : Part) (refusal : Refusal) (bytes : Option (List ℕ)) (taken : ℕ)
+    (counts : Counts)
     (output : Output) → IsRead (input_after bytes taken counts)
     → StopsWith (next_line (At (begun_cursor (begun_of part)))) refusal output
     → IsStopped (Rows part) refusal (input_after bytes taken counts) output
 rows_unbegun tails part refusal bytes taken counts output read stops =
     rows_unread tails part refusal bytes taken counts output
-    (unread_for_memory (next_line (At (begun_cursor (begun_of part)))) refusal (input_after bytes taken counts) output read stops)
+    (unread_for_memory (next_line (At (begun_cursor (begun_of part)))) refusal (input_after bytes taken counts) output
+    read stops)
 
 -- pages were not read, and where to go on was to be written
-pub pages_unread : CursorsHaveOneFormTail → (part : Part) (refusal : Refusal) (bytes : Option (List ℕ)) (taken : ℕ) (counts : Counts)
+pub pages_unread : CursorsHaveOneFormTail → (part : Part) (refusal : Refusal) (bytes : Option (List ℕ)) (taken : ℕ)
+    (counts : Counts)
     (output : Output) → StopsAtBeginning (next_line (At part.cursor)) refusal (input_after bytes taken counts) output
     → IsStopped (Forms part) refusal (input_after bytes taken counts) output
 pages_unread tails part refusal bytes taken counts output stops =
@@ -89,7 +108,8 @@ pages_unread tails part refusal bytes taken counts output stops =
     let one = one_pages file tails part.cursor in
     of_none _ part.max (At part.cursor) (one.items, one.end, one.is) text is) stops
 
-module _ (command : Command) (none : (file : List ℕ) → IsTextAfterMemory command file []) (bytes : Option (List ℕ)) (taken : ℕ)
+module _ (command : Command) (none : (file : List ℕ) → IsTextAfterMemory command file []) (bytes : Option (List ℕ))
+    (taken : ℕ)
     (counts : Counts) (old : Option (List ℕ)) (given : Counts) (worked : HasWorked given) where
   -- memory was refused before anything was written
   pub without_memory : IsRead (input_after bytes taken counts)
@@ -106,8 +126,10 @@ module _ (command : Command) (none : (file : List ℕ) → IsTextAfterMemory com
   whole_unread Write none = absurd none
 
 -- a text was given in part
-pub text_stopped : (command : Command) (bytes : Option (List ℕ)) (taken : ℕ) (counts : Counts) (file : List ℕ) (old new : Option (List ℕ))
-    (given : Counts) (printed : Printed) (refusal : Refusal) → IfSome bytes (λ b. file ≡ b) → IsRead (input_after bytes taken counts)
+pub text_stopped : (command : Command) (bytes : Option (List ℕ)) (taken : ℕ) (counts : Counts) (file : List ℕ)
+    (old new : Option (List ℕ))
+    (given : Counts) (printed : Printed) (refusal : Refusal) → IfSome bytes (λ b. file ≡ b)
+    → IsRead (input_after bytes taken counts)
     → IsTextOf command file printed → IsGivenInPart old new printed.output given refusal
     → IsStopped command refusal (input_after bytes taken counts) (output_after old new given)
 text_stopped command bytes taken counts file old new given printed refusal same read is part =
@@ -116,8 +138,12 @@ text_stopped command bytes taken counts file old new given printed refusal same 
     (printed, is, refl)) part)
 
 -- a text was given whole
-pub text_done : (command : Command) (bytes : Option (List ℕ)) (taken : ℕ) (counts : Counts) (file : List ℕ) (old new : Option (List ℕ))
-    (given : Counts) (printed : Printed) (line : Option (List ℕ)) → IfSome bytes (λ b. file ≡ b) → IsRead (input_after bytes taken counts)
+pub text_done : (command : Command) (bytes : Option (List ℕ)) (taken : ℕ) (counts : Counts) (file : List ℕ)
+    (old new : Option (List ℕ))
+    (given : Counts) (printed : Printed) (line : Option (List ℕ)) → IfSome bytes (λ b. file ≡ b)
+    → IsRead (input_after bytes taken counts)
     → IsTextOf command file printed → Appends old new printed.output → HasWorked given → printed.error ≡ error_of line
-    → printed.status ≡ status_of line → IsDone command (input_after bytes taken counts) (output_after old new given) line
-text_done command bytes taken counts file old new given printed line same read is moved worked error status = grind arith
+    → printed.status ≡ status_of line → IsDone command (input_after bytes taken counts) (output_after old new given)
+    line
+text_done command bytes taken counts file old new given printed line same read is moved worked error status =
+    grind arith

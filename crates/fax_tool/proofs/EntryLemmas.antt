@@ -1,5 +1,6 @@
 -- What the entries of a command are, of the uses that its words spell.
-use Rattle.std.proofs.Common.{◌≡◌, ◌==◌, ◌||◌, ◌⊎◌, ◌++◌, arith, cond, codes, inl, inr, refl, sym, subst, Bool, true, false, ℕ}
+use Rattle.std.proofs.Common.{◌≡◌, ◌==◌, ◌||◌, ◌⊎◌, ◌++◌, arith, cond, codes, inl, inr, refl, sym, subst, Bool, true}
+use Rattle.std.proofs.Common.{false, ℕ}
 use Rattle.std.proofs.Common.{List, [], ◌∷◌, Option, Some, None, map}
 use Rattle.std.specs.Prelude.{find, not, option_and_then, slice_get}
 use Rattle.std.specs.List.{All, fold, list_all}
@@ -11,7 +12,8 @@ use Rattle.clap.specs.Walk.{Row, first_of, has_row, row_text, with_default}
 use Rattle.clap.proofs.OnLiterals.{clap_on_literals}
 use Rattle.fax_files.specs.Page.{most_rows}
 use Rattle.clap.proofs.WalkLemmas.{both}
-use Rattle.fax_tool.specs.Grammar.{AreSpelled, IsNumberText, IsSpelled, Item, Text, Use, commands, flag, most_lines, name_of, number}
+use Rattle.fax_tool.specs.Grammar.{AreSpelled, IsNumberText, IsSpelled, Item, Text, Use, commands, flag, most_lines}
+use Rattle.fax_tool.specs.Grammar.{name_of, number}
 use Rattle.fax_tool.specs.code.Entries.{HasEntries, HasFlag, HasNumber}
 use Rattle.fax_tool.proofs.RuleLemmas.{items_at, rule_of, rules_of}
 use Rattle.fax_tool.proofs.UseLemmas.{row_of}
@@ -34,7 +36,8 @@ module _ (name : Text) (holds : Text → Type 0) where
   AreGood [] = Unit {0}
   AreGood (r ∷ rs) = IsGood r × AreGood rs
 
-  good : (r : Row) (value : Text) → r.values ≡ value ∷ [] → read_as r.reading value ≡ value → (bytes_eq r.id name ≡ true → holds value)
+  good : (r : Row) (value : Text) → r.values ≡ value ∷ [] → read_as r.reading value ≡ value
+      → (bytes_eq r.id name ≡ true → holds value)
       → IsGood r
   good r value values_are as_written its = grind arith
 
@@ -43,7 +46,8 @@ module _ (name : Text) (holds : Text → Type 0) where
   good_more (x ∷ xs) r all one = (all.0, good_more xs r all.1 one)
 
   -- the rows of uses
-  good_uses : (items : List Item) → All Fits items → bytes_eq (codes "FILE") name ≡ false → (uses : List Use) (words : List Text)
+  good_uses : (items : List Item) → All Fits items → bytes_eq (codes "FILE") name ≡ false
+      → (uses : List Use) (words : List Text)
       → AreSpelled items uses words → AreGood (map row_of uses)
   good_uses items fits no_file [] words are = tt
   good_uses items fits no_file (u ∷ us) words (inl (own, others, is, among, spelled, rest)) =
@@ -51,15 +55,18 @@ module _ (name : Text) (holds : Text → Type 0) where
   good_uses items fits no_file (u ∷ us) words (inr (file_is, none, is)) = grind (arith, rule_of)
 
   -- and those of what was left out
-  good_default : (item : Item) → Fits item → (rows : List Row) → AreGood rows → AreGood (with_default rows (rule_of item))
+  good_default : (item : Item) → Fits item → (rows : List Row) → AreGood rows
+      → AreGood (with_default rows (rule_of item))
   good_default (flag own) fits rows all = subst AreGood (sym (flag_default own rows)) (go (has_row own rows))
     where
       go : (b : Bool) → AreGood (cond b rows (rows ++ default_row own ∷ []))
       go true = all
-      go false = good_more rows (default_row own) all (good (default_row own) (codes "false") refl refl (λ named. (fits named).1 named))
+      go false = good_more rows (default_row own) all (good (default_row own) (codes "false") refl refl
+          (λ named. (fits named).1 named))
   good_default item fits rows all = subst AreGood (sym (same_either (has_row (name_of item) rows) rows)) all
 
-  good_defaults : (items : List Item) → All Fits items → (rows : List Row) → AreGood rows → AreGood (fold with_default rows (rules_of items))
+  good_defaults : (items : List Item) → All Fits items → (rows : List Row) → AreGood rows
+      → AreGood (fold with_default rows (rules_of items))
   good_defaults [] fits rows all = all
   good_defaults (item ∷ items) fits rows all =
       good_defaults items (All-tail Fits item items fits) (with_default rows (rule_of item))
@@ -80,15 +87,18 @@ module _ (name : Text) (holds : Text → Type 0) where
   fitting is_kind fits [] all = All-nil Fits
   fitting is_kind fits (item ∷ items) all =
       let parts = both (is_kind item || not (bytes_eq (name_of item) name)) _ all in
-      All-cons Fits item items (go (is_kind item) (bytes_eq (name_of item) name) refl refl parts.0) (fitting is_kind fits items parts.1)
+      All-cons Fits item items (go (is_kind item) (bytes_eq (name_of item) name) refl refl parts.0)
+      (fitting is_kind fits items parts.1)
     where
-      go : (kind named : Bool) → is_kind item ≡ kind → bytes_eq (name_of item) name ≡ named → (kind || not named) ≡ true → Fits item
+      go : (kind named : Bool) → is_kind item ≡ kind → bytes_eq (name_of item) name ≡ named → (kind || not named) ≡ true
+          → Fits item
       go true named kind_is named_is test = fits item kind_is
       go false true kind_is named_is test = cc
       go false false kind_is named_is test = λ named. absurd cc
 
   entry_of : (is_kind : Item → Bool) → ((item : Item) → is_kind item ≡ true → Fits item) → (items : List Item)
-      → list_all (λ item. is_kind item || not (bytes_eq (name_of item) name)) items ≡ true → bytes_eq (codes "FILE") name ≡ false
+      → list_all (λ item. is_kind item || not (bytes_eq (name_of item) name)) items ≡ true
+      → bytes_eq (codes "FILE") name ≡ false
       → (uses : List Use) (words : List Text) → AreSpelled items uses words
       → IsEntry (find (λ r. bytes_eq r.id name) (filled_rows items uses))
   entry_of is_kind fits items kinds no_file uses words are = grind (arith, fitting, found, good_defaults, good_uses)
@@ -172,6 +182,7 @@ have_entries = All-from_recursion HasItsEntries commands (
 )
 
 -- the entries after a command are read as they stand
-pub taken_entries : (words : List Text) (name : Text) (entries : List Row) → IsReadAs words name entries → HasEntries name entries
+pub taken_entries : (words : List Text) (name : Text) (entries : List Row) → IsReadAs words name entries
+    → HasEntries name entries
 taken_entries words name entries (uses, are, agrees, entries_are) = subst (HasEntries name) (sym entries_are)
     (All-contains HasItsEntries commands (name, are.items) have_entries are.known uses are.others are.written)

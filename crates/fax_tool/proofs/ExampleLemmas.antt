@@ -1,5 +1,6 @@
 -- The examples of words, computed.
-use Rattle.std.proofs.Common.{◌≡◌, ◌∙◌, ◌<◌, ap, arith, codes, refl, Bool, true, List, [], ◌∷◌, Option, Some, None, ℕ, sym}
+use Rattle.std.proofs.Common.{◌≡◌, ◌∙◌, ◌<◌, ap, arith, codes, refl, Bool, true, List, [], ◌∷◌, Option, Some, None, ℕ}
+use Rattle.std.proofs.Common.{sym}
 use Rattle.std.specs.Prelude.{nat_lt, option_map}
 use Rattle.std.specs.List.{All, list_all}
 use Rattle.std.specs.Str.{IsUtf8}
@@ -31,14 +32,16 @@ all_utf8 : (words : List Text) → list_all is_ascii words ≡ true → All IsUt
 all_utf8 [] ascii = All-nil IsUtf8
 all_utf8 (word ∷ words) ascii =
     let of = both (is_ascii word) (list_all is_ascii words) ascii in
-    All-cons IsUtf8 word words (IsUtf8-from_ascii word (IsAscii-from_all word (ascii_bytes word of.0))) (all_utf8 words of.1)
+    All-cons IsUtf8 word words (IsUtf8-from_ascii word (IsAscii-from_all word (ascii_bytes word of.0)))
+    (all_utf8 words of.1)
 
 -- what is read of a line is what it gives
 gives : {A : Type 0} (line : List ℕ) (view : Given → A) (value : A) → list_all is_ascii (words_of line) ≡ true
     → option_map (λ c. view (λ id. first_of id c.1)) (command_rows (words_of line)) ≡ Some value → Gives line view value
 gives {A} line view value ascii is = go (command_rows (words_of line)) refl is
   where
-    go : (o : Option (Text × List Row)) → command_rows (words_of line) ≡ o → option_map (λ c. view (λ id. first_of id c.1)) o ≡ Some value
+    go : (o : Option (Text × List Row)) → command_rows (words_of line) ≡ o
+        → option_map (λ c. view (λ id. first_of id c.1)) o ≡ Some value
         → Gives line view value
     go None reads is = cc
     go (Some c) reads is =
@@ -48,7 +51,8 @@ gives {A} line view value ascii is = go (command_rows (words_of line)) refl is
           name = c.0;
           uses = of.0;
           are = of.1;
-          gives = ap view (λ i id. sym (first_use id of.0) i) ∙ ap (λ (rows : List Row). view (λ id. first_of id rows)) (sym of.2) ∙ viewed;
+          gives = ap view (λ i id. sym (first_use id of.0) i) ∙ ap (λ (rows : List Row). view (λ id. first_of id rows))
+              (sym of.2) ∙ viewed;
         }
 
 nothing : (line : List ℕ) → command_rows (words_of line) ≡ None → GivesNothing line

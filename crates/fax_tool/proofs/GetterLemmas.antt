@@ -14,12 +14,14 @@ use Rattle.clap.specs.Matches.{first_value}
 use Rattle.clap.specs.declared.parser.matches.Found.{Found}
 use Rattle.clap.proofs.WalkLemmas.{first_value-rows}
 
-pub text_given : (f : Found) (name : Text) (r : Option (Bor Text)) (t : Bor Text) → option_map (λ s. s.now) r ≡ first_value f name
+pub text_given : (f : Found) (name : Text) (r : Option (Bor Text)) (t : Bor Text)
+    → option_map (λ s. s.now) r ≡ first_value f name
     → r ≡ Some t
     → first_of name (rows_of f) ≡ Some t.now
 text_given f name r t e is = sym (first_value-rows f name) ∙ (sym e ∙ ap (option_map (λ s. s.now)) is)
 
-pub none_given : (f : Found) (name : Text) (r : Option (Bor Text)) → option_map (λ s. s.now) r ≡ first_value f name → r ≡ None
+pub none_given : (f : Found) (name : Text) (r : Option (Bor Text)) → option_map (λ s. s.now) r ≡ first_value f name
+    → r ≡ None
     → first_of name (rows_of f) ≡ None
 none_given f name r e is = sym (first_value-rows f name) ∙ (sym e ∙ ap (option_map (λ s. s.now)) is)
 

@@ -68,7 +68,8 @@ new_and_other : (before : List Use) (one other : Use) → IsNew (before ++ one �
     → IsNew before other × (name_of one.item ≢ name_of other.item)
 new_and_other before one other new = grind (arith, used_more, bytes_eq-Decides)
 
-apart_cons : (u : Use) (us : List Use) → All (λ other. name_of u.item ≢ name_of other.item) us → AreApart us → AreApart (u ∷ us)
+apart_cons : (u : Use) (us : List Use) → All (λ other. name_of u.item ≢ name_of other.item) us → AreApart us
+    → AreApart (u ∷ us)
 apart_cons u us differ apart zero zero d low high = omega arith
 apart_cons u us differ apart zero (suc j) d low high = differ j d (omega arith)
 apart_cons u us differ apart (suc i) zero d low high = omega arith
@@ -79,7 +80,8 @@ from_apart before [] is = (All-nil (IsNew before), λ i j d low high. omega arit
 from_apart before (u ∷ us) is =
     let of = both (not (is_used (name_of u.item) before)) _ is in
     let others = from_apart (before ++ u ∷ []) us of.1 in
-    let each = λ (k : ℕ) (d : Use) (low : k < length us). new_and_other before u (slice_index_or us k d) (others.0 k d low) in (
+    let each = λ (k : ℕ) (d : Use) (low : k < length us). new_and_other before u (slice_index_or us k d)
+    (others.0 k d low) in (
       All-cons (IsNew before) u us (new (is_used (name_of u.item) before) of.0) (λ k d low. (each k d low).0),
       apart_cons u us (λ k d low. (each k d low).1) others.1,
     )

@@ -16,26 +16,31 @@ use Rattle.fax_bits.specs.laws.Codes.{IsOne}
 use Rattle.fax_walk.specs.views.Walk.{WalkView, IsNext, IsCursorOf, IsLongOf, begun_place}
 use Rattle.fax_walk.specs.views.Pages.{PagesView, IsCursorOfPages as IsPageCursor, IsNextPage}
 use Rattle.fax_walk.specs.laws.Tails.{BeginningsHaveOneTail, CursorsHaveOneFormTail}
-use Rattle.fax_walk.specs.Items.{RowItem as Item, IsTailFrom, begun_cursor, cursor_after, Inner, long_after, long_at, place_after}
+use Rattle.fax_walk.specs.Items.{RowItem as Item, IsTailFrom, begun_cursor, cursor_after, Inner, long_after, long_at}
+use Rattle.fax_walk.specs.Items.{place_after}
 use Rattle.fax_tool.specs.Run.{AreLinesOf, AreRowLines, ArePageLines}
 use Rattle.fax_tool.proofs.BeginLemmas.{begun_at, inside_of}
 use Rattle.fax_tool.specs.Text.{PrintedLine, line_of_page, line_of_row, next_after}
 use Rattle.fax_tool.specs.code.Printing.{IsLinePut, IsNextAfter, end_of}
 
 -- the first elements of a list, with one more
-pub take_at : {A : Type 0} (xs : List A) (n : ℕ) (x : A) → slice_get xs n ≡ Some x → take (n + 1) xs ≡ take n xs ++ x ∷ []
+pub take_at : {A : Type 0} (xs : List A) (n : ℕ) (x : A) → slice_get xs n ≡ Some x
+    → take (n + 1) xs ≡ take n xs ++ x ∷ []
 take_at [] n x e = absurd cc
 take_at (y ∷ xs) zero x e = let same : y ≡ x = cc in ap (λ i. i ∷ []) same
-take_at (y ∷ xs) (suc n) x e = let m : suc n + 1 ≡ suc (n + 1) = omega arith in rw m (ap (λ l. y ∷ l) (take_at xs n x e))
+take_at (y ∷ xs) (suc n) x e = let m : suc n + 1 ≡ suc (n + 1) = omega arith in
+    rw m (ap (λ l. y ∷ l) (take_at xs n x e))
 
-pub next_after-append : (begun : Begun) (xs ys : List PrintedLine) → next_after begun (xs ++ ys) ≡ next_after (next_after begun xs) ys
+pub next_after-append : (begun : Begun) (xs ys : List PrintedLine)
+    → next_after begun (xs ++ ys) ≡ next_after (next_after begun xs) ys
 next_after-append begun [] ys = refl
 next_after-append begun (x ∷ xs) ys = next_after-append x.next xs ys
 
 -- what goes on after a line of some
 pub next_at : (begun : Begun) (lines : List PrintedLine) (n : ℕ) (line : PrintedLine) → slice_get lines n ≡ Some line
     → next_after begun (take (n + 1) lines) ≡ line.next
-next_at begun lines n line there = ap (next_after begun) (take_at lines n line there) ∙ next_after-append begun (take n lines) (line ∷ [])
+next_at begun lines n line there = ap (next_after begun) (take_at lines n line there)
+    ∙ next_after-append begun (take n lines) (line ∷ [])
 
 -- the cursor of what goes on after a row is the one after it
 begins_at : (at : Cursor) (inner : Option Inner) → begun_cursor (begun_at (long_at at inner) at) ≡ at
@@ -68,7 +73,8 @@ module _ {A B : Type 0} (line_of : A → PrintedLine) (tail : List ℕ → B →
   )
 
   -- the line of an item is collected
-  pub line_put : (limit : ℕ) (old new : Reading B) (item : A) (text new_text : List ℕ) → HandsOut tail limit old item new
+  pub line_put : (limit : ℕ) (old new : Reading B) (item : A) (text new_text : List ℕ)
+      → HandsOut tail limit old item new
       → new_text ≡ text ++ (line_of item).text → IsLinePut (LinesOf old) old.given text (Ok None) new.given new_text
   line_put limit old new item text new_text hands grown = grind (arith, line_number)
 
@@ -113,7 +119,8 @@ one_pages file tails at = one_lines line_of_page IsFormTail file at (tails file 
 
 -- the cursor after so many rows
 pub row_cursor : BeginningsHaveOneTail → (walk : WalkView) (at : Cursor) → IsCursorOf walk at
-    → (next : Begun) × IsNextAfter (AreRowLines walk.file walk.begun) walk.begun walk.given next × (at ≡ begun_cursor next)
+    → (next : Begun) × IsNextAfter (AreRowLines walk.file walk.begun) walk.begun walk.given next
+    × (at ≡ begun_cursor next)
 row_cursor tails walk at =
     after_last line_of_row IsTailFrom (λ at next. at ≡ begun_cursor next) (λ begun. begun) begun_cursor cursor_after
     (λ begun. refl) (λ item. sym (begins_after item)) walk at (tails walk.file walk.begun)
@@ -125,7 +132,8 @@ pub row_places : BeginningsHaveOneTail → (walk : WalkView) (answer : Result (O
     × (place ≡ begun_place next))
 row_places tails walk (Ok place) =
     after_last line_of_row IsTailFrom (λ place next. place ≡ begun_place next) (λ begun. begun) begun_place long_after
-    (λ begun. refl) (λ item. sym (inside_of (long_after item) (cursor_after item))) walk place (tails walk.file walk.begun)
+    (λ begun. refl) (λ item. sym (inside_of (long_after item) (cursor_after item))) walk place
+    (tails walk.file walk.begun)
 row_places tails walk (Err memory) = λ is. tt
 
 -- the cursor after so many pages, which begin inside no strip
@@ -133,15 +141,18 @@ pub page_cursor : CursorsHaveOneFormTail → (pages : PagesView) (at : Cursor) �
     → (next : Begun) × IsNextAfter (ArePageLines pages.file pages.begun) (At pages.begun) pages.given next
     × ((at ≡ begun_cursor next) × (None ≡ begun_place next))
 page_cursor tails pages at =
-    after_last line_of_page IsFormTail (λ at next. (at ≡ begun_cursor next) × (None ≡ begun_place next)) At (λ begun. begun)
+    after_last line_of_page IsFormTail (λ at next. (at ≡ begun_cursor next) × (None ≡ begun_place next)) At
+    (λ begun. begun)
     (λ item. record { page = item.page + 1; row = 0 }) (λ begun. (refl, refl)) (λ item. (refl, refl)) pages at
     (tails pages.file pages.begun)
 
 -- the pages, and the rows, ended so
-pub pages_refused : (old new : PagesView) (fault : WalkFault) (end : End) → IsNextPage old (Err fault) new → end_of fault ≡ Some end
+pub pages_refused : (old new : PagesView) (fault : WalkFault) (end : End) → IsNextPage old (Err fault) new
+    → end_of fault ≡ Some end
     → HasEndedAs IsFormTail old end new
 pages_refused old new fault end ended is = grind arith
 
-pub rows_refused : (old new : WalkView) (fault : WalkFault) (end : End) → IsNext old (Err fault) new → end_of fault ≡ Some end
+pub rows_refused : (old new : WalkView) (fault : WalkFault) (end : End) → IsNext old (Err fault) new
+    → end_of fault ≡ Some end
     → HasEndedAs IsTailFrom old end new
 rows_refused old new fault end ended is = grind arith

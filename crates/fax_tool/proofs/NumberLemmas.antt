@@ -1,5 +1,6 @@
 -- How long numbers are, and the line that they stand in.
-use Rattle.std.proofs.Common.{◌≡◌, refl, ℕ, ◌+◌, ◌^◌, ◌<◌, ◌≤◌, List, [], ◌∷◌, ◌++◌, length, take, ap, ◌∙◌, arith, append_assoc, length-set}
+use Rattle.std.proofs.Common.{◌≡◌, refl, ℕ, ◌+◌, ◌^◌, ◌<◌, ◌≤◌, List, [], ◌∷◌, ◌++◌, length, take, ap, ◌∙◌, arith}
+use Rattle.std.proofs.Common.{append_assoc, length-set}
 use Rattle.std.specs.Prelude.{decimal}
 use Rattle.std.proofs.Math.ListN.{set}
 use Rattle.std.proofs.lemmas.Grind.{take-set_at}
@@ -21,7 +22,8 @@ module _ (bytes : List ℕ) (at : ℕ) where
   pub one : (a : ℕ) → at + 1 ≤ length bytes → take (at + 1) (set bytes at a) ≡ take at bytes ++ a ∷ []
   one a room = after bytes (take at bytes) at (at + 1) a refl (omega arith) refl
 
-  pub two : (a b : ℕ) → at + 2 ≤ length bytes → take (at + 2) (set (set bytes at a) (at + 1) b) ≡ take at bytes ++ a ∷ b ∷ []
+  pub two : (a b : ℕ) → at + 2 ≤ length bytes → take (at + 2) (set (set bytes at a) (at + 1) b)
+      ≡ take at bytes ++ a ∷ b ∷ []
   two a b room = grind (arith, after, length-set, append_assoc)
 
   pub three : (a b c : ℕ) → at + 3 ≤ length bytes
@@ -33,6 +35,7 @@ pub joined : (s₀ s₁ s₂ xs ys : List ℕ) → s₁ ≡ s₀ ++ xs → s₂ 
 joined s₀ s₁ s₂ xs ys first second = second ∙ ap (λ s. s ++ ys) first ∙ append_assoc s₀ xs ys
 
 -- a row's line, part by part
-pub line_is : (text word page row runs end s₀ s₁ s₂ s₃ s₄ : List ℕ) → s₀ ≡ text ++ word → s₁ ≡ s₀ ++ page → s₂ ≡ s₁ ++ row
+pub line_is : (text word page row runs end s₀ s₁ s₂ s₃ s₄ : List ℕ) → s₀ ≡ text ++ word → s₁ ≡ s₀ ++ page
+    → s₂ ≡ s₁ ++ row
     → s₃ ≡ s₂ ++ runs → s₄ ≡ s₃ ++ end → s₄ ≡ text ++ (word ++ page ++ row ++ runs ++ end)
 line_is text word page row runs end s₀ s₁ s₂ s₃ s₄ first second third fourth fifth = grind (arith, append_assoc)

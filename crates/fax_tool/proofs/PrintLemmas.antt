@@ -1,5 +1,6 @@
 -- Lines that are printed, one after another.
-use Rattle.std.proofs.Common.{◌≡◌, ℕ, ◌+◌, ◌-◌, ◌<◌, ◌≤◌, List, [], ◌∷◌, ◌++◌, length, take, ap, sym, ◌∙◌, append_assoc, append-nil}
+use Rattle.std.proofs.Common.{◌≡◌, ℕ, ◌+◌, ◌-◌, ◌<◌, ◌≤◌, List, [], ◌∷◌, ◌++◌, length, take, ap, sym, ◌∙◌, append_assoc}
+use Rattle.std.proofs.Common.{append-nil}
 use Rattle.std.proofs.Common.{arith, ◌↔◌, ◌⊎◌, inl, inr, subst, Bool, Result, Ok, Err}
 use Rattle.std.proofs.lemmas.Grind.{flat_map-append}
 use Rattle.std.proofs.lemmas.Option.{slice_get_within}
@@ -29,7 +30,8 @@ abbrev pub IsLeftOf : Option ℕ → Option ℕ → ℕ → Type 0
 IsLeftOf max left count = max ≡ option_map (λ n. n + count) left
 
 -- so many of the lines are printed, the last part of their text is collected only, and so much of the limit is left
-pub record PrintsSome (tail now : List PrintedLine → End → Type 0) (given : ℕ) (max left : Option ℕ) (output written : Option (List ℕ))
+pub record PrintsSome (tail now : List PrintedLine → End → Type 0) (given : ℕ) (max left : Option ℕ)
+    (output written : Option (List ℕ))
     (text : List ℕ) : Type 0 where
   pub lines : List PrintedLine
   pub end : End
@@ -41,7 +43,8 @@ pub record PrintsSome (tail now : List PrintedLine → End → Type 0) (given : 
   pub printed : Appends output written sent
   pub collected : texts_of (take given lines) ≡ sent ++ text
 
-texts_of-push : (lines : List PrintedLine) (line : PrintedLine) → texts_of (lines ++ line ∷ []) ≡ texts_of lines ++ line.text
+texts_of-push : (lines : List PrintedLine) (line : PrintedLine)
+    → texts_of (lines ++ line ∷ []) ≡ texts_of lines ++ line.text
 texts_of-push lines line =
     flat_map-append (λ line. line.text) lines (line ∷ []) ∙ ap (λ text. texts_of lines ++ text) (append-nil line.text)
 
@@ -53,7 +56,8 @@ within_limit : (max left : Option ℕ) (count : ℕ) → IsLeftOf max left count
 within_limit max left count is = grind arith
 
 module _ {tail now : List PrintedLine → End → Type 0} (one : IsOne tail) {given : ℕ} {max left : Option ℕ}
-    {output written : Option (List ℕ)} {text : List ℕ} (some : PrintsSome tail now given max left output written text) where
+    {output written : Option (List ℕ)} {text : List ℕ} (some : PrintsSome tail now given max left output written
+    text) where
   -- these are the lines
   lines_are : (all : List PrintedLine) (end : End) → now all end → (all ≡ some.lines) × (end ≡ some.end)
   lines_are all end is = grind arith
@@ -69,11 +73,14 @@ module _ {tail now : List PrintedLine → End → Type 0} (one : IsOne tail) {gi
     limit = some.limit;
     sent = some.sent ++ sends.part;
     printed = Appends-trans output written new_written some.sent sends.part some.printed sends.written;
-    collected = some.collected ∙ ap (λ xs. some.sent ++ xs) sends.parts ∙ sym (append_assoc some.sent sends.part new_text);
+    collected = some.collected ∙ ap (λ xs. some.sent ++ xs) sends.parts
+        ∙ sym (append_assoc some.sent sends.part new_text);
   }
 
-  pub one_more : (new : List PrintedLine → End → Type 0) (new_given : ℕ) (new_left : Option ℕ) (line : PrintedLine) (new_text : List ℕ)
-      → ((all : List PrintedLine) (end : End) → now all end ↔ new all end) → IsNumber now given line → new_given ≡ given + 1
+  pub one_more : (new : List PrintedLine → End → Type 0) (new_given : ℕ) (new_left : Option ℕ) (line : PrintedLine)
+      (new_text : List ℕ)
+      → ((all : List PrintedLine) (end : End) → now all end ↔ new all end) → IsNumber now given line
+      → new_given ≡ given + 1
       → IfSome left (λ n. 0 < n) → new_left ≡ option_map (λ n. n - 1) left → new_text ≡ text ++ line.text
       → PrintsSome tail new new_given max new_left output written new_text
   one_more new new_given new_left line new_text same (all, end, is, there) more above less grown =
@@ -120,17 +127,20 @@ module _ {tail now : List PrintedLine → End → Type 0} (one : IsOne tail) {gi
         stops_after NoText NoText (λ (t : List ℕ). IsTextOfFirst tail max begun (some.sent ++ t))
         (IsTextOfFirst tail max begun) refusal output
         written new_written counts some.sent some.printed (λ printed none. absurd none) (λ t holds. holds)
-        (stops_in_front (λ (t : List ℕ). IsTextOfFirst tail max begun (some.sent ++ t)) written new_written text next counts refusal
+        (stops_in_front (λ (t : List ℕ). IsTextOfFirst tail max begun (some.sent ++ t)) written new_written text next
+        counts refusal
         first_lines given_in_part)
 
     -- memory was refused, and the lines so far and where to go on were to be written
-    pub stopped_for_memory : (now_begun : Begun) (cursor : Cursor) (new_written : Option (List ℕ)) (shown line : List ℕ) (counts : Counts)
+    pub stopped_for_memory : (now_begun : Begun) (cursor : Cursor) (new_written : Option (List ℕ)) (shown line : List ℕ)
+        (counts : Counts)
         (refusal : Refusal) → now_begun ≡ begun
         → ((from : Begun) × IsNextAfter now now_begun given from × (cursor ≡ begun_cursor from)) → shown ≡ text
         → line ≡ next_line (At cursor)
         → StopsWith (shown ++ line) refusal (output_after written new_written counts)
         → StopsPrinting NoText (IsTextOfFirst tail max begun) refusal (output_after output new_written counts)
-    stopped_for_memory now_begun cursor new_written shown line counts refusal same_begun (from, after, at) same line_is stops =
+    stopped_for_memory now_begun cursor new_written shown line counts refusal same_begun (from, after, at) same line_is
+        stops =
         let are = lines_are after.lines after.end after.is in
         let from_is : from ≡ next_after begun (take given some.lines) =
         after.next_is ∙ ap (λ (b : Begun). next_after b (take given after.lines)) same_begun
@@ -143,15 +153,19 @@ module _ {tail now : List PrintedLine → End → Type 0} (one : IsOne tail) {gi
         (λ t is. rw (is, same, next_is) first_lines) stops
 
 -- where to go on at the cursor after so many lines
-pub next_of_cursor : (tail : List PrintedLine → End → Type 0) (begun : Begun) (given : ℕ) (cursor : Cursor) (line : List ℕ)
+pub next_of_cursor : (tail : List PrintedLine → End → Type 0) (begun : Begun) (given : ℕ) (cursor : Cursor)
+    (line : List ℕ)
     → ((next : Begun) × IsNextAfter tail begun given next × (cursor ≡ begun_cursor next)) → line ≡ next_line (At cursor)
     → IsNextLine tail begun given false line
-next_of_cursor tail begun given cursor line (next, after, at) line_is = (next, after, line_is ∙ ap (λ (c : Cursor). next_line (At c)) at)
+next_of_cursor tail begun given cursor line (next, after, at) line_is =
+    (next, after, line_is ∙ ap (λ (c : Cursor). next_line (At c)) at)
 
-module _ (tail : List PrintedLine → End → Type 0) (begun : Begun) (given : ℕ) (long : Bool) (old new : Option (List ℕ)) (counts : Counts) where
+module _ (tail : List PrintedLine → End → Type 0) (begun : Begun) (given : ℕ) (long : Bool) (old new : Option (List ℕ))
+    (counts : Counts) where
   abbrev StopsNext : Refusal → Type 0
   StopsNext refusal =
-      StopsPrinting (λ printed. IsNextLine tail begun given long printed.output) (IsNextLine tail begun given false) refusal
+      StopsPrinting (λ printed. IsNextLine tail begun given long printed.output) (IsNextLine tail begun given false)
+      refusal
       (output_after old new counts)
 
   -- where to go on was given in part
@@ -160,7 +174,8 @@ module _ (tail : List PrintedLine → End → Type 0) (begun : Begun) (given : �
       → IfErr answer (IsGivenInPart old new bytes counts) → IfErr answer StopsNext
   next_stopped (Ok done) bytes is part = tt
   next_stopped (Err refusal) bytes (inl is) part =
-      stops_at (λ printed. IsNextLine tail begun given long printed.output) (IsNextLine tail begun given false) old new bytes counts refusal
+      stops_at (λ printed. IsNextLine tail begun given long printed.output) (IsNextLine tail begun given false) old new
+      bytes counts refusal
       is part
   next_stopped (Err refusal) bytes (inr is) part = grind arith
 
@@ -171,20 +186,24 @@ module _ (tail : List PrintedLine → End → Type 0) (begun : Begun) (given : �
 
   abbrev StopsLast : Option End → Refusal → Type 0
   StopsLast ending refusal =
-      StopsPrinting (λ printed. IsLastLine tail begun given long ending printed.output) (IsNextLine tail begun given false) refusal
+      StopsPrinting (λ printed. IsLastLine tail begun given long ending printed.output)
+      (IsNextLine tail begun given false) refusal
       (output_after old new counts)
 
   -- the last line was given in part
-  pub last_stopped : (ending : Option End) (answer : Result Unit Refusal) (bytes : List ℕ) → IsLastLine tail begun given long ending bytes
+  pub last_stopped : (ending : Option End) (answer : Result Unit Refusal) (bytes : List ℕ)
+      → IsLastLine tail begun given long ending bytes
       → IfErr answer (IsGivenInPart old new bytes counts) → IfErr answer (StopsLast ending)
   last_stopped ending (Ok done) bytes is part = tt
   last_stopped ending (Err refusal) bytes is part =
-      stops_at (λ printed. IsLastLine tail begun given long ending printed.output) (IsNextLine tail begun given false) old new bytes counts
+      stops_at (λ printed. IsLastLine tail begun given long ending printed.output) (IsNextLine tail begun given false)
+      old new bytes counts
       refusal is part
 
   -- the last line says where to go on
   pub next_is_last : (ending : Option End) (answer : Result Unit Refusal)
-      → ((line : List ℕ) → IsNextLine tail begun given long line → IsLastLine tail begun given long ending line) → IfErr answer StopsNext
+      → ((line : List ℕ) → IsNextLine tail begun given long line → IsLastLine tail begun given long ending line)
+      → IfErr answer StopsNext
       → IfErr answer (StopsLast ending)
   next_is_last ending (Ok done) turns stops = tt
   next_is_last ending (Err refusal) turns stops =

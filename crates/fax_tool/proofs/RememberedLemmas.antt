@@ -1,6 +1,7 @@
 -- Texts of numbers that are remembered.
 use Rattle.std.proofs.lemmas.Grind.{common_steps}
-use Rattle.std.proofs.Common.{◌≡◌, ℕ, zero, suc, ◌+◌, ◌*◌, ◌<◌, ◌≤◌, ◌⊎◌, List, [], ◌∷◌, ◌++◌, length, set, take, replicate, inl, inr, refl, ap, ◌∙◌}
+use Rattle.std.proofs.Common.{◌≡◌, ℕ, zero, suc, ◌+◌, ◌*◌, ◌<◌, ◌≤◌, ◌⊎◌, List, [], ◌∷◌, ◌++◌, length, set, take}
+use Rattle.std.proofs.Common.{replicate, inl, inr, refl, ap, ◌∙◌}
 use Rattle.std.proofs.Common.{Some, arith}
 use Rattle.std.specs.Prelude.{slice_get, slice_set}
 use Rattle.std.proofs.lemmas.List.{length-take-le}
@@ -19,7 +20,8 @@ put_at (first ∷ all) (suc place) zero new found is = inr is
 put_at (first ∷ all) (suc place) (suc i) new found is = grind (arith, put_at all place i new found is)
 
 -- a text is made of a number
-pub numbers_put : (texts : List ShortText) (number : ℕ) (new : ShortText) → AreNumbers texts → IsText (and_number number) new
+pub numbers_put : (texts : List ShortText) (number : ℕ) (new : ShortText) → AreNumbers texts
+    → IsText (and_number number) new
     → AreNumbers (slice_set texts number new)
 numbers_put texts number new are is = λ n kept made.
     elim (put_at texts number n new kept made.0) [
@@ -40,7 +42,8 @@ pairs_put texts first second new small are is = λ f s kept low made.
     ]
 
 -- none is made of texts that are not
-pub none_made : (count place : ℕ) (empty kept : ShortText) → empty.len ≡ 0 → IsMadeAt (replicate count empty) place kept → ⊥
+pub none_made : (count place : ℕ) (empty kept : ShortText) → empty.len ≡ 0 → IsMadeAt (replicate count empty) place kept
+    → ⊥
 none_made zero place empty kept none made = cc
 none_made (suc count) zero empty kept none made = grind arith
 none_made (suc count) (suc place) empty kept none made = none_made count place empty kept none made

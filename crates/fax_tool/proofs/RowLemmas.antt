@@ -1,5 +1,6 @@
 -- What the rows of a parse are, of the uses that the words make.
-use Rattle.std.proofs.Common.{arith, ◌≡◌, ◌∙◌, ◌&&◌, ◌++◌, ap, append_assoc, cond, codes, refl, sym, Bool, true, false, List, [], ◌∷◌}
+use Rattle.std.proofs.Common.{arith, ◌≡◌, ◌∙◌, ◌&&◌, ◌++◌, ap, append_assoc, cond, codes, refl, sym, Bool, true, false}
+use Rattle.std.proofs.Common.{List, [], ◌∷◌}
 use Rattle.std.proofs.Common.{Option, Some, None, append-nil, is_some, map}
 use Rattle.std.specs.Prelude.{find, not, slice_get, option_and_then, option_map}
 use Rattle.std.specs.List.{All, fold, list_all, list_any}
@@ -23,7 +24,8 @@ use Rattle.fax_tool.proofs.clap.FlatLemmas.{guard_twice, walk_is_read}
 
 -- the rows of uses
 pub entered_from : (before uses : List Use)
-    → entered (map row_of before) uses ≡ cond (are_apart before uses && list_all is_taken uses) (Some (map row_of (before ++ uses))) None
+    → entered (map row_of before) uses ≡ cond (are_apart before uses && list_all is_taken uses)
+    (Some (map row_of (before ++ uses))) None
 entered_from before [] = ap (λ us. Some (map row_of us)) (sym (append-nil before))
 entered_from before (u ∷ us) =
     rw (← list_any-map (λ r. bytes_eq r.id (name_of u.item)) row_of before)
@@ -33,8 +35,10 @@ entered_from before (u ∷ us) =
     (append_assoc before (u ∷ []) us))))
   where
     go : (used taken apart all : Bool)
-        → entered (map row_of before ++ row_of u ∷ []) us ≡ cond (apart && all) (Some (map row_of (before ++ u ∷ us))) None
-        → option_and_then (λ r. entered r us) (cond (not used && taken) (Some (map row_of before ++ row_of u ∷ [])) None)
+        → entered (map row_of before ++ row_of u ∷ []) us ≡ cond (apart && all) (Some (map row_of (before ++ u ∷ us)))
+        None
+        → option_and_then (λ r. entered r us) (cond (not used && taken) (Some (map row_of before ++ row_of u ∷ []))
+        None)
         ≡ cond ((not used && apart) && (taken && all)) (Some (map row_of (before ++ u ∷ us))) None
     go true taken apart all later = refl
     go false true apart all later = later
@@ -42,7 +46,8 @@ entered_from before (u ∷ us) =
     go false false false all later = refl
 
 -- rows that come of uses
-pub rows_entered : (uses : List Use) (rows : List Row) → entered [] uses ≡ Some rows → (are_apart [] uses ≡ true) × (rows ≡ map row_of uses)
+pub rows_entered : (uses : List Use) (rows : List Row) → entered [] uses ≡ Some rows
+    → (are_apart [] uses ≡ true) × (rows ≡ map row_of uses)
 rows_entered uses rows is = go (are_apart [] uses) (list_all is_taken uses) refl (sym (entered_from [] uses) ∙ is)
   where
     go : (apart all : Bool) → are_apart [] uses ≡ apart → cond (apart && all) (Some (map row_of uses)) None ≡ Some rows
@@ -82,7 +87,8 @@ flag_default name rows = grind (arith, at_end)
 abbrev row_at : Text → List Row → Option Row
 row_at id rows = find (λ r. bytes_eq r.id id) rows
 
-row_at_more : (id : Text) (rows : List Row) (r : Row) → bytes_eq r.id id ≡ false → row_at id (rows ++ r ∷ []) ≡ row_at id rows
+row_at_more : (id : Text) (rows : List Row) (r : Row) → bytes_eq r.id id ≡ false
+    → row_at id (rows ++ r ∷ []) ≡ row_at id rows
 row_at_more id [] r other = rw other refl
 row_at_more id (x ∷ xs) r other = ap (cond (bytes_eq x.id id) (Some x)) (row_at_more id xs r other)
 
@@ -101,7 +107,8 @@ defaults_keep id (item ∷ items) rows none = go (is_flag id item) refl none
     (λ none. defaults_keep id items (with_default rows (rule_of item)) none)
   where
     go : (b : Bool) → is_flag id item ≡ b → (not b && is_no_flag id items) ≡ true
-        → (is_no_flag id items ≡ true → row_at id (fold with_default (with_default rows (rule_of item)) (rules_of items))
+        → (is_no_flag id items ≡ true → row_at id (fold with_default (with_default rows (rule_of item))
+        (rules_of items))
         ≡ row_at id (with_default rows (rule_of item)))
         → row_at id (fold with_default (with_default rows (rule_of item)) (rules_of items)) ≡ row_at id rows
     go true is none later = cc
@@ -126,10 +133,12 @@ default_sets id item rows = grind (arith, flag_default, flag_more)
 defaults_set : (id : Text) (items : List Item) (rows : List Row)
     → is_true (first_at (row_at id (fold with_default rows (rules_of items)))) ≡ is_true (first_at (row_at id rows))
 defaults_set id [] rows = refl
-defaults_set id (item ∷ items) rows = defaults_set id items (with_default rows (rule_of item)) ∙ default_sets id item rows
+defaults_set id (item ∷ items) rows = defaults_set id items (with_default rows (rule_of item))
+    ∙ default_sets id item rows
 
 -- the row of a name is that of its first use
-row_used : (id : Text) (uses : List Use) → row_at id (map row_of uses) ≡ option_map row_of (find (λ u. bytes_eq (name_of u.item) id) uses)
+row_used : (id : Text) (uses : List Use) → row_at id (map row_of uses)
+    ≡ option_map row_of (find (λ u. bytes_eq (name_of u.item) id) uses)
 row_used id uses = sym (find-map (λ r. bytes_eq r.id id) row_of uses)
 
 pub first_use : (id : Text) (uses : List Use) → first_at (row_at id (map row_of uses)) ≡ text_in uses id
@@ -164,7 +173,8 @@ lacks items rows = list_any (λ a. a.required && not (is_given a.id rows)) (rule
 
 module _ (name : Text) (items : List Item) where
   abbrev pub ended : List Row → Option (List Row)
-  ended rows = cond (lacks items (fold with_default rows (rules_of items))) None (Some (fold with_default rows (rules_of items)))
+  ended rows = cond (lacks items (fold with_default rows (rules_of items))) None
+      (Some (fold with_default rows (rules_of items)))
 
   last_checks : (rows : List Row)
       → guard (or_else (defaults_fault rows (rules_of items))
@@ -174,14 +184,16 @@ module _ (name : Text) (items : List Item) where
 
   -- a level without a fault, and its rows
   pub level_is : (words : List Text)
-      → guard (level_fault (leaf name items) [] nothing_held words false []) (Some (rows_after (rules_of items) [] words))
+      → guard (level_fault (leaf name items) [] nothing_held words false [])
+      (Some (rows_after (rules_of items) [] words))
       ≡ option_and_then ended (run (leaf name items) (stand [] None idle 1 false) words)
   level_is words = grind (arith, leaf, rules_of, guard_twice, last_checks)
 
   -- a level, by how its words are read
   abbrev pub IsLevel : Type 0
   IsLevel = (words : List Text)
-      → guard (level_fault (leaf name items) [] nothing_held words false []) (Some (rows_after (rules_of items) [] words))
+      → guard (level_fault (leaf name items) [] nothing_held words false [])
+      (Some (rows_after (rules_of items) [] words))
       ≡ option_and_then ended (read (leaf name items) words false None 1 [])
 
   pub level : All (IsFlat (rules_of items)) (rules_of items) → IsLevel

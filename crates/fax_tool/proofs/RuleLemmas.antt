@@ -28,22 +28,27 @@ rules_of = map rule_of
 abbrev pub items_at : ℕ → List Item
 items_at i = (slice_index_or commands i ([], [])).1
 
-long_test : (name : Text) (item : Item) → (not (is_some (rule_of item).index) && rule_has_long (rule_of item) name) ≡ has_long name item
+long_test : (name : Text) (item : Item) → (not (is_some (rule_of item).index) && rule_has_long (rule_of item) name)
+    ≡ has_long name item
 long_test name (letter x) = refl
 long_test name file = refl
 long_test name item = or-false (bytes_eq (name_of item) name)
 
-letter_test : (x : ℕ) (item : Item) → (not (is_some (rule_of item).index) && has_short (rule_of item) x) ≡ has_letter x item
+letter_test : (x : ℕ) (item : Item) → (not (is_some (rule_of item).index) && has_short (rule_of item) x)
+    ≡ has_letter x item
 letter_test x item = grind arith
 
 -- a find of rules is one of items, where the tests agree
-find_rule : (test : Rule → Bool) (own : Item → Bool) → ((item : Item) → test (rule_of item) ≡ own item) → (items : List Item)
+find_rule : (test : Rule → Bool) (own : Item → Bool) → ((item : Item) → test (rule_of item) ≡ own item)
+    → (items : List Item)
     → find test (rules_of items) ≡ option_map rule_of (find own items)
 find_rule test own same items =
     sym (find-map test rule_of items) ∙ ap (λ p. option_map rule_of (find p items)) (λ i item. same item i)
 
-pub by_long : (items : List Item) (name : Text) → arg_by_long (rules_of items) name ≡ option_map rule_of (find (has_long name) items)
+pub by_long : (items : List Item) (name : Text) → arg_by_long (rules_of items) name
+    ≡ option_map rule_of (find (has_long name) items)
 by_long items name = find_rule _ (has_long name) (long_test name) items
 
-pub by_short : (items : List Item) (x : ℕ) → arg_by_short (rules_of items) x ≡ option_map rule_of (find (has_letter x) items)
+pub by_short : (items : List Item) (x : ℕ) → arg_by_short (rules_of items) x
+    ≡ option_map rule_of (find (has_letter x) items)
 by_short items x = find_rule _ (has_letter x) (letter_test x) items

@@ -1,5 +1,6 @@
 -- Runs that go on where the one before them was cut.
-use Rattle.std.proofs.Common.{◌≡◌, ℕ, zero, suc, List, [], ◌∷◌, ◌++◌, length, map, take, drop, refl, ap, sym, ◌∙◌, subst, append_assoc}
+use Rattle.std.proofs.Common.{◌≡◌, ℕ, zero, suc, List, [], ◌∷◌, ◌++◌, length, map, take, drop, refl, ap, sym, ◌∙◌}
+use Rattle.std.proofs.Common.{subst, append_assoc}
 use Rattle.std.proofs.Common.{append-nil, true, false, Bool, take-append-drop, ◌≤◌, ◌^◌, arith}
 use Rattle.std.proofs.Math.Seq.{take-length}
 use Rattle.std.proofs.lemmas.Grind.{flat_map-append}
@@ -15,15 +16,18 @@ use Rattle.fax_walk.specs.laws.Tails.{BeginningsHaveOneTail, IsReached, LongTail
 use Rattle.fax_walk.specs.Items.{RowItem as Item, IsTailFrom, begun_text, cursor_after, long_after}
 use Rattle.fax_tool.specs.Run.{AreRowLines}
 use Rattle.fax_tool.proofs.BeginLemmas.{begun_at, one_begun}
-use Rattle.fax_tool.specs.Text.{PrintedLine, Printed, named, next_after, next_line, text_of, end_text, is_cut, line_of_row, texts_of, up_to}
-use Rattle.fax_tool.specs.laws.Runs.{AreAsOneRun, AreRunsOfRows, CutRunsAreReadOn, IsBegun, IsReadAfter, IsRunOfRows, MayBegin, RunsGoOn}
+use Rattle.fax_tool.specs.Text.{PrintedLine, Printed, named, next_after, next_line, text_of, end_text, is_cut}
+use Rattle.fax_tool.specs.Text.{line_of_row, texts_of, up_to}
+use Rattle.fax_tool.specs.laws.Runs.{AreAsOneRun, AreRunsOfRows, CutRunsAreReadOn, IsBegun, IsReadAfter, IsRunOfRows}
+use Rattle.fax_tool.specs.laws.Runs.{MayBegin, RunsGoOn}
 use Rattle.fax_tool.proofs.LineLemmas.{begins_after, next_after-append, one_rows}
 use Rattle.fax_tool.proofs.TextLemmas.{all_taken}
 
 -- what is written of these lines and their end, or of lines and where to go on
 abbrev ended_text : Bool → Begun → List PrintedLine → Option End → Printed
 ended_text long begun lines end =
-    let last = end_text end (named long (next_after begun lines)) in record last { output = texts_of lines ++ last.output }
+    let last = end_text end (named long (next_after begun lines)) in
+    record last { output = texts_of lines ++ last.output }
 
 -- all lines and their end; the first ones, and where to go on; the last line of an end
 abbrev whole_text : Bool → Begun → List PrintedLine → End → Printed
@@ -39,7 +43,8 @@ last_line end next = (end_text (Some end) next).output
 named_again : (long : Bool) (begun : Begun) → named long (named long begun) ≡ named long begun
 named_again long begun = grind arith
 
-named_after : (long : Bool) (begun : Begun) (lines : List PrintedLine) → named long (next_after (named long begun) lines)
+named_after : (long : Bool) (begun : Begun) (lines : List PrintedLine)
+    → named long (next_after (named long begun) lines)
     ≡ named long (next_after begun lines)
 named_after long begun [] = named_again long begun
 named_after long begun (line ∷ lines) = refl
@@ -52,16 +57,19 @@ lines_left (Some limit) lines = drop limit lines
 parts : (max : Option ℕ) (lines : List PrintedLine) → up_to max lines ++ lines_left max lines ≡ lines
 parts max lines = grind (arith, append-nil, take-append-drop)
 
-not_cut : (long : Bool) (max : Option ℕ) (begun : Begun) (lines : List PrintedLine) (end : End) → is_cut max lines ≡ false
+not_cut : (long : Bool) (max : Option ℕ) (begun : Begun) (lines : List PrintedLine) (end : End)
+    → is_cut max lines ≡ false
     → text_of long max begun lines end ≡ whole_text long begun lines end
 not_cut long max begun lines end whole = grind (arith, all_taken)
 
 -- one run is a beginning of a run without a limit
 alone : (lines : List PrintedLine) (max : Option ℕ) (rows : List ℕ) (last whole : Printed) (cut : Bool)
-    → rows ≡ texts_of (up_to max lines) → (cut ≡ false → last ≡ whole) → AreAsOneRun [] rows last cut (texts_of lines) whole
+    → rows ≡ texts_of (up_to max lines) → (cut ≡ false → last ≡ whole)
+    → AreAsOneRun [] rows last cut (texts_of lines) whole
 alone lines max rows last whole cut rows_are all = record {
   more = texts_of (lines_left max lines);
-  beginning = ap texts_of (sym (parts max lines)) ∙ flat_map-append (λ line. line.text) (up_to max lines) (lines_left max lines)
+  beginning = ap texts_of (sym (parts max lines)) ∙ flat_map-append (λ line. line.text) (up_to max lines)
+      (lines_left max lines)
       ∙ ap (λ text. text ++ texts_of (lines_left max lines)) (sym rows_are);
   output = λ no. ap (λ (printed : Printed). printed.output) (all no);
   error = λ no. ap (λ (printed : Printed). printed.error) (all no);
@@ -69,23 +77,27 @@ alone lines max rows last whole cut rows_are all = record {
 }
 
 -- runs after these lines are with them as one run
-as_one_after : (long : Bool) (begun : Begun) (xs ys : List PrintedLine) (end : End) (first others rows : List ℕ) (last : Printed) (cut : Bool)
+as_one_after : (long : Bool) (begun : Begun) (xs ys : List PrintedLine) (end : End) (first others rows : List ℕ)
+    (last : Printed) (cut : Bool)
     → first ≡ texts_of xs
     → AreAsOneRun others rows last cut (texts_of ys) (whole_text long (named long (next_after begun xs)) ys end)
     → AreAsOneRun (first ++ others) rows last cut (texts_of (xs ++ ys)) (whole_text long begun (xs ++ ys) end)
 as_one_after long begun xs ys end first others rows last cut first_is all =
-    let next : named long (next_after (named long (next_after begun xs)) ys) ≡ named long (next_after begun (xs ++ ys)) =
+    let next : named long (next_after (named long (next_after begun xs)) ys)
+    ≡ named long (next_after begun (xs ++ ys)) =
     named_after long (next_after begun xs) ys ∙ ap (named long) (sym (next_after-append begun xs ys)) in
     record {
       more = all.more;
       beginning = flat_map-append (λ line. line.text) xs ys ∙ ap (λ text. text ++ texts_of ys) (sym first_is)
           ∙ ap (λ text. first ++ text) all.beginning
-          ∙ sym (append_assoc first (others ++ rows) all.more) ∙ ap (λ text. text ++ all.more) (sym (append_assoc first others rows));
+          ∙ sym (append_assoc first (others ++ rows) all.more) ∙ ap (λ text. text ++ all.more)
+          (sym (append_assoc first others rows));
       output = λ no.
           append_assoc first others last.output ∙ ap (λ text. first ++ text) (all.output no)
           ∙ ap (λ (b : Begun). first ++ (texts_of ys ++ last_line end b)) next
           ∙ sym (append_assoc first (texts_of ys) (last_line end (named long (next_after begun (xs ++ ys)))))
-          ∙ ap (λ (text : List ℕ). (text ++ texts_of ys) ++ last_line end (named long (next_after begun (xs ++ ys)))) first_is
+          ∙ ap (λ (text : List ℕ). (text ++ texts_of ys) ++ last_line end (named long (next_after begun (xs ++ ys))))
+          first_is
           ∙ ap (λ (text : List ℕ). text ++ last_line end (named long (next_after begun (xs ++ ys))))
           (sym (flat_map-append (λ line. line.text) xs ys));
       error = λ no. all.error no ∙ ap (λ (b : Begun). (end_text (Some end) b).error) next;
@@ -93,7 +105,8 @@ as_one_after long begun xs ys end first others rows last cut first_is all =
     }
 
 -- the text of `next` tells the text that stands in it
-same_text : (rows : List ℕ) (begun next : Begun) → rows ++ next_line begun ≡ rows ++ next_line next → begun_text begun ≡ begun_text next
+same_text : (rows : List ℕ) (begun next : Begun) → rows ++ next_line begun ≡ rows ++ next_line next
+    → begun_text begun ≡ begun_text next
 same_text rows begun next e = grind (arith, append_cancel_left, append_cancel_right)
 
 same_last : (rows : List ℕ) (end : End) (begun next : Begun) → rows ++ last_line end begun ≡ rows ++ next_line next
@@ -107,7 +120,8 @@ next_told : (long : Bool) (max : Option ℕ) (begun : Begun) (lines : List Print
 next_told long max begun lines end next e = grind (arith, same_last, same_text)
 
 module _ (tails : BeginningsHaveOneTail) (go_on : TailsGoOn) (long_go_on : LongTailsGoOn)
-    (places : PlacesAreReached) (short : CursorsAreShort) (long_short : PlacesAreShort) (names : TextsNameOne) (file : List ℕ)
+    (places : PlacesAreReached) (short : CursorsAreShort) (long_short : PlacesAreShort) (names : TextsNameOne)
+    (file : List ℕ)
     (limit_kept : length file ≤ 2 ^ 32) where
   reached : (long : Bool) (begun : Begun) → MayBegin file long begun → IsReached file begun
   reached long begun may = grind arith
@@ -155,7 +169,8 @@ module _ (tails : BeginningsHaveOneTail) (go_on : TailsGoOn) (long_go_on : LongT
     are : AreRowLines file next lines end
     may : MayBegin file long next
 
-  after_line : (long : Bool) (begun : Begun) (line : PrintedLine) (lines : List PrintedLine) (end : End) → MayBegin file long begun
+  after_line : (long : Bool) (begun : Begun) (line : PrintedLine) (lines : List PrintedLine) (end : End)
+      → MayBegin file long begun
       → AreRowLines file begun (line ∷ lines) end → LinesGoOn long (named long line.next) lines end
   after_line long begun line lines end may are = by_items are.items are.lines_are are.tail
     where
@@ -172,7 +187,8 @@ module _ (tails : BeginningsHaveOneTail) (go_on : TailsGoOn) (long_go_on : LongT
           })
 
   after_lines : (long : Bool) (begun : Begun) (n : ℕ) (lines : List PrintedLine) (end : End) → MayBegin file long begun
-      → AreRowLines file begun lines end → LinesGoOn long (named long (next_after begun (take n lines))) (drop n lines) end
+      → AreRowLines file begun lines end → LinesGoOn long (named long (next_after begun (take n lines))) (drop n lines)
+      end
   after_lines long begun zero lines end may are = rw (named_begun long begun may) (record { are = are; may = may })
   after_lines long begun (suc n) [] end may are = rw (named_begun long begun may) (record { are = are; may = may })
   after_lines long begun (suc n) (line ∷ lines) end may are =
@@ -180,12 +196,16 @@ module _ (tails : BeginningsHaveOneTail) (go_on : TailsGoOn) (long_go_on : LongT
       subst (λ (b : Begun). LinesGoOn long b (drop n lines) end) (named_after long line.next (take n lines))
       (after_lines long (named long line.next) n lines end next.may next.are)
 
-  after_limit : (long : Bool) (begun : Begun) (max : Option ℕ) (lines : List PrintedLine) (end : End) → MayBegin file long begun
-      → AreRowLines file begun lines end → LinesGoOn long (named long (next_after begun (up_to max lines))) (lines_left max lines) end
+  after_limit : (long : Bool) (begun : Begun) (max : Option ℕ) (lines : List PrintedLine) (end : End)
+      → MayBegin file long begun
+      → AreRowLines file begun lines end → LinesGoOn long (named long (next_after begun (up_to max lines)))
+      (lines_left max lines) end
   after_limit long begun (Some limit) lines end may are = after_lines long begun limit lines end may are
   after_limit long begun None lines end may are =
-      subst (λ (l : List PrintedLine). LinesGoOn long (named long (next_after begun lines)) l end) (drop_all (length lines) lines (omega arith))
-      (subst (λ (l : List PrintedLine). LinesGoOn long (named long (next_after begun l)) (drop (length lines) lines) end) (take-length lines)
+      subst (λ (l : List PrintedLine). LinesGoOn long (named long (next_after begun lines)) l end)
+      (drop_all (length lines) lines (omega arith))
+      (subst (λ (l : List PrintedLine). LinesGoOn long (named long (next_after begun l)) (drop (length lines) lines)
+      end) (take-length lines)
       (after_lines long begun (length lines) lines end may are))
 
   same_lines : (begun : Begun) (lines others : List PrintedLine) (end other : End) → AreRowLines file begun lines end
@@ -195,7 +215,8 @@ module _ (tails : BeginningsHaveOneTail) (go_on : TailsGoOn) (long_go_on : LongT
       let first = one.one lines end are in
       let second = one.one others other again in (second.0 ∙ sym first.0, second.1 ∙ sym first.1)
 
-  all_runs : (limits : List (Option ℕ)) (long : Bool) (begun : Begun) (max : Option ℕ) (before rows : List ℕ) (last : Printed) (cut : Bool)
+  all_runs : (limits : List (Option ℕ)) (long : Bool) (begun : Begun) (max : Option ℕ) (before rows : List ℕ)
+      (last : Printed) (cut : Bool)
       (lines : List PrintedLine) (end : End) → MayBegin file long begun → AreRowLines file begun lines end
       → AreRunsOfRows file long begun limits max before rows last cut
       → AreAsOneRun before rows last cut (texts_of lines) (whole_text long begun lines end)
@@ -213,16 +234,21 @@ module _ (tails : BeginningsHaveOneTail) (go_on : TailsGoOn) (long_go_on : LongT
       let goes = after_limit long begun limit lines end may are in
       let text_is : text ≡ text_of long limit begun lines end = rw (same.0, same.1) at run.text_is in
       let output : (text_of long limit begun lines end).output ≡ texts_of (up_to limit lines) ++ next_line next =
-      ap (λ (printed : Printed). printed.output) (sym text_is) ∙ told.is ∙ ap (λ (l : List ℕ). l ++ next_line next) first_is in
+      ap (λ (printed : Printed). printed.output) (sym text_is) ∙ told.is
+      ∙ ap (λ (l : List ℕ). l ++ next_line next) first_is in
       let next_is : next ≡ named long (next_after begun (up_to limit lines)) =
       sym (one_begun names (named long (next_after begun (up_to limit lines))) next
       (is_begun long (named long (next_after begun (up_to limit lines))) goes.may) told.limits
       (next_told long limit begun lines end next output)) in
-      let later = all_runs limits long (named long (next_after begun (up_to limit lines))) max others rows last cut (lines_left limit lines)
-      end goes.may goes.are (subst (λ (b : Begun). AreRunsOfRows file long b limits max others rows last cut) next_is runs) in
+      let later = all_runs limits long (named long (next_after begun (up_to limit lines))) max others rows last cut
+      (lines_left limit lines)
+      end goes.may goes.are (subst (λ (b : Begun). AreRunsOfRows file long b limits max others rows last cut) next_is
+      runs) in
       rw before_is
-      (subst (λ (l : List PrintedLine). AreAsOneRun (first ++ others) rows last cut (texts_of l) (whole_text long begun l end)) (parts limit lines)
-      (as_one_after long begun (up_to limit lines) (lines_left limit lines) end first others rows last cut first_is later))
+      (subst (λ (l : List PrintedLine). AreAsOneRun (first ++ others) rows last cut (texts_of l)
+      (whole_text long begun l end)) (parts limit lines)
+      (as_one_after long begun (up_to limit lines) (lines_left limit lines) end first others rows last cut first_is
+      later))
 
   cut_next : (long : Bool) (begun : Begun) (max : Option ℕ) (text : Printed) (rows : List ℕ) → MayBegin file long begun
       → IsRunOfRows file long begun max text rows true → (next : Begun) × IsReadAfter rows text.output next
@@ -248,9 +274,12 @@ cut_runs_are_read_on tails go_on long_go_on places short long_short names file l
 
 pub runs_go_on : BeginningsHaveOneTail → TailsGoOn → LongTailsGoOn → PlacesAreReached → CursorsAreShort
     → PlacesAreShort → TextsNameOne → RunsGoOn
-runs_go_on tails go_on long_go_on places short long_short names file long begun limits max before rows last cut whole lines was_cut
+runs_go_on tails go_on long_go_on places short long_short names file long begun limits max before rows last cut whole
+    lines was_cut
     within may runs run =
-    let all = all_runs tails go_on long_go_on places short long_short names file (omega arith) limits long begun max before rows last
+    let all = all_runs tails go_on long_go_on places short long_short names file (omega arith) limits long begun max
+    before rows last
     cut run.lines run.end may run.are runs in
     subst (λ (text : Printed). AreAsOneRun before rows last cut lines text) (sym run.text_is)
-    (subst (λ (l : List ℕ). AreAsOneRun before rows last cut l (whole_text long begun run.lines run.end)) (sym run.rows_are) all)
+    (subst (λ (l : List ℕ). AreAsOneRun before rows last cut l (whole_text long begun run.lines run.end))
+    (sym run.rows_are) all)

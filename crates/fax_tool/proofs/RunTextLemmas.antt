@@ -14,5 +14,6 @@ pub eight_written : (s₀ s₁ s₂ s₃ s₄ xs : List ℕ) → length xs ≡ 8
     → s₂ ≡ s₁ ++ (and_number (get_or xs 2 0) ++ and_number (get_or xs 3 0))
     → s₃ ≡ s₂ ++ (and_number (get_or xs 4 0) ++ and_number (get_or xs 5 0))
     → s₄ ≡ s₃ ++ (and_number (get_or xs 6 0) ++ and_number (get_or xs 7 0)) → s₄ ≡ s₀ ++ flat_map and_number xs
-eight_written s₀ s₁ s₂ s₃ s₄ (a ∷ b ∷ c ∷ d ∷ e ∷ f ∷ g ∷ h ∷ []) long one two three four = grind (arith, append_assoc, append-nil)
+eight_written s₀ s₁ s₂ s₃ s₄ (a ∷ b ∷ c ∷ d ∷ e ∷ f ∷ g ∷ h ∷ []) long one two three four =
+    grind (arith, append_assoc, append-nil)
 eight_written s₀ s₁ s₂ s₃ s₄ xs long one two three four = absurd (omega (arith, long))

@@ -1,5 +1,6 @@
 -- Words of UTF-8 that are read are those of a command.
-use Rattle.std.proofs.Common.{◌≡◌, ◌∙◌, ◌⊎◌, ◌<◌, ◌==◌, ◌++◌, ap, append-nil, append_assoc, arith, codes, inl, inr, lit<, refl, sym}
+use Rattle.std.proofs.Common.{◌≡◌, ◌∙◌, ◌⊎◌, ◌<◌, ◌==◌, ◌++◌, ap, append-nil, append_assoc, arith, codes, inl, inr}
+use Rattle.std.proofs.Common.{lit<, refl, sym}
 use Rattle.std.proofs.Common.{subst, Bool, true, false, ℕ, drop, length, List, [], ◌∷◌, Option, Some, None}
 use Rattle.std.specs.Prelude.{encode_utf8, find, option_and_then, option_map, slice_get}
 use Rattle.std.specs.List.{All, Contains}
@@ -18,14 +19,17 @@ use Rattle.fax_tool.proofs.GrammarLemmas.{scanned_number}
 use Rattle.fax_tool.proofs.RuleLemmas.{by_long, by_short, rule_of, rules_of}
 use Rattle.fax_tool.proofs.UseLemmas.{IsItem, enter, flag_used, is_option, leaf, option_used}
 use Rattle.fax_tool.proofs.SpellLemmas.{entered, place_of}
-use Rattle.fax_tool.proofs.clap.Flat.{Said, after, ends, if_place, option_said, place, read, rule_said, said, says, taken, unknown, waits}
-use Rattle.fax_tool.proofs.clap.FlatLemmas.{Form, found as found_in, as_end, as_letter, as_long, as_place, form, hyphens}
+use Rattle.fax_tool.proofs.clap.Flat.{Said, after, ends, if_place, option_said, place, read, rule_said, said, says}
+use Rattle.fax_tool.proofs.clap.Flat.{taken, unknown, waits}
+use Rattle.fax_tool.proofs.clap.FlatLemmas.{Form, found as found_in, as_end, as_letter, as_long, as_place, form}
+use Rattle.fax_tool.proofs.clap.FlatLemmas.{hyphens}
 
 same_byte : (x y : ℕ) → (x == y) ≡ true → x ≡ y
 same_byte x y is = grind arith
 
 -- what follows the hyphen has a first character, which is its byte where it is ASCII
-after_hyphen : (b : ℕ) (bs : Text) → IsUtf8 (45 ∷ b ∷ bs) → (x : ℕ) × (slice_get (chars (b ∷ bs)) 0 ≡ Some x) × (x < 128 → b ≡ x)
+after_hyphen : (b : ℕ) (bs : Text) → IsUtf8 (45 ∷ b ∷ bs) → (x : ℕ) × (slice_get (chars (b ∷ bs)) 0 ≡ Some x)
+    × (x < 128 → b ≡ x)
 after_hyphen b bs utf8 = go (chars (b ∷ bs)) (encodes-chars (b ∷ bs) (IsUtf8-past_char (45 ∷ b ∷ bs) (b ∷ bs) 45 utf8
     (ap (λ l. l ++ b ∷ bs) (sym (encode_ascii 45 (lit< tt))))))
   where
@@ -35,7 +39,8 @@ after_hyphen b bs utf8 = go (chars (b ∷ bs)) (encodes-chars (b ∷ bs) (IsUtf8
 
 -- a word for a place is no option
 said_plain : (word : Text) → IsUtf8 word → bytes_eq word hyphens ≡ false → long_of word ≡ None
-    → ((short_of word ≡ None) ⊎ ((b : ℕ) × (bs : Text) × (short_of word ≡ Some (b ∷ bs)) × (slice_get (chars (b ∷ bs)) 0 ≡ None)))
+    → ((short_of word ≡ None) ⊎ ((b : ℕ) × (bs : Text) × (short_of word ≡ Some (b ∷ bs))
+    × (slice_get (chars (b ∷ bs)) 0 ≡ None)))
     → IsPlain word
 said_plain [] utf8 no_end no_long form = inl (λ is. cc)
 said_plain (x ∷ xs) utf8 no_end no_long form = go (x == 45) refl
@@ -88,14 +93,17 @@ joined_word n own word t named shape =
     ap (λ w. w ∷ []) (shape ∙ (ap (λ own. 45 ∷ 45 ∷ own ++ 61 ∷ t) (sym (named_text n own named)) ∙ sym
     (append_assoc (45 ∷ 45 ∷ n) (61 ∷ []) t)))
 
-bare_word : (n own word : Text) → bytes_eq n own ≡ true → word ≡ 45 ∷ 45 ∷ own ++ [] → word ∷ [] ≡ (codes "--" ++ n) ∷ []
+bare_word : (n own word : Text) → bytes_eq n own ≡ true → word ≡ 45 ∷ 45 ∷ own ++ []
+    → word ∷ [] ≡ (codes "--" ++ n) ∷ []
 bare_word n own word named shape =
     ap (λ w. w ∷ []) (shape ∙ ap (λ own. 45 ∷ 45 ∷ own) (append-nil own ∙ sym (named_text n own named)))
 
-apart_words : (n own word value : Text) → bytes_eq n own ≡ true → word ≡ 45 ∷ 45 ∷ own ++ [] → word ∷ value ∷ [] ≡ (codes "--" ++ n) ∷ value ∷ []
+apart_words : (n own word value : Text) → bytes_eq n own ≡ true → word ≡ 45 ∷ 45 ∷ own ++ []
+    → word ∷ value ∷ [] ≡ (codes "--" ++ n) ∷ value ∷ []
 apart_words n own word value named shape = ap (λ ws. ws ++ value ∷ []) (bare_word n own word named shape)
 
-and_then_some : {A B : Type 0} (o : Option A) (K : A → Option B) (r : B) → option_and_then K o ≡ Some r → (q : A) × (o ≡ Some q) × (K q ≡ Some r)
+and_then_some : {A B : Type 0} (o : Option A) (K : A → Option B) (r : B) → option_and_then K o ≡ Some r
+    → (q : A) × (o ≡ Some q) × (K q ≡ Some r)
 and_then_some None K r is = cc
 and_then_some (Some q) K r is = (q, refl, is)
 
@@ -112,7 +120,8 @@ module _ (name : Text) (items : List Item) (first : arg_by_index (rules_of items
       × (is_taken u ≡ true → IsSpelled u.item u.value (word ∷ []))
   SpelledAs (waits a) word =
       (item : Item) × Contains items item
-      × ((value : Text) (rows : List Row) → taken (leaf name items) a (value ∷ []) rows ≡ enter rows (use_of item value))
+      × ((value : Text) (rows : List Row) → taken (leaf name items) a (value ∷ []) rows
+      ≡ enter rows (use_of item value))
       × ((value : Text) → IsPlain value → takes item value ≡ true → IsSpelled item value (word ∷ value ∷ []))
   SpelledAs ends word = word ≡ hyphens
   SpelledAs place word = IsPlain word
@@ -131,24 +140,38 @@ module _ (name : Text) (items : List Item) (first : arg_by_index (rules_of items
   long_as : (item : Item) (own : Text) (v : Option Text) (word : Text) → Contains items item → has_long own item ≡ true
       → word ≡ 45 ∷ 45 ∷ own ++ with_equals v → SpelledAs (rule_said (Some (rule_of item)) v) word
   long_as (text n) own v word among named shape =
-      option_as (text n) v word among refl (λ t is taken. inl (joined_word n own word t named (shape ∙ ap (λ v. 45 ∷ 45 ∷ own ++ with_equals v) is)))
-      (λ is value plain taken. inr (apart_words n own word value named (shape ∙ ap (λ v. 45 ∷ 45 ∷ own ++ with_equals v) is), plain))
+      option_as (text n) v word among refl (λ t is taken. inl (joined_word n own word t named
+      (shape ∙ ap (λ v. 45 ∷ 45 ∷ own ++ with_equals v) is)))
+      (λ is value plain taken. inr (
+        apart_words n own word value named
+            (shape ∙ ap (λ v. 45 ∷ 45 ∷ own ++ with_equals v) is),
+        plain,
+      ))
   long_as (number n most) own v word among named shape =
       option_as (number n most) v word among refl
-      (λ t is taken. (inl (joined_word n own word t named (shape ∙ ap (λ v. 45 ∷ 45 ∷ own ++ with_equals v) is)), scanned_number most t taken))
+      (λ t is taken. (
+        inl (joined_word n own word t named (shape ∙ ap (λ v. 45 ∷ 45 ∷ own ++ with_equals v) is)),
+        scanned_number most t taken,
+      ))
       (λ is value plain taken. (
         inr (apart_words n own word value named (shape ∙ ap (λ v. 45 ∷ 45 ∷ own ++ with_equals v) is), plain),
         scanned_number most value taken,
       ))
   long_as (flag n) own (Some t) word among named shape = tt
-  long_as (flag n) own None word among named shape =
-      (use_of (flag n) (codes "true"), among, λ rows. flag_used name items n rows, λ taken. (bare_word n own word named shape, refl))
+  long_as (flag n) own None word among named shape = (
+    use_of (flag n) (codes "true"),
+    among,
+    λ rows. flag_used name items n rows,
+    λ taken.
+        (bare_word n own word named shape, refl),
+  )
   long_as item own v word among named shape = cc
 
   letter_as : (x : ℕ) (rest word : Text) → Contains items (letter x) → word ≡ 45 ∷ x ∷ rest
       → SpelledAs (rule_said (Some (rule_of (letter x))) (attached_value rest)) word
   letter_as x rest word among shape =
-      option_as (letter x) (attached_value rest) word among refl (λ value is taken. grind arith) (λ is value plain taken. grind arith)
+      option_as (letter x) (attached_value rest) word among refl (λ value is taken. grind arith)
+      (λ is value plain taken. grind arith)
 
   spelled_as : (word : Text) → IsUtf8 word → Form word → SpelledAs (said (rules_of items) false word) word
   spelled_as word utf8 (as_end is_end says_is) =
@@ -160,10 +183,12 @@ module _ (name : Text) (items : List Item) (first : arg_by_index (rules_of items
       go : (o : Option Item) → ((item : Item) → o ≡ Some item → Contains items item × (has_long own item ≡ true))
           → SpelledAs (rule_said (option_map rule_of o) v) word
       go None found = tt
-      go (Some item) found = long_as item own v word (found item refl).0 (found item refl).1 (long_shape word own v form)
+      go (Some item) found = long_as item own v word (found item refl).0 (found item refl).1
+          (long_shape word own v form)
   spelled_as word utf8 (as_letter b bs x no_end no_long form char says_is) =
       subst (λ W. SpelledAs W word)
-      (sym (says_is (rules_of items) ∙ ap (λ o. rule_said o (attached_value (drop (length (encode_utf8 x)) (b ∷ bs)))) (by_short items x)))
+      (sym (says_is (rules_of items) ∙ ap (λ o. rule_said o (attached_value (drop (length (encode_utf8 x)) (b ∷ bs))))
+      (by_short items x)))
       (go (find (has_letter x) items) (found_in (has_letter x) items))
     where
       shape : word ≡ 45 ∷ b ∷ bs
@@ -180,7 +205,8 @@ module _ (name : Text) (items : List Item) (first : arg_by_index (rules_of items
           let char_is : byte.0 ≡ x = let both = sym byte.1 ∙ char in cc in
           let first = byte.2 (subst (λ x. x < 128) (same ∙ sym char_is) fit.1) ∙ char_is ∙ sym same in
           subst (λ n. SpelledAs (rule_said (Some (rule_of (letter l))) (attached_value (drop n (b ∷ bs)))) word)
-          (sym fit.0 ∙ ap (λ x. length (encode_utf8 x)) same) (letter_as l bs word of.0 (shape ∙ ap (λ b. 45 ∷ b ∷ bs) first))
+          (sym fit.0 ∙ ap (λ x. length (encode_utf8 x)) same) (letter_as l bs word of.0
+          (shape ∙ ap (λ b. 45 ∷ b ∷ bs) first))
       go (Some item) found = let no = (found item refl).1 in cc
   spelled_as word utf8 (as_place no_end no_long form says_is) =
       subst (λ W. SpelledAs W word) (sym (says_is (rules_of items))) (said_plain word utf8 no_end no_long form)
@@ -195,7 +221,8 @@ module _ (name : Text) (items : List Item) (first : arg_by_index (rules_of items
 
   -- the first word is the text that was waited for
   abbrev Awaited : List Text → Rule → List Row → List Row → Type 0
-  Awaited words a rows r = (value : Text) × (others : List Text) × (q : List Row) × (words ≡ value ∷ others) × IsPlain value
+  Awaited words a rows r = (value : Text) × (others : List Text) × (q : List Row) × (words ≡ value ∷ others)
+      × IsPlain value
       × (taken (leaf name items) a (value ∷ []) rows ≡ Some q) × Spelling others q r
 
   abbrev WaitsSpelled : List Text → Type 0
@@ -203,10 +230,15 @@ module _ (name : Text) (items : List Item) (first : arg_by_index (rules_of items
       → read (leaf name items) words false (Some a) (place_of filed) rows ≡ Some r → Awaited words a rows r
 
   -- a use and those after it
-  more_uses : (u : Use) (own others words : List Text) (rows q r : List Row) → words ≡ own ++ others → Contains items u.item
+  more_uses : (u : Use) (own others words : List Text) (rows q r : List Row) → words ≡ own ++ others
+      → Contains items u.item
       → IsSpelled u.item u.value own → enter rows u ≡ Some q → Spelling others q r → Spelling words rows r
-  more_uses u own others words rows q r split among spells into rest =
-      (u ∷ rest.0, inl (own, others, split, among, spells, rest.1), ap (option_and_then (λ r. entered r rest.0)) into ∙ rest.2)
+  more_uses u own others words rows q r split among spells into rest = (
+    u ∷ rest.0,
+    inl (own, others, split, among, spells, rest.1),
+    ap (option_and_then (λ r. entered r rest.0)) into
+        ∙ rest.2,
+  )
 
   after_end : (words : List Text) (filed : Bool) (rows r : List Row)
       → read (leaf name items) words true None (place_of filed) rows ≡ Some r → Spelling (hyphens ∷ words) rows r
@@ -216,23 +248,28 @@ module _ (name : Text) (items : List Item) (first : arg_by_index (rules_of items
       (use_of file word ∷ [], inr (refl, refl, refl), rw (first, option_used name items file word rows tt refl) at is)
   after_end (word ∷ other ∷ words) false rows r is = let no = rw (first, second) at is in grind arith
 
-  idle_from : (word : Text) (words : List Text) (W : Said) → SpelledAs W word → IdleSpelled words → WaitsSpelled words → All IsUtf8 words
+  idle_from : (word : Text) (words : List Text) (W : Said) → SpelledAs W word → IdleSpelled words → WaitsSpelled words
+      → All IsUtf8 words
       → (filed : Bool) (rows r : List Row)
-      → after (leaf name items) W false word (place_of filed) rows (read (leaf name items) words) ≡ Some r → Spelling (word ∷ words) rows r
+      → after (leaf name items) W false word (place_of filed) rows (read (leaf name items) words) ≡ Some r
+      → Spelling (word ∷ words) rows r
   idle_from word words (says a values) (u, among, taken_is, spells) idles waiting utf8 filed rows r is =
-      let of = and_then_some (taken (leaf name items) a values rows) (read (leaf name items) words false None (place_of filed)) r is in
+      let of = and_then_some (taken (leaf name items) a values rows)
+      (read (leaf name items) words false None (place_of filed)) r is in
       let into = sym (taken_is rows) ∙ of.1 in
       more_uses u (word ∷ []) words (word ∷ words) rows of.0 r refl among (spells (entered_taken u rows of.0 into)) into
       (idles filed of.0 r utf8 of.2)
   idle_from word words (waits a) (item, among, taken_is, spells) idles waiting utf8 filed rows r is =
       let (value, others, q, words_are, plain, took, rest) = waiting a filed rows r utf8 is in
       let into = sym (taken_is value rows) ∙ took in
-      more_uses (use_of item value) (word ∷ value ∷ []) others (word ∷ words) rows q r (ap (λ ws. word ∷ ws) words_are) among
+      more_uses (use_of item value) (word ∷ value ∷ []) others (word ∷ words) rows q r (ap (λ ws. word ∷ ws) words_are)
+      among
       (spells value plain (entered_taken (use_of item value) rows q into)) into rest
   idle_from word words ends is_end idles waiting utf8 filed rows r is =
       subst (λ word. Spelling (word ∷ words) rows r) (sym is_end) (after_end words filed rows r is)
   idle_from word words place plain idles waiting utf8 false rows r is =
-      let of = and_then_some (taken (leaf name items) (rule_of file) (word ∷ []) rows) (read (leaf name items) words false None 2) r
+      let of = and_then_some (taken (leaf name items) (rule_of file) (word ∷ []) rows)
+      (read (leaf name items) words false None 2) r
       (rw first at is) in
       more_uses (use_of file word) (word ∷ []) words (word ∷ words) rows of.0 r refl has_file (refl, plain)
       (sym (option_used name items file word rows tt refl) ∙ of.1) (idles true of.0 r utf8 of.2)
@@ -257,6 +294,7 @@ module _ (name : Text) (items : List Item) (first : arg_by_index (rules_of items
   all_spelled (word ∷ words) =
       let others = all_spelled words in (
         λ filed rows r utf8 is. idle_from word words (said (rules_of items) false word)
-            (spelled_as word (All-head IsUtf8 word words utf8) (form word)) others.0 others.1 (All-tail IsUtf8 word words utf8) filed rows r is,
+            (spelled_as word (All-head IsUtf8 word words utf8) (form word)) others.0 others.1
+            (All-tail IsUtf8 word words utf8) filed rows r is,
         waits_from word words others.0,
       )

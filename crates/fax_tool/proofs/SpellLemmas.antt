@@ -1,5 +1,6 @@
 -- The words of a command are read as its uses.
-use Rattle.std.proofs.Common.{arith, ◌≡◌, ◌∙◌, ◌==◌, ◌++◌, ap, codes, inl, inr, refl, subst, sym, Bool, true, false, ℕ, List, [], ◌∷◌, Option, Some, None}
+use Rattle.std.proofs.Common.{arith, ◌≡◌, ◌∙◌, ◌==◌, ◌++◌, ap, codes, inl, inr, refl, subst, sym, Bool, true, false, ℕ}
+use Rattle.std.proofs.Common.{List, [], ◌∷◌, Option, Some, None}
 use Rattle.std.specs.Prelude.{option_and_then}
 use Rattle.std.specs.List.{Contains}
 use Rattle.std.specs.Str.{chars}
@@ -32,11 +33,13 @@ IsRead c (text name) =
     ((value : Text) → said c false (codes "--" ++ name ++ codes "=" ++ value) ≡ says (rule_of (text name)) (value ∷ []))
     × (said c false (codes "--" ++ name) ≡ waits (rule_of (text name)))
 IsRead c (number name most) =
-    ((value : Text) → said c false (codes "--" ++ name ++ codes "=" ++ value) ≡ says (rule_of (number name most)) (value ∷ []))
+    ((value : Text) → said c false (codes "--" ++ name ++ codes "=" ++ value)
+    ≡ says (rule_of (number name most)) (value ∷ []))
     × (said c false (codes "--" ++ name) ≡ waits (rule_of (number name most)))
 IsRead c (letter x) =
     ((value : Text) → said c false (codes "-" ++ x ∷ codes "=" ++ value) ≡ says (rule_of (letter x)) (value ∷ []))
-    × ((value : Text) → attached_value value ≡ Some value → said c false (codes "-" ++ x ∷ value) ≡ says (rule_of (letter x)) (value ∷ []))
+    × ((value : Text) → attached_value value ≡ Some value → said c false (codes "-" ++ x ∷ value)
+    ≡ says (rule_of (letter x)) (value ∷ []))
     × (said c false (codes "-" ++ x ∷ []) ≡ waits (rule_of (letter x)))
 IsRead c (flag name) = said c false (codes "--" ++ name) ≡ says (rule_of (flag name)) []
 IsRead c file = Unit {0}
@@ -55,10 +58,12 @@ abbrev IsFiled : Bool → List Row → Type 0
 IsFiled false rows = Unit {0}
 IsFiled true rows = has_row (codes "FILE") rows ≡ true
 
-filed_more : (u : Use) (filed : Bool) (rows : List Row) → IsFiled filed rows → IsFiled (is_filed u.item filed) (rows ++ row_of u ∷ [])
+filed_more : (u : Use) (filed : Bool) (rows : List Row) → IsFiled filed rows
+    → IsFiled (is_filed u.item filed) (rows ++ row_of u ∷ [])
 filed_more u filed rows is = grind (arith, list_any-append, or-true)
 
-filed_after : (u : Use) (filed : Bool) (rows r : List Row) → IsFiled filed rows → enter rows u ≡ Some r → IsFiled (is_filed u.item filed) r
+filed_after : (u : Use) (filed : Bool) (rows r : List Row) → IsFiled filed rows → enter rows u ≡ Some r
+    → IsFiled (is_filed u.item filed) r
 filed_after u filed rows r is entered = grind (arith, filed_more)
 
 -- the rows after some uses
@@ -68,25 +73,46 @@ entered rows (u ∷ us) = option_and_then (λ r. entered r us) (enter rows u)
 
 module _ (name : Text) (items : List Item) (first : arg_by_index (rules_of items) 1 ≡ Some (rule_of file))
     (second : arg_by_index (rules_of items) 2 ≡ None)
-    (each : (item : Item) → Contains items item → IsRead (rules_of items) item) (fits : (item : Item) → Contains items item → IsItem item) where
+    (each : (item : Item) → Contains items item → IsRead (rules_of items) item)
+    (fits : (item : Item) → Contains items item → IsItem item) where
   abbrev reads : List Text → Bool → List Row → Option (List Row)
   reads words filed rows = read (leaf name items) words false None (place_of filed) rows
 
-  spelled_use : (item : Item) (value : Text) (own others : List Text) (filed : Bool) (rows : List Row) → IsFiled filed rows
+  spelled_use : (item : Item) (value : Text) (own others : List Text) (filed : Bool) (rows : List Row)
+      → IsFiled filed rows
       → IsRead (rules_of items) item → IsItem item → IsSpelled item value own
-      → reads (own ++ others) filed rows ≡ option_and_then (reads others (is_filed item filed)) (enter rows (use_of item value))
+      → reads (own ++ others) filed rows ≡ option_and_then (reads others (is_filed item filed))
+      (enter rows (use_of item value))
   spelled_use (text n) value own others filed rows is reads fits (inl spells) =
       rw (spells, reads.0 value, option_used name items (text n) value rows fits refl) refl
   spelled_use (text n) value own others filed rows is reads fits (inr (spells, plain)) =
-      rw (spells, reads.1, plain_said (rules_of items) value plain, option_used name items (text n) value rows fits refl) refl
+      rw (
+        spells,
+        reads.1,
+        plain_said (rules_of items) value plain,
+        option_used name items (text n) value rows fits
+            refl,
+      ) refl
   spelled_use (number n most) value own others filed rows is reads fits (inl spells, digits) =
       rw (spells, reads.0 value, option_used name items (number n most) value rows fits refl) refl
   spelled_use (number n most) value own others filed rows is reads fits (inr (spells, plain), digits) =
-      rw (spells, reads.1, plain_said (rules_of items) value plain, option_used name items (number n most) value rows fits refl) refl
+      rw (
+        spells,
+        reads.1,
+        plain_said (rules_of items) value plain,
+        option_used name items (number n most) value rows
+            fits refl,
+      ) refl
   spelled_use (letter x) value own others filed rows is reads fits (inl (inl spells)) =
       rw (spells, reads.0 value, option_used name items (letter x) value rows fits refl) refl
   spelled_use (letter x) value own others filed rows is reads fits (inl (inr (spells, plain))) =
-      rw (spells, reads.2, plain_said (rules_of items) value plain, option_used name items (letter x) value rows fits refl) refl
+      rw (
+        spells,
+        reads.2,
+        plain_said (rules_of items) value plain,
+        option_used name items (letter x) value rows fits
+            refl,
+      ) refl
   spelled_use (letter x) value own others filed rows is reads fits (inr (spells, some, no_equals)) =
       let attached : attached_value value ≡ Some value = grind arith in
       rw (spells, reads.1 value attached, option_used name items (letter x) value rows fits refl) refl
@@ -97,19 +123,22 @@ module _ (name : Text) (items : List Item) (first : arg_by_index (rules_of items
   spelled_use file value own others true rows is reads fits (spells, plain) =
       rw (spells, plain_said (rules_of items) value plain, second, is) refl
 
-  pub spelled : (uses : List Use) (words : List Text) (filed : Bool) (rows : List Row) → IsFiled filed rows → AreSpelled items uses words
+  pub spelled : (uses : List Use) (words : List Text) (filed : Bool) (rows : List Row) → IsFiled filed rows
+      → AreSpelled items uses words
       → reads words filed rows ≡ entered rows uses
   spelled [] words filed rows is (inl none) = rw none refl
   spelled [] words filed rows is (inr ends) = rw ends refl
   spelled (u ∷ us) words filed rows is (inl (own, others, split, among, spells, more)) =
       rw split (spelled_use u.item u.value own others filed rows is (each u.item among) (fits u.item among) spells
-      ∙ and_then_at (enter rows u) _ _ (λ r into. spelled us others (is_filed u.item filed) r (filed_after u filed rows r is into) more))
+      ∙ and_then_at (enter rows u) _ _ (λ r into. spelled us others (is_filed u.item filed) r
+      (filed_after u filed rows r is into) more))
   spelled (u ∷ us) words false rows is (inr (as_file, none, ends)) =
       rw (none, ends, first, as_file, option_used name items file u.value rows tt refl) refl
   spelled (u ∷ us) words true rows is (inr (as_file, none, ends)) = rw (none, ends, second, as_file, is) refl
 
 pub letter_read : (items : List Item) (x : ℕ) →
-    ((b : ℕ) (bs : Text) → said (rules_of items) false (codes "-" ++ x ∷ b ∷ bs) ≡ rule_said (Some (rule_of (letter x))) (attached_value (b ∷ bs)))
+    ((b : ℕ) (bs : Text) → said (rules_of items) false (codes "-" ++ x ∷ b ∷ bs)
+    ≡ rule_said (Some (rule_of (letter x))) (attached_value (b ∷ bs)))
     → (value : Text) → attached_value value ≡ Some value
     → said (rules_of items) false (codes "-" ++ x ∷ value) ≡ says (rule_of (letter x)) (value ∷ [])
 letter_read items x of [] is = cc

@@ -17,14 +17,16 @@ use Rattle.fax_tool.specs.laws.Texts.{TextsAreOne}
 use Rattle.fax_tool.proofs.LineLemmas.{one_pages, one_rows}
 
 -- of one list of lines and one end there is one text
-one_of_lines : (are : List PrintedLine → End → Type 0) → IsOne are → (long : Bool) (max : Option ℕ) (begun : Begun) (printed other : Printed)
+one_of_lines : (are : List PrintedLine → End → Type 0) → IsOne are
+    → (long : Bool) (max : Option ℕ) (begun : Begun) (printed other : Printed)
     → IsTextOfLines are long max begun printed → IsTextOfLines are long max begun other → printed ≡ other
 one_of_lines are one long max begun printed other (lines, end, first, is) (lines', end', second, is') = grind arith
 
 one_conversion : BytesAreConvertedInOneWay → (options : Options) (file : List ℕ) (printed other : Printed)
     → IsConversionText options file printed → IsConversionText options file other → printed ≡ other
 one_conversion ways options file printed other (inl (output, first, is)) (inl (output', second, is')) =
-    is ∙ ap (λ bytes. record { output = bytes; error = []; status = 0 }) ((ways file options).one_output output output' first second)
+    is ∙ ap (λ bytes. record { output = bytes; error = []; status = 0 })
+    ((ways file options).one_output output output' first second)
     ∙ sym is'
 one_conversion ways options file printed other (inl (output, first, is)) (inr (fault, second, is')) =
     absurd ((ways file options).output_has_no_fault output fault first second)
@@ -37,12 +39,14 @@ one_conversion ways options file printed other (inr (fault, first, is)) (inr (fa
 -- the text of a report's parts
 abbrev text_of_parts : List Note → ℕ → ℕ → Option (Place × Cause) → Printed
 text_of_parts notes pages rows fault = record {
-  output = flat_map note_line notes ++ (codes "pages" ++ and_number pages ++ codes " rows" ++ and_number rows ++ codes "\n");
+  output = flat_map note_line notes ++ (codes "pages" ++ and_number pages ++ codes " rows" ++ and_number rows
+      ++ codes "\n");
   error = option_map_or (λ fault. fault_line fault.0.page fault.0.row fault.1) fault [];
   status = option_map_or (λ fault. 1) fault 0;
 }
 
-one_report : FilesHaveOneReport → (file : List ℕ) (printed other : Printed) → IsCheckText file printed → IsCheckText file other
+one_report : FilesHaveOneReport → (file : List ℕ) (printed other : Printed) → IsCheckText file printed
+    → IsCheckText file other
     → printed ≡ other
 one_report reports file printed other (report, first, is) (report', second, is') =
     let same = reports file report report' first second in
@@ -52,10 +56,12 @@ one_report reports file printed other (report, first, is) (report', second, is')
 pub texts_are_one : BeginningsHaveOneTail → CursorsHaveOneFormTail → BytesAreConvertedInOneWay
     → FilesHaveOneReport → TextsAreOne
 texts_are_one tails forms ways reports (Forms part) file printed other first second =
-    one_of_lines (ArePageLines file part.cursor) (one_pages file forms part.cursor) false part.max (At part.cursor) printed other first
+    one_of_lines (ArePageLines file part.cursor) (one_pages file forms part.cursor) false part.max (At part.cursor)
+    printed other first
     second
 texts_are_one tails forms ways reports (Rows part) file printed other first second =
-    one_of_lines (AreRowLines file (begun_of part)) (one_rows file tails (begun_of part)) part.long part.max (begun_of part) printed
+    one_of_lines (AreRowLines file (begun_of part)) (one_rows file tails (begun_of part)) part.long part.max
+    (begun_of part) printed
     other first second
 texts_are_one tails forms ways reports (Convert options) file printed other first second =
     one_conversion ways options file printed other first second

@@ -39,7 +39,8 @@ abbrev ending_text : Option End → Begun → List ℕ
 ending_text ending next = (end_text ending next).output
 
 -- the text of the lines, with its output, and the error line and status of its end
-record IsEndedText (lines : List PrintedLine) (end : End) (count : ℕ) (long : Bool) (max : Option ℕ) (begun : Begun) (ending : Option End) : Type 0
+record IsEndedText (lines : List PrintedLine) (end : End) (count : ℕ) (long : Bool) (max : Option ℕ) (begun : Begun)
+    (ending : Option End) : Type 0
   where
     output : (text_of long max begun lines end).output
         ≡ texts_of (take count lines) ++ ending_text ending (named long (next_after begun (take count lines)))
@@ -48,7 +49,8 @@ record IsEndedText (lines : List PrintedLine) (end : End) (count : ℕ) (long : 
     within : IfSome max (λ limit. count ≤ limit)
     some : count ≤ length lines
 
-whole_ended : (lines : List PrintedLine) (end : End) (long : Bool) (max : Option ℕ) (begun : Begun) → IfSome max (λ limit. length lines < limit)
+whole_ended : (lines : List PrintedLine) (end : End) (long : Bool) (max : Option ℕ) (begun : Begun)
+    → IfSome max (λ limit. length lines < limit)
     → IsEndedText lines end (length lines) long max begun (Some end)
 whole_ended lines end long None begun few = record {
   output = rw take-length refl;
@@ -68,12 +70,15 @@ whole_ended lines end long (Some limit) begun few =
       some = omega arith;
     }
 
-by_ending : (lines : List PrintedLine) (end : End) (count : ℕ) (long : Bool) (max : Option ℕ) (begun : Begun) (ending : Option End)
+by_ending : (lines : List PrintedLine) (end : End) (count : ℕ) (long : Bool) (max : Option ℕ) (begun : Begun)
+    (ending : Option End)
     → EndsWith lines end count max ending → IsEndedText lines end count long max begun ending
 by_ending lines end count long max begun ending h = grind (arith, whole_ended)
 
-module _ {tail now : List PrintedLine → End → Type 0} (one : IsOne tail) (same : (all : List PrintedLine) (end : End) → tail all end ↔ now all end)
-    {begun now_begun : Begun} (same_begun : now_begun ≡ begun) (long : Bool) {max : Option ℕ} {ending : Option End} {count : ℕ}
+module _ {tail now : List PrintedLine → End → Type 0} (one : IsOne tail)
+    (same : (all : List PrintedLine) (end : End) → tail all end ↔ now all end)
+    {begun now_begun : Begun} (same_begun : now_begun ≡ begun) (long : Bool) {max : Option ℕ} {ending : Option End}
+    {count : ℕ}
     {output written : Option (List ℕ)} (prints : PrintsLines tail max ending count output written) where
   ended : IsEndedText prints.lines prints.end count long max begun ending
   ended = by_ending prints.lines prints.end count long max begun ending prints.ends
@@ -96,7 +101,8 @@ module _ {tail now : List PrintedLine → End → Type 0} (one : IsOne tail) (sa
   first line is = grind arith
 
   -- the lines and the last line are printed
-  pub all_printed : (new_written : Option (List ℕ)) (counts : Counts) (line : List ℕ) → IsLastLine now now_begun count long ending line
+  pub all_printed : (new_written : Option (List ℕ)) (counts : Counts) (line : List ℕ)
+      → IsLastLine now now_begun count long ending line
       → Appends written new_written line
       → WritesOutput (IsTextOfLines tail long max begun) (output_after output new_written counts) (end_line ending)
   all_printed new_written counts line is moved = record {
@@ -110,20 +116,30 @@ module _ {tail now : List PrintedLine → End → Type 0} (one : IsOne tail) (sa
 
   -- the last line was refused
   pub stopped_at_last : (new_written : Option (List ℕ)) (counts : Counts) (refusal : Refusal)
-      → StopsPrinting (λ printed. IsLastLine now now_begun count long ending printed.output) (IsNextLine now now_begun count false) refusal
+      → StopsPrinting (λ printed. IsLastLine now now_begun count long ending printed.output)
+      (IsNextLine now now_begun count false) refusal
       (output_after written new_written counts)
-      → StopsPrinting (IsTextOfLines tail long max begun) (IsTextOfFirst tail max begun) refusal (output_after output new_written counts)
+      → StopsPrinting (IsTextOfLines tail long max begun) (IsTextOfFirst tail max begun) refusal
+      (output_after output new_written counts)
   stopped_at_last new_written counts refusal stops =
-      stops_after (λ printed. IsLastLine now now_begun count long ending printed.output) (IsTextOfLines tail long max begun)
+      stops_after (λ printed. IsLastLine now now_begun count long ending printed.output)
+      (IsTextOfLines tail long max begun)
       (IsNextLine now now_begun count false) (IsTextOfFirst tail max begun) refusal output written new_written counts
       (texts_of (take count prints.lines)) prints.printed
-      (λ printed is. (text_of long max begun prints.lines prints.end, (prints.lines, prints.end, prints.is, refl), whole printed.output is))
+      (λ printed is. (
+        text_of long max begun prints.lines prints.end,
+        (prints.lines, prints.end, prints.is, refl),
+        whole
+            printed.output is,
+      ))
       first stops
 
 -- the lines were refused
-pub stopped_at_lines : (tail : List PrintedLine → End → Type 0) (begun : Begun) (long : Bool) (max : Option ℕ) (output new_output : Option
+pub stopped_at_lines : (tail : List PrintedLine → End → Type 0) (begun : Begun) (long : Bool) (max : Option ℕ)
+    (output new_output : Option
     (List ℕ))
     (counts : Counts) (refusal : Refusal)
     → StopsPrinting NoText (IsTextOfFirst tail max begun) refusal (output_after output new_output counts)
-    → StopsPrinting (IsTextOfLines tail long max begun) (IsTextOfFirst tail max begun) refusal (output_after output new_output counts)
+    → StopsPrinting (IsTextOfLines tail long max begun) (IsTextOfFirst tail max begun) refusal
+    (output_after output new_output counts)
 stopped_at_lines tail begun long max output new_output counts refusal stops = grind arith

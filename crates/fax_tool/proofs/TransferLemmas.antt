@@ -26,11 +26,13 @@ pub more_written : (old mid new : Option (List ℕ)) (bytes rest : List ℕ) (n 
 more_written old mid new bytes rest n part appends = rw (rest_after rest n) (record {
   front = part.front ++ take n rest;
   parts =
-      part.parts ∙ ap (λ xs. part.front ++ xs) (sym (take-append-drop n rest)) ∙ sym (append_assoc part.front (take n rest) (drop n rest));
+      part.parts ∙ ap (λ xs. part.front ++ xs) (sym (take-append-drop n rest))
+      ∙ sym (append_assoc part.front (take n rest) (drop n rest));
   written = Appends-trans old mid new part.front (take n rest) part.written appends;
 })
 
-pub second_given : (old mid new : Option (List ℕ)) (first second : List ℕ) → Appends old mid first → Appends mid new second
+pub second_given : (old mid new : Option (List ℕ)) (first second : List ℕ) → Appends old mid first
+    → Appends mid new second
     → Appends old new (first ++ second)
 second_given old mid new first second = Appends-trans old mid new first second
 
@@ -39,7 +41,8 @@ pub first_given_in_part : (old new : Option (List ℕ)) (first second : List ℕ
     → IsGivenInPart old new first counts refusal → IsGivenInPart old new (first ++ second) counts refusal
 first_given_in_part old new first second counts refusal is = grind (arith, append_assoc)
 
-pub second_given_err : (old mid new : Option (List ℕ)) (first second : List ℕ) (counts : Counts) (answer : Result ⊤ Refusal)
+pub second_given_err : (old mid new : Option (List ℕ)) (first second : List ℕ) (counts : Counts)
+    (answer : Result ⊤ Refusal)
     → Appends old mid first → IfErr answer (IsGivenInPart mid new second counts)
     → IfErr answer (IsGivenInPart old new (first ++ second) counts)
 second_given_err old mid new first second counts answer given is = grind (arith, common_steps)

@@ -1,5 +1,6 @@
 -- What one use of an item does to the rows of a parse.
-use Rattle.std.proofs.Common.{◌≡◌, ◌<◌, ◌^◌, ◌&&◌, ◌++◌, arith, cond, refl, Bool, true, false, ℕ, append-nil, pos, List, [], ◌∷◌, Option}
+use Rattle.std.proofs.Common.{◌≡◌, ◌<◌, ◌^◌, ◌&&◌, ◌++◌, arith, cond, refl, Bool, true, false, ℕ, append-nil, pos, List}
+use Rattle.std.proofs.Common.{[], ◌∷◌, Option}
 use Rattle.std.proofs.Common.{Some, None, codes, length}
 use Rattle.std.specs.Prelude.{encode_utf8, not, nat_le, nat_lt}
 use Rattle.clap.specs.Kinds.{Kinds, or_else}
@@ -68,7 +69,8 @@ leaf name items = record (new_shape name)
     { rules = rules_of items; disable_help_flag = true; disable_help_subcommand = true; is_built = true }
 
 -- a use with a value
-pub option_used : (name : Text) (items : List Item) (item : Item) (value : Text) (rows : List Row) → IsItem item → is_option item ≡ true
+pub option_used : (name : Text) (items : List Item) (item : Item) (value : Text) (rows : List Row) → IsItem item
+    → is_option item ≡ true
     → taken (leaf name items) (rule_of item) (value ∷ []) rows ≡ enter rows (use_of item value)
 option_used name items item value rows fits is = grind (arith, set_step, number_test)
 

@@ -21,7 +21,8 @@ use Rattle.fax_tool.specs.code.Transfers.{IsGivenInPart}
 use Rattle.fax_tool.proofs.CommandLemmas.{text_done, text_stopped}
 
 module _ (bytes : Option (List ℕ)) (file : List ℕ) (same : IfSome bytes (λ b. file ≡ b)) (taken : ℕ) (counts : Counts)
-    (read : IsRead (input_after bytes taken counts)) (options : Options) (old new : Option (List ℕ)) (given : Counts) where
+    (read : IsRead (input_after bytes taken counts)) (options : Options) (old new : Option (List ℕ))
+    (given : Counts) where
   -- the text of a file that is converted
   abbrev converted_text : List ℕ → Printed
   converted_text output = record { output = output; error = []; status = 0 }
@@ -36,10 +37,12 @@ module _ (bytes : Option (List ℕ)) (file : List ℕ) (same : IfSome bytes (λ 
   pub converted : (output : List ℕ) → IsConverted file options output → Appends old new output → HasWorked given
       → IsDone (Convert options) (input_after bytes taken counts) (output_after old new given) None
   converted output is moved worked =
-      text_done (Convert options) bytes taken counts file old new given (converted_text output) None same read (inl (output, is, refl))
+      text_done (Convert options) bytes taken counts file old new given (converted_text output) None same read
+      (inl (output, is, refl))
       moved worked refl refl
 
-  pub not_converted : (fault : ConvertFault) (line : List ℕ) → (fault ≢ NoMemory → IsNotConverted file options fault) → IsLineOf fault line
+  pub not_converted : (fault : ConvertFault) (line : List ℕ) → (fault ≢ NoMemory → IsNotConverted file options fault)
+      → IsLineOf fault line
       → HasWorked given
       → IsDone (Convert options) (input_after bytes taken counts) (output_after old old given) (Some line)
   not_converted fault line refused is worked =
@@ -56,9 +59,11 @@ module _ (bytes : Option (List ℕ)) (file : List ℕ) (same : IfSome bytes (λ 
       text_stopped Check bytes taken counts file old new given (report_text report) refusal same read (report, is, refl)
       (rw text_is at part)
 
-  pub checked : (line : Option (List ℕ)) → Appends old new text → HasWorked given → (report_text report).error ≡ error_of line
+  pub checked : (line : Option (List ℕ)) → Appends old new text → HasWorked given
+      → (report_text report).error ≡ error_of line
       → (report_text report).status ≡ status_of line
       → IsDone Check (input_after bytes taken counts) (output_after old new given) line
   checked line moved worked error status =
-      text_done Check bytes taken counts file old new given (report_text report) line same read (report, is, refl) (rw text_is at moved)
+      text_done Check bytes taken counts file old new given (report_text report) line same read (report, is, refl)
+      (rw text_is at moved)
       worked error status

@@ -1,4 +1,5 @@
--- How clap reads the words of a flat command: one without subcommands, of options that take one value, of flags that have
+-- How clap reads the words of a flat command: one without subcommands, of options that take one value, of flags that
+-- have
 -- no letter, and of words at places, each of which takes one.
 use Rattle.std.specs.Prelude.{◌≡◌, ◌⊎◌, ◌+◌, ℕ, Bool, true, false, List, [], ◌∷◌, Option, Some, None, min, drop, length}
 use Rattle.std.specs.Prelude.{encode_utf8, if◌then◌else◌, option_and_then, slice_get}
@@ -9,7 +10,8 @@ use Rattle.clap.specs.Faults.{settle_fault, use_fault, walk_fault}
 use Rattle.clap.specs.Kinds.{Kinds}
 use Rattle.clap.specs.Lexer.{long_of, short_of, usize_max}
 use Rattle.clap.specs.Simple.{Shape}
-use Rattle.clap.specs.Walk.{Held, Row, Rule, Text, Waiting, Walk, action_of, arg_by_id, arg_by_index, arg_by_long, arg_by_short}
+use Rattle.clap.specs.Walk.{Held, Row, Rule, Text, Waiting, Walk, action_of, arg_by_id, arg_by_index, arg_by_long}
+use Rattle.clap.specs.Walk.{arg_by_short}
 use Rattle.clap.specs.Walk.{attached_value, is_append, most_values, settled, takes_values, used, walked}
 
 -- a rule that takes one value, and is found by its id
@@ -88,7 +90,8 @@ module _ (s : Shape) where
   Rest = Bool → Option Rule → ℕ → List Row → Option (List Row)
 
   abbrev pub after : Said → Bool → Text → ℕ → List Row → Rest → Option (List Row)
-  after (says a values) trailing word position rows next = option_and_then (next trailing None position) (taken a values rows)
+  after (says a values) trailing word position rows next = option_and_then (next trailing None position)
+      (taken a values rows)
   after (waits a) trailing word position rows next = next trailing (Some a) position rows
   after ends trailing word position rows next = next true None position rows
   after place trailing word position rows next =
@@ -103,9 +106,11 @@ module _ (s : Shape) where
   abbrev pub read : List Text → Rest
   read [] trailing None position rows = Some rows
   read [] trailing (Some a) position rows = None
-  read (word ∷ words) trailing None position rows = after (said s.rules trailing word) trailing word position rows (read words)
+  read (word ∷ words) trailing None position rows = after (said s.rules trailing word) trailing word position rows
+      (read words)
   read (word ∷ words) trailing (Some a) position rows =
-      if_place (said s.rules trailing word) (option_and_then (read words trailing None position) (taken a (word ∷ []) rows))
+      if_place (said s.rules trailing word) (option_and_then (read words trailing None position)
+      (taken a (word ∷ []) rows))
 
 -- ---- the walk
 

@@ -6,13 +6,16 @@ use Rattle.fax_tool.specs.code.Entries.{entries_of, given_by}
 use Rattle.fax_tool.specs.Job.{is_set, number_in, target_in}
 use Rattle.fax_tool.proofs.EntryReadLemmas.{flag_read, in_range, in_range_or, u32_read}
 use Rattle.fax_tool.proofs.words.options_of.Goals as goal
-use Rattle.fax_tool.proofs.words.options_of.Goals.{After-get_flag-aligned, After-get_one-2, else-aligned-via-then-aligned+else-not-has_eols}
+use Rattle.fax_tool.proofs.words.options_of.Goals.{After-get_flag-aligned, After-get_one-2}
+use Rattle.fax_tool.proofs.words.options_of.Goals.{else-aligned-via-then-aligned+else-not-has_eols}
 use Rattle.fax_tool.proofs.words.options_of.Goals.{else-aligned-via-else-aligned}
 
-target_named : (c : After-get_flag-aligned) → target_in (given_by (entries_of c.args.matches.now)) ≡ Some c.in_ok-target.target
+target_named : (c : After-get_flag-aligned) → target_in (given_by (entries_of c.args.matches.now))
+    ≡ Some c.in_ok-target.target
 target_named c = sym c.target_of.ensures ∙ c.in_ok-target.was
 
-flag : (c : After-get_flag-aligned) → c.get_flag-aligned.result ≡ is_set (codes "align") (given_by (entries_of c.args.matches.now))
+flag : (c : After-get_flag-aligned) → c.get_flag-aligned.result
+    ≡ is_set (codes "align") (given_by (entries_of c.args.matches.now))
 flag c =
     flag_read (found_of c.args.matches.now) (codes "align") c.get_flag-aligned.result c.requires.align
     c.get_flag-aligned.ensures.none c.get_flag-aligned.ensures.value c.get_flag-aligned.ensures.other
@@ -31,12 +34,14 @@ k_read c =
     u32_read (found_of c.args.matches.now) (codes "k") 1000000 c.get_one.result c.requires.k (lit< tt)
     c.get_one.ensures.none c.get_one.ensures.value
 
-strip_read : (c : After-get_one-2) → c.get_one-2.result ≡ number_in (codes "strip") (given_by (entries_of c.args.matches.now))
+strip_read : (c : After-get_one-2) → c.get_one-2.result ≡ number_in (codes "strip")
+    (given_by (entries_of c.args.matches.now))
 strip_read c =
     u32_read (found_of c.args.matches.now) (codes "strip") 1000000 c.get_one-2.result c.requires.strip (lit< tt)
     c.get_one-2.ensures.none c.get_one-2.ensures.value
 
-has_eols : (c : After-get_one-2) → c.get_flag-aligned.result ≡ true → (c.in_ok-target.target ≡ Pbm → ⊥) × (c.in_ok-target.target ≡ Mmr → ⊥)
+has_eols : (c : After-get_one-2) → c.get_flag-aligned.result ≡ true
+    → (c.in_ok-target.target ≡ Pbm → ⊥) × (c.in_ok-target.target ≡ Mmr → ⊥)
 has_eols c aligned = elim c.else-aligned.branch [
   | else-aligned-via-then-aligned+else-not-has_eols w ↦ w.has_eols.ensures.some w.if-not-has_eols.false
   | else-aligned-via-else-aligned w ↦ let none = w.if-aligned.false in cc
@@ -49,7 +54,8 @@ invariant_of-result c =
     record {
       some_k = rw (c.unwrap_or.ensures, k_read c) k;
       some_strip =
-          λ n is. (in_range (codes "strip") 1000000 (entries_of c.args.matches.now) c.requires.strip n (sym (strip_read c) ∙ is)).0;
+          λ n is. (in_range (codes "strip") 1000000 (entries_of c.args.matches.now) c.requires.strip n
+          (sym (strip_read c) ∙ is)).0;
       aligned_is_no_pbm = λ aligned. (has_eols c aligned).0;
       aligned_is_no_mmr = λ aligned. (has_eols c aligned).1;
     }

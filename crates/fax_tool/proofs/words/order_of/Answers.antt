@@ -13,7 +13,8 @@ read : (c : After-unwrap_or-order)
     → c.unwrap_or-order.result ≡ unwrap_or (number_in (codes "order") (given_by (entries_of c.args.matches.now))) 1
 read c =
     c.unwrap_or-order.ensures
-    ∙ ap (λ o. unwrap_or o 1) (u32_read (found_of c.args.matches.now) (codes "order") 2 c.get_one.result c.requires (lit< tt)
+    ∙ ap (λ o. unwrap_or o 1) (u32_read (found_of c.args.matches.now) (codes "order") 2 c.get_one.result c.requires
+    (lit< tt)
     c.get_one.ensures.none c.get_one.ensures.value)
 
 last_first : (o : Option ℕ) → unwrap_or o 1 ≡ 2 → LsbFirst ≡ order_by o

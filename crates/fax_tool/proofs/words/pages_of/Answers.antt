@@ -13,15 +13,18 @@ use Rattle.fax_tool.proofs.words.pages_of.Goals.{in-Some+in_ok-cursor-in-Some, i
 
 pub returns-in_err-cursor-in-Some-clause-err : goal.returns-in_err-cursor-in-Some-clause-err
 returns-in_err-cursor-in-Some-clause-err c =
-    let given = text_given (found_of c.args.matches.now) (codes "cursor") _ c.in-Some.text c.get_str.ensures c.in-Some.is in
+    let given = text_given (found_of c.args.matches.now) (codes "cursor") _ c.in-Some.text c.get_str.ensures
+    c.in-Some.is in
     on_err c.from_residual.result (c.in-Some.text.now, given, c.in_err-cursor-in-Some.ensures.err)
 
 pub returns-clause-ok : goal.returns-clause-ok
 returns-clause-ok c =
     let at = c.match-get_str.cursor in
-    let begun : Begins (first_of (codes "cursor") (entries_of c.args.matches.now)) at None = elim c.match-get_str.branch [
+    let begun : Begins (first_of (codes "cursor") (entries_of c.args.matches.now)) at None =
+    elim c.match-get_str.branch [
       | in-Some+in_ok-cursor-in-Some w ↦
-          let given = text_given (found_of c.args.matches.now) (codes "cursor") _ w.in-Some.text c.get_str.ensures w.in-Some.is in
+          let given = text_given (found_of c.args.matches.now) (codes "cursor") _ w.in-Some.text c.get_str.ensures
+          w.in-Some.is in
           subst (λ (o : Option Text). Begins o at None) (sym given)
           (w.in_ok-cursor-in-Some.ensures.ok ∙ ap cursor_text (sym w.cursor-is), refl)
       | in-None w ↦

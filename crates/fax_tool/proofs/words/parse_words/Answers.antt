@@ -25,7 +25,8 @@ use Rattle.fax_tool.proofs.words.parse_words.Goals.{In-Some}
 taken : (c : In-Some) → AreTaken (texts c.args.words.now)
 taken c = search rules
 
-named : (c : In-Some) → command_of (texts c.args.words.now) ≡ Some (c.in-Some.name.now, entries_of c.in-Some.of_command.now)
+named : (c : In-Some) → command_of (texts c.args.words.now) ≡ Some
+    (c.in-Some.name.now, entries_of c.in-Some.of_command.now)
 named c = search rules
 
 -- the words are texts
@@ -35,7 +36,8 @@ utf8 c = search rules
 -- what the words are read as
 of_words : (c : In-Some) → IsReadAs (texts c.args.words.now) c.in-Some.name.now (entries_of c.in-Some.of_command.now)
 of_words c =
-    taken_is_read (texts c.args.words.now) c.in-Some.name.now (entries_of c.in-Some.of_command.now) (utf8 c) (taken c) (named c)
+    taken_is_read (texts c.args.words.now) c.in-Some.name.now (entries_of c.in-Some.of_command.now) (utf8 c) (taken c)
+    (named c)
 
 pub command_of-requires : goal.command_of-requires
 command_of-requires c =
@@ -62,7 +64,8 @@ returns-clause-job c =
       name = c.in-Some.name.now;
       uses = of.0;
       named = of.1;
-      command = command_agrees entries of.0 of.2 c.in-Some.name.now c.in_ok-command_of.field-0 c.in_ok-command_of.ensures.command;
+      command = command_agrees entries of.0 of.2 c.in-Some.name.now c.in_ok-command_of.field-0
+          c.in_ok-command_of.ensures.command;
       cursors = c.in_ok-command_of.ensures.cursors;
       file = c.in_ok-file_of.ensures ∙ of.2.name;
     }

@@ -11,7 +11,8 @@ use Rattle.fax_tool.proofs.words.rows_of.Goals.{in-Some+in-Ok, in-Some+in-Err+in
 
 pub returns-in_err-from-in-Err-clause-err : goal.returns-in_err-from-in-Err-clause-err
 returns-in_err-from-in-Err-clause-err c =
-    let given = text_given (found_of c.args.matches.now) (codes "cursor") _ c.in-Some.text c.get_str.ensures c.in-Some.is in
+    let given = text_given (found_of c.args.matches.now) (codes "cursor") _ c.in-Some.text c.get_str.ensures
+    c.in-Some.is in
     long_err c.from_residual.result c.in_err-from-in-Err.field-0.0 c.from_residual.ensures.1
     (λ is. (c.in-Some.text.now, given, c.in-Err.ensures.err, c.in_err-from-in-Err.ensures.err is))
 
@@ -21,10 +22,12 @@ returns-clause-ok c =
     let q = c.match-get_str.from in
     let begun : Begins (first_of (codes "cursor") entries) q.0 q.1 = elim c.match-get_str.branch [
       | in-Some+in-Ok w ↦
-          let given = text_given (found_of c.args.matches.now) (codes "cursor") _ w.in-Some.text c.get_str.ensures w.in-Some.is in
+          let given = text_given (found_of c.args.matches.now) (codes "cursor") _ w.in-Some.text c.get_str.ensures
+          w.in-Some.is in
           subst (λ (o : Option Text). Begins o q.0 q.1) (sym given) (rw w.from-is (w.in-Ok.ensures.ok, refl))
       | in-Some+in-Err+in_ok-from-in-Err w ↦
-          let given = text_given (found_of c.args.matches.now) (codes "cursor") _ w.in-Some.text c.get_str.ensures w.in-Some.is in
+          let given = text_given (found_of c.args.matches.now) (codes "cursor") _ w.in-Some.text c.get_str.ensures
+          w.in-Some.is in
           subst (λ (o : Option Text). Begins o q.0 q.1) (sym given)
           (rw w.from-is (w.in_ok-from-in-Err.ensures.ok, ap (λ (place : LongPlace). place.at) w.from.view_is))
       | in-None w ↦

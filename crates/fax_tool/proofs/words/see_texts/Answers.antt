@@ -10,4 +10,5 @@ loop-word-preserved c =
     let words = c.args.words.now in
     let seen = c.as_bytes-seen.ensures in
     AllWithin-more IsUtf8 (texts words) 0 c.loop-word.word-index c.loop-word.invariant (λ d.
-    subst IsUtf8 (seen.value ∙ sym (get_or-map (λ word. word.now) words c.loop-word.word-index _ d c.loop-word-test.true)) seen.utf8)
+    subst IsUtf8 (seen.value ∙ sym (get_or-map (λ word. word.now) words c.loop-word.word-index _ d
+    c.loop-word-test.true)) seen.utf8)

@@ -9,11 +9,14 @@ use Rattle.fax_tool.proofs.words.target_of.Goals.{In_ok-get_str}
 
 pub returns-in_err-get_str : goal.returns-in_err-get_str
 returns-in_err-get_str c =
-    c.from_residual.ensures ∙ sym (ap (option_and_then target_of) (none_given (found_of c.args.matches.now) (codes "o") _ c.get_str.ensures
+    c.from_residual.ensures ∙ sym (ap (option_and_then target_of)
+    (none_given (found_of c.args.matches.now) (codes "o") _ c.get_str.ensures
     c.in_err-get_str.was))
 
-named : (c : In_ok-get_str) → target_in (given_by (entries_of c.args.matches.now)) ≡ target_of c.in_ok-get_str.field-0.now
-named c = ap (option_and_then target_of) (text_given (found_of c.args.matches.now) (codes "o") _ c.in_ok-get_str.field-0 c.get_str.ensures
+named : (c : In_ok-get_str) → target_in (given_by (entries_of c.args.matches.now))
+    ≡ target_of c.in_ok-get_str.field-0.now
+named c = ap (option_and_then target_of) (text_given (found_of c.args.matches.now) (codes "o") _ c.in_ok-get_str.field-0
+    c.get_str.ensures
     c.in_ok-get_str.was)
 
 pub returns-in-pbm : goal.returns-in-pbm
@@ -31,4 +34,5 @@ returns-in-mmr c = sym (named (goal.at.returns-in-mmr c).In_ok-get_str ∙ ap ta
 pub returns-in_default : goal.returns-in_default
 returns-in_default c =
     sym (named (goal.at.returns-in_default c).In_ok-get_str
-    ∙ no_target c.in_ok-get_str.field-0.now c.in_default.not-pbm c.in_default.not-mh c.in_default.not-mr c.in_default.not-mmr)
+    ∙ no_target c.in_ok-get_str.field-0.now c.in_default.not-pbm c.in_default.not-mh c.in_default.not-mr
+    c.in_default.not-mmr)

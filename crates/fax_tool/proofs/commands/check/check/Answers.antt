@@ -15,13 +15,17 @@ pub returns-in_err-give_all-clause-err : goal.returns-in_err-give_all-clause-err
 returns-in_err-give_all-clause-err g c =
     let is = rw c.deref.ensures.value at c.in_ok-report.ensures in
     passed_up c.from_residual-in_err-give_all.result _ _ c.from_residual-in_err-give_all.ensures.1
-    (check_stopped (g.R.Source.left c.args.input.now) c.in_ok-file.file.items c.in_ok-file.ensures.whole _ _ c.in_ok-file.ensures.read
-    (g.W.Sink.written c.args.out.now) _ _ c.in_ok-report.report is c.as_bytes.result.now (c.as_bytes.ensures ∙ c.in_ok-text.ensures) _
+    (check_stopped (g.R.Source.left c.args.input.now) c.in_ok-file.file.items c.in_ok-file.ensures.whole _ _
+    c.in_ok-file.ensures.read
+    (g.W.Sink.written c.args.out.now) _ _ c.in_ok-report.report is c.as_bytes.result.now
+    (c.as_bytes.ensures ∙ c.in_ok-text.ensures) _
     c.in_err-give_all.ensures.err)
 
 pub returns-clause-ok : goal.returns-clause-ok
 returns-clause-ok g c =
     let is = rw c.deref.ensures.value at c.in_ok-report.ensures in
-    checked (g.R.Source.left c.args.input.now) c.in_ok-file.file.items c.in_ok-file.ensures.whole _ _ c.in_ok-file.ensures.read
-    (g.W.Sink.written c.args.out.now) _ _ c.in_ok-report.report is c.as_bytes.result.now (c.as_bytes.ensures ∙ c.in_ok-text.ensures) _
+    checked (g.R.Source.left c.args.input.now) c.in_ok-file.file.items c.in_ok-file.ensures.whole _ _
+    c.in_ok-file.ensures.read
+    (g.W.Sink.written c.args.out.now) _ _ c.in_ok-report.report is c.as_bytes.result.now
+    (c.as_bytes.ensures ∙ c.in_ok-text.ensures) _
     c.in_ok-give_all.ensures.ok c.in_ok-give_all.ensures.worked c.fault_line.ensures.error c.fault_line.ensures.status

@@ -7,7 +7,8 @@ use Rattle.fax_tool.proofs.commands.print.print_lines.Given as goal
 abbrev pub invariant-loop-left : goal.invariant-loop-left
 invariant-loop-left g l = record {
   one : IsOne (g.L.Lines.tail l.initial.lines);
-  some : PrintsSome (g.L.Lines.tail l.initial.lines) (g.L.Lines.tail l.lines) (g.L.Lines.given l.lines) l.initial.left l.left
+  some : PrintsSome (g.L.Lines.tail l.initial.lines) (g.L.Lines.tail l.lines) (g.L.Lines.given l.lines) l.initial.left
+      l.left
       (g.W.Sink.written l.initial.out) (g.W.Sink.written l.out) l.text;
   begun : g.L.Lines.begun l.lines ≡ g.L.Lines.begun l.initial.lines;
   counts : g.W.Sink.counts l.out ≡ counted l.interruptions;

@@ -6,7 +6,8 @@ use Rattle.fax_tool.proofs.commands.print.rows.Goals as goal
 pub returns-in_err-begun-clause-err : goal.returns-in_err-begun-clause-err
 returns-in_err-begun-clause-err g c =
     passed_up c.from_residual.result _ _ c.from_residual.ensures.1 (rw (c.requires.input_counts, c.requires.taken)
-    (rows_unbegun c.beginnings_have_one_tail.ensures c.args.part.now _ (g.R.Source.left c.args.input.now) _ _ _ (search rules)
+    (rows_unbegun c.beginnings_have_one_tail.ensures c.args.part.now _ (g.R.Source.left c.args.input.now) _ _ _
+    (search rules)
     c.in_err-begun.ensures.err))
 
 pub returns-in_err-file-clause-err : goal.returns-in_err-file-clause-err

@@ -4,4 +4,8 @@ use Rattle.fax_tool.proofs.text.remembered.number_text.Goals as goal
 
 pub write_any-len-requires : goal.write_any-len-requires
 write_any-len-requires c =
-    omega (arith, length-decimal-le 4 c.args.number (omega arith) (omega (arith, c.requires)) (omega (arith, c.requires)))
+    omega (
+      arith,
+      length-decimal-le 4 c.args.number (omega arith) (omega (arith, c.requires))
+          (omega (arith, c.requires)),
+    )

@@ -7,7 +7,8 @@ pub loop-run-preserved : goal.loop-run-preserved
 loop-run-preserved c =
     let next = c.in-Some.ensures in
     record {
-      text = next_run (take c.loop-run.end c.loop-run.bytes) _ c.loop-run.runs c.next_run.new.self c.in-Some.run' next.first
+      text = next_run (take c.loop-run.end c.loop-run.bytes) _ c.loop-run.runs c.next_run.new.self c.in-Some.run'
+          next.first
           c.write_number-end.ensures.written ∙ c.loop-run.invariant.text;
       room = omega (
         arith,

@@ -7,7 +7,8 @@ use Rattle.fax_tool.proofs.text.row_line.write_runs.Given as goal
 -- what is written and what is due are all runs, after what stood there
 abbrev pub invariant-loop-eight : goal.invariant-loop-eight
 invariant-loop-eight l = record {
-  text : take l.end l.bytes ++ flat_map and_number l.runs ≡ take l.at l.initial.bytes ++ flat_map and_number (runs_of l.row);
+  text : take l.end l.bytes ++ flat_map and_number l.runs ≡ take l.at l.initial.bytes
+      ++ flat_map and_number (runs_of l.row);
   room : l.end + 6 * length l.runs ≤ l.at + 6 * length (runs_of l.row);
 }
 

@@ -17,11 +17,13 @@ returns-in-Ok-None-clause-put c =
 pub returns-in_ok-end_of-in-Err-clause-put : goal.returns-in_ok-end_of-in-Err-clause-put
 returns-in_ok-end_of-in-Err-clause-put c =
     let next = rw c.in-Err.is at c.next_row.follows.holds-at-none in
-    let ended = rows_refused c.args.self.now c.next_row.follows.lender-at-none c.in-Err.fault _ next c.in_ok-end_of-in-Err.ensures in
+    let ended = rows_refused c.args.self.now c.next_row.follows.lender-at-none c.in-Err.fault _ next
+    c.in_ok-end_of-in-Err.ensures in
     lines_ended line_of_row IsTailFrom c.args.self.now _ _ c.args.text.now ended
 
 pub returns-in_ok-end_of-in-Err-clause-tail : goal.returns-in_ok-end_of-in-Err-clause-tail
 returns-in_ok-end_of-in-Err-clause-tail c =
     let next = rw c.in-Err.is at c.next_row.follows.holds-at-none in
-    let ended = rows_refused c.args.self.now c.next_row.follows.lender-at-none c.in-Err.fault _ next c.in_ok-end_of-in-Err.ensures in
+    let ended = rows_refused c.args.self.now c.next_row.follows.lender-at-none c.in-Err.fault _ next
+    c.in_ok-end_of-in-Err.ensures in
     λ lines end. rw ended.2 (λ are. are, λ are. are)

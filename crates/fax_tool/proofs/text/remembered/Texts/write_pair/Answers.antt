@@ -15,7 +15,8 @@ returns-then-first-ge-PAIRED-clause-within c =
 
 pub put_short-requires-clause-few : goal.put_short-requires-clause-few
 put_short-requires-clause-few c =
-    (c.self.invariant.1 c.from-first.result c.from-second.result c.in-Some.text (omega (arith, c.if-second-ge-PAIRED.false)) c.in-Some.ensures).few
+    (c.self.invariant.1 c.from-first.result c.from-second.result c.in-Some.text
+    (omega (arith, c.if-second-ge-PAIRED.false)) c.in-Some.ensures).few
 
 pub returns-in-Some-clause-within : goal.returns-in-Some-clause-within
 returns-in-Some-clause-within c =
