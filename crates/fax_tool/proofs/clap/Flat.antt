@@ -1,6 +1,5 @@
 -- How clap reads the words of a flat command: one without subcommands, of options that take one value, of flags that
--- have
--- no letter, and of words at places, each of which takes one.
+-- have no letter, and of words at places, each of which takes one.
 use Rattle.std.specs.Prelude.{◌≡◌, ◌⊎◌, ◌+◌, ℕ, Bool, true, false, List, [], ◌∷◌, Option, Some, None, min, drop, length}
 use Rattle.std.specs.Prelude.{encode_utf8, if◌then◌else◌, option_and_then, slice_get}
 use Rattle.std.specs.Str.{bytes_eq, chars}

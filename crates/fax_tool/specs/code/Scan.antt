@@ -1,14 +1,12 @@
 -- Tests of uses: by which option an item is written, whether it takes a text, and whether no item
 -- is used twice. They speak of our proof alone: `specs/Grammar.antt` says the same as relations.
 use Rattle.std.specs.Prelude.{◌==◌, ◌&&◌, ℕ, Bool, true, false, not, List, [], ◌∷◌, ◌++◌}
-use Rattle.std.specs.Prelude.{length, nat_le}
-use Rattle.std.specs.Prelude.{nat_lt}
+use Rattle.std.specs.Prelude.{length, nat_le, nat_lt}
 use Rattle.std.specs.Char.{digit_value}
 use Rattle.std.specs.List.{list_all, list_any}
 use Rattle.std.specs.Str.{bytes_eq}
 use Rattle.std.specs.Str.Parse.{digits_value, without_leading_plus}
-use Rattle.fax_tool.specs.Grammar.{Item, Text, Use, flag, letter, name_of, number}
-use Rattle.fax_tool.specs.Grammar.{text}
+use Rattle.fax_tool.specs.Grammar.{Item, Text, Use, flag, letter, name_of, number, text}
 
 -- the use of an item with this text
 abbrev pub use_of : Item → Text → Use
