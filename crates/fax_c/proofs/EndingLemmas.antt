@@ -29,8 +29,7 @@ use Rattle.fax_c.specs.views.Ended.{HasItsPages, TellsPagesEnded}
 use Rattle.fax_c.specs.views.Ended.{IsFileSoFar, AddsToPages, EndsWholeFile}
 
 -- the bytes of a page before the total that it says, and after it: of the fields PageNumber (297, two SHORTs, of type
--- 3) is the
--- last; StripOffsets (273) and StripByteCounts (279) are LONGs, of type 4
+-- 3) is the last; StripOffsets (273) and StripByteCounts (279) are LONGs, of type 4
 abbrev early_fields : ℕ → ℕ → PageForm → List (List ℕ) → List WrittenField
 early_fields start k form strips =
     let offsets = offsets_from start strips in
