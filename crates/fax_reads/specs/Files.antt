@@ -1,7 +1,7 @@
--- Files read by functions: the chain of directories, the page that a cursor names, and a file's rows
--- and forms in order, up to an end (TIFF 6.0, section 2; the faults are this project's profile). A
--- number `limit` is above the number of what is left: a chain has at most as many directories as the
--- file has bytes.
+-- Files read by functions: the chain of directories, the page that a cursor names, and a file's
+-- rows and forms in order, up to an end (TIFF 6.0, section 2; the faults are this project's
+-- profile). A number `limit` is above the number of what is left: a chain has at most as many
+-- directories as the file has bytes.
 use Rattle.std.specs.Prelude.{ℕ, zero, suc, ◌+◌, ◌-◌, ◌*◌, ◌/◌, ◌%◌, ◌==◌, ◌&&◌, if◌then◌else◌}
 use Rattle.std.specs.Prelude.{Bool, true, false, List, [], ◌∷◌, length, drop, Option, Some, None}
 use Rattle.std.specs.Prelude.{Result, Ok, Err, slice_get}
@@ -46,8 +46,8 @@ read_chain_from (suc limit) endian file before due =
 abbrev pub read_chain : Header → List ℕ → ChainRead
 read_chain head file = read_chain_from (length file + 1) head.endian file [] head.first
 
--- how the chain ends for a cursor that names none of its pages: at its fault, for the page after its
--- last directory and all after it, or properly, for row 0 of that page
+-- how the chain ends for a cursor that names none of its pages: at its fault, for the page after
+-- its last directory and all after it, or properly, for row 0 of that page
 abbrev pub chain_end : ChainRead → Cursor → End
 chain_end chain at =
     elim chain.end [

@@ -1,4 +1,4 @@
--- Worked runs and rows, and the codes that T.4 chooses for them. Each was worked out by T.4 and T.6.
+-- Worked runs and rows, and the codes that T.4 chooses for them, which were worked out by T.4.
 use Rattle.std.specs.Prelude.{◌≡◌, ℕ, List, codes}
 use Rattle.fax_bits.specs.declared.Colour.TheVariants.{White}
 use Rattle.fax_bits.specs.Written.{run_bits}
@@ -9,7 +9,7 @@ use Rattle.fax_reads.specs.laws.Examples.{pels, spelled}
 abbrev pub IsRunOf : ℕ → List ℕ → Type 0
 IsRunOf n text = run_bits White n ≡ spelled text
 
--- a row has these codes in one-dimensional coding, and over a reference row in two-dimensional coding
+-- a row has these codes in one-dimensional coding, and over a reference row in two dimensions
 abbrev pub IsRowOf : List ℕ → List ℕ → Type 0
 IsRowOf row text = one_dimensional_bits (pels row) ≡ spelled text
 

@@ -1,6 +1,6 @@
 -- Worked files, and what the relations say of them. Each answer was worked out by TIFF 6.0 and this
--- project's profile, so a wrong definition is an example that does not hold. Fields are named by the
--- numbers that TIFF 6.0 gives them.
+-- project's profile, so a wrong definition is an example that does not hold. Fields are named by
+-- the numbers that TIFF 6.0 gives them.
 use Rattle.std.specs.Prelude.{◌≡◌, ℕ, ◌+◌, ◌-◌, ◌*◌, ◌==◌, nat_lt, if◌then◌else◌, not, false}
 use Rattle.std.specs.Prelude.{List, [], ◌∷◌, ◌++◌, length, map, filter, flat_map, take, codes}
 use Rattle.fax_bits.specs.declared.Colour.{Colour}
@@ -8,10 +8,10 @@ use Rattle.fax_bits.specs.declared.FillOrder.TheVariants.{MsbFirst}
 use Rattle.fax_page.specs.declared.Coding.TheVariants.{Mh}
 use Rattle.fax_page.specs.declared.StripFault.TheVariants.{DataEnds, BadCode}
 use Rattle.fax_files.specs.declared.FileFault.{FileFault}
-use Rattle.fax_files.specs.declared.FileFault.TheVariants.{ShortHeader, ByteOrder, Magic, NoDirectory}
-use Rattle.fax_files.specs.declared.FileFault.TheVariants.{DirectoryOutside, DirectoryLoop}
-use Rattle.fax_files.specs.declared.FileFault.TheVariants.{MissingField, BadField, Unsupported}
-use Rattle.fax_files.specs.declared.FileFault.TheVariants.{OutOfLimits, StripOutside}
+use Rattle.fax_files.specs.declared.FileFault.TheVariants.{ShortHeader, ByteOrder, Magic}
+use Rattle.fax_files.specs.declared.FileFault.TheVariants.{NoDirectory, DirectoryOutside}
+use Rattle.fax_files.specs.declared.FileFault.TheVariants.{DirectoryLoop, MissingField, BadField}
+use Rattle.fax_files.specs.declared.FileFault.TheVariants.{Unsupported, OutOfLimits, StripOutside}
 use Rattle.fax_files.specs.Layout.{WrittenField, field_bytes, field_of, four, two}
 use Rattle.fax_walk.specs.declared.end.End.{End}
 use Rattle.fax_walk.specs.declared.end.End.TheVariants.{Proper, Fault}
@@ -214,7 +214,8 @@ pub record AreWholeFiles : Type 0 where
       (white_at 0 0 ∷ white_at 1 0 ∷ []) Proper
   pub strips : HasRows (two_strips 98) (white_at 0 0 ∷ white_at 0 1 ∷ []) Proper
   pub exchanged : HasRows (page_with (short 262 1)) (row_at 0 0 (codes "BBBBBBBB") ∷ []) Proper
-  pub lowest_bit_first : HasRows (file_of (short 266 2 ∷ with (short 273 98) page_fields) (0x01 ∷ []))
+  pub lowest_bit_first : HasRows (file_of (short 266 2 ∷ with (short 273 98) page_fields)
+      (0x01 ∷ []))
       (white_at 0 0 ∷ []) Proper
   pub one_dimensional : HasRows (file_of (with (short 259 3) page_fields) (0x98 ∷ []))
       (white_at 0 0 ∷ []) Proper

@@ -163,7 +163,8 @@ pub record AreSamplesRead : Type 0 where
       (Fault 0 1 (Strip DataEnds))
   pub mmr_rows : HasRows three_mmr_rows (rows_from 0 0 three_rows) Proper
   pub pages : HasRows three_pages
-      (row_at 0 0 (codes "WWWBBWWW") ∷ rows_from 1 0 three_rows ++ row_at 2 0 (codes "WWWBBWWW") ∷ [])
+      (row_at 0 0 (codes "WWWBBWWW") ∷ rows_from 1 0 three_rows
+      ++ row_at 2 0 (codes "WWWBBWWW") ∷ [])
       (Fault 2 1 (Strip DataEnds))
   pub damaged : HasRows damaged_fourth_page
       (rows_from 0 0 picture ++ rows_from 1 0 picture ++ rows_from 2 0 picture

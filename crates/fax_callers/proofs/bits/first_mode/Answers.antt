@@ -8,5 +8,6 @@ use Rattle.fax_callers.proofs.bits.first_mode.Goals as goal
 
 pub returns-clause-err : goal.returns-clause-err
 returns-clause-err c =
-    let left : c.new-source.result.left ≡ bits c.args.order c.args.bytes.now = ap (λ (source : Source). source.left) c.new-source.ensures in
+    let left : c.new-source.result.left ≡ bits c.args.order c.args.bytes.now =
+    ap (λ (source : Source). source.left) c.new-source.ensures in
     subst (λ b. IfErr c.read_code.result (λ fault. IsFaultOf modes b fault)) left c.read_code.ensures.err

@@ -21,10 +21,12 @@ loop-count-preserved c =
 pub returns-in-Ok-false : goal.returns-in-Ok-false
 returns-in-Ok-false c =
     let so_far = c.loop-count.invariant in
-    let at_end : IsAtEnd c.loop-count.reader c.advance.new.self = rw c.in-Ok-false.field-0-test at c.in-Ok-false.ensures in (
+    let at_end : IsAtEnd c.loop-count.reader c.advance.new.self =
+    rw c.in-Ok-false.field-0-test at c.in-Ok-false.ensures in (
       so_far.3,
       so_far.4,
-      c.strips_are_read_row_by_row.ensures.ends c.args.form c.args.bytes.now so_far.3 c.loop-count.reader c.advance.new.self
+      c.strips_are_read_row_by_row.ensures.ends c.args.form c.args.bytes.now so_far.3 c.loop-count.reader
+          c.advance.new.self
           so_far.5 at_end,
     )
 
@@ -36,7 +38,8 @@ returns-in-Err c =
       | inr meets ↦ (
         so_far.3,
         so_far.4,
-        c.strips_are_read_row_by_row.ensures.stops c.args.form c.args.bytes.now so_far.3 c.loop-count.reader c.advance.new.self
+        c.strips_are_read_row_by_row.ensures.stops c.args.form c.args.bytes.now so_far.3 c.loop-count.reader
+            c.advance.new.self
             c.in-Err.fault so_far.5 meets,
       )
     ]

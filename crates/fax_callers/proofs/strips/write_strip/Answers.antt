@@ -18,7 +18,8 @@ loop-row-preserved c =
     let row = c.row-item.result in
     let more = take_more rows i row c.loop-row-test.true ∙ ap (λ r. take i rows ++ r ∷ []) (sym c.row-item.is) in
     subst (λ them. HasPut c.args.form c.args.k them c.put_row.new.self) (sym more)
-    (c.strips_are_written_row_by_row.ensures.goes_on c.args.form c.args.k (take i rows) row c.loop-row.writer c.put_row.new.self
+    (c.strips_are_written_row_by_row.ensures.goes_on c.args.form c.args.k (take i rows) row c.loop-row.writer
+    c.put_row.new.self
     c.loop-row.invariant c.in_ok-put_row.ensures)
 
 pub returns : goal.returns
@@ -27,5 +28,6 @@ returns c =
     let all = take_all c.loop-row.row-index rows c.loop-row-test.false in
     let put = subst (λ them. HasPut c.args.form c.args.k them c.loop-row.writer) all c.loop-row.invariant in
     if_ok-weaker c.finish.result
-    (λ bytes ends. c.strips_are_written_row_by_row.ensures.finishes c.args.form c.args.k rows c.loop-row.writer bytes.items put ends)
+    (λ bytes ends. c.strips_are_written_row_by_row.ensures.finishes c.args.form c.args.k rows c.loop-row.writer
+    bytes.items put ends)
     c.finish.ensures
