@@ -20,13 +20,14 @@ use Rattle.fax_reads.proofs.StepGraph.{is_false}
 use Rattle.fax_reads.proofs.LineGraph.{IsOne, all_zeros, end_of_line as eol_is, many_end, zeros_is}
 
 -- an EOL of a return to control
-return_of : (coding : Coding) (b rest : List Bool) → IsReturnEol coding b rest
+pub return_of : (coding : Coding) (b rest : List Bool) → IsReturnEol coding b rest
     → after_return coding (after_one b) (has_few b) ≡ Some rest
 return_of Mh b rest eol = let at = eol_is b rest eol in cc (at.0, at.1)
 return_of Mr b rest eol = let at = eol_is b (true ∷ rest) eol in cc (at.0, at.1)
 return_of Mmr b rest eol = absurd eol
 
-is_return : (coding : Coding) (b rest : List Bool) (r : Option (List Bool)) (few : Bool) → IsOne b r → has_few b ≡ few
+pub is_return : (coding : Coding) (b rest : List Bool) (r : Option (List Bool)) (few : Bool) → IsOne b r
+    → has_few b ≡ few
     → after_return coding r few ≡ Some rest → IsReturnEol coding b rest
 is_return Mh b rest (Some after) false is at found =
     let same : after ≡ rest = cc (found) in subst (IsEndOfLine b) same (many_end b after is at)

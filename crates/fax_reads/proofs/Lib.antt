@@ -9,7 +9,10 @@ mod EndGraph
 mod ChainGraph
 mod FileGraph
 mod TailGraph
+mod NoteGraph
+mod ReportGraph
 mod FileExampleLemmas
 mod TailExampleLemmas
+mod ReportExampleLemmas
 pub mod SampleExampleLemmas
 pub mod CodedExampleLemmas

@@ -108,7 +108,7 @@ start_is Mmr i b = refl
 abbrev Start : Type 0
 Start = Result (Dimension × List Bool) StripFault
 
-start_of : (coding : Coding) (i : ℕ) (b : List Bool) (start : Start) → IsStart coding i b start
+pub start_of : (coding : Coding) (i : ℕ) (b : List Bool) (start : Start) → IsStart coding i b start
     → read_start coding i b ≡ start
 start_of Mh i b start (inl all) = cc (all_zeros b all.0, all.1)
 start_of Mh zero b start (inr (inl first)) = let at = below_eleven b first.0 in cc (at.1, at.2, first.2)

@@ -3,5 +3,7 @@ pub mod Examples
 pub mod Files
 pub mod FileExamples
 pub mod TailExamples
+pub mod Reports
+pub mod ReportExamples
 pub mod SampleExamples
 pub mod CodedExamples

@@ -6,6 +6,8 @@ ghost use Rattle.fax_reads.specs.laws.FileExamples.{AreFilesRead};
 ghost use Rattle.fax_reads.specs.laws.CodedExamples.{AreChosenSo};
 ghost use Rattle.fax_reads.specs.laws.SampleExamples.{AreSamplesRead};
 ghost use Rattle.fax_reads.specs.laws.TailExamples.{AreTailsRead};
+ghost use Rattle.fax_reads.specs.laws.Reports.{ReportsAreReadByAFunction};
+ghost use Rattle.fax_reads.specs.laws.ReportExamples.{AreReportsRead};
 
 /// A row of bits, or its fault, is what a function reads of them, in one-dimensional coding and in
 /// two-dimensional coding over a reference row (T.4, sections 4.1.1 and 4.2.1.3.3; T.6, section
@@ -88,3 +90,24 @@ pub fn samples_are_read()
 pub fn codes_are_chosen_so()
     ensures { AreChosenSo }
 {}
+
+/// What is reported of a file is what a function reads of its bytes (T.4, sections 4.1.1, 4.1.4 and
+/// 4.2.4; T.6, End-of-facsimile block; TIFF 6.0, section 2).
+pub fn reports_are_read_by_a_function()
+    ensures { ReportsAreReadByAFunction }
+{
+    fax_bits::laws::run_codes_are_read_in_one_way();
+    fax_bits::laws::codes_are_read_in_one_way::<fax_bits::Modes>();
+    fax_bits::laws::bits_stand_by_place();
+    fax_page::laws::lines_are_read_in_one_way();
+    fax_files::laws::files_have_one_chain();
+    fax_files::laws::forms_are_whole();
+    fax_page::laws::strips_are_noted_in_one_way();
+}
+
+/// Worked files have the reports that are meant.
+pub fn worked_reports_are_read()
+    ensures { AreReportsRead }
+{
+    reports_are_read_by_a_function();
+}

@@ -1,0 +1,196 @@
+-- What is worth a note in a strip, as functions say it, is how it is defined by relations.
+use Rattle.std.proofs.Common.{arith, ◌≡◌, ◌≢◌, ℕ, zero, suc, ◌+◌, ◌↔◌, ◌⊎◌, List, [], ◌∷◌, ◌++◌, Bool, true, false}
+use Rattle.std.proofs.Common.{true≢false, refl, ap, sym, ◌∙◌, subst, inl, inr, append-nil, IsTrue}
+use Rattle.std.proofs.Common.{Option, Some, None, Ok}
+use Rattle.std.specs.Prelude.{MatchOption, is_some, not, ◌&&◌, ◌||◌, unwrap_or}
+use Rattle.std.specs.List.{Contains}
+use Rattle.fax_bits.specs.declared.Colour.{Colour}
+use Rattle.fax_bits.specs.laws.Codes.{ReadsOneWay, ReadsRunsOneWay}
+use Rattle.fax_bits.specs.Bits.{BeginsWith}
+use Rattle.fax_bits.specs.Tables.{modes}
+use Rattle.fax_page.specs.declared.Coding.{Coding}
+use Rattle.fax_page.specs.declared.Coding.TheVariants.{Mh, Mr, Mmr}
+use Rattle.fax_page.specs.declared.StripForm.{StripForm}
+use Rattle.fax_page.specs.declared.StripFault.{StripFault}
+use Rattle.fax_page.specs.Lines.{IsLine, white_row}
+use Rattle.fax_page.specs.Strip.{AreLines, AreReturnEols, HasEndMark, HasOtherChoice, IsEndMark, IsNotedAs, end_bits}
+use Rattle.fax_page.specs.Strip.{row_bits}
+use Rattle.fax_reads.specs.Codes.{after_front}
+use Rattle.fax_reads.specs.Lines.{after_one, has_few, read_start}
+use Rattle.fax_reads.specs.Uncounted.{after_return}
+use Rattle.fax_reads.specs.Reports.{after_mark, after_returns, has_other_choice, is_all, is_mmr, is_other, strip_notes}
+use Rattle.fax_reads.proofs.CodeGraph.{front_is}
+use Rattle.fax_reads.proofs.EndGraph.{return_of, is_return}
+use Rattle.fax_reads.proofs.LineGraph.{line_of, start_of, zeros_is}
+
+-- the bits after EOLs of a return to control
+abbrev AreAfter : Coding → ℕ → List Bool → Option (List Bool) → Type 0
+AreAfter coding n b r =
+    MatchOption r ((rest : List Bool) × AreReturnEols coding n b rest → ⊥) (AreReturnEols coding n b)
+
+one_more : (coding : Coding) (n : ℕ) (b middle : List Bool) (r : Option (List Bool))
+    → after_return coding (after_one b) (has_few b) ≡ Some middle → AreAfter coding n middle r
+    → AreAfter coding (suc n) b r
+one_more coding n b middle (Some rest) at more =
+    (middle, is_return coding b middle (after_one b) (has_few b) (zeros_is b) refl at, more)
+one_more coding n b middle None at more = λ are.
+    let (rest, (other, eol, others)) = are in
+    let same : Some other ≡ Some middle = sym (return_of coding b other eol) ∙ at in
+    let is : other ≡ middle = cc (same) in
+    more (rest, subst (λ c. AreReturnEols coding n c rest) is others)
+
+by_return : (coding : Coding) (n : ℕ) (b : List Bool) (r : Option (List Bool))
+    → after_return coding (after_one b) (has_few b) ≡ r
+    → ((c : List Bool) → AreAfter coding n c (after_returns coding n c))
+    → AreAfter coding (suc n) b (elim r [ None ↦ None | Some rest ↦ after_returns coding n rest ])
+by_return coding n b None at more = λ are.
+    let (rest, (other, eol, others)) = are in
+    let same : Some other ≡ None = sym (return_of coding b other eol) ∙ at in absurd (cc (same))
+by_return coding n b (Some middle) at more = one_more coding n b middle (after_returns coding n middle) at (more middle)
+
+returns_are : (coding : Coding) (n : ℕ) (b : List Bool) → AreAfter coding n b (after_returns coding n b)
+returns_are coding zero b = refl
+returns_are coding (suc n) b =
+    by_return coding n b (after_return coding (after_one b) (has_few b)) refl (returns_are coding n)
+
+abbrev IsAfterMark : Coding → List Bool → Option (List Bool) → Type 0
+IsAfterMark coding b r = MatchOption r (HasEndMark coding b → ⊥) (IsEndMark coding b)
+
+mark_is : (coding : Coding) (b : List Bool) → IsAfterMark coding b (after_mark coding b)
+mark_is Mh b = returns_are Mh 6 b
+mark_is Mr b = returns_are Mr 6 b
+mark_is Mmr b = front_is (end_bits Mmr) b
+
+has_mark : (coding : Coding) (b : List Bool) (r : Option (List Bool)) → IsAfterMark coding b r
+    → IsTrue (is_some r) ↔ HasEndMark coding b
+has_mark coding b None none = (λ is. absurd (true≢false (sym is)), λ mark. absurd (none mark))
+has_mark coding b (Some rest) is = (λ some. (rest, is), λ mark. refl)
+
+after_end : (coding : Coding) (b : List Bool) (r : Option (List Bool)) → IsAfterMark coding b r
+    → IsEndMark coding b (unwrap_or r b) ⊎ ((HasEndMark coding b → ⊥) × (unwrap_or r b ≡ b))
+after_end coding b None none = inr (none, refl)
+after_end coding b (Some rest) is = inl is
+
+no_block : (coding : Coding) (m : Bool) (P : Type 0) → IsTrue m ↔ P
+    → IsTrue (is_mmr coding && not m) ↔ ((coding ≡ Mmr) × (P → ⊥))
+no_block Mh m P is = (λ e. absurd (cc (e)), λ h. absurd (cc (h.0)))
+no_block Mr m P is = (λ e. absurd (cc (e)), λ h. absurd (cc (h.0)))
+no_block Mmr true P is = (λ e. absurd (cc (e)), λ h. absurd (h.1 (is.0 refl)))
+no_block Mmr false P is = (λ e. (refl, λ p. true≢false (sym (is.1 p))), λ h. refl)
+
+is_return_to : (coding : Coding) (m : Bool) (P : Type 0) → IsTrue m ↔ P
+    → IsTrue (not (is_mmr coding) && m) ↔ ((coding ≢ Mmr) × P)
+is_return_to Mh m P is = (λ e. ((λ same. cc (same)), is.0 e), λ h. is.1 h.1)
+is_return_to Mr m P is = (λ e. ((λ same. cc (same)), is.0 e), λ h. is.1 h.1)
+is_return_to Mmr m P is = (λ e. absurd (cc (e)), λ h. absurd (h.0 refl))
+
+-- a 1 is among the bits
+has_one : (b : List Bool) → IsTrue (is_some (after_one b)) ↔ Contains b true
+has_one [] = (λ e. absurd (cc (e)), λ has. absurd (omega (arith, has.1)))
+has_one (true ∷ b) = (λ e. (0, omega arith, refl), λ has. refl)
+has_one (false ∷ b) = (
+  λ e. let has = (has_one b).0 e in (suc has.0, omega (arith, has.1), has.2),
+  λ has. (has_one b).1 (later has),
+)
+  where
+    later : Contains (false ∷ b) true → Contains b true
+    later (zero, less, is) = absurd (true≢false (sym is))
+    later (suc k, less, is) = (k, omega (arith, less), is)
+
+-- codes that are a front and nothing more
+all_of : (front : List Bool) → after_front front front ≡ Some []
+all_of [] = refl
+all_of (true ∷ front) = all_of front
+all_of (false ∷ front) = all_of front
+
+is_front : (front b : List Bool) (r : Option (List Bool))
+    → MatchOption r (BeginsWith b front → ⊥) (λ rest. b ≡ front ++ rest)
+    → is_all r ≡ true → b ≡ front
+is_front front b None none e = absurd (true≢false (sym e))
+is_front front b (Some []) is e = is ∙ append-nil front
+is_front front b (Some (bit ∷ rest)) is e = absurd (true≢false (sym e))
+
+differ : (front b : List Bool) → b ≢ front → is_all (after_front front b) ≡ false
+differ front b other = by_test (is_all (after_front front b)) refl
+  where
+    by_test : (test : Bool) → is_all (after_front front b) ≡ test → test ≡ false
+    by_test false at = refl
+    by_test true at = absurd (other (is_front front b (after_front front b) (front_is front b) at))
+
+alike : (front b : List Bool) → b ≡ front → after_front front b ≡ Some []
+alike front b same = ap (after_front front) same ∙ all_of front
+
+module _ (runs_read : (colour : Colour) → ReadsRunsOneWay colour) (modes_read : ReadsOneWay modes) where
+  -- a choice that is defined to be other is said to be
+  abbrev tested : StripForm → ℕ → List Colour → List Colour → List (List Colour) → List Bool → List Bool → List Bool
+      → Bool
+  tested form i reference row rows codes coded rest =
+      not (is_all (after_front (coded ++ rest) codes)) || has_other_choice form (i + 1) row rest rows
+
+  test_is : (form : StripForm) (i : ℕ) (reference : List Colour) (b : List Bool) (row : List Colour)
+      (rows : List (List Colour)) (rest : List Bool) (line : IsLine form i reference b row rest)
+      → has_other_choice form i reference b (row ∷ rows)
+      ≡ tested form i reference row rows line.codes (row_bits line.dimension reference row) rest
+  test_is form i reference b row rows rest line =
+      let more : List Bool → Bool = λ left. has_other_choice form (i + 1) row left rows in
+      ap (is_other reference row more (read_start form.coding i b))
+      (line_of runs_read modes_read form i reference b row rest line)
+      ∙ ap (λ start. is_other reference row more start (Ok (row, rest)))
+      (start_of form.coding i b (Ok (line.dimension, line.codes)) line.start)
+
+  choice_of : (form : StripForm) (i : ℕ) (reference : List Colour) (b : List Bool) (rows : List (List Colour))
+      → HasOtherChoice form i reference b rows → has_other_choice form i reference b rows ≡ true
+  choice_of form i reference b [] other = absurd other
+  choice_of form i reference b (row ∷ rows) (rest, line, inl other) =
+      test_is form i reference b row rows rest line
+      ∙ ap (λ test. not test || has_other_choice form (i + 1) row rest rows)
+      (differ (row_bits line.dimension reference row ++ rest) line.codes other)
+  choice_of form i reference b (row ∷ rows) (rest, line, inr other) =
+      test_is form i reference b row rows rest line
+      ∙ or_true (not (is_all (after_front (row_bits line.dimension reference row ++ rest) line.codes)))
+      (choice_of form (i + 1) row rest rows other)
+    where
+      or_true : (test : Bool) {more : Bool} → more ≡ true → (test || more) ≡ true
+      or_true true e = refl
+      or_true false e = e
+
+  is_choice : (form : StripForm) (i : ℕ) (reference : List Colour) (b : List Bool) (rows : List (List Colour))
+      (end : Option StripFault) (left : List Bool) → AreLines form i reference b rows end left
+      → has_other_choice form i reference b rows ≡ true → HasOtherChoice form i reference b rows
+  is_choice form i reference b [] end left lines e = absurd (true≢false (sym e))
+  is_choice form i reference b (row ∷ rows) end left (rest, due, line, lines) e = (
+    rest,
+    line,
+    by_test (is_all (after_front (row_bits line.dimension reference row ++ rest) line.codes)) refl
+        (is_choice form (i + 1) row rest rows end left lines) (sym (test_is form i reference b row rows rest line) ∙ e),
+  )
+    where
+      by_test : (test : Bool) → is_all (after_front (row_bits line.dimension reference row ++ rest) line.codes) ≡ test
+          → (has_other_choice form (i + 1) row rest rows ≡ true → HasOtherChoice form (i + 1) row rest rows)
+          → (not test || has_other_choice form (i + 1) row rest rows) ≡ true
+          → (line.codes ≢ row_bits line.dimension reference row ++ rest)
+          ⊎ HasOtherChoice form (i + 1) row rest rows
+      by_test true at later more = inr (later more)
+      by_test false at later more = inl (λ same. true≢false (sym (ap is_all (alike _ _ same)) ∙ at))
+
+  -- a strip is noted so
+  pub notes_are : (form : StripForm) (b : List Bool) (rows : List (List Colour)) (left : List Bool)
+      → AreLines form 0 (white_row form.width) b rows None left
+      → IsNotedAs form b rows (strip_notes form b rows left)
+  notes_are form b rows left lines =
+      let r = after_mark form.coding left in
+      let is = mark_is form.coding left in
+      let mark = has_mark form.coding left r is in
+      record {
+        left = left;
+        lines = lines;
+        after = unwrap_or r left;
+        after_end = after_end form.coding left r is;
+        no_end_of_block = no_block form.coding (is_some r) (HasEndMark form.coding left) mark;
+        return_to_control = is_return_to form.coding (is_some r) (HasEndMark form.coding left) mark;
+        data_after_end = has_one (unwrap_or r left);
+        not_t4_choice = (
+          is_choice form 0 (white_row form.width) b rows None left lines,
+          choice_of form 0 (white_row form.width) b rows,
+        );
+      }

@@ -1,0 +1,36 @@
+-- The worked reports, computed.
+use Rattle.std.proofs.Common.{◌≡◌, ℕ, List, refl, ◌∙◌, sym}
+use Rattle.fax_bits.specs.Bits.{bits, byte_bits, code_bits}
+use Rattle.fax_bits.specs.Tables.{modes, white_runs, black_runs, white_terminating, black_terminating, white_make_up}
+use Rattle.fax_bits.specs.Tables.{black_make_up, common_make_up}
+use Rattle.fax_bits.specs.Written.{run_code_bits, mode_bits, run_bits}
+use Rattle.fax_rows.specs.Coded.{alternating_bits, step_bits}
+use Rattle.fax_rows.specs.Rows.{first_place, next_change, b1, runs_after}
+use Rattle.fax_files.specs.Directory.{number_at, header, entries_at, values_place, value_at, has_integers, scalar}
+use Rattle.fax_files.specs.Page.{rational_of, form_in, page, strip_bytes}
+use Rattle.fax_files.specs.Layout.{field_bytes}
+use Rattle.fax_reads.specs.Reports.{ReportRead, read_report}
+use Rattle.fax_reads.specs.laws.Reports.{ReportsAreReadByAFunction}
+use Rattle.fax_reads.specs.laws.ReportExamples.{AreReportsRead, HasReport}
+
+module _ (reads : ReportsAreReadByAFunction) where
+  has : (file : List ℕ) (read : ReportRead) → read_report file ≡ read → HasReport file read
+  has file read e report = (λ is. sym e ∙ (reads file report).0 is, λ same. (reads file report).1 (e ∙ same))
+
+  pub reports_read : AreReportsRead
+  unfolding bits byte_bits code_bits modes white_runs black_runs white_terminating black_terminating white_make_up
+      black_make_up common_make_up first_place next_change b1 number_at header entries_at values_place value_at
+      has_integers run_code_bits mode_bits run_bits alternating_bits step_bits runs_after
+      scalar rational_of form_in page strip_bytes field_bytes
+  reports_read = record {
+    row_alone = has _ _ refl;
+    end_of_block = has _ _ refl;
+    no_end_of_block = has _ _ refl;
+    six_eols = has _ _ refl;
+    one_after_the_row = has _ _ refl;
+    row_in_parts = has _ _ refl;
+    last_field_first = has _ _ refl;
+    two_notes = has _ _ refl;
+    loop = has _ _ refl;
+    strip_outside = has _ _ refl;
+  }

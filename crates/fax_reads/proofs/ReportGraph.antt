@@ -1,0 +1,389 @@
+-- What a function reports of a file is what is defined to be reported.
+use Rattle.std.proofs.Common.{arith, ◌≡◌, ℕ, zero, suc, ◌+◌, ◌-◌, ◌*◌, ◌<◌, ◌≤◌, List, [], ◌∷◌, ◌++◌, length, refl, ap}
+use Rattle.std.proofs.Common.{sym, ◌∙◌, subst, Bool, true, false, Option, Some, None, Ok, Err}
+use Rattle.std.specs.Prelude.{◌==◌, flat_map, if◌then◌else◌, nat_lt}
+use Rattle.std.proofs.lemmas.Bool.Decides.{nat_tests}
+use Rattle.fax_bits.specs.declared.Colour.{Colour}
+use Rattle.fax_bits.specs.laws.Codes.{AreBitsByPlace, ReadsOneWay, ReadsRunsOneWay}
+use Rattle.fax_bits.specs.Bits.{bits}
+use Rattle.fax_bits.specs.Tables.{modes}
+use Rattle.fax_page.specs.declared.StripFault.{StripFault}
+use Rattle.fax_page.specs.declared.notes.StripNotes.{StripNotes}
+use Rattle.fax_page.specs.Lines.{white_row}
+use Rattle.fax_page.specs.Strip.{AreLines, most_rows}
+use Rattle.fax_page.specs.views.Strip.{IsStrip}
+use Rattle.fax_page.specs.laws.Strips.{StripsAreNotedInOneWay}
+use Rattle.fax_files.specs.declared.FileFault.TheVariants.{StripOutside}
+use Rattle.fax_files.specs.declared.PageForm.{PageForm}
+use Rattle.fax_files.specs.Page.{strip_bytes, strip_form}
+use Rattle.fax_files.specs.laws.Files.{FilesHaveOneChain, FormsAreWhole, IsWholeForm}
+use Rattle.fax_walk.specs.declared.checking.Note.{Note}
+use Rattle.fax_walk.specs.declared.checking.Report.{Report}
+use Rattle.fax_walk.specs.declared.end.End.{End}
+use Rattle.fax_walk.specs.declared.walk.Place.{Place}
+use Rattle.fax_files.specs.declared.Cause.{Cause}
+use Rattle.fax_walk.specs.declared.end.End.TheVariants.{Proper, Fault, Outside}
+use Rattle.fax_walk.specs.Pages.{AreFrom, FilePage, IsPageAt, NextItem, goes_on, ends_as, File}
+use Rattle.fax_walk.specs.Items.{AreItems, IsRow, RowItem, RowPlace, first_at}
+use Rattle.fax_walk.specs.Report.{IsNoted, IsReport, IsReportedEnd, IsStripNoted, notes_on_strip}
+use Rattle.fax_walk.specs.code.Places.{first_on}
+use Rattle.fax_walk.proofs.EndLemmas.{never_outside}
+use Rattle.fax_walk.proofs.InOrderLemmas.{IsSingle, joined, ended_at, same_answer, single_from, two_of}
+use Rattle.fax_walk.proofs.PageLawLemmas.{one_page, page_few, proper_after, single_on_page}
+use Rattle.fax_walk.proofs.RowLawLemmas.{LinesAreRead, any_row, same_page, whole_page}
+use Rattle.fax_walk.proofs.StripPlaceLemmas.{in_strip, strip_count}
+use Rattle.fax_walk.proofs.StripRowLemmas.{row_at, strip_rows}
+use Rattle.fax_walk.proofs.TailLawLemmas.{files_have_one_items}
+use Rattle.fax_reads.specs.Lines.{StripRead, read_strip}
+use Rattle.fax_reads.specs.Files.{all_after, read_all, read_rows}
+use Rattle.fax_reads.specs.Reports.{ReportRead, fault_of, noted_by, noted_in, noted_on, pages_to, read_noted}
+use Rattle.fax_reads.specs.Reports.{read_notes, read_report, strip_notes}
+use Rattle.fax_reads.specs.laws.Reports.{ReportsAreReadByAFunction, parts_of}
+use Rattle.fax_reads.proofs.ChainGraph.{chain_of}
+use Rattle.fax_reads.proofs.FileGraph.{on_page, rows_are}
+use Rattle.fax_reads.proofs.NoteGraph.{notes_are}
+use Rattle.fax_reads.proofs.StripGraph.{lines_are, lines_of}
+
+abbrev Next : Type 0
+Next = ℕ × Option ℕ
+
+module _ (runs_read : (colour : Colour) → ReadsRunsOneWay colour) (modes_read : ReadsOneWay modes) where
+  -- what is noted of a strip
+  by_end : (form : PageForm) (p s : ℕ) (bytes : List ℕ) (rows : List (List Colour)) (left : List Bool)
+      (end : Option StripFault)
+      → AreLines (strip_form form s) 0 (white_row form.width) (bits form.order bytes) rows end left
+      → IsStripNoted form p s (Some bytes) (noted_by form p s (bits form.order bytes) rows left end)
+  by_end form p s bytes rows left None lines =
+      (rows, _, notes_are runs_read modes_read (strip_form form s) (bits form.order bytes) rows left lines, refl, refl)
+  by_end form p s bytes rows left (Some fault) lines = (rows, fault, left, lines, refl)
+
+  in_strip_is : (form : PageForm) (p s : ℕ) (found : Option (List ℕ))
+      → IsStripNoted form p s found (noted_in form p s found)
+  in_strip_is form p s None = refl
+  in_strip_is form p s (Some bytes) =
+      let strip = strip_form form s in
+      let b = bits form.order bytes in
+      let read = read_strip strip b in
+      by_end form p s bytes read.rows read.left read.end
+      (lines_are runs_read modes_read strip.rows strip 0 (white_row strip.width) b (omega arith))
+
+  module _ (chains : FilesHaveOneChain) (file : List ℕ) where
+    noted_is : (at : Next) → IsNoted file at (read_noted file at)
+    noted_is (p, None) =
+        on_page chains file (record { page = p; row = 0 })
+        (λ here (step : NextItem (List Note) Next). step ≡ noted_on file p None here) ends_as
+        (λ found. elim found [ Err end ↦ ends_as end | Ok here ↦ noted_on file p None here ])
+        (λ end. refl) (λ here. refl)
+    noted_is (p, Some s) =
+        on_page chains file (record { page = p; row = 0 })
+        (λ here. IsStripNoted here.form p s (strip_bytes here.endian file here.offset s)) ends_as
+        (λ found. elim found [ Err end ↦ ends_as end | Ok here ↦ noted_on file p (Some s) here ])
+        (λ end. refl) (λ here. in_strip_is here.form p s (strip_bytes here.endian file here.offset s))
+
+-- a strip that is due is one of its page
+abbrev IsDue : List ℕ → Next → Type 0
+IsDue file (p, None) = Unit {0}
+IsDue file (p, Some s) =
+    (here : FilePage) × IsPageAt file (record { page = p; row = 0 }) (Ok here) × (s < here.form.strips)
+
+-- more than what is left
+abbrev measure : List ℕ → Next → ℕ
+measure file (p, None) = (length file - p) * 1000002 + 1000001
+measure file (p, Some s) = (length file - p) * 1000002 + (1000000 - s)
+
+few_strips : (form : PageForm) → IsWholeForm form → (s : ℕ) → s < form.strips → s < 1000000
+few_strips form whole s due = by_rows form.rows_per_strip whole.some_in_strip (whole.needed s due)
+  where
+    by_rows : (n : ℕ) → 1 ≤ n → s * n < form.rows → s < 1000000
+    by_rows zero some less = absurd (omega (arith, some))
+    by_rows (suc n) some less = omega (arith, less, whole.rows)
+
+some_strips : (form : PageForm) → IsWholeForm form → 0 < form.strips
+some_strips form whole = by_count form.strips whole.enough
+  where
+    by_count : (n : ℕ) → form.rows ≤ n * form.rows_per_strip → 0 < n
+    by_count zero enough = absurd (omega (arith, enough, whole.some_rows))
+    by_count (suc n) enough = omega arith
+
+module _ (chains : FilesHaveOneChain) (forms : FormsAreWhole) (file : List ℕ) where
+  abbrev Falls : Next → Next → Type 0
+  Falls at to = IsDue file to × (measure file to < measure file at)
+
+  after_strip : (p s : ℕ) (here : FilePage) → IsPageAt file (record { page = p; row = 0 }) (Ok here)
+      → s < here.form.strips → (test : Bool) → (s + 1 == here.form.strips) ≡ test
+      → Falls (p, Some s) (if test then (p + 1, None) else (p, Some (s + 1)))
+  after_strip p s here page due true at =
+      let few = page_few chains file (record { page = p; row = 0 }) here page in
+      (tt, omega (arith, few))
+  after_strip p s here page due false at =
+      let few = few_strips here.form (whole_page file forms (record { page = p; row = 0 }) here page) s due in
+      let next : s + 1 < here.form.strips = grind (arith, nat_tests, at, due) in
+      ((here, page, next), omega (arith, few))
+
+  in_file : (p s : ℕ) (here : FilePage) → IsPageAt file (record { page = p; row = 0 }) (Ok here)
+      → s < here.form.strips → (found : Option (List ℕ)) (item : List Note) (to : Next)
+      → IsStripNoted here.form p s found (goes_on item to) → Falls (p, Some s) to
+  in_file p s here page due None item to is = absurd (cc (is))
+  in_file p s here page due (Some bytes) item to (rows, found, noted, is, to_is) =
+      subst (Falls (p, Some s)) (sym to_is) (after_strip p s here page due (s + 1 == here.form.strips) refl)
+
+  falls : (at : Next) (item : List Note) (to : Next) → IsDue file at → IsNoted file at (goes_on item to) → Falls at to
+  falls (p, None) item to due (Err end, page, is) = absurd (cc (is))
+  falls (p, None) item to due (Ok here, page, is) =
+      let to_is : to ≡ (p, Some 0) = cc (is) in
+      let some = some_strips here.form (whole_page file forms (record { page = p; row = 0 }) here page) in
+      subst (Falls (p, None)) (sym to_is) ((here, page, some), omega arith)
+  falls (p, Some s) item to due (Err end, page, is) = absurd (cc (is))
+  falls (p, Some s) item to (here, page, due) (Ok there, page', is) =
+      let same = same_page file chains (record { page = p; row = 0 }) there here page' page in
+      in_file p s here page due (strip_bytes here.endian file here.offset s) item to (rw same at is)
+
+  module _ (is : (at : Next) → IsNoted file at (read_noted file at)) where
+    by_step : (limit : ℕ) (at : Next) (step : NextItem (List Note) Next) → IsNoted file at step
+        → ((item : List Note) (to : Next) → IsNoted file at (goes_on item to)
+        → AreFrom (IsNoted file) to (read_all limit (read_noted file) to).items
+        (read_all limit (read_noted file) to).end)
+        → AreFrom (IsNoted file) at (all_after (read_all limit (read_noted file)) step).items
+        (all_after (read_all limit (read_noted file)) step).end
+    by_step limit at (ends_as end) here more = here
+    by_step limit at (goes_on item to) here more = (to, here, more item to here)
+
+    all_noted : (limit : ℕ) (at : Next) → IsDue file at → measure file at < limit
+        → AreFrom (IsNoted file) at (read_all limit (read_noted file) at).items
+        (read_all limit (read_noted file) at).end
+    all_noted zero at due few = absurd (omega (arith, few))
+    all_noted (suc limit) at due few =
+        by_step limit at (read_noted file at) (is at) (λ item to here. let less = falls at item to due here in
+        all_noted limit to less.0 (omega (arith, few, less.1)))
+
+    pub all_are : AreFrom (IsNoted file) (0, None) (read_notes file).items (read_notes file).end
+    all_are = all_noted ((length file + 1) * (most_rows + 2)) (0, None) tt (omega arith)
+
+-- the rows of a file from where notes are due on end as the notes do
+abbrev RowsFrom : List ℕ → ℕ × Option ℕ → End → Type 0
+RowsFrom file (p, None) end = (items : List RowItem) × AreFrom (IsRow file) (first_at p 0) items end
+RowsFrom file (p, Some s) end =
+    (here : FilePage) → IsPageAt file (record { page = p; row = 0 }) (Ok here) → s < here.form.strips
+    → (items : List RowItem) × AreFrom (IsRow file) (first_at p (s * here.form.rows_per_strip)) items end
+
+module _ (by_place : AreBitsByPlace) (lines_read : LinesAreRead) (chains : FilesHaveOneChain) (forms : FormsAreWhole)
+    (file : List ℕ) where
+  module _ (p s : ℕ) (here : FilePage) (page : IsPageAt file (record { page = p; row = 0 }) (Ok here))
+      (due : s < here.form.strips) where
+    abbrev n : ℕ
+    n = here.form.rows_per_strip
+
+    abbrev first : RowPlace
+    first = first_at p (s * n)
+
+    whole : IsWholeForm here.form
+    whole = whole_page file forms (record { page = p; row = 0 }) here page
+
+    pages : (r : ℕ) → IsPageAt file (record { page = p; row = r }) (Ok here)
+    pages r = any_row file (record { page = p; row = 0 }) r here page
+
+    -- a strip that is not whole
+    stops : (end : End) (found : Option (List ℕ)) → strip_bytes here.endian file here.offset s ≡ found
+        → IsStripNoted here.form p s found (ends_as end)
+        → (items : List RowItem) × AreFrom (IsRow file) first items end
+    stops end None none is =
+        let number = in_strip n s 0 (s * n) whole.some_in_strip (omega arith) in
+        let same : end ≡ Fault p (s * n) (File StripOutside) = cc (is) in (
+          [],
+          row_at by_place lines_read file here.endian here.offset here.form p pages whole (s * n) None None
+              (ends_as end) (rw number.0 none) (rw (number.0, same) refl),
+        )
+    stops end (Some bytes) there (rows, fault, left, lines, is) =
+        let strip : IsStrip (strip_form here.form s) (bits here.form.order bytes) rows (Some fault) =
+        record { left = left; lines = lines } in
+        let read = strip_rows by_place lines_read file here.endian here.offset here.form p pages whole s
+        (whole.needed s due) bytes there rows (Some fault) strip in
+        (read.items, ended_at (IsRow file) first read.to read.items end read.lead (rw is read.there))
+
+    -- after the rows of a whole strip
+    after_rows : (end : End) (rows : ℕ) → rows ≡ (strip_form here.form s).rows → (test : Bool)
+        → (s + 1 == here.form.strips) ≡ test
+        → RowsFrom file (if test then (p + 1, None) else (p, Some (s + 1))) end
+        → (items : List RowItem) × AreFrom (IsRow file) (first_on here.form p (s * n + rows)) items end
+    after_rows end rows count true at more =
+        let last : s + 1 ≡ here.form.strips = grind (arith, nat_tests, at) in
+        let all : here.form.rows ≤ (s + 1) * n = rw last whole.enough in
+        let total : s * n + rows ≡ here.form.rows = omega (arith, count, all, whole.needed s due) in
+        let test : nat_lt (s * n + rows) here.form.rows ≡ false = grind (arith, nat_tests, total) in
+        rw test more
+    after_rows end rows count false at more =
+        let next : s + 1 < here.form.strips = grind (arith, nat_tests, at, due) in
+        let below = whole.needed (s + 1) next in
+        let total : s * n + rows ≡ (s + 1) * n = omega (arith, count, below) in
+        let test : nat_lt ((s + 1) * n) here.form.rows ≡ true = grind (arith, nat_tests, below) in
+        rw (total, test) (more here page next)
+
+    -- a strip that has notes
+    goes : (end : End) (notes : List Note) (to : Next) (found : Option (List ℕ))
+        → strip_bytes here.endian file here.offset s ≡ found
+        → IsStripNoted here.form p s found (goes_on notes to) → RowsFrom file to end
+        → (items : List RowItem) × AreFrom (IsRow file) first items end
+    goes end notes to None none is more = absurd (cc (is))
+    goes end notes to (Some bytes) there (rows, found, noted, is, to_is) more =
+        let strip : IsStrip (strip_form here.form s) (bits here.form.order bytes) rows None =
+        record { left = noted.left; lines = noted.lines } in
+        let read = strip_rows by_place lines_read file here.endian here.offset here.form p pages whole s
+        (whole.needed s due) bytes there rows None strip in
+        let count = strip_count (strip_form here.form s) (bits here.form.order bytes) rows None strip in
+        let later = after_rows end (length rows) count (s + 1 == here.form.strips) refl
+        (subst (λ (t : Next). RowsFrom file t end) to_is more) in (
+          read.items ++ later.0,
+          joined (IsRow file) first read.to read.items later.0 end read.lead
+              (rw read.there later.1),
+        )
+
+  same : (p : ℕ) (here there : FilePage) → IsPageAt file (record { page = p; row = 0 }) (Ok here)
+      → IsPageAt file (record { page = p; row = 0 }) (Ok there) → here ≡ there
+  same p here there page other = same_page file chains (record { page = p; row = 0 }) here there page other
+
+  not_ended : (p : ℕ) (here : FilePage) (end : End) → IsPageAt file (record { page = p; row = 0 }) (Ok here)
+      → IsPageAt file (record { page = p; row = 0 }) (Err end) → ⊥
+  not_ended p here end page none =
+      let at = same_answer (one_page chains file (record { page = p; row = 0 })) (Ok here) (Err end) page none in
+      absurd (cc (at))
+
+  agree : (at : Next) (notes : List (List Note)) (end : End) → AreFrom (IsNoted file) at notes end
+      → RowsFrom file at end
+  agree (p, None) [] end (Err e, page, is) = ([], (Err e, page, cc (is)))
+  agree (p, None) [] end (Ok here, page, is) = absurd (cc (is))
+  agree (p, None) (note ∷ notes) end (to, (Err e, page, is), rest) = absurd (cc (is))
+  agree (p, None) (note ∷ notes) end (to, (Ok here, page, is), rest) =
+      let to_is : to ≡ (p, Some 0) = cc (is) in
+      let more = subst (λ (t : Next). RowsFrom file t end) to_is (agree to notes end rest) in
+      let zero : 0 * here.form.rows_per_strip ≡ 0 = omega arith in
+      rw zero at
+      (more here page (some_strips here.form (whole_page file forms (record { page = p; row = 0 }) here page)))
+  agree (p, Some s) [] end (Err e, page, is) = λ here page' due. absurd (not_ended p here e page' page)
+  agree (p, Some s) [] end (Ok there, page, is) = λ here page' due.
+      stops p s here page' due end (strip_bytes here.endian file here.offset s) refl
+      (rw (same p here there page' page) is)
+  agree (p, Some s) (note ∷ notes) end (to, (Err e, page, is), rest) = λ here page' due.
+      absurd (not_ended p here e page' page)
+  agree (p, Some s) (note ∷ notes) end (to, (Ok there, page, is), rest) = λ here page' due.
+      goes p s here page' due end note to (strip_bytes here.endian file here.offset s) refl
+      (rw (same p here there page' page) is) (agree to notes end rest)
+
+-- where notes end properly, that page is after the last one
+in_strip_proper : (form : PageForm) (p s : ℕ) (found : Option (List ℕ)) → IsStripNoted form p s found (ends_as Proper)
+    → ⊥
+in_strip_proper form p s None is = absurd (cc (is))
+in_strip_proper form p s (Some bytes) (rows, fault, left, lines, is) = absurd (cc (is))
+
+proper_at : (file : List ℕ) (at : Next) (notes : List (List Note)) → AreFrom (IsNoted file) at notes Proper
+    → (p : ℕ) × IsPageAt file (record { page = p; row = 0 }) (Err Proper)
+proper_at file (p, None) [] (Err e, page, is) = (let same : Proper ≡ e = cc (is) in (p, rw same page))
+proper_at file (p, None) [] (Ok here, page, is) = absurd (cc (is))
+proper_at file (p, Some s) [] (Err e, page, is) = (let same : Proper ≡ e = cc (is) in (p, rw same page))
+proper_at file (p, Some s) [] (Ok here, page, is) =
+    absurd (in_strip_proper here.form p s (strip_bytes here.endian file here.offset s) is)
+proper_at file at (note ∷ notes) (to, step, rest) = proper_at file to notes rest
+
+count_is : FilesHaveOneChain → (file : List ℕ) (p : ℕ) → IsPageAt file (record { page = p; row = 0 }) (Err Proper)
+    → p ≡ pages_to file Proper
+count_is chains file p at =
+    let (its, none, count) = proper_after file p at in
+    rw (its.is_head, chain_of chains its.head file its.offsets its.fault its.chain, pages_to) count
+
+pub end_is : FilesHaveOneChain → (file : List ℕ) (items : List RowItem) (notes : List (List Note)) (end : End)
+    → AreItems file items end → AreFrom (IsNoted file) (0, None) notes end
+    → IsReportedEnd file end (pages_to file end) (fault_of end)
+end_is chains file items notes Proper are noted =
+    let at = proper_at file (0, None) notes noted in
+    (subst (λ p. IsPageAt file (record { page = p; row = 0 }) (Err Proper)) (count_is chains file at.0 at.1) at.1, refl)
+end_is chains file items notes (Fault p r cause) are noted = (refl, refl)
+end_is chains file items notes Outside are noted = absurd (never_outside chains file items are)
+
+module _ (runs_read : (colour : Colour) → ReadsRunsOneWay colour) (modes_read : ReadsOneWay modes)
+    (by_place : AreBitsByPlace) (lines_read : LinesAreRead) (chains : FilesHaveOneChain) (forms : FormsAreWhole) where
+  report_is : (file : List ℕ) (report : Report) → read_report file ≡ parts_of report → IsReport file report
+  report_is file report e =
+      let all = read_rows file in
+      let notes = read_notes file in
+      let are = rows_are runs_read modes_read by_place lines_read chains forms file (first_at 0 0) in
+      let noted = all_are chains forms file (noted_is runs_read modes_read chains file) in
+      let found = agree by_place lines_read chains forms file (0, None) notes.items notes.end noted in
+      let same = two_of (files_have_one_items by_place lines_read chains forms file) all.items found.0 all.end notes.end
+      are found.1 in
+      let noted_so = subst (AreFrom (IsNoted file) (0, None) notes.items) (sym same.1) noted in
+      let pages : pages_to file all.end ≡ report.pages = ap (λ (r : ReportRead). r.pages) e in
+      let fault : fault_of all.end ≡ report.fault = ap (λ (r : ReportRead). r.fault) e in
+      record {
+        items = all.items;
+        end = all.end;
+        read = are;
+        rows_are = sym (ap (λ (r : ReportRead). r.rows) e);
+        end_is = subst (λ f. IsReportedEnd file all.end report.pages f) fault
+            (subst (λ n. IsReportedEnd file all.end n (fault_of all.end)) pages
+            (end_is chains file all.items notes.items all.end are noted_so));
+        notes = notes.items;
+        noted = noted_so;
+        notes_are = sym (ap (λ (r : ReportRead). r.notes) e);
+      }
+
+  -- and what is defined is reported
+  module _ (once : StripsAreNotedInOneWay) where
+    strip_of : (form : PageForm) (p s : ℕ) (found : Option (List ℕ)) (step : NextItem (List Note) Next)
+        → IsStripNoted form p s found step → noted_in form p s found ≡ step
+    strip_of form p s None step is = sym is
+    strip_of form p s (Some bytes) (goes_on notes to) (rows, found, noted, is, to_is) =
+        let strip = strip_form form s in
+        let b = bits form.order bytes in
+        let read = lines_of runs_read modes_read strip.rows strip 0 (white_row strip.width) b rows None noted.left
+        (omega arith) noted.lines in
+        let same = once strip b rows rows (strip_notes strip b rows noted.left) found
+        (notes_are runs_read modes_read strip b rows noted.left noted.lines) noted in
+        let after : Next = if s + 1 == form.strips then (p + 1, None) else (p, Some (s + 1)) in
+        ap (λ (all : StripRead). noted_by form p s b all.rows all.left all.end) read
+        ∙ ap (λ (of : StripNotes). goes_on (notes_on_strip p s of) after) same ∙ rw (is, to_is) refl
+    strip_of form p s (Some bytes) (ends_as end) (rows, fault, left, lines, is) =
+        let strip = strip_form form s in
+        let b = bits form.order bytes in
+        let read = lines_of runs_read modes_read strip.rows strip 0 (white_row strip.width) b rows (Some fault) left
+        (omega arith) lines in
+        ap (λ (all : StripRead). noted_by form p s b all.rows all.left all.end) read ∙ rw is refl
+
+    single_strip : (form : PageForm) (p s : ℕ) (found : Option (List ℕ)) → IsSingle (IsStripNoted form p s found)
+    single_strip form p s found x y first second =
+        sym (strip_of form p s found x first) ∙ strip_of form p s found y second
+
+    single_noted : (file : List ℕ) (at : Next) → IsSingle (IsNoted file at)
+    single_noted file (p, None) =
+        single_on_page chains file (record { page = p; row = 0 })
+        (λ here (step : NextItem (List Note) Next). step ≡ noted_on file p None here) ends_as
+        (λ here x y first second. first ∙ sym second)
+    single_noted file (p, Some s) =
+        single_on_page chains file (record { page = p; row = 0 })
+        (λ here. IsStripNoted here.form p s (strip_bytes here.endian file here.offset s)) ends_as
+        (λ here. single_strip here.form p s (strip_bytes here.endian file here.offset s))
+
+    end_of : (file : List ℕ) (end : End) (pages : ℕ) (fault : Option (Place × Cause))
+        → IsReportedEnd file end pages fault → (pages_to file end ≡ pages) × (fault_of end ≡ fault)
+    end_of file Proper pages fault is = (sym (count_is chains file pages is.0), sym is.1)
+    end_of file (Fault p r cause) pages fault is = (sym is.0, sym is.1)
+    end_of file Outside pages fault is = absurd is
+
+    report_of : (file : List ℕ) (report : Report) → IsReport file report → read_report file ≡ parts_of report
+    report_of file report is =
+        let all = read_rows file in
+        let notes = read_notes file in
+        let rows = two_of (files_have_one_items by_place lines_read chains forms file) all.items is.items all.end is.end
+        (rows_are runs_read modes_read by_place lines_read chains forms file (first_at 0 0)) is.read in
+        let noted = single_from (IsNoted file) (single_noted file) (0, None) notes.items is.notes notes.end is.end
+        (all_are chains forms file (noted_is runs_read modes_read chains file)) is.noted in
+        let ends = end_of file is.end report.pages report.fault is.end_is in
+        parts (ap (flat_map (λ (own : List Note). own)) noted.0 ∙ sym is.notes_are)
+        (ap (pages_to file) rows.1 ∙ ends.0)
+        (ap (λ (l : List RowItem). length l) rows.0 ∙ sym is.rows_are) (ap fault_of rows.1 ∙ ends.1)
+      where
+        parts : {a b : List Note} {c d e f : ℕ} {g h : Option (Place × Cause)} → a ≡ b → c ≡ d → e ≡ f → g ≡ h
+            → ◌≡◌ {A = ReportRead} (record { notes = a; pages = c; rows = e; fault = g })
+            (record { notes = b; pages = d; rows = f; fault = h })
+        parts first second third fourth = cc (first, second, third, fourth)
+
+    pub reports_graph : ReportsAreReadByAFunction
+    reports_graph file report = (report_of file report, report_is file report)
