@@ -1,32 +1,32 @@
 -- How rows end, as a function says it, is how it is defined by relations.
 use Rattle.std.proofs.Common.{arith, ◌≡◌, ℕ, zero, suc, List, ◌∷◌, ◌++◌, Bool, true, false, true≢false, refl, ap, sym}
-use Rattle.std.proofs.Common.{◌∙◌, subst, Option, Some, None}
+use Rattle.std.proofs.Common.{◌∙◌, ◌↔◌, IsTrue, subst, Option, Some, None}
 use Rattle.std.specs.Prelude.{MatchOption, is_some, is_none}
-use Rattle.fax_bits.specs.Bits.{BeginsWith, IsAllZeros}
+use Rattle.fax_bits.specs.Bits.{IsAllZeros}
 use Rattle.fax_page.specs.declared.Coding.{Coding}
 use Rattle.fax_page.specs.declared.Coding.TheVariants.{Mh, Mr, Mmr}
 use Rattle.fax_page.specs.declared.RowsEnd.{RowsEnd}
 use Rattle.fax_page.specs.declared.RowsEnd.TheVariants.{Marked, DataEnd, Fault, TooMany}
 use Rattle.fax_page.specs.declared.StripFault.{StripFault}
 use Rattle.fax_page.specs.Lines.{IsEndOfLine}
-use Rattle.fax_page.specs.Strip.{AreReturnEols, HasEndMark, IsReturnEol, end_bits, end_of_line}
+use Rattle.fax_page.specs.Strip.{AreReturnEols, HasEndMark, IsEndMark, IsReturnEol, end_bits, end_of_line}
 use Rattle.fax_page.specs.Uncounted.{EndsSo, HasDataEnd}
-use Rattle.fax_reads.specs.Codes.{after_front}
 use Rattle.fax_reads.specs.Lines.{after_one, has_few, zeros}
 use Rattle.fax_reads.specs.laws.Graphs.{EndsAreToldByAFunction}
-use Rattle.fax_reads.specs.Uncounted.{after_return, are_returns, has_data_end, has_end_mark, end_by_stop, rows_end}
+use Rattle.fax_reads.specs.Uncounted.{after_mark, after_return, after_returns, has_data_end, has_end_mark}
+use Rattle.fax_reads.specs.Uncounted.{end_by_stop, rows_end}
 use Rattle.fax_reads.proofs.CodeGraph.{front_is}
 use Rattle.fax_reads.proofs.StepGraph.{is_false}
 use Rattle.fax_reads.proofs.LineGraph.{IsOne, all_zeros, end_of_line as eol_is, many_end, zeros_is}
 
 -- an EOL of a return to control
-pub return_of : (coding : Coding) (b rest : List Bool) → IsReturnEol coding b rest
+return_of : (coding : Coding) (b rest : List Bool) → IsReturnEol coding b rest
     → after_return coding (after_one b) (has_few b) ≡ Some rest
 return_of Mh b rest eol = let at = eol_is b rest eol in cc (at.0, at.1)
 return_of Mr b rest eol = let at = eol_is b (true ∷ rest) eol in cc (at.0, at.1)
 return_of Mmr b rest eol = absurd eol
 
-pub is_return : (coding : Coding) (b rest : List Bool) (r : Option (List Bool)) (few : Bool) → IsOne b r
+is_return : (coding : Coding) (b rest : List Bool) (r : Option (List Bool)) (few : Bool) → IsOne b r
     → has_few b ≡ few
     → after_return coding r few ≡ Some rest → IsReturnEol coding b rest
 is_return Mh b rest (Some after) false is at found =
@@ -35,51 +35,54 @@ is_return Mr b rest (Some (true ∷ after)) false is at found =
     let same : true ∷ after ≡ true ∷ rest = cc (found) in subst (IsEndOfLine b) same (many_end b (true ∷ after) is at)
 is_return coding b rest r few is at found = absurd (cc (found))
 
-returns_of : (coding : Coding) (n : ℕ) (b rest : List Bool) → AreReturnEols coding n b rest
-    → are_returns coding n b ≡ true
-returns_of coding zero b rest are = refl
-returns_of coding (suc n) b rest are =
-    rw (return_of coding b are.0 are.1, are_returns) (returns_of coding n are.0 rest are.2)
+-- the bits after EOLs of a return to control
+abbrev AreAfter : Coding → ℕ → List Bool → Option (List Bool) → Type 0
+AreAfter coding n b r =
+    MatchOption r ((rest : List Bool) × AreReturnEols coding n b rest → ⊥) (AreReturnEols coding n b)
+
+one_more : (coding : Coding) (n : ℕ) (b middle : List Bool) (r : Option (List Bool))
+    → after_return coding (after_one b) (has_few b) ≡ Some middle → AreAfter coding n middle r
+    → AreAfter coding (suc n) b r
+one_more coding n b middle (Some rest) at more =
+    (middle, is_return coding b middle (after_one b) (has_few b) (zeros_is b) refl at, more)
+one_more coding n b middle None at more = λ are.
+    let (rest, (other, eol, others)) = are in
+    let same : Some other ≡ Some middle = sym (return_of coding b other eol) ∙ at in
+    let is : other ≡ middle = cc (same) in
+    more (rest, subst (λ c. AreReturnEols coding n c rest) is others)
 
 by_return : (coding : Coding) (n : ℕ) (b : List Bool) (r : Option (List Bool))
     → after_return coding (after_one b) (has_few b) ≡ r
-    → elim r [ None ↦ false | Some rest ↦ are_returns coding n rest ] ≡ true
-    → ((c : List Bool) → are_returns coding n c ≡ true → (rest : List Bool) × AreReturnEols coding n c rest)
-    → (rest : List Bool) × AreReturnEols coding (suc n) b rest
-by_return coding n b None at is more = absurd (true≢false (sym is))
-by_return coding n b (Some middle) at is more =
-    let after = more middle is in
-    (after.0, (middle, is_return coding b middle (after_one b) (has_few b) (zeros_is b) refl at, after.1))
+    → ((c : List Bool) → AreAfter coding n c (after_returns coding n c))
+    → AreAfter coding (suc n) b (elim r [ None ↦ None | Some rest ↦ after_returns coding n rest ])
+by_return coding n b None at more = λ are.
+    let (rest, (other, eol, others)) = are in
+    let same : Some other ≡ None = sym (return_of coding b other eol) ∙ at in absurd (cc (same))
+by_return coding n b (Some middle) at more = one_more coding n b middle (after_returns coding n middle) at (more middle)
 
-are_returns_of : (coding : Coding) (n : ℕ) (b : List Bool) → are_returns coding n b ≡ true → (rest : List Bool)
-    × AreReturnEols coding n b rest
-are_returns_of coding zero b is = (b, refl)
-are_returns_of coding (suc n) b is =
-    by_return coding n b (after_return coding (after_one b) (has_few b)) refl is
-    (λ c more. are_returns_of coding n c more)
+returns_are : (coding : Coding) (n : ℕ) (b : List Bool) → AreAfter coding n b (after_returns coding n b)
+returns_are coding zero b = refl
+returns_are coding (suc n) b =
+    by_return coding n b (after_return coding (after_one b) (has_few b)) refl (returns_are coding n)
 
--- a front of the bits
-front_of : (front b : List Bool) (r : Option (List Bool))
-    → MatchOption r (BeginsWith b front → ⊥) (λ rest. b ≡ front ++ rest)
-    → BeginsWith b front → is_some r ≡ true
-front_of front b None not begins = absurd (not begins)
-front_of front b (Some rest) is begins = refl
+abbrev pub IsAfterMark : Coding → List Bool → Option (List Bool) → Type 0
+IsAfterMark coding b r = MatchOption r (HasEndMark coding b → ⊥) (IsEndMark coding b)
 
-is_front : (front b : List Bool) (r : Option (List Bool))
-    → MatchOption r (BeginsWith b front → ⊥) (λ rest. b ≡ front ++ rest)
-    → is_some r ≡ true → BeginsWith b front
-is_front front b None not some = absurd (true≢false (sym some))
-is_front front b (Some rest) is some = (rest, is)
+pub mark_is : (coding : Coding) (b : List Bool) → IsAfterMark coding b (after_mark coding b)
+mark_is Mh b = returns_are Mh 6 b
+mark_is Mr b = returns_are Mr 6 b
+mark_is Mmr b = front_is (end_bits Mmr) b
+
+pub has_mark : (coding : Coding) (b : List Bool) (r : Option (List Bool)) → IsAfterMark coding b r
+    → IsTrue (is_some r) ↔ HasEndMark coding b
+has_mark coding b None none = (λ is. absurd (true≢false (sym is)), λ mark. absurd (none mark))
+has_mark coding b (Some rest) is = (λ some. (rest, is), λ mark. refl)
 
 mark_of : (coding : Coding) (b : List Bool) → HasEndMark coding b → has_end_mark coding b ≡ true
-mark_of Mh b mark = returns_of Mh 6 b mark.0 mark.1
-mark_of Mr b mark = returns_of Mr 6 b mark.0 mark.1
-mark_of Mmr b mark = front_of (end_bits Mmr) b (after_front (end_bits Mmr) b) (front_is (end_bits Mmr) b) mark
+mark_of coding b mark = (has_mark coding b (after_mark coding b) (mark_is coding b)).1 mark
 
 is_mark : (coding : Coding) (b : List Bool) → has_end_mark coding b ≡ true → HasEndMark coding b
-is_mark Mh b is = are_returns_of Mh 6 b is
-is_mark Mr b is = are_returns_of Mr 6 b is
-is_mark Mmr b is = is_front (end_bits Mmr) b (after_front (end_bits Mmr) b) (front_is (end_bits Mmr) b) is
+is_mark coding b is = (has_mark coding b (after_mark coding b) (mark_is coding b)).0 is
 
 -- the data ends
 zeros_of : (b : List Bool) (r : Option (List Bool)) → IsOne b r → is_none r ≡ true → IsAllZeros b

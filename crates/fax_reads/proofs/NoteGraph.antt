@@ -1,6 +1,6 @@
 -- What is worth a note in a strip, as functions say it, is how it is defined by relations.
 use Rattle.std.proofs.Common.{arith, ◌≡◌, ◌≢◌, ℕ, zero, suc, ◌+◌, ◌↔◌, ◌⊎◌, List, [], ◌∷◌, ◌++◌, Bool, true, false}
-use Rattle.std.proofs.Common.{true≢false, refl, ap, sym, ◌∙◌, subst, inl, inr, append-nil, IsTrue}
+use Rattle.std.proofs.Common.{true≢false, refl, ap, sym, ◌∙◌, inl, inr, append-nil, IsTrue}
 use Rattle.std.proofs.Common.{Option, Some, None, Ok}
 use Rattle.std.specs.Prelude.{MatchOption, is_some, not, ◌&&◌, ◌||◌, unwrap_or}
 use Rattle.std.specs.List.{Contains}
@@ -13,59 +13,17 @@ use Rattle.fax_page.specs.declared.Coding.TheVariants.{Mh, Mr, Mmr}
 use Rattle.fax_page.specs.declared.StripForm.{StripForm}
 use Rattle.fax_page.specs.declared.StripFault.{StripFault}
 use Rattle.fax_page.specs.Lines.{IsLine, white_row}
-use Rattle.fax_page.specs.Strip.{AreLines, AreReturnEols, HasEndMark, HasOtherChoice, IsEndMark, IsNotedAs, end_bits}
+use Rattle.fax_page.specs.Strip.{AreLines, HasEndMark, HasOtherChoice, IsEndMark, IsNotedAs}
 use Rattle.fax_page.specs.Strip.{row_bits}
 use Rattle.fax_reads.specs.Codes.{after_front}
-use Rattle.fax_reads.specs.Lines.{after_one, has_few, read_start}
-use Rattle.fax_reads.specs.Uncounted.{after_return}
-use Rattle.fax_reads.specs.Reports.{after_mark, after_returns, has_other_choice, is_all, is_mmr, is_other, strip_notes}
+use Rattle.fax_reads.specs.Lines.{after_one, read_start}
+use Rattle.fax_reads.specs.Uncounted.{after_mark}
+use Rattle.fax_reads.specs.Reports.{has_other_choice, is_all, is_mmr, is_other, strip_notes}
 use Rattle.fax_reads.proofs.CodeGraph.{front_is}
-use Rattle.fax_reads.proofs.EndGraph.{return_of, is_return}
-use Rattle.fax_reads.proofs.LineGraph.{line_of, start_of, zeros_is}
+use Rattle.fax_reads.proofs.EndGraph.{IsAfterMark, has_mark, mark_is}
+use Rattle.fax_reads.proofs.LineGraph.{line_of, start_of}
 
--- the bits after EOLs of a return to control
-abbrev AreAfter : Coding → ℕ → List Bool → Option (List Bool) → Type 0
-AreAfter coding n b r =
-    MatchOption r ((rest : List Bool) × AreReturnEols coding n b rest → ⊥) (AreReturnEols coding n b)
-
-one_more : (coding : Coding) (n : ℕ) (b middle : List Bool) (r : Option (List Bool))
-    → after_return coding (after_one b) (has_few b) ≡ Some middle → AreAfter coding n middle r
-    → AreAfter coding (suc n) b r
-one_more coding n b middle (Some rest) at more =
-    (middle, is_return coding b middle (after_one b) (has_few b) (zeros_is b) refl at, more)
-one_more coding n b middle None at more = λ are.
-    let (rest, (other, eol, others)) = are in
-    let same : Some other ≡ Some middle = sym (return_of coding b other eol) ∙ at in
-    let is : other ≡ middle = cc (same) in
-    more (rest, subst (λ c. AreReturnEols coding n c rest) is others)
-
-by_return : (coding : Coding) (n : ℕ) (b : List Bool) (r : Option (List Bool))
-    → after_return coding (after_one b) (has_few b) ≡ r
-    → ((c : List Bool) → AreAfter coding n c (after_returns coding n c))
-    → AreAfter coding (suc n) b (elim r [ None ↦ None | Some rest ↦ after_returns coding n rest ])
-by_return coding n b None at more = λ are.
-    let (rest, (other, eol, others)) = are in
-    let same : Some other ≡ None = sym (return_of coding b other eol) ∙ at in absurd (cc (same))
-by_return coding n b (Some middle) at more = one_more coding n b middle (after_returns coding n middle) at (more middle)
-
-returns_are : (coding : Coding) (n : ℕ) (b : List Bool) → AreAfter coding n b (after_returns coding n b)
-returns_are coding zero b = refl
-returns_are coding (suc n) b =
-    by_return coding n b (after_return coding (after_one b) (has_few b)) refl (returns_are coding n)
-
-abbrev IsAfterMark : Coding → List Bool → Option (List Bool) → Type 0
-IsAfterMark coding b r = MatchOption r (HasEndMark coding b → ⊥) (IsEndMark coding b)
-
-mark_is : (coding : Coding) (b : List Bool) → IsAfterMark coding b (after_mark coding b)
-mark_is Mh b = returns_are Mh 6 b
-mark_is Mr b = returns_are Mr 6 b
-mark_is Mmr b = front_is (end_bits Mmr) b
-
-has_mark : (coding : Coding) (b : List Bool) (r : Option (List Bool)) → IsAfterMark coding b r
-    → IsTrue (is_some r) ↔ HasEndMark coding b
-has_mark coding b None none = (λ is. absurd (true≢false (sym is)), λ mark. absurd (none mark))
-has_mark coding b (Some rest) is = (λ some. (rest, is), λ mark. refl)
-
+-- what stands after the end mark
 after_end : (coding : Coding) (b : List Bool) (r : Option (List Bool)) → IsAfterMark coding b r
     → IsEndMark coding b (unwrap_or r b) ⊎ ((HasEndMark coding b → ⊥) × (unwrap_or r b ≡ b))
 after_end coding b None none = inr (none, refl)

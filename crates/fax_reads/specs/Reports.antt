@@ -1,7 +1,6 @@
--- What is reported of a file that is checked, by functions (T.4, sections 4.1.1, 4.1.3, 4.1.4,
--- 4.2.1.3.3 and 4.2.4; T.6, End-of-facsimile block; TIFF 6.0, section 2; the rest is this
--- project's profile).
-use Rattle.std.specs.Prelude.{ℕ, zero, suc, ◌+◌, ◌*◌, ◌==◌, ◌&&◌, ◌||◌, not, if◌then◌else◌, Bool}
+-- What is reported of a file that is checked, by functions (T.4, sections 4.1.1, 4.1.4, 4.2.1.3.3
+-- and 4.2.4; T.6, End-of-facsimile block; TIFF 6.0, section 2; the rest is this project's profile).
+use Rattle.std.specs.Prelude.{ℕ, ◌+◌, ◌*◌, ◌==◌, ◌&&◌, ◌||◌, not, if◌then◌else◌, Bool}
 use Rattle.std.specs.Prelude.{true, false, List, [], ◌∷◌, ◌++◌, length, flat_map, Option, Some}
 use Rattle.std.specs.Prelude.{None, is_some, unwrap_or, Result, Ok, Err}
 use Rattle.fax_bits.specs.Bits.{bits}
@@ -13,7 +12,7 @@ use Rattle.fax_page.specs.declared.StripFault.{StripFault}
 use Rattle.fax_page.specs.declared.StripForm.{StripForm}
 use Rattle.fax_page.specs.declared.notes.StripNotes.{StripNotes}
 use Rattle.fax_page.specs.Lines.{white_row}
-use Rattle.fax_page.specs.Strip.{end_bits, most_rows, row_bits}
+use Rattle.fax_page.specs.Strip.{most_rows, row_bits}
 use Rattle.fax_files.specs.declared.Cause.{Cause}
 use Rattle.fax_files.specs.declared.FileFault.TheVariants.{StripOutside}
 use Rattle.fax_files.specs.declared.PageForm.{PageForm}
@@ -27,22 +26,9 @@ use Rattle.fax_walk.specs.declared.walk.Place.{Place}
 use Rattle.fax_walk.specs.Pages.{FilePage, NextItem, goes_on, ends_as, File, Strip}
 use Rattle.fax_walk.specs.Report.{note_if, notes_on_strip}
 use Rattle.fax_reads.specs.Codes.{after_front}
-use Rattle.fax_reads.specs.Lines.{after_one, has_few, read_line, read_start, read_strip}
-use Rattle.fax_reads.specs.Uncounted.{after_return}
+use Rattle.fax_reads.specs.Lines.{after_one, read_line, read_start, read_strip}
+use Rattle.fax_reads.specs.Uncounted.{after_mark}
 use Rattle.fax_reads.specs.Files.{AllRead, read_all, read_chain, read_page, read_rows}
-
--- the bits after so many EOLs of a return to control, and after an end mark
-abbrev pub after_returns : Coding → ℕ → List Bool → Option (List Bool)
-after_returns coding zero b = Some b
-after_returns coding (suc n) b =
-    elim (after_return coding (after_one b) (has_few b)) [
-      | None ↦ None
-      | Some rest ↦ after_returns coding n rest
-    ]
-
-abbrev pub after_mark : Coding → List Bool → Option (List Bool)
-after_mark Mmr b = after_front (end_bits Mmr) b
-after_mark coding b = after_returns coding 6 b
 
 -- nothing is left
 abbrev pub is_all : Option (List Bool) → Bool

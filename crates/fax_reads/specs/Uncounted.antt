@@ -18,19 +18,22 @@ after_return Mh (Some rest) false = Some rest
 after_return Mr (Some (true ∷ rest)) false = Some rest
 after_return _ _ _ = None
 
--- so many of them stand one after another
-abbrev pub are_returns : Coding → ℕ → List Bool → Bool
-are_returns coding zero b = true
-are_returns coding (suc n) b =
+-- the bits after so many of them, and after an end mark
+abbrev pub after_returns : Coding → ℕ → List Bool → Option (List Bool)
+after_returns coding zero b = Some b
+after_returns coding (suc n) b =
     elim (after_return coding (after_one b) (has_few b)) [
-      | None ↦ false
-      | Some rest ↦ are_returns coding n rest
+      | None ↦ None
+      | Some rest ↦ after_returns coding n rest
     ]
+
+abbrev pub after_mark : Coding → List Bool → Option (List Bool)
+after_mark Mmr b = after_front (end_bits Mmr) b
+after_mark coding b = after_returns coding 6 b
 
 -- the bits begin with an end mark
 abbrev pub has_end_mark : Coding → List Bool → Bool
-has_end_mark Mmr b = is_some (after_front (end_bits Mmr) b)
-has_end_mark coding b = are_returns coding 6 b
+has_end_mark coding b = is_some (after_mark coding b)
 
 -- after so many rows, and at least one, nothing is left but fill
 abbrev pub has_data_end : ℕ → List Bool → Bool
