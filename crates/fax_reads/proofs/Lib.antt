@@ -9,6 +9,8 @@ mod EndGraph
 mod ChainGraph
 mod FileGraph
 mod TailGraph
+mod HeadGraph
+mod ImageGraph
 mod FileExampleLemmas
 mod TailExampleLemmas
 pub mod SampleExampleLemmas

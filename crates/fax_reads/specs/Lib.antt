@@ -4,4 +4,5 @@ pub mod Lines
 pub mod Uncounted
 pub mod Files
 pub mod Tails
+pub mod Images
 pub mod laws

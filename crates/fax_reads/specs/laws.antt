@@ -5,3 +5,4 @@ pub mod FileExamples
 pub mod TailExamples
 pub mod SampleExamples
 pub mod CodedExamples
+pub mod Images

@@ -3,6 +3,7 @@ ghost use Rattle.fax_reads.specs.laws.Graphs as Law;
 ghost use Rattle.fax_reads.specs.laws.Examples.{AreRead};
 ghost use Rattle.fax_reads.specs.laws.Files.{FilesAreReadByFunctions, TailsAreReadByFunctions};
 ghost use Rattle.fax_reads.specs.laws.FileExamples.{AreFilesRead};
+ghost use Rattle.fax_reads.specs.laws.Images.{ImagesAreReadByFunctions};
 ghost use Rattle.fax_reads.specs.laws.CodedExamples.{AreChosenSo};
 ghost use Rattle.fax_reads.specs.laws.SampleExamples.{AreSamplesRead};
 ghost use Rattle.fax_reads.specs.laws.TailExamples.{AreTailsRead};
@@ -88,3 +89,11 @@ pub fn samples_are_read()
 pub fn codes_are_chosen_so()
     ensures { AreChosenSo }
 {}
+
+/// A header, an image, the fault in its place, and all images with their end are what functions
+/// read of the bytes (the netpbm format, P4).
+pub fn images_are_read_by_functions()
+    ensures { ImagesAreReadByFunctions }
+{
+    fax_files::laws::images_are_read_in_one_way();
+}
