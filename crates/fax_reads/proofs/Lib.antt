@@ -13,5 +13,6 @@ mod HeadGraph
 mod ImageGraph
 mod FileExampleLemmas
 mod TailExampleLemmas
+mod ImageExampleLemmas
 pub mod SampleExampleLemmas
 pub mod CodedExampleLemmas

@@ -6,3 +6,4 @@ pub mod TailExamples
 pub mod SampleExamples
 pub mod CodedExamples
 pub mod Images
+pub mod ImageExamples

@@ -4,6 +4,7 @@ ghost use Rattle.fax_reads.specs.laws.Examples.{AreRead};
 ghost use Rattle.fax_reads.specs.laws.Files.{FilesAreReadByFunctions, TailsAreReadByFunctions};
 ghost use Rattle.fax_reads.specs.laws.FileExamples.{AreFilesRead};
 ghost use Rattle.fax_reads.specs.laws.Images.{ImagesAreReadByFunctions};
+ghost use Rattle.fax_reads.specs.laws.ImageExamples.{AreImagesRead};
 ghost use Rattle.fax_reads.specs.laws.CodedExamples.{AreChosenSo};
 ghost use Rattle.fax_reads.specs.laws.SampleExamples.{AreSamplesRead};
 ghost use Rattle.fax_reads.specs.laws.TailExamples.{AreTailsRead};
@@ -96,4 +97,11 @@ pub fn images_are_read_by_functions()
     ensures { ImagesAreReadByFunctions }
 {
     fax_files::laws::images_are_read_in_one_way();
+}
+
+/// Worked images are read as they are meant.
+pub fn worked_images_are_read()
+    ensures { AreImagesRead }
+{
+    images_are_read_by_functions();
 }
