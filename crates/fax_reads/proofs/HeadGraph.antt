@@ -12,7 +12,7 @@ use Rattle.fax_files.specs.code.Pbm as Code
 use Rattle.fax_files.specs.code.Pbm.{begins_piece, has_digit, is_digit, is_line_end}
 use Rattle.fax_files.proofs.PbmGapLemmas.{gap_is_read, gap_passed, gap_has_no_digit, white_is_no_digit}
 use Rattle.fax_files.proofs.PbmNumberLemmas.{number_begins}
-use Rattle.fax_reads.proofs.RunGraph.{bound}
+use Rattle.fax_reads.proofs.RunGraph.{bound, goes}
 use Rattle.fax_reads.specs.Codes.{◌>>=◌}
 use Rattle.fax_reads.specs.Images.{after_magic, after_pieces, after_gap, read_digits, read_number, after_space}
 use Rattle.fax_reads.specs.Images.{HeadRead, read_head}
@@ -22,9 +22,6 @@ went : {A B F : Type 0} (r : Result A F) (next : A → Result B F) (b : B) → r
     → (a : A) × (r ≡ Ok a) × (next a ≡ Ok b)
 went (Ok a) next b is = (a, refl, is)
 went (Err fault) next b is = let no : ⊥ = cc in absurd no
-
-goes : {A B F : Type 0} (r : Result A F) (a : A) (next : A → Result B F) → r ≡ Ok a → r >>= next ≡ next a
-goes r a next is = ap (λ r. r >>= next) is
 
 -- gaps
 abbrev or_bad : Option (List ℕ) → Result (List ℕ) PbmFault
@@ -202,13 +199,15 @@ head_of bytes width height rest head =
     let some_width = number_begins head.width_digits width at_second head.width_is in
     let no_digit = gap_has_no_digit head.second_gap at_height head.second_is_gap in
     ap read_head head.spelled
-    ∙ goes (after_gap (head.first_gap ++ at_width)) at_width _ (gap_of head.first_gap at_width head.first_is_gap some_width)
-    ∙ goes (read_number at_width) (width, at_second) _
-    (number_of head.width_digits width at_second head.width_is no_digit)
-    ∙ goes (after_gap at_second) at_height _ (gap_of head.second_gap at_height head.second_is_gap some_height)
-    ∙ goes (read_number at_height) (height, at_space) _
-    (number_of head.height_digits height at_space head.height_is space_no_digit)
-    ∙ goes (after_space at_space) rest _ (space_of head.space rest head.space_is)
+    ∙ goes _ (gap_of head.first_gap at_width head.first_is_gap some_width) (
+    goes _ (number_of head.width_digits width at_second head.width_is no_digit) (
+    goes _ (gap_of head.second_gap at_height head.second_is_gap some_height) (
+    goes _ (number_of head.height_digits height at_space head.height_is space_no_digit) (
+    goes _ (space_of head.space rest head.space_is) refl
+    )
+    )
+    )
+    )
 
 -- a header that is not read has one fault
 abbrev IsBad : PbmFault → Type 0

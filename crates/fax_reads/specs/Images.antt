@@ -55,13 +55,13 @@ pub record HeadRead : Type 0 where
 
 abbrev pub read_head : List ℕ → Result HeadRead PbmFault
 read_head bytes =
-    after_magic bytes >>= (λ at_gap.
-    after_gap at_gap >>= (λ at_width.
-    read_number at_width >>= (λ width.
-    after_gap width.1 >>= (λ at_height.
-    read_number at_height >>= (λ height.
-    after_space height.1 >>= (λ rest.
-    Ok (record { width = width.0; height = height.0; rest = rest })))))))
+    after_magic bytes
+    >>= λ at_gap. after_gap at_gap
+    >>= λ at_width. read_number at_width
+    >>= λ width. after_gap width.1
+    >>= λ at_height. read_number at_height
+    >>= λ height. after_space height.1
+    >>= λ rest. Ok (record { width = width.0; height = height.0; rest = rest })
 
 -- an image after its header, and what stands after it
 abbrev pub read_raster : HeadRead → Result (Image × List ℕ) PbmFault
