@@ -11,12 +11,12 @@ use Rattle.fax_files.specs.Page.{is_between}
 use Rattle.fax_files.specs.Pbm.{Image, is_white_space, is_within_limits, raster_rows}
 use Rattle.fax_reads.specs.Codes.{◌>>=◌}
 
--- what stands after `P4`
+-- what stands after `P4`, the bytes 80 and 52
 abbrev pub after_magic : List ℕ → Result (List ℕ) PbmFault
 after_magic (p ∷ four ∷ bytes) = if (p == 80) && (four == 52) then (Ok bytes) else (Err BadHeader)
 after_magic _ = Err BadHeader
 
--- what stands after the pieces of a gap, in a comment or not, where something does
+-- what stands after pieces of a gap, in a comment (from `#`, 35) or not, where something does
 abbrev pub after_pieces : Bool → List ℕ → Result (List ℕ) PbmFault
 after_pieces in_comment [] = Err BadHeader
 after_pieces true (c ∷ bytes) = after_pieces (not ((c == 10) || (c == 13))) bytes
@@ -29,7 +29,7 @@ after_gap [] = Err BadHeader
 after_gap (c ∷ bytes) =
     if (c == 35) || is_white_space c then (after_pieces (c == 35) bytes) else (Err BadHeader)
 
--- the number that this one and the digits ahead spell, and what stands after them
+-- the number that the digits ahead spell after those of this one, and what stands after them
 abbrev pub read_digits : ℕ → List ℕ → ℕ × List ℕ
 read_digits number [] = (number, [])
 read_digits number (c ∷ bytes) =
