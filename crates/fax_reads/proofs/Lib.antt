@@ -14,5 +14,8 @@ mod ReportGraph
 mod FileExampleLemmas
 mod TailExampleLemmas
 mod ReportExampleLemmas
+mod HeadGraph
+mod ImageGraph
+mod ImageExampleLemmas
 pub mod SampleExampleLemmas
 pub mod CodedExampleLemmas

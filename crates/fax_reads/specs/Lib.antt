@@ -5,4 +5,5 @@ pub mod Uncounted
 pub mod Files
 pub mod Tails
 pub mod Reports
+pub mod Images
 pub mod laws

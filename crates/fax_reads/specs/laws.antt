@@ -7,3 +7,5 @@ pub mod Reports
 pub mod ReportExamples
 pub mod SampleExamples
 pub mod CodedExamples
+pub mod Images
+pub mod ImageExamples

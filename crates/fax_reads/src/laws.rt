@@ -3,6 +3,8 @@ ghost use Rattle.fax_reads.specs.laws.Graphs as Law;
 ghost use Rattle.fax_reads.specs.laws.Examples.{AreRead};
 ghost use Rattle.fax_reads.specs.laws.Files.{FilesAreReadByFunctions, TailsAreReadByFunctions};
 ghost use Rattle.fax_reads.specs.laws.FileExamples.{AreFilesRead};
+ghost use Rattle.fax_reads.specs.laws.Images.{ImagesAreReadByFunctions};
+ghost use Rattle.fax_reads.specs.laws.ImageExamples.{AreImagesRead};
 ghost use Rattle.fax_reads.specs.laws.CodedExamples.{AreChosenSo};
 ghost use Rattle.fax_reads.specs.laws.SampleExamples.{AreSamplesRead};
 ghost use Rattle.fax_reads.specs.laws.TailExamples.{AreTailsRead};
@@ -110,4 +112,19 @@ pub fn worked_reports_are_read()
     ensures { AreReportsRead }
 {
     reports_are_read_by_a_function();
+}
+
+/// A header, an image, the fault in its place, and all images with their end are what functions
+/// read of the bytes (the netpbm format, P4).
+pub fn images_are_read_by_functions()
+    ensures { ImagesAreReadByFunctions }
+{
+    fax_files::laws::images_are_read_in_one_way();
+}
+
+/// Worked images are read as they are meant.
+pub fn worked_images_are_read()
+    ensures { AreImagesRead }
+{
+    images_are_read_by_functions();
 }
