@@ -100,6 +100,17 @@ start_rest Mr i b dimension rest start =
     (record { front = tag_bit dimension ∷ []; parts = refl })
 start_rest Mmr i b dimension rest start = same b rest start.1
 
+-- so many bits stand before the codes of a row that begins
+pub start_among : (coding : Coding) (i : ℕ) (b : List Bool) (dimension : Dimension) (codes : List Bool)
+    → IsStarted coding i b dimension codes → (n : ℕ) × (n ≤ length b) × (drop n b ≡ codes)
+start_among coding i b dimension codes begun =
+    let from = start_rest coding i b dimension codes begun in
+    let count : length b ≡ length from.front + length codes = ap length from.parts ∙ length-append from.front codes in (
+      length from.front,
+      omega (arith, count),
+      ap (drop (length from.front)) from.parts ∙ drop-append_seam from.front codes,
+    )
+
 line_rest : (form : StripForm) (i : ℕ) (reference : List Colour) (b : List Bool) (row : List Colour) (rest : List Bool)
     → IsLine form i reference b row rest → EndsWith b rest
 line_rest form i reference b row rest line =

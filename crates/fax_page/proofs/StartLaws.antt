@@ -69,7 +69,7 @@ eol_is_not_zeros b rest eol all = no_one eol.0 all.0 rest (sym eol.2 ∙ all.1)
 pub eol_is_not_below : (b rest : List Bool) → IsEndOfLine b rest → BeginsBelowEleven b → ⊥
 eol_is_not_below b rest eol below = grind (arith, same_ahead)
 
-below_is_not_zeros : (b : List Bool) → BeginsBelowEleven b → IsAllZeros b → ⊥
+pub below_is_not_zeros : (b : List Bool) → BeginsBelowEleven b → IsAllZeros b → ⊥
 below_is_not_zeros b below all = no_one below.0 all.0 below.2.0 (sym below.2.1 ∙ all.1)
 
 pub same_eol : (b rest remaining : List Bool) → IsEndOfLine b rest → IsEndOfLine b remaining → rest ≡ remaining

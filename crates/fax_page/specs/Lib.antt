@@ -1,5 +1,6 @@
 pub mod Lines
 pub mod Strip
+pub mod Salvage
 pub mod Uncounted
 pub mod code
 pub mod laws

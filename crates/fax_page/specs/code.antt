@@ -5,3 +5,4 @@ pub mod LineStops
 pub mod Reader
 pub mod Writer
 pub mod Notes
+pub mod Salvage

@@ -3,3 +3,4 @@ pub mod Reader
 pub mod Writer
 pub mod Uncounted
 pub mod Following
+pub mod Salvage

@@ -2,3 +2,4 @@ pub mod Reader
 pub mod Writer
 pub mod NextRow
 pub mod Strip
+pub mod Salvage

@@ -5,6 +5,7 @@ ghost use Rattle.fax_page.specs.declared.StripForm.{StripForm};
 ghost use Rattle.fax_page.specs.laws.Strips as Law;
 ghost use Rattle.fax_page.specs.laws.Following as Following;
 ghost use Rattle.fax_page.specs.laws.Reader.{ReadsRowByRow, ReadsOn};
+ghost use Rattle.fax_page.specs.laws.Salvage as Salvage;
 ghost use Rattle.fax_page.specs.laws.Uncounted as Uncounted;
 ghost use Rattle.fax_page.specs.laws.Writer.{WritesRowByRow};
 
@@ -128,3 +129,30 @@ pub fn ends_stay_whatever_follows()
 {
     lines_are_read_in_one_way();
 }
+
+/// What is left of a damaged strip is found and lost in one way, from any row on, in any coding:
+/// there is one list of what becomes of its rows, of as many as it has.
+pub fn strips_are_salvaged_in_one_way()
+    ensures { Salvage.SalvagesStripsOneWay }
+{
+    lines_are_read_in_one_way();
+}
+
+/// The rows that are read before a fault are found: all of them, or where an EOL is missing after
+/// the last, all but that one.
+pub fn rows_before_a_fault_are_found()
+    ensures { Salvage.FindsRowsBeforeFaults }
+{
+    lines_are_read_in_one_way();
+}
+
+/// In MH and MR the row after a lost one is due at the next EOL, whatever bits that hold no EOL stand
+/// before it: so what is found after a lost row is the same whatever its bits were.
+pub fn lost_bits_do_not_matter()
+    ensures { Salvage.LostBitsDoNotMatter }
+{}
+
+/// A strip that is read wholly loses nothing: its rows are those that are found where all are.
+pub fn whole_strips_are_found()
+    ensures { Salvage.FindsWholeStrips }
+{}

@@ -7,6 +7,7 @@ ghost use Rattle.fax_page.specs.code.Starts.{HasEol, HasNoEol, IsFirstCodeFault,
 ghost use Rattle.fax_page.specs.code.Starts.{IsStarted, IsStartFault};
 ghost use Rattle.fax_page.specs.code.LineStops.{IsLineStop};
 ghost use Rattle.fax_page.specs.code.Notes.{IsChosen};
+ghost use Rattle.fax_page.specs.code.Salvage.{IsFirstEol, IsNextEol};
 
 use crate::{Coding, Dimension, StripFault, StripForm};
 use fax_rows::{BitSource, Row, RowFault, read_1d, read_2d, take_white_1d, take_white_2d};
@@ -171,6 +172,54 @@ pub(crate) fn line_fault(mut start: BitSource, form: StripForm, i: u32, why: Lin
         LineStop::Codes(cause) => match read_start(&mut start, form.coding, i) {
             Ok(_dimension) => stop(&start, cause),
             Err(fault) => fault,
+        },
+    }
+}
+
+/// Whether fewer than eleven zeros stand before the next 1: no EOL begins there (T.4, section 4.1.2).
+#[inline(always)]
+pub(crate) fn begins_below_eleven(source: &BitSource) -> bool
+    ensures yes { IsTrue result → Lines.BeginsBelowEleven source.now.left }
+    ensures no { result ≡ false → Lines.BeginsBelowEleven source.now.left → ⊥ }
+{
+    match source.zeros() {
+        Some(zeros) => zeros < EOL_ZEROS,
+        None => false,
+    }
+}
+
+/// Where the first EOL begins: its eleven zeros and its 1 (T.4, section 4.1.2).
+fn first_eol(source: &mut BitSource) -> Option<u64>
+    ensures { IsFirstEol source.old result }
+{
+    while let Some(zeros) = source.zeros() {
+        let left = source.remaining();
+        prove!(zeros < left);
+        source.skip(zeros + 1);
+        if zeros >= EOL_ZEROS {
+            return Some(source.place() - (EOL_ZEROS + 1));
+        }
+    }
+    None
+}
+
+/// Where the next EOL begins after row `i`, which begins at this source and is lost: after its own EOL
+/// and tag bit, if it has them. In MMR there is none.
+pub(crate) fn next_eol(start: BitSource, coding: Coding, i: u32) -> Option<u64>
+    ensures { IsNextEol coding i start.entry result }
+{
+    if let Coding::Mmr = coding {
+        return None;
+    }
+    let mut from = start.again();
+    match read_start(&mut from, coding, i) {
+        Ok(_dimension) => first_eol(&mut from),
+        Err(fault) => match fault {
+            StripFault::MissingEol => {
+                let mut from = start;
+                first_eol(&mut from)
+            }
+            _ => None,
         },
     }
 }

@@ -2,10 +2,10 @@
 ghost use Rattle.std.specs.Prelude.{◌≡◌, ◌*◌, ◌<◌, ◌≤◌, length, IfOk, IfSome, None};
 ghost use Rattle.std.specs.Borrow.{sem};
 
-use crate::lines::line_fault;
+use crate::lines::{begins_below_eleven, line_fault, next_eol, read_start};
 use crate::turns::RowsInTurn;
 use crate::uncounted::end_of_rows;
-use crate::{PlaceFault, RowBefore, RowsEnd, StripFault, StripForm};
+use crate::{Coding, Dimension, PlaceFault, RowBefore, RowsEnd, StripFault, StripForm};
 use fax_bits::laws::bits_stand_by_place;
 use fax_rows::{BitSource, Memory, Row};
 use std::alloc::Global;
@@ -58,6 +58,8 @@ impl<'a> StripReader<'a> {
     ghost use Rattle.fax_page.specs.views.Reader.{IsAdvance, bits_left};
     ghost use Rattle.fax_page.specs.Uncounted.{EndsSo};
     ghost use Rattle.fax_page.specs.views.NextRow.{EndsAs, IsDue, IsNextRow};
+    ghost use Rattle.fax_page.specs.Lines.{white_row};
+    ghost use Rattle.fax_page.specs.code.Salvage.{PassesLost, SaysTwoDimensional, SaysUnended};
 
     /// Before the first row of a strip in at most 4,294,967,295 bytes. It takes all the memory that
     /// the reading of strips of this width needs.
@@ -241,6 +243,82 @@ impl<'a> StripReader<'a> {
         ensures within { result ≤ self.now.form.rows }
     {
         self.row
+    }
+
+    /// Whether a row is due that is coded over the row before it. It is for readers of damaged strips.
+    #[cold]
+    pub(crate) fn begins_two_dimensional(&self) -> bool
+        requires { self.now.fault ≡ None }
+        ensures { SaysTwoDimensional self.now.form self.now.row (bits_left self.now) result }
+    {
+        if self.row == self.form.rows {
+            return false;
+        }
+        let mut ahead = self.source.again();
+        match read_start(&mut ahead, self.form.coding, self.row) {
+            Ok(Dimension::TwoDimensional) => true,
+            Ok(Dimension::OneDimensional) => false,
+            Err(_fault) => false,
+        }
+    }
+
+    /// Whether an EOL is due after the row that was read last, and something else follows it: in MH
+    /// and MR each row but a strip's last has an EOL after it, or nothing but zeros.
+    #[inline(always)]
+    pub(crate) fn lacks_eol(&self) -> bool
+        requires { self.now.fault ≡ None }
+        ensures { SaysUnended self.now.form self.now.row (bits_left self.now) result }
+    {
+        if self.form.coding == Coding::Mmr || self.row == self.form.rows {
+            return false;
+        }
+        begins_below_eleven(&self.source)
+    }
+
+    /// Goes before row `row` of the same strip, or after its last one, after so many bits, over a white
+    /// reference. A fault is forgotten. It takes no memory.
+    fn go_to(&mut self, row: u32, bits: u64)
+        requires row { row ≤ self.old.form.rows }
+        requires within { bits ≤ 8 * length self.old.bytes }
+        ensures { self.new ≡ restarted_at self.old self.old.bytes self.old.form.rows row bits
+            (white_row self.old.form.width) }
+    {
+        bits_stand_by_place();
+        let mut source = BitSource::new(self.bytes, self.form.order);
+        source.skip(bits);
+        self.read_before = self.rows_read();
+        self.source = source;
+        self.place = bits;
+        self.begun = row;
+        self.row = row;
+        RowsInTurn::whiten(&mut self.rows);
+        self.fault = None;
+    }
+
+    /// Goes on after row `row`, which is lost and begins after so many bits: before the next row, at the
+    /// next EOL, over a white reference; or after the strip's last row, where no EOL is left. How many
+    /// rows are lost so is answered. It takes no memory.
+    #[cold]
+    #[inline(never)]
+    pub(crate) fn pass_lost(&mut self, row: u32, bits: u64) -> u32
+        requires row { row < self.old.form.rows }
+        requires within { bits ≤ 8 * length self.old.bytes }
+        ensures { PassesLost self.old row bits result self.new }
+    {
+        bits_stand_by_place();
+        let rows = self.form.rows;
+        let mut start = BitSource::new(self.bytes, self.form.order);
+        start.skip(bits);
+        match next_eol(start, self.form.coding, row) {
+            Some(eol) => {
+                self.go_to(row + 1, eol);
+                1
+            }
+            None => {
+                self.go_to(rows, bits);
+                rows - row
+            }
+        }
     }
 
     /// How rows end that nobody counted, where the reader is past the last of them: its form has

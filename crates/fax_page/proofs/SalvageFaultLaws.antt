@@ -1,0 +1,151 @@
+-- The rows that are read before a fault are found, all but the last where an EOL is missing after it.
+use Rattle.std.proofs.Common.{arith, ◌≡◌, ℕ, ◌+◌, ◌-◌, List, [], ◌∷◌, ◌++◌, map, Bool, Some, None, refl}
+use Rattle.std.proofs.Common.{ap, inl, inr, replicate, suc, true, false, ◌≤◌, ◌∙◌}
+use Rattle.std.proofs.lemmas.Bool.Decides.{nat_tests}
+use Rattle.std.specs.Prelude.{◌≢◌, option_map}
+use Rattle.fax_bits.specs.declared.Colour.{Colour}
+use Rattle.fax_rows.specs.declared.RowFault.{RowFault}
+use Rattle.fax_page.specs.declared.StripFault.TheVariants.{MissingEol}
+use Rattle.fax_page.specs.Lines.{BeginsBelowEleven, Coding, Dimension, IsCause, IsLine, IsStopInCodes, Mh, Mmr, Mr}
+use Rattle.fax_page.specs.Lines.{StripFault, StripForm, strip_fault, white_row}
+use Rattle.fax_page.specs.Salvage.{AreSalvaged, IsEolDue, IsReadOver, SalvagedRow, after_eol, found, unended}
+use Rattle.fax_page.specs.Strip.{AreLines, end_of_line}
+use Rattle.fax_page.specs.code.Starts.{IsStartFault}
+use Rattle.fax_page.specs.laws.Salvage.{FindsRowsBeforeFaults, LostBitsDoNotMatter}
+use Rattle.fax_page.specs.laws.Strips.{ReadsLinesOneWay}
+use Rattle.fax_page.proofs.BegunLemmas.{start_fault}
+use Rattle.fax_page.proofs.SalvageLaws.{begins_with_eol, goes_on, has_rows}
+use Rattle.fax_page.proofs.SalvageLemmas.{at_one}
+use Rattle.fax_page.proofs.StartLaws.{below_is_not_zeros, eol_is_not_below}
+
+-- another fault than a missing EOL, where an EOL is due, is none of bits below eleven zeros
+no_code_there : (coding : Coding) (i : ℕ) (rest : List Bool) (fault : StripFault) → fault ≢ MissingEol
+    → IsStartFault coding i rest fault → BeginsBelowEleven rest → ⊥
+no_code_there Mh i rest fault other (inl all) below = below_is_not_zeros rest below all.0
+no_code_there Mh i rest fault other (inr missing) below = other missing.2
+no_code_there Mr i rest fault other (inl all) below = below_is_not_zeros rest below all.0
+no_code_there Mr i rest fault other (inr (inl cut)) below = eol_is_not_below rest [] cut.0 below
+no_code_there Mr i rest fault other (inr (inr missing)) below = other missing.1
+no_code_there Mmr i rest fault other none below = none
+
+none_missing : (form : StripForm) (i : ℕ) (row : List Colour) (rest : List Bool) (fault : StripFault)
+    → fault ≢ MissingEol → IsCause form (i + 1) row rest fault → IsEolDue form i → BeginsBelowEleven rest → ⊥
+none_missing form i row rest fault other (inl stop) due below =
+    no_code_there form.coding (i + 1) rest fault other (start_fault form.coding (i + 1) rest fault stop) below
+none_missing form i row rest fault other (inr (dimension, codes, begun, stop)) due below =
+    begins_with_eol form.coding i rest codes dimension due.0 begun below
+
+-- an EOL is missing where one is due
+eol_missing : (coding : Coding) (i : ℕ) (rest : List Bool) → IsStartFault coding i rest MissingEol
+    → (coding ≢ Mmr) × BeginsBelowEleven rest
+eol_missing Mh i rest (inl all) = absurd (let ends = all.1 in cc)
+eol_missing Mh i rest (inr missing) = (λ mmr. cc, missing.1)
+eol_missing Mr i rest (inl all) = absurd (let ends = all.1 in cc)
+eol_missing Mr i rest (inr (inl cut)) = absurd (let ends = cut.1 in cc)
+eol_missing Mr i rest (inr (inr missing)) = (λ mmr. cc, missing.0)
+eol_missing Mmr i rest none = absurd none
+
+no_fault_of_codes : (cause : RowFault) → MissingEol ≡ strip_fault cause → ⊥
+no_fault_of_codes cause is = grind arith
+
+-- codes never stop with it
+none_in_codes : (dimension : Dimension) (width : ℕ) (reference : List Colour) (codes : List Bool)
+    → IsStopInCodes dimension width reference codes MissingEol → ⊥
+none_in_codes dimension width reference codes (inl (after, is, marker)) = cc
+none_in_codes dimension width reference codes (inr (inl (zeros, few, is, ends))) = cc
+none_in_codes dimension width reference codes (inr (inr (below, cause, in_codes, is))) = no_fault_of_codes cause is
+
+lacks_eol : (form : StripForm) (i : ℕ) (row : List Colour) (rest : List Bool) → IsCause form i row rest MissingEol
+    → (form.coding ≢ Mmr) × BeginsBelowEleven rest
+lacks_eol form i row rest (inl stop) =
+    eol_missing form.coding i rest (start_fault form.coding i rest MissingEol stop)
+lacks_eol form i row rest (inr (dimension, codes, begun, stop)) =
+    absurd (none_in_codes dimension form.width row codes stop)
+
+-- a row over the one before it, which is found
+over : (form : StripForm) (i : ℕ) (reference : List Colour) (b : List Bool) (row : List Colour) (rest : List Bool)
+    → IsLine form i reference b row rest → IsReadOver form i None reference b row rest
+over form i reference b row rest line = record { line = line; alone = λ lost_before. absurd (lost_before refl) }
+
+module _ (reads : (form : StripForm) (i : ℕ) (reference : List Colour) → ReadsLinesOneWay form i reference) where
+  ended : (form : StripForm) (i : ℕ) (row : List Colour) (rest : List Bool) (rows : List (List Colour))
+      (fault : StripFault) (left : List Bool) → fault ≢ MissingEol
+      → AreLines form (i + 1) row rest rows (Some fault) left → IsEolDue form i → BeginsBelowEleven rest → ⊥
+  ended form i row rest [] fault left other (same, low, cause) due below =
+      none_missing form i row rest fault other cause due below
+  ended form i row rest (next ∷ rows) fault left other (after, low, line, lines) due below =
+      begins_with_eol form.coding i rest line.codes line.dimension due.0 line.start below
+
+  all : (form : StripForm) (i : ℕ) (reference : List Colour) (b : List Bool) (rows : List (List Colour))
+      (fault : StripFault) (left : List Bool) → fault ≢ MissingEol → AreLines form i reference b rows (Some fault) left
+      → (others : List SalvagedRow) × AreSalvaged form i None reference b (map (λ row. found row) rows ++ others)
+  all form i reference b [] fault left other (same, low, cause) =
+      has_rows reads (form.rows - i) form i None reference b (omega (arith, low))
+  all form i reference b (row ∷ rows) fault left other (rest, low, line, lines) =
+      let later = all form (i + 1) row rest rows fault left other lines in (
+        later.0,
+        (
+          rest,
+          low,
+          over form i reference b row rest line,
+          ended form i row rest rows fault left other lines,
+          later.1,
+        ),
+      )
+
+  ended_before_last : (form : StripForm) (i : ℕ) (row : List Colour) (rest : List Bool) (rows : List (List Colour))
+      (last : List Colour) (left : List Bool)
+      → AreLines form (i + 1) row rest (rows ++ last ∷ []) (Some MissingEol) left → IsEolDue form i
+      → BeginsBelowEleven rest → ⊥
+  ended_before_last form i row rest [] last left (after, low, line, lines) due below =
+      begins_with_eol form.coding i rest line.codes line.dimension due.0 line.start below
+  ended_before_last form i row rest (next ∷ rows) last left (after, low, line, lines) due below =
+      begins_with_eol form.coding i rest line.codes line.dimension due.0 line.start below
+
+  all_but_last : (form : StripForm) (i : ℕ) (reference : List Colour) (b : List Bool) (rows : List (List Colour))
+      (last : List Colour) (left : List Bool)
+      → AreLines form i reference b (rows ++ last ∷ []) (Some MissingEol) left
+      → (others : List SalvagedRow)
+      × AreSalvaged form i None reference b (map (λ row. found row) rows ++ unended last ∷ others)
+  all_but_last form i reference b [] last left (rest, low, line, (same, low_after, cause)) =
+      let lacks = lacks_eol form (i + 1) last rest cause in
+      let later = goes_on reads form i b MissingEol (λ due. has_rows reads (form.rows - (i + 1)) form (i + 1)
+      (Some MissingEol) (white_row form.width) due (omega (arith, low_after))) in (
+        later.0,
+        (rest, over form i reference b last rest line, (lacks.0, low_after), lacks.1, later.1),
+      )
+  all_but_last form i reference b (row ∷ rows) last left (rest, low, line, lines) =
+      let later = all_but_last form (i + 1) row rest rows last left lines in (
+        later.0,
+        (
+          rest,
+          low,
+          over form i reference b row rest line,
+          ended_before_last form i row rest rows last left lines,
+          later.1,
+        ),
+      )
+
+  pub rows_before_faults : FindsRowsBeforeFaults
+  rows_before_faults = record { all = all; all_but_last = all_but_last }
+
+-- ---- the next EOL
+
+-- an EOL is found after zeros that stand before it
+at_eol : (zeros n : ℕ) (rest : List Bool) → 11 ≤ zeros + n
+    → after_eol zeros (replicate n false ++ true ∷ rest) ≡ Some rest
+at_eol zeros n rest enough = at_one zeros n rest ∙ (grind (arith, nat_tests))
+
+-- the bits before it hold none
+past_lost : (zeros : ℕ) (lost rest : List Bool) → after_eol zeros lost ≡ None
+    → after_eol zeros (lost ++ end_of_line ++ rest) ≡ Some rest
+past_lost zeros [] rest none = at_eol zeros 11 rest (omega arith)
+past_lost zeros (false ∷ lost) rest none = past_lost (suc zeros) lost rest none
+past_lost zeros (true ∷ lost) rest none = grind (arith, past_lost 0 lost rest)
+
+pub lost_bits_do_not_matter : LostBitsDoNotMatter
+lost_bits_do_not_matter Mh lost rest other none =
+    ap (option_map (λ (c : List Bool). end_of_line ++ c)) (past_lost 0 lost rest none)
+lost_bits_do_not_matter Mr lost rest other none =
+    ap (option_map (λ (c : List Bool). end_of_line ++ c)) (past_lost 0 lost rest none)
+lost_bits_do_not_matter Mmr lost rest other none = absurd (other refl)

@@ -1,0 +1,23 @@
+use Rattle.fax_page.proofs.BegunLemmas.{start_is}
+use Rattle.fax_page.proofs.SalvageLemmas.{not_two, not_begun}
+use Rattle.fax_page.proofs.reader.StripReader.begins_two_dimensional.Goals as goal
+
+pub returns-in-Ok-TwoDimensional : goal.returns-in-Ok-TwoDimensional
+returns-in-Ok-TwoDimensional c =
+    let here = c.self.invariant.at_row (rw (← c.self.view_is) at c.requires) in
+    let begun = rw (c.again-ahead.ensures, here, c.in-Ok-TwoDimensional.field-0-is)
+    at c.in-Ok-TwoDimensional.ensures.ok in
+    rw (← c.self.view_is) (c.if-self.false, (_, start_is _ _ _ _ _ begun))
+
+pub returns-in-Ok-OneDimensional : goal.returns-in-Ok-OneDimensional
+returns-in-Ok-OneDimensional c =
+    let here = c.self.invariant.at_row (rw (← c.self.view_is) at c.requires) in
+    let begun = rw (c.again-ahead.ensures, here, c.in-Ok-OneDimensional.field-0-is)
+    at c.in-Ok-OneDimensional.ensures.ok in
+    rw (← c.self.view_is) (λ due two. not_two _ _ _ _ begun two)
+
+pub returns-in-Err : goal.returns-in-Err
+returns-in-Err c =
+    let here = c.self.invariant.at_row (rw (← c.self.view_is) at c.requires) in
+    let stop = rw (c.again-ahead.ensures, here) at c.in-Err.ensures.err in
+    rw (← c.self.view_is) (λ due two. not_begun _ _ _ _ stop two)

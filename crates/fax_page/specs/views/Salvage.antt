@@ -1,0 +1,65 @@
+-- A damaged strip of which the rows that are left are read, one after another.
+use Rattle.std.specs.Prelude.{◌≡◌, ℕ, ◌+◌, ◌-◌, ◌<◌, Bool, List, Option, Some}
+use Rattle.std.specs.Prelude.{None, MatchOption}
+use Rattle.fax_bits.specs.declared.Colour.{Colour}
+use Rattle.fax_page.specs.declared.StripForm.{StripForm}
+use Rattle.fax_page.specs.declared.StripFault.{StripFault}
+use Rattle.fax_page.specs.declared.StripFault.TheVariants.{MissingEol}
+use Rattle.fax_page.specs.declared.salvage.Salvaged.{Salvaged}
+use Rattle.fax_page.specs.declared.salvage.Salvaged.TheVariants.{Found, Lost, Unended}
+use Rattle.fax_page.specs.Lines.{BeginsBelowEleven, white_row}
+use Rattle.fax_page.specs.Salvage.{IsSoughtFrom, IsReadOver, IsEolDue, IsLostFor, next_due}
+
+-- how far a strip is gone through: its form, the row that is due, the bits from there on, the row
+-- before it, and the cause for which that one is lost, if it is
+pub record SalvageState : Type 0 where
+  pub form : StripForm
+  pub row : ℕ
+  pub due : List Bool
+  pub reference : List Colour
+  pub before : Option StripFault
+
+-- before the first row of these bits
+abbrev pub salvage_beginning : StripForm → List Bool → SalvageState
+salvage_beginning form b =
+    record { form = form; row = 0; due = b; reference = white_row form.width; before = None }
+
+-- so many rows are lost from the one that was due on, for this cause: that one alone, and the next
+-- one is due at the next EOL; or all, where no EOL is left
+abbrev pub IsAfterLost : SalvageState → StripFault → ℕ → SalvageState → Type 0
+IsAfterLost old fault rows new =
+    (from : List Bool) × IsSoughtFrom old.form.coding old.row old.due from
+    × MatchOption (next_due old.form.coding from)
+    ((rows ≡ old.form.rows - old.row) × (new.form ≡ old.form) × (new.row ≡ old.form.rows))
+    (λ due. (rows ≡ 1) × (new ≡ record {
+      form = old.form;
+      row = old.row + 1;
+      due = due;
+      reference = white_row old.form.width;
+      before = Some fault;
+    }))
+
+-- the row that was due is found: it is the reference of the next one
+pub record FindsRow (old new : SalvageState) : Type 0 where
+  pub due : old.row < old.form.rows
+  pub read : IsReadOver old.form old.row old.before old.reference old.due new.reference new.due
+  pub ended : IsEolDue old.form old.row → BeginsBelowEleven new.due → ⊥
+  pub new_is : new ≡ record old {
+    row = old.row + 1;
+    due = new.due;
+    reference = new.reference;
+    before = None;
+  }
+
+-- what a call for the next row answers
+abbrev pub IsSalvageStep : SalvageState → Option Salvaged → SalvageState → Type 0
+IsSalvageStep old None new = (old.row ≡ old.form.rows) × (new ≡ old)
+IsSalvageStep old (Some Found) new = FindsRow old new
+IsSalvageStep old (Some (Lost fault rows)) new =
+    (old.row < old.form.rows)
+    × IsLostFor old.form old.row old.before old.reference old.due fault
+    × IsAfterLost old fault rows new
+IsSalvageStep old (Some (Unended rows)) new =
+    (row : List Colour) × (rest : List Bool)
+    × IsReadOver old.form old.row old.before old.reference old.due row rest
+    × IsEolDue old.form old.row × BeginsBelowEleven rest × IsAfterLost old MissingEol rows new
