@@ -1,7 +1,7 @@
 //! Where the strips of a page stand in its file.
 
 ghost use Rattle.std.specs.Prelude.{◌≡◌, ◌≤◌, ◌<◌, length, Some, None, IfOk, IfErr, OnErr};
-ghost use Rattle.fax_files.specs.views.Tiff.{bytes_of};
+ghost use Rattle.fax_files.specs.views.Tiff.{bytes_of, inside_of};
 
 use crate::FileFault;
 use crate::directory::Directory;
@@ -74,5 +74,20 @@ impl<'a> Strips<'a> {
             return Err(FileFault::StripOutside);
         }
         Ok(&file.bytes[offset..offset + len])
+    }
+
+    /// The bytes of strip `s`, from 0, that lie in the file: those before its end, where it has not
+    /// all of them (TIFF 6.0, StripOffsets and StripByteCounts).
+    pub fn bytes_inside(&self, s: u32) -> &'a [u8]
+        requires { s < self.now.count }
+        ensures bytes { result.now ≡ inside_of self.now.directory s }
+        ensures len { length result.now ≤ 4294967295 }
+    {
+        let file = self.directory.file();
+        let offset = file.value_at(&self.offsets, s) as usize;
+        let len = file.value_at(&self.byte_counts, s) as usize;
+        let begin = offset.min(file.bytes.len());
+        let rest = &file.bytes[begin..];
+        &rest[..len.min(rest.len())]
     }
 }

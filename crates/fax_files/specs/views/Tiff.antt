@@ -4,7 +4,7 @@ use Rattle.fax_files.specs.declared.Endian.{Endian}
 use Rattle.fax_files.specs.Directory.{Header, is_directory}
 use Rattle.fax_files.specs.declared.FileFault.{FileFault}
 use Rattle.fax_files.specs.declared.PageForm.{PageForm}
-use Rattle.fax_files.specs.Page.{page, strip_bytes}
+use Rattle.fax_files.specs.Page.{bytes_inside, page, strip_bytes}
 
 -- a file and what its header says
 pub record TiffFile : Type 0 where
@@ -32,6 +32,10 @@ form_of directory = page directory.endian directory.file directory.offset
 -- the bytes of strip s of the page with this directory, where they lie in the file
 abbrev pub bytes_of : TiffDirectory → ℕ → Option (List ℕ)
 bytes_of directory s = strip_bytes directory.endian directory.file directory.offset s
+
+-- the bytes of strip s of the page with this directory that lie in the file
+abbrev pub inside_of : TiffDirectory → ℕ → List ℕ
+inside_of directory s = bytes_inside directory.endian directory.file directory.offset s
 
 -- the strips of a page: its directory, and how many there are
 pub record PageStrips : Type 0 where
