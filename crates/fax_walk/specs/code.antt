@@ -11,3 +11,6 @@ pub mod Output
 pub mod Check
 pub mod Sources
 pub mod Places
+pub mod Salvage
+pub mod SalvagePage
+pub mod SalvageFile

@@ -7,3 +7,4 @@ pub mod Forms
 pub mod Written
 pub mod ReadBack
 pub mod Answers
+pub mod Salvaged

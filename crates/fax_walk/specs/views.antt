@@ -3,3 +3,4 @@ pub mod Walk
 pub mod Pages
 pub mod Parts
 pub mod Lent
+pub mod Salvage

@@ -1,6 +1,6 @@
 //! Laws of a file's rows and of its forms. The functions compute nothing: each has a law as its
 //! contract.
-ghost use Rattle.std.specs.Prelude.{List};
+ghost use Rattle.std.specs.Prelude.{List, ℕ};
 ghost use Rattle.fax_walk.specs.Pages.{FormItem};
 ghost use Rattle.fax_walk.specs.code.Sources.{FilesArePaged};
 ghost use Rattle.fax_walk.specs.laws.Answers as AnswerLaws;
@@ -9,6 +9,7 @@ ghost use Rattle.fax_walk.specs.laws.Forms.{AreFormsLeft};
 ghost use Rattle.fax_walk.specs.laws.Tails as PageLaws;
 ghost use Rattle.fax_walk.specs.laws.Left.{IsLeft};
 ghost use Rattle.fax_walk.specs.laws.Printed as PrintedLaws;
+ghost use Rattle.fax_walk.specs.laws.Salvaged.{IsSalvagedOneWay};
 ghost use Rattle.fax_walk.specs.laws.ReadBack as ReadBackLaws;
 ghost use Rattle.fax_walk.specs.Items.{RowItem};
 ghost use Rattle.fax_walk.specs.laws.Written as WrittenLaws;
@@ -199,4 +200,13 @@ pub fn walks_go_on()
 {
     beginnings_have_one_tail();
     tails_go_on();
+}
+
+/// What is left of a file is handed out in one way: there is one list of rows that are found, of
+/// stretches that are lost and of pages that are refused.
+pub fn files_are_salvaged_in_one_way()
+    ensures { (file : List ℕ) → IsSalvagedOneWay file }
+{
+    fax_page::laws::strips_are_salvaged_in_one_way();
+    fax_files::laws::files_have_one_chain();
 }

@@ -15,6 +15,9 @@ mod output;
 mod page;
 mod pages;
 mod parts;
+mod salvage;
+mod salvage_page;
+mod salvage_rows;
 mod sheet;
 mod walk;
 
@@ -31,4 +34,5 @@ pub use long_cursor::{LongCursor, LongFault};
 pub use options::{ConvertFault, Options, Target};
 pub use pages::Pages;
 pub use parts::{Part, Parts, PartsLeft};
+pub use salvage::{Salvage, SalvageItem, Stretch};
 pub use walk::{Place, PlaceInside, Walk};

@@ -71,7 +71,7 @@ impl<'a> Model for OpenPage<'a> {
 }
 
 /// A row for colours that are exchanged, where they are.
-fn row_for_exchange(alloc: Global, form: &PageForm) -> Result<Option<Row>, Memory>
+pub(crate) fn row_for_exchange(alloc: Global, form: &PageForm) -> Result<Option<Row>, Memory>
     requires { IsPageForm form.now }
     ensures { IfOk result (Spec.IsRoomFor form.now) }
 {
@@ -84,7 +84,7 @@ fn row_for_exchange(alloc: Global, form: &PageForm) -> Result<Option<Row>, Memor
 
 /// Takes the pels of another row of the same width, with their colours exchanged.
 #[inline(never)]
-fn set_exchanged(row: &mut Row, from: &Row)
+pub(crate) fn set_exchanged(row: &mut Row, from: &Row)
     requires { length from.now ≡ length row.old }
     ensures { row.new ≡ map other from.now }
 {

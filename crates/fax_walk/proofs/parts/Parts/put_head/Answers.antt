@@ -1,4 +1,4 @@
-use Rattle.std.proofs.Common.{◌≡◌, ℕ, ◌+◌, List, ◌++◌, length, ap, arith, length-append, subst}
+use Rattle.std.proofs.Common.{◌≡◌, ℕ, List, ◌++◌, length, ap, arith, length-append, subst}
 use Rattle.std.specs.Prelude.{OnOk}
 use Rattle.fax_files.specs.views.Pbm.{head_bytes}
 use Rattle.fax_walk.specs.code.Parts.{spread}

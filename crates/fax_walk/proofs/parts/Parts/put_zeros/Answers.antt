@@ -1,4 +1,4 @@
-use Rattle.std.proofs.Common.{◌≡◌, ℕ, ◌+◌, ◌-◌, List, ◌∷◌, [], ◌++◌, replicate, ap, ◌∙◌, arith, rules}
+use Rattle.std.proofs.Common.{◌≡◌, ℕ, ◌-◌, List, ◌∷◌, [], ◌++◌, replicate, ap, ◌∙◌, arith, rules}
 use Rattle.fax_walk.specs.declared.parts.Gap.{Gap}
 use Rattle.fax_walk.proofs.PartsLemmas.{placed_within, more_fit, last_fit, wider, wider_bytes, one_more, one_more_bytes}
 use Rattle.fax_walk.proofs.parts.Parts.put_zeros.Goals as goal

@@ -1,0 +1,112 @@
+-- What is left of a damaged file is one list.
+use Rattle.std.proofs.Common.{◌≡◌, ℕ, zero, suc, ◌+◌, List, [], ◌∷◌, ◌++◌, map, None, Result}
+use Rattle.std.proofs.Common.{Ok, Err, refl, sym, ap, ◌∙◌, arith}
+use Rattle.std.specs.Prelude.{flat_map}
+use Rattle.fax_bits.specs.Bits.{bits}
+use Rattle.fax_page.specs.Lines.{white_row}
+use Rattle.fax_page.specs.laws.Salvage.{SalvagesStripsOneWay}
+use Rattle.fax_files.specs.declared.Endian.{Endian}
+use Rattle.fax_files.specs.declared.FileFault.{FileFault}
+use Rattle.fax_files.specs.declared.PageForm.{PageForm}
+use Rattle.fax_files.specs.Directory.{Header, header}
+use Rattle.fax_files.specs.Page.{page, strip_form}
+use Rattle.fax_files.specs.laws.Files.{FilesHaveOneChain}
+use Rattle.fax_walk.specs.Pages.{FilePage}
+use Rattle.fax_walk.specs.Salvaged.{PageRow, LeftItem, page_refused, page_items, on_page, strip_left, AreStripsLeft}
+use Rattle.fax_walk.specs.Salvaged.{IsStripLeft, IsPageLeftAs, ArePagesLeft, IsSalvagedUnder}
+use Rattle.fax_walk.specs.laws.Salvaged.{IsSalvagedOneWay}
+
+module _ (salvages : SalvagesStripsOneWay) where
+  -- the rows of the strips from one on
+  pub strips_left : (file : List ℕ) (here : FilePage) (count s : ℕ) → s + count ≡ here.form.strips
+      → (strips : List (List PageRow)) × AreStripsLeft file here s strips
+  strips_left file here zero s all = ([], omega (arith, all))
+  strips_left file here (suc count) s all =
+      let left = strip_left here file s in
+      let own =
+      salvages (strip_form here.form s) 0 None (white_row here.form.width) (bits here.form.order left.0)
+      (omega arith) in
+      let later = strips_left file here count (s + 1) (omega (arith, all)) in
+      (map (on_page here.form left.1) own.rows ∷ later.0, (omega (arith, all), (own.rows, own.are, refl), later.1))
+
+  -- are one list
+  one_strip : (file : List ℕ) (here : FilePage) (s : ℕ) (rows others : List PageRow) → IsStripLeft file here s rows
+      → IsStripLeft file here s others → rows ≡ others
+  one_strip file here s rows others (own, is, rows_are) (own', is', others_are) =
+      let left = strip_left here file s in
+      let one =
+      salvages (strip_form here.form s) 0 None (white_row here.form.width) (bits here.form.order left.0)
+      (omega arith) in
+      rows_are ∙ ap (map (on_page here.form left.1)) (one.one own is ∙ sym (one.one own' is')) ∙ sym others_are
+
+  one_strips : (file : List ℕ) (here : FilePage) (s : ℕ) (strips others : List (List PageRow))
+      → AreStripsLeft file here s strips → AreStripsLeft file here s others → strips ≡ others
+  one_strips file here s [] [] are are' = refl
+  one_strips file here s [] (rows ∷ others) are are' = absurd (omega (arith, are, are'.0))
+  one_strips file here s (rows ∷ strips) [] are are' = absurd (omega (arith, are.0, are'))
+  one_strips file here s (rows ∷ strips) (rows' ∷ others) are are' =
+      ap (λ (r : List PageRow). r ∷ strips) (one_strip file here s rows rows' are.1 are'.1)
+      ∙ ap (λ (l : List (List PageRow)). rows' ∷ l) (one_strips file here (s + 1) strips others are.2 are'.2)
+
+  -- what is left of a page
+  page_left : (endian : Endian) (file : List ℕ) (p q : ℕ) (answer : Result PageForm FileFault)
+      → (items : List LeftItem) × IsPageLeftAs endian file p q answer items
+  page_left endian file p q (Err fault) = (page_refused p fault ∷ [], refl)
+  page_left endian file p q (Ok form) =
+      let here : FilePage = record { endian = endian; offset = q; form = form } in
+      let strips = strips_left file here form.strips 0 (omega arith) in
+      (page_items p 0 (flat_map (λ rows. rows) strips.0), (strips.0, strips.1, refl))
+
+  one_page : (endian : Endian) (file : List ℕ) (p q : ℕ) (answer : Result PageForm FileFault)
+      (items others : List LeftItem)
+      → IsPageLeftAs endian file p q answer items → IsPageLeftAs endian file p q answer others → items ≡ others
+  one_page endian file p q (Err fault) items others is is' = is ∙ sym is'
+  one_page endian file p q (Ok form) items others is is' =
+      let here : FilePage = record { endian = endian; offset = q; form = form } in
+      is.2 ∙ ap (λ (l : List (List PageRow)). page_items p 0 (flat_map (λ rows. rows) l))
+      (one_strips file here 0 is.0 is'.0 is.1 is'.1) ∙ sym is'.2
+
+  -- what is left of the pages from one on
+  pub pages_left : (endian : Endian) (file : List ℕ) (p : ℕ) (offsets : List ℕ)
+      → (items : List LeftItem) × ArePagesLeft endian file p offsets items
+  pages_left endian file p [] = ([], refl)
+  pages_left endian file p (q ∷ offsets) =
+      let own = page_left endian file p q (page endian file q) in
+      let others = pages_left endian file (p + 1) offsets in
+      (own.0 ++ others.0, (own.0, others.0, own.1, others.1, refl))
+
+  pub one_pages : (endian : Endian) (file : List ℕ) (p : ℕ) (offsets : List ℕ) (items others : List LeftItem)
+      → ArePagesLeft endian file p offsets items → ArePagesLeft endian file p offsets others → items ≡ others
+  one_pages endian file p [] items others are are' = are ∙ sym are'
+  one_pages endian file p (q ∷ offsets) items others (own, later, is, are, items_are)
+      (own', later', is', are', others_are) =
+      items_are
+      ∙ ap (λ (l : List LeftItem). l ++ later) (one_page endian file p q (page endian file q) own own' is is')
+      ∙ ap (λ (l : List LeftItem). own' ++ l) (one_pages endian file (p + 1) offsets later later' are are')
+      ∙ sym others_are
+
+  module _ (chains : FilesHaveOneChain) where
+    under : (file : List ℕ) (answer : Result Header FileFault)
+        → (items : List LeftItem) × IsSalvagedUnder file answer items
+    under file (Err fault) = ([], refl)
+    under file (Ok head) =
+        let chain = chains head file in
+        let items = pages_left head.endian file 0 chain.offsets in
+        (items.0, (chain.offsets, chain.end, chain.is, items.1))
+
+    one_under : (file : List ℕ) (answer : Result Header FileFault) (items others : List LeftItem)
+        → IsSalvagedUnder file answer items → IsSalvagedUnder file answer others → items ≡ others
+    one_under file (Err fault) items others is is' = is ∙ sym is'
+    one_under file (Ok head) items others (offsets, fault, chain, is) (offsets', fault', chain', is') =
+        let one = chains head file in
+        let same : offsets ≡ offsets' = (one.one offsets fault chain).0 ∙ sym (one.one offsets' fault' chain').0 in
+        one_pages head.endian file 0 offsets' items others (rw same at is) is'
+
+    pub salvaged_one_way : (file : List ℕ) → IsSalvagedOneWay file
+    salvaged_one_way file =
+        let left = under file (header file) in
+        record {
+          items = left.0;
+          are = left.1;
+          one = λ others is. one_under file (header file) others left.0 is left.1;
+        }

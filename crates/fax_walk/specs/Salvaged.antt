@@ -1,0 +1,98 @@
+-- What is left of a damaged file: page after page of its chain, also after one that is refused,
+-- each row that is found, and each stretch of rows that are lost.
+-- A definition without a citation is this project's profile.
+use Rattle.std.specs.Prelude.{◌≡◌, ℕ, ◌+◌, ◌<◌, Bool, true, false, List, [], ◌∷◌, ◌++◌, map}
+use Rattle.std.specs.Prelude.{flat_map, Option, Some, None, Result, Ok, Err}
+use Rattle.fax_bits.specs.Bits.{bits}
+use Rattle.fax_rows.specs.Rows.{Colour}
+use Rattle.fax_page.specs.declared.StripFault.TheVariants.{MissingEol}
+use Rattle.fax_page.specs.Salvage.{SalvagedRow, found, lost, unended, IsSalvagedStrip}
+use Rattle.fax_files.specs.declared.FileFault.{FileFault}
+use Rattle.fax_files.specs.declared.FileFault.TheVariants.{StripOutside}
+use Rattle.fax_files.specs.declared.Endian.{Endian}
+use Rattle.fax_files.specs.Directory.{Header, IsChain, header}
+use Rattle.fax_files.specs.Page.{bytes_inside, page, strip_bytes, strip_form}
+use Rattle.fax_walk.specs.Pages.{Cause, File, Strip, FilePage, PageForm}
+use Rattle.fax_walk.specs.Items.{exchanged}
+
+-- a row of a page: it is found, with these pels, or lost, for this cause
+abbrev pub PageRow : Type 0
+PageRow = Result (List Colour) Cause
+
+-- what becomes of a row of a strip, as a row of its page: where the strip does not lie wholly in
+-- the file, each row that is lost is lost for that
+abbrev pub on_page : PageForm → Bool → SalvagedRow → PageRow
+on_page form whole (found row) = Ok (exchanged form row)
+on_page form true (lost fault) = Err (Strip fault)
+on_page form true (unended row) = Err (Strip MissingEol)
+on_page form false (lost fault) = Err (File StripOutside)
+on_page form false (unended row) = Err (File StripOutside)
+
+-- the bytes of strip s that the file has, and whether these are all of them
+-- (TIFF 6.0, StripOffsets and StripByteCounts)
+abbrev pub strip_left : FilePage → List ℕ → ℕ → List ℕ × Bool
+strip_left here file s = elim (strip_bytes here.endian file here.offset s) [
+  | Some bytes ↦ (bytes, true)
+  | None ↦ (bytes_inside here.endian file here.offset s, false)
+]
+
+-- what is left of strip s of a page
+abbrev pub IsStripLeft : List ℕ → FilePage → ℕ → List PageRow → Type 0
+IsStripLeft file here s rows =
+    let left = strip_left here file s in
+    (own : List SalvagedRow)
+    × IsSalvagedStrip (strip_form here.form s) (bits here.form.order left.0) own
+    × (rows ≡ map (on_page here.form left.1) own)
+
+-- what is left of a page from strip s on: the rows of each strip (TIFF 6.0, RowsPerStrip)
+abbrev pub AreStripsLeft : List ℕ → FilePage → ℕ → List (List PageRow) → Type 0
+AreStripsLeft file here s [] = s ≡ here.form.strips
+AreStripsLeft file here s (rows ∷ strips) =
+    (s < here.form.strips) × IsStripLeft file here s rows × AreStripsLeft file here (s + 1) strips
+
+-- what is handed out of a file in order: row r of page p, which is found; so many rows of page p
+-- from row r on, which are lost, with the cause of the first; a page that is refused
+pub data LeftItem : Type 0 where
+  row_found : ℕ → ℕ → List Colour → LeftItem
+  rows_lost : ℕ → ℕ → ℕ → Cause → LeftItem
+  page_refused : ℕ → FileFault → LeftItem
+
+-- row r of page p is lost for this cause, before these items: it is one stretch with the rows that
+-- are lost after it
+abbrev pub lost_before : ℕ → ℕ → Cause → List LeftItem → List LeftItem
+lost_before p r cause (rows_lost _ _ count _ ∷ items) = rows_lost p r (count + 1) cause ∷ items
+lost_before p r cause items = rows_lost p r 1 cause ∷ items
+
+-- the rows of page p from row r on, as they are handed out
+abbrev pub page_items : ℕ → ℕ → List PageRow → List LeftItem
+page_items p r [] = []
+page_items p r (Ok row ∷ rows) = row_found p r row ∷ page_items p (r + 1) rows
+page_items p r (Err cause ∷ rows) = lost_before p r cause (page_items p (r + 1) rows)
+
+-- what is handed out of page p, whose directory stands at offset q, with the form or the fault that
+-- its fields give
+abbrev pub IsPageLeftAs : Endian → List ℕ → ℕ → ℕ → Result PageForm FileFault → List LeftItem
+    → Type 0
+IsPageLeftAs endian file p q (Err fault) items = items ≡ page_refused p fault ∷ []
+IsPageLeftAs endian file p q (Ok form) items =
+    let here : FilePage = record { endian = endian; offset = q; form = form } in
+    (strips : List (List PageRow)) × AreStripsLeft file here 0 strips
+    × (items ≡ page_items p 0 (flat_map (λ rows. rows) strips))
+
+-- what is handed out from page p on, where the directories from there on stand at these offsets
+abbrev pub ArePagesLeft : Endian → List ℕ → ℕ → List ℕ → List LeftItem → Type 0
+ArePagesLeft endian file p [] items = items ≡ []
+ArePagesLeft endian file p (q ∷ offsets) items =
+    (own others : List LeftItem) × IsPageLeftAs endian file p q (page endian file q) own
+    × ArePagesLeft endian file (p + 1) offsets others × (items ≡ own ++ others)
+
+-- what is left of a file with this header; of one without a good header nothing
+abbrev pub IsSalvagedUnder : List ℕ → Result Header FileFault → List LeftItem → Type 0
+IsSalvagedUnder file (Err fault) items = items ≡ []
+IsSalvagedUnder file (Ok head) items =
+    (offsets : List ℕ) × (fault : Option FileFault) × IsChain head file offsets fault
+    × ArePagesLeft head.endian file 0 offsets items
+
+-- what is left of a file
+abbrev pub IsSalvaged : List ℕ → List LeftItem → Type 0
+IsSalvaged file items = IsSalvagedUnder file (header file) items

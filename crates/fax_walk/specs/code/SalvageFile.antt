@@ -1,0 +1,138 @@
+-- How a damaged file is gone through, page after page.
+use Rattle.std.specs.Prelude.{◌≡◌, ℕ, ◌+◌, ◌-◌, ◌*◌, ◌^◌, ◌≤◌, List, [], ◌++◌, length, drop, Option}
+use Rattle.std.specs.Prelude.{Some}
+use Rattle.std.specs.Prelude.{None, Ok, Err, option_map, slice_get, ⊤}
+use Rattle.std.specs.Prelude.{Bool, true}
+use Rattle.fax_rows.specs.Rows.{Colour}
+use Rattle.fax_files.specs.declared.FileFault.{FileFault}
+use Rattle.fax_files.specs.Directory.{IsChain, header}
+use Rattle.fax_files.specs.Page.{most_rows, page}
+use Rattle.fax_files.specs.views.Chain.{ChainState}
+use Rattle.fax_files.specs.views.Page.{IsPageForm}
+use Rattle.fax_files.specs.views.Tiff.{TiffDirectory, directory_of}
+use Rattle.fax_walk.specs.declared.salvage.NextPage.{NextPage}
+use Rattle.fax_walk.specs.declared.salvage.NextPage.TheVariants.{Broken, Ends, Refused, Entered}
+use Rattle.fax_walk.specs.Pages.{IsPageAt, PageForm, Proper}
+use Rattle.fax_walk.specs.Items.{IsRow, RowItem, first_at}
+use Rattle.fax_walk.specs.laws.InOrder.{LeadTo}
+use Rattle.fax_walk.specs.code.Opening.{page_with}
+use Rattle.fax_walk.specs.Salvaged.{LeftItem, ArePagesLeft, IsSalvaged}
+use Rattle.fax_walk.specs.code.Opening.{IsChainBefore}
+use Rattle.fax_walk.specs.code.SalvagePage.{SalvagePageState, EndsOnPage, GivesOfPage}
+use Rattle.fax_walk.specs.code.SalvagePage.{IsLeftOnPage, IsPageBegun, handed_of}
+use Rattle.fax_walk.specs.declared.salvage.SalvageItem.{SalvageItem}
+
+-- the row that was found last on the page that is gone through
+abbrev pub shown_last : Option SalvagePageState → Option (List Colour)
+shown_last page = option_map (λ p. p.shown) page
+
+-- the directory after those that a chain has handed out stands at offset q, and the chain after it
+-- has handed out one more
+pub record IsDirectoryNext (chain : ChainState) (q : ℕ) (after : ChainState) : Type 0 where
+  pub offset : (offsets : List ℕ) (fault : Option FileFault)
+      → IsChain chain.tiff.head chain.tiff.file offsets fault
+      → slice_get offsets chain.given ≡ Some q
+  pub before : IsChainBefore chain.tiff.file (chain.given + 1) after
+  pub tiff_is : after.tiff ≡ chain.tiff
+
+-- a chain has no directory after those that it has handed out
+abbrev pub IsLastPassed : ChainState → Type 0
+IsLastPassed chain =
+    (offsets : List ℕ) (fault : Option FileFault)
+    → IsChain chain.tiff.head chain.tiff.file offsets fault → length offsets ≡ chain.given
+
+-- page p of a file is the one with this directory and form
+abbrev pub IsPageOf : List ℕ → ℕ → TiffDirectory → PageForm → Type 0
+IsPageOf file p directory form =
+    (r : ℕ) → IsPageAt file (record { page = p; row = r }) (Ok (page_with directory form))
+
+-- what a chain has next
+abbrev pub IsNextPage : ChainState → NextPage → Type 0
+IsNextPage chain Ends =
+    IsLastPassed chain
+    × IsPageAt chain.tiff.file (record { page = chain.given; row = 0 }) (Err Proper)
+IsNextPage chain Broken = IsLastPassed chain
+IsNextPage chain (Refused fault after) =
+    (q : ℕ) × IsDirectoryNext chain q after
+    × (page chain.tiff.head.endian chain.tiff.file q ≡ Err fault)
+IsNextPage chain (Entered its after) =
+    (q : ℕ) × (form : PageForm) × IsDirectoryNext chain q after
+    × (page chain.tiff.head.endian chain.tiff.file q ≡ Ok form) × IsPageForm form
+    × IsPageBegun (directory_of chain.tiff q) form chain.given its
+    × IsPageOf chain.tiff.file chain.given (directory_of chain.tiff q) form
+
+-- what is left of the page that is gone through
+abbrev pub AreLeftOnPage : Option SalvagePageState → List LeftItem → Type 0
+AreLeftOnPage None items = items ≡ []
+AreLeftOnPage (Some page) items = IsLeftOnPage page items
+
+-- what is left of a file
+abbrev pub AreLeftInFile : List ℕ → Option ChainState → Option SalvagePageState → List LeftItem
+    → Type 0
+AreLeftInFile file None page items = items ≡ []
+AreLeftInFile file (Some chain) page items =
+    (offsets : List ℕ) × (fault : Option FileFault)
+    × IsChain chain.tiff.head file offsets fault
+    × (own others : List LeftItem) × AreLeftOnPage page own
+    × ArePagesLeft chain.tiff.head.endian file chain.given (drop chain.given offsets) others
+    × (items ≡ own ++ others)
+
+-- what is handed out of the page that is gone through, if one is
+abbrev pub GivesItem : Option SalvagePageState → Option SalvageItem → Option SalvagePageState
+    → Type 0
+GivesItem (Some old) (Some item) (Some new) =
+    GivesOfPage old item new × ((items : List LeftItem) × IsLeftOnPage new items)
+GivesItem (Some old) None (Some new) = EndsOnPage old new
+GivesItem None None None = ⊤
+GivesItem _ _ _ = ⊥
+
+-- so many items were handed out of the pages at most
+abbrev pub AreFewGiven : ChainState → Option SalvagePageState → ℕ → Type 0
+AreFewGiven chain None given = (given ≤ chain.given * most_rows) × (chain.given ≤ 2 ^ 32)
+AreFewGiven chain (Some page) given =
+    (given ≤ (chain.given - 1) * most_rows + handed_of page) × (1 ≤ chain.given)
+    × (handed_of page ≤ most_rows) × (chain.given ≤ 2 ^ 32)
+
+-- a chain is its file's, where the file has a good header
+abbrev pub IsChainOf : List ℕ → Option ChainState → Option SalvagePageState → ℕ → Type 0
+IsChainOf file None page given =
+    ((fault : FileFault) × (header file ≡ Err fault)) × (page ≡ None) × (given ≡ 0)
+IsChainOf file (Some chain) page given =
+    IsChainBefore file chain.given chain × AreFewGiven chain page given
+
+-- whether the page that is gone through is clean so far, if one is
+abbrev pub was_clean : Option SalvagePageState → Bool
+was_clean None = true
+was_clean (Some page) = page.rows.clean
+
+-- the rows of the pages before this one are those of the file
+abbrev pub LeadToPage : List ℕ → ℕ → Type 0
+LeadToPage file p =
+    (rows : List RowItem) × LeadTo (IsRow file) (first_at 0 0) rows (first_at p 0)
+
+-- nothing of the pages that were left is lost
+abbrev pub IsWhollyRead : List ℕ → Option ChainState → Option SalvagePageState → Type 0
+IsWhollyRead file None page = ⊥
+IsWhollyRead file (Some chain) None = LeadToPage file chain.given
+IsWhollyRead file (Some chain) (Some page) =
+    LeadToPage file page.page × (chain.given ≡ page.page + 1)
+    × (page.rows.directory.file ≡ file) × IsPageForm page.rows.form
+    × IsPageOf file page.page page.rows.directory page.rows.form
+
+-- what is left of a file follows what was handed out of it
+pub record IsHandedOut (file : List ℕ) (chain : Option ChainState)
+    (page : Option SalvagePageState) (given : ℕ) : Type 0 where
+  pub chain_is : IsChainOf file chain page given
+  pub handed : (items : List LeftItem) → AreLeftInFile file chain page items
+      → (done : List LeftItem) × (length done ≡ given) × IsSalvaged file (done ++ items)
+
+-- a file is gone through
+pub record IsInFile (file : List ℕ) (chain : Option ChainState) (page : Option SalvagePageState)
+    (given : ℕ) (whole : Bool) : Type 0 where
+  pub handed_out : IsHandedOut file chain page given
+  pub whole_is : whole ≡ true → IsWhollyRead file chain page
+
+-- how many pages are left at most
+abbrev pub chain_measure : Option ChainState → ℕ
+chain_measure None = 0
+chain_measure (Some chain) = 2 ^ 32 - chain.given
