@@ -19,3 +19,7 @@ mod ImageGraph
 mod ImageExampleLemmas
 pub mod SampleExampleLemmas
 pub mod CodedExampleLemmas
+mod SalvageGraph
+mod SalvageFileGraph
+pub mod SalvageExampleLemmas
+pub mod EolLemmas

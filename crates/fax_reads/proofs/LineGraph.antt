@@ -59,7 +59,7 @@ zeros_after (suc n) after = omega (arith, zeros_after n after)
 pub all_zeros : (b : List Bool) → IsAllZeros b → after_one b ≡ None
 all_zeros b all = ap after_one all.1 ∙ (zeros_alone all.0).1
 
-below_eleven : (b : List Bool) → BeginsBelowEleven b → (after : List Bool) × (after_one b ≡ Some after)
+pub below_eleven : (b : List Bool) → BeginsBelowEleven b → (after : List Bool) × (after_one b ≡ Some after)
     × (has_few b ≡ true)
 below_eleven b below =
     let one = zeros_before_one below.0 below.2.0 in
@@ -75,7 +75,7 @@ end_of_line b rest eol =
 abbrev pub IsOne : List Bool → Option (List Bool) → Type 0
 IsOne b r = MatchOption r (b ≡ replicate (zeros b) false) (λ after. b ≡ replicate (zeros b) false ++ true ∷ after)
 
-few_below : (b after : List Bool) → b ≡ replicate (zeros b) false ++ true ∷ after → has_few b ≡ true
+pub few_below : (b after : List Bool) → b ≡ replicate (zeros b) false ++ true ∷ after → has_few b ≡ true
     → BeginsBelowEleven b
 few_below b after is few = (zeros b, grind (arith, nat_tests, few), (after, is))
 
@@ -100,7 +100,7 @@ mr_is i b (Some (true ∷ codes)) false is at =
 mr_is i b (Some (false ∷ codes)) false is at =
     inr (inr (inr (TwoDimensional, codes, many_end b (false ∷ codes) is at, refl)))
 
-start_is : (coding : Coding) (i : ℕ) (b : List Bool) → IsStart coding i b (read_start coding i b)
+pub start_is : (coding : Coding) (i : ℕ) (b : List Bool) → IsStart coding i b (read_start coding i b)
 start_is Mh i b = mh_is i b (after_one b) (has_few b) (zeros_is b) refl
 start_is Mr i b = mr_is i b (after_one b) (has_few b) (zeros_is b) refl
 start_is Mmr i b = refl

@@ -9,3 +9,6 @@ pub mod SampleExamples
 pub mod CodedExamples
 pub mod Images
 pub mod ImageExamples
+pub mod Salvage
+pub mod SalvageExamples
+pub mod Eols

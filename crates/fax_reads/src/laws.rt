@@ -10,6 +10,9 @@ ghost use Rattle.fax_reads.specs.laws.SampleExamples.{AreSamplesRead};
 ghost use Rattle.fax_reads.specs.laws.TailExamples.{AreTailsRead};
 ghost use Rattle.fax_reads.specs.laws.Reports.{ReportsAreReadByAFunction};
 ghost use Rattle.fax_reads.specs.laws.ReportExamples.{AreReportsRead};
+ghost use Rattle.fax_reads.specs.laws.Eols.{FoundRowsReachToTheNextEol, RowsHoldNoEol};
+ghost use Rattle.fax_reads.specs.laws.Salvage.{SalvagesAreReadByFunctions};
+ghost use Rattle.fax_reads.specs.laws.SalvageExamples.{AreSalvagesRead};
 
 /// A row of bits, or its fault, is what a function reads of them, in one-dimensional coding and in
 /// two-dimensional coding over a reference row (T.4, sections 4.1.1 and 4.2.1.3.3; T.6, section
@@ -128,3 +131,35 @@ pub fn worked_images_are_read()
 {
     images_are_read_by_functions();
 }
+
+/// What is left of a damaged strip, and of a damaged file, is what functions read of its bits and
+/// bytes (T.4, sections 4.1.2 and 4.2.2; T.6, section 2.2.1; TIFF 6.0, section 2).
+pub fn salvages_are_read_by_functions()
+    ensures { SalvagesAreReadByFunctions }
+{
+    fax_bits::laws::run_codes_are_read_in_one_way();
+    fax_bits::laws::codes_are_read_in_one_way::<fax_bits::Modes>();
+    fax_page::laws::strips_are_salvaged_in_one_way();
+    fax_files::laws::files_have_one_chain();
+    fax_walk::laws::files_are_salvaged_in_one_way();
+}
+
+/// What is left of worked damaged files is what is meant.
+pub fn worked_salvages_are_read()
+    ensures { AreSalvagesRead }
+{
+    salvages_are_read_by_functions();
+}
+
+/// No EOL stands among the codes of a row, and none begins there where one follows them: each code
+/// begins with at most seven zeros, and ends with at most three (T.4, section 4.1.2, and tables 2,
+/// 3a, 3b and 4).
+pub fn rows_hold_no_eol()
+    ensures { RowsHoldNoEol }
+{}
+
+/// A row that is found in a damaged strip, and after which an EOL is due, reaches from its own EOL to
+/// the next one, or nothing but zeros follows it (T.4, section 4.1.2).
+pub fn found_rows_reach_to_the_next_eol()
+    ensures { FoundRowsReachToTheNextEol }
+{}

@@ -1,0 +1,277 @@
+-- No EOL stands among the codes of a row: each code begins with at most seven zeros, and ends with at most three.
+use Rattle.std.proofs.Common.{arith, ◌≡◌, ℕ, zero, suc, ◌+◌, ◌<◌, ◌≤◌, List, [], ◌∷◌, ◌++◌, map, Bool, true, false}
+use Rattle.std.proofs.Common.{refl, append_assoc, append-nil, get_or, length, sym, ap, ◌∙◌, subst, inl, inr, Option}
+use Rattle.std.proofs.Common.{Some, None, replicate}
+use Rattle.std.specs.Prelude.{◌&&◌, ◌⊎◌, Contains, nat_le, if◌then◌else◌}
+use Rattle.std.proofs.lemmas.Bool.Decides.{nat_tests}
+use Rattle.fax_bits.specs.declared.Colour.{Colour}
+use Rattle.fax_bits.specs.declared.Colour.TheVariants.{White, Black}
+use Rattle.fax_bits.specs.declared.codes.CodeEntry.{CodeEntry}
+use Rattle.fax_bits.specs.declared.modes.ModeCode.{ModeCode}
+use Rattle.fax_bits.specs.declared.modes.ModeCode.TheVariants as mode
+use Rattle.fax_bits.specs.declared.runs.RunCode.{RunCode}
+use Rattle.fax_bits.specs.declared.runs.RunCode.TheVariants.{Extension, MakeUp, Terminating}
+use Rattle.fax_bits.specs.Bits.{IsAllZeros, code_bits}
+use Rattle.fax_bits.specs.Codes.{IsRun, Spells, Takes, bits_of}
+use Rattle.fax_bits.specs.Tables.{black_make_up, black_runs, black_terminating, common_make_up, modes, run_table}
+use Rattle.fax_bits.specs.Tables.{white_make_up, white_runs, white_terminating}
+use Rattle.fax_rows.specs.Rows.{AreRuns, AreSteps, IsStepBy, Position, other}
+use Rattle.fax_page.specs.declared.Dimension.{Dimension}
+use Rattle.fax_page.specs.declared.Dimension.TheVariants.{OneDimensional, TwoDimensional}
+use Rattle.fax_page.specs.declared.StripForm.{StripForm}
+use Rattle.fax_page.specs.Lines.{BeginsBelowEleven, IsEndOfLine, IsLine, IsRowIn}
+use Rattle.fax_page.specs.Salvage.{after_eol}
+use Rattle.fax_reads.specs.Lines.{after_one, has_few, zeros}
+use Rattle.fax_reads.specs.laws.Eols.{FoundRowsReachToTheNextEol, RowsHoldNoEol}
+use Rattle.fax_reads.proofs.LineGraph.{IsOne, few_below, many_end, zeros_is}
+
+-- how many zeros stand at the end of bits, after so many zeros, where no EOL is among them
+abbrev zeros_after : ℕ → List Bool → Option ℕ
+zeros_after z [] = Some z
+zeros_after z (false ∷ b) = zeros_after (suc z) b
+zeros_after z (true ∷ b) = if nat_le 11 z then None else (zeros_after 0 b)
+
+at_one : (many : Bool) (b : List Bool) (t : ℕ) → (if many then None else (zeros_after 0 b)) ≡ Some t
+    → (many ≡ false) × (zeros_after 0 b ≡ Some t)
+at_one true b t is = absurd (cc is)
+at_one false b t is = (refl, is)
+
+-- an EOL is looked for after them
+looked_after : (own rest : List Bool) (z t : ℕ) → zeros_after z own ≡ Some t
+    → after_eol z (own ++ rest) ≡ after_eol t rest
+looked_after [] rest z t is = let same : z ≡ t = cc is in rw same refl
+looked_after (false ∷ own) rest z t is = looked_after own rest (suc z) t is
+looked_after (true ∷ own) rest z t is =
+    let one = at_one (nat_le 11 z) own t is in rw (one.0) (looked_after own rest 0 t one.1)
+
+joined : (own more : List Bool) (z t : ℕ) → zeros_after z own ≡ Some t
+    → zeros_after z (own ++ more) ≡ zeros_after t more
+joined [] more z t is = let same : z ≡ t = cc is in rw same refl
+joined (false ∷ own) more z t is = joined own more (suc z) t is
+joined (true ∷ own) more z t is =
+    let one = at_one (nat_le 11 z) own t is in rw (one.0) (joined own more 0 t one.1)
+
+-- after at most three zeros no EOL is among the bits, and at most three zeros are at their end
+abbrev IsFree : List Bool → Type 0
+IsFree own = (z : ℕ) → z ≤ 3 → (t : ℕ) × (zeros_after z own ≡ Some t) × (t ≤ 3)
+
+abbrev ends_low : Option ℕ → Bool
+ends_low None = false
+ends_low (Some t) = nat_le t 3
+
+abbrev is_free : List Bool → Bool
+is_free own =
+    (ends_low (zeros_after 0 own) && ends_low (zeros_after 1 own))
+    && (ends_low (zeros_after 2 own) && ends_low (zeros_after 3 own))
+
+low : (at : Option ℕ) → ends_low at ≡ true → (t : ℕ) × (at ≡ Some t) × (t ≤ 3)
+low None is = absurd (cc is)
+low (Some t) is = (t, refl, grind (arith, nat_tests, is))
+
+both : (first second : Bool) → (first && second) ≡ true → (first ≡ true) × (second ≡ true)
+both true second is = (refl, is)
+both false second is = absurd (cc is)
+
+each_free : (at_0 at_1 at_2 at_3 : Bool) → ((at_0 && at_1) && (at_2 && at_3)) ≡ true
+    → (at_0 ≡ true) × (at_1 ≡ true) × (at_2 ≡ true) × (at_3 ≡ true)
+each_free at_0 at_1 at_2 at_3 is =
+    let halves = both (at_0 && at_1) (at_2 && at_3) is in
+    let low_two = both at_0 at_1 halves.0 in
+    let high_two = both at_2 at_3 halves.1 in (low_two.0, low_two.1, high_two.0, high_two.1)
+
+free_where : (own : List Bool) → is_free own ≡ true → IsFree own
+free_where own is zero few =
+    low (zeros_after 0 own) (each_free (ends_low (zeros_after 0 own)) (ends_low (zeros_after 1 own))
+    (ends_low (zeros_after 2 own)) (ends_low (zeros_after 3 own)) is).0
+free_where own is (suc zero) few =
+    low (zeros_after 1 own) (each_free (ends_low (zeros_after 0 own)) (ends_low (zeros_after 1 own))
+    (ends_low (zeros_after 2 own)) (ends_low (zeros_after 3 own)) is).1
+free_where own is (suc (suc zero)) few =
+    low (zeros_after 2 own) (each_free (ends_low (zeros_after 0 own)) (ends_low (zeros_after 1 own))
+    (ends_low (zeros_after 2 own)) (ends_low (zeros_after 3 own)) is).2
+free_where own is (suc (suc (suc zero))) few =
+    low (zeros_after 3 own) (each_free (ends_low (zeros_after 0 own)) (ends_low (zeros_after 1 own))
+    (ends_low (zeros_after 2 own)) (ends_low (zeros_after 3 own)) is).3
+free_where own is (suc (suc (suc (suc z)))) few = absurd (omega (arith, few))
+
+-- bits that are free, and then the rest
+abbrev AreCodes : List Bool → List Bool → Type 0
+AreCodes b rest = (own : List Bool) × (b ≡ own ++ rest) × IsFree own
+
+no_codes : (b rest : List Bool) → b ≡ rest → AreCodes b rest
+no_codes b rest same = ([], same, λ z few. (z, refl, few))
+
+codes_and : (b middle rest : List Bool) → AreCodes b middle → AreCodes middle rest → AreCodes b rest
+codes_and b middle rest (own, is, free) (more, follows, free_too) = (
+  own ++ more,
+  is ∙ ap (λ codes. own ++ codes) follows ∙ sym (append_assoc own more rest),
+  λ z few.
+      let here = free z few in
+      let there = free_too here.0 here.2 in
+      (there.0, joined own more z here.0 here.1 ∙ there.1, there.2),
+)
+
+-- each code of a table
+abbrev all_pass : {A : Type 0} → (A → Bool) → List A → Bool
+all_pass test [] = true
+all_pass test (x ∷ xs) = test x && all_pass test xs
+
+passes_at : {A : Type 0} (test : A → Bool) (xs : List A) (k : ℕ) (x : A) → all_pass test xs ≡ true → k < length xs
+    → get_or xs k x ≡ x → test x ≡ true
+passes_at test [] k x all few same = absurd (omega (arith, few))
+passes_at test (y ∷ xs) zero x all few same =
+    subst (λ z. test z ≡ true) same (both (test y) (all_pass test xs) all).0
+passes_at test (y ∷ xs) (suc k) x all few same =
+    passes_at test xs k x (both (test y) (all_pass test xs) all).1 (omega (arith, few)) same
+
+passes_listed : {A : Type 0} (test : A → Bool) (xs : List A) (x : A) → all_pass test xs ≡ true → Contains xs x
+    → test x ≡ true
+passes_listed test xs x all (k, few, same) = passes_at test xs k x all few same
+
+abbrev passes : RunCode → Bool → Bool
+passes Extension free = true
+passes (Terminating n) free = free
+passes (MakeUp n) free = free
+
+abbrev run_passes : CodeEntry RunCode → Bool
+run_passes entry = passes entry.meaning (is_free (bits_of entry))
+
+abbrev mode_passes : CodeEntry ModeCode → Bool
+mode_passes entry = is_free (bits_of entry)
+
+runs_pass : (colour : Colour) → all_pass run_passes (run_table colour) ≡ true
+unfolding code_bits white_runs black_runs white_terminating black_terminating white_make_up black_make_up common_make_up
+runs_pass White = refl
+runs_pass Black = refl
+
+modes_pass : all_pass mode_passes modes ≡ true
+unfolding code_bits modes
+modes_pass = refl
+
+terminating_free : (meaning : RunCode) (free : Bool) (n : ℕ) → meaning ≡ Terminating n → passes meaning free ≡ true
+    → free ≡ true
+terminating_free (Terminating m) free n same is = is
+terminating_free (MakeUp m) free n same is = is
+terminating_free Extension free n same is = absurd (cc same)
+
+make_up_free : (meaning : RunCode) (free : Bool) (n : ℕ) → meaning ≡ MakeUp n → passes meaning free ≡ true
+    → free ≡ true
+make_up_free (Terminating m) free n same is = is
+make_up_free (MakeUp m) free n same is = is
+make_up_free Extension free n same is = absurd (cc same)
+
+run_listed : (colour : Colour) (entry : CodeEntry RunCode) → Contains (run_table colour) entry
+    → run_passes entry ≡ true
+run_listed colour entry listed =
+    passes_listed run_passes (run_table colour) entry (runs_pass colour) listed
+
+terminating_codes : (colour : Colour) (b : List Bool) (n : ℕ) (rest : List Bool)
+    → Takes (run_table colour) b (Terminating n) rest → AreCodes b rest
+terminating_codes colour b n rest taken =
+    let good = terminating_free taken.entry.meaning (is_free (bits_of taken.entry)) n taken.means
+    (run_listed colour taken.entry taken.listed) in
+    (bits_of taken.entry, taken.spelled, free_where (bits_of taken.entry) good)
+
+make_up_codes : (colour : Colour) (b : List Bool) (n : ℕ) (rest : List Bool)
+    → Takes (run_table colour) b (MakeUp n) rest → AreCodes b rest
+make_up_codes colour b n rest taken =
+    let good = make_up_free taken.entry.meaning (is_free (bits_of taken.entry)) n taken.means
+    (run_listed colour taken.entry taken.listed) in
+    (bits_of taken.entry, taken.spelled, free_where (bits_of taken.entry) good)
+
+mode_codes : (b : List Bool) (meaning : ModeCode) (rest : List Bool) → Takes modes b meaning rest → AreCodes b rest
+mode_codes b meaning rest taken =
+    let good = passes_listed mode_passes modes taken.entry modes_pass taken.listed in
+    (bits_of taken.entry, taken.spelled, free_where (bits_of taken.entry) good)
+
+-- runs
+spelled_codes : (colour : Colour) (make_up : List ℕ) (last : ℕ) (b rest : List Bool)
+    → Spells (run_table colour) b (map MakeUp make_up ++ Terminating last ∷ []) rest → AreCodes b rest
+spelled_codes colour [] last b rest (middle, taken, same) =
+    codes_and b middle rest (terminating_codes colour b last middle taken) (no_codes middle rest same)
+spelled_codes colour (n ∷ make_up) last b rest (middle, taken, more) =
+    codes_and b middle rest (make_up_codes colour b n middle taken)
+    (spelled_codes colour make_up last middle rest more)
+
+run_codes : (colour : Colour) (b : List Bool) (n : ℕ) (rest : List Bool) → IsRun colour b n rest → AreCodes b rest
+run_codes colour b n rest run = spelled_codes colour run.make_up run.last b rest run.spelled
+
+runs_codes : (width : ℕ) (colour : Colour) (from : ℕ) (b : List Bool) (runs : List ℕ) (rest : List Bool)
+    → AreRuns width colour from b runs rest → AreCodes b rest
+runs_codes width colour from b [] rest are = no_codes b rest are.1
+runs_codes width colour from b (n ∷ runs) rest (before, middle, run, more) =
+    codes_and b middle rest (run_codes colour b n middle run)
+    (runs_codes width (other colour) (from + n) middle runs rest more)
+
+-- steps
+step_codes : (meaning : ModeCode) (reference : List Colour) (old : Position) (b : List Bool) (new : Position)
+    (rest : List Bool) → IsStepBy meaning reference old b new rest → AreCodes b rest
+step_codes mode.Pass reference old b new rest step = no_codes b rest step.1
+step_codes (mode.Vertical d) reference old b new rest step = no_codes b rest step.1
+step_codes mode.Horizontal reference old b new rest step =
+    codes_and b step.middle rest (run_codes old.colour b step.first step.middle step.first_run)
+    (run_codes (other old.colour) step.middle step.second rest step.second_run)
+step_codes mode.Extension reference old b new rest step = absurd step
+
+steps_codes : (reference : List Colour) (old : Position) (b : List Bool) (positions : List Position) (new : Position)
+    (rest : List Bool) → AreSteps reference old b positions new rest → AreCodes b rest
+steps_codes reference old b [] new rest are = no_codes b rest are.1
+steps_codes reference old b (next ∷ more) new rest (inside, middle, step, steps) =
+    codes_and b middle rest
+    (codes_and b step.after middle (mode_codes b step.mode step.after step.taken)
+    (step_codes step.mode reference old step.after next middle step.step))
+    (steps_codes reference next middle more new rest steps)
+
+row_codes : (dimension : Dimension) (width : ℕ) (reference : List Colour) (b : List Bool) (row : List Colour)
+    (rest : List Bool) → IsRowIn dimension width reference b row rest → AreCodes b rest
+row_codes OneDimensional width reference b row rest is = runs_codes width White 0 b is.runs rest is.coded
+row_codes TwoDimensional width reference b row rest is =
+    steps_codes reference _ b is.positions is.last rest is.steps
+
+-- the EOL after zeros
+eol_there : (n z : ℕ) (after : List Bool) → 11 ≤ z + n
+    → after_eol z (replicate n false ++ true ∷ after) ≡ Some after
+eol_there zero z after many =
+    let enough : nat_le 11 z ≡ true = grind (arith, nat_tests, many) in rw enough refl
+eol_there (suc n) z after many = eol_there n (suc z) after (omega (arith, many))
+
+inside : (codes rest : List Bool) → AreCodes codes rest
+    → (own : List Bool) × (codes ≡ own ++ rest) × (after_eol 0 own ≡ None)
+inside codes rest (own, is, free) =
+    let end = free 0 (omega arith) in
+    let none : after_eol 0 (own ++ []) ≡ None = looked_after own [] 0 end.0 end.1 in
+    (own, is, ap (after_eol 0) (sym (append-nil own)) ∙ none)
+
+next : (codes rest after : List Bool) → AreCodes codes rest → IsEndOfLine rest after
+    → after_eol 0 codes ≡ Some after
+next codes rest after (own, is, free) eol =
+    let end = free 0 (omega arith) in
+    ap (after_eol 0) is ∙ looked_after own rest 0 end.0 end.1 ∙ ap (after_eol end.0) eol.2
+    ∙ eol_there eol.0 end.0 after (omega (arith, eol.1))
+
+pub no_eols : RowsHoldNoEol
+no_eols = record {
+  inside = λ form i reference b row rest line.
+      inside line.codes rest (row_codes line.dimension form.width reference line.codes row rest line.coded);
+  next = λ form i reference b row rest line after eol.
+      next line.codes rest after (row_codes line.dimension form.width reference line.codes row rest line.coded) eol;
+}
+
+-- what follows a row that is found
+follows : (rest : List Bool) (after : Option (List Bool)) (few : Bool) → IsOne rest after → has_few rest ≡ few
+    → (BeginsBelowEleven rest → ⊥) → IsAllZeros rest ⊎ ((after : List Bool) × IsEndOfLine rest after)
+follows rest None few one at not_below = inl (zeros rest, one)
+follows rest (Some after) true one at not_below = absurd (not_below (few_below rest after one at))
+follows rest (Some after) false one at not_below = inr (after, many_end rest after one at)
+
+reaches : (form : StripForm) (i : ℕ) (reference : List Colour) (b : List Bool) (row : List Colour) (rest : List Bool)
+    (line : IsLine form i reference b row rest) → IsAllZeros rest ⊎ ((after : List Bool) × IsEndOfLine rest after)
+    → IsAllZeros rest ⊎ ((after : List Bool) × IsEndOfLine rest after × (after_eol 0 line.codes ≡ Some after))
+reaches form i reference b row rest line (inl all) = inl all
+reaches form i reference b row rest line (inr (after, eol)) =
+    inr (after, eol, no_eols.next form i reference b row rest line after eol)
+
+pub found_reach : FoundRowsReachToTheNextEol
+found_reach form i before reference b row rows (rest, inside, read, ends, more) due =
+    let after = follows rest (after_one rest) (has_few rest) (zeros_is rest) refl (ends due) in
+    (rest, read.line, reaches form i reference b row rest read.line after)

@@ -1,0 +1,44 @@
+-- The worked runs of salvage, computed.
+use Rattle.std.proofs.Common.{◌≡◌, ℕ, List, refl}
+use Rattle.fax_bits.specs.Bits.{bits, byte_bits, code_bits}
+use Rattle.fax_bits.specs.Tables.{modes, white_runs, black_runs, white_terminating, black_terminating, white_make_up}
+use Rattle.fax_bits.specs.Tables.{black_make_up, common_make_up}
+use Rattle.fax_rows.specs.Rows.{first_place, next_change, b1}
+use Rattle.fax_files.specs.Directory.{number_at, header, entries_at, values_place, value_at, has_integers, scalar}
+use Rattle.fax_files.specs.Page.{bytes_inside, rational_of, form_in, page, strip_bytes}
+use Rattle.fax_files.specs.Layout.{field_bytes}
+use Rattle.fax_walk.specs.Salvaged.{LeftItem}
+use Rattle.fax_reads.specs.Salvage.{salvage_file}
+use Rattle.fax_reads.specs.laws.Salvage.{SalvagesAreReadByFunctions}
+use Rattle.fax_reads.specs.laws.SalvageExamples.{AreSalvagesRead, HasLeft}
+
+has : SalvagesAreReadByFunctions → (file : List ℕ) (items : List LeftItem) → salvage_file file ≡ items
+    → HasLeft file items
+has read file items same = record { are = (read.file file items).1 same }
+
+pub salvages : SalvagesAreReadByFunctions → AreSalvagesRead
+unfolding bits byte_bits code_bits modes white_runs black_runs white_terminating black_terminating white_make_up
+    black_make_up common_make_up first_place next_change b1 number_at header entries_at values_place value_at
+    has_integers
+    scalar rational_of form_in page strip_bytes bytes_inside field_bytes
+salvages read = record {
+  whole = has read _ _ refl;
+  raw_pbm_by_another_name_is = has read _ _ refl;
+  mh_bad_code_between_two_rows_is = has read _ _ refl;
+  mh_extension_between_two_rows_is = has read _ _ refl;
+  mh_run_too_long_between_two_rows_is = has read _ _ refl;
+  mh_bad_first_row_without_eol_is = has read _ _ refl;
+  mh_two_rows_without_the_eol_between_is = has read _ _ refl;
+  mh_one_eol_more_than_rows_is = has read _ _ refl;
+  mh_ones_after_a_row_is = has read _ _ refl;
+  mh_a_code_more_after_a_row_is = has read _ _ refl;
+  mh_fill_after_a_row_is = has read _ _ refl;
+  mh_codes_after_the_last_row_is = has read _ _ refl;
+  mh_return_to_control_after_one_row_of_four_is = has read _ _ refl;
+  mr_first_of_two_rows_without_eol_is = has read _ _ refl;
+  mr_a_row_over_a_lost_one_is = has read _ _ refl;
+  mmr_extension_in_the_first_of_two_strips_is = has read _ _ refl;
+  mh_lost_around_the_border_of_two_strips_is = has read _ _ refl;
+  mh_strip_cut_in_its_third_row_is = has read _ _ refl;
+  page_of_width_0_between_two_is = has read _ _ refl;
+}

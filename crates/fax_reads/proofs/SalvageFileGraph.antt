@@ -1,0 +1,86 @@
+-- What functions read of damaged files is what is defined.
+use Rattle.std.proofs.Common.{arith, ◌≡◌, ℕ, zero, suc, ◌+◌, List, [], ◌∷◌, refl, sym, ◌∙◌, subst, None, Result, Ok}
+use Rattle.std.proofs.Common.{Err}
+use Rattle.fax_bits.specs.declared.Colour.{Colour}
+use Rattle.fax_bits.specs.laws.Codes.{ReadsOneWay, ReadsRunsOneWay}
+use Rattle.fax_bits.specs.Bits.{bits}
+use Rattle.fax_bits.specs.Tables.{modes}
+use Rattle.fax_page.specs.laws.Salvage.{SalvagesStripsOneWay}
+use Rattle.fax_page.specs.Lines.{white_row}
+use Rattle.fax_page.specs.Salvage.{IsSalvagedStrip}
+use Rattle.fax_files.specs.declared.Endian.{Endian}
+use Rattle.fax_files.specs.declared.FileFault.{FileFault}
+use Rattle.fax_files.specs.declared.PageForm.{PageForm}
+use Rattle.fax_files.specs.Directory.{Header, header}
+use Rattle.fax_files.specs.Page.{page, strip_form}
+use Rattle.fax_files.specs.laws.Files.{FilesHaveOneChain}
+use Rattle.fax_walk.specs.Pages.{FilePage}
+use Rattle.fax_walk.specs.Salvaged.{ArePagesLeft, AreStripsLeft, IsPageLeftAs, IsSalvaged, IsSalvagedUnder, IsStripLeft}
+use Rattle.fax_walk.specs.Salvaged.{strip_left}
+use Rattle.fax_walk.specs.laws.Salvaged.{IsSalvagedOneWay}
+use Rattle.fax_reads.specs.Files.{read_chain}
+use Rattle.fax_reads.specs.Salvage.{salvage_file, salvage_page, salvage_page_strip, salvage_pages, salvage_strip}
+use Rattle.fax_reads.specs.Salvage.{salvage_strips, salvage_under}
+use Rattle.fax_reads.specs.laws.Salvage.{SalvagesAreReadByFunctions}
+use Rattle.fax_reads.proofs.ChainGraph.{chain_is}
+use Rattle.fax_reads.proofs.SalvageGraph.{strip_is}
+
+module _ (runs_read : (colour : Colour) → ReadsRunsOneWay colour) (modes_read : ReadsOneWay modes) (file : List ℕ) where
+  page_strip_is : (here : FilePage) (s : ℕ) → IsStripLeft file here s (salvage_page_strip file here s)
+  page_strip_is here s =
+      let left = strip_left here file s in
+      let form = strip_form here.form s in
+      let all = bits here.form.order left.0 in
+      (salvage_strip form all, strip_is runs_read modes_read form all, refl)
+
+  strips_are : (n : ℕ) (here : FilePage) (s : ℕ) → s + n ≡ here.form.strips
+      → AreStripsLeft file here s (salvage_strips n file here s)
+  strips_are zero here s due = omega (arith, due)
+  strips_are (suc n) here s due =
+      (omega (arith, due), page_strip_is here s, strips_are n here (s + 1) (omega (arith, due)))
+
+  page_is : (endian : Endian) (p q : ℕ) (r : Result PageForm FileFault)
+      → IsPageLeftAs endian file p q r (salvage_page endian file p q r)
+  page_is endian p q (Err fault) = refl
+  page_is endian p q (Ok form) =
+      let here : FilePage = record { endian = endian; offset = q; form = form } in
+      (salvage_strips form.strips file here 0, strips_are form.strips here 0 (omega arith), refl)
+
+  pages_are : (endian : Endian) (p : ℕ) (offsets : List ℕ)
+      → ArePagesLeft endian file p offsets (salvage_pages endian file p offsets)
+  pages_are endian p [] = refl
+  pages_are endian p (q ∷ offsets) = (
+    salvage_page endian file p q (page endian file q),
+    salvage_pages endian file (p + 1) offsets,
+    page_is endian p q (page endian file q),
+    pages_are endian (p + 1) offsets,
+    refl,
+  )
+
+  file_is : FilesHaveOneChain → (answer : Result Header FileFault)
+      → IsSalvagedUnder file answer (salvage_under file answer)
+  file_is chains (Err fault) = refl
+  file_is chains (Ok head) = (
+    (read_chain head file).offsets,
+    (read_chain head file).end,
+    chain_is chains head file,
+    pages_are head.endian 0 (read_chain head file).offsets,
+  )
+
+module _ (runs_read : (colour : Colour) → ReadsRunsOneWay colour) (modes_read : ReadsOneWay modes) where
+  pub salvages_graph : SalvagesStripsOneWay → FilesHaveOneChain → ((file : List ℕ) → IsSalvagedOneWay file)
+      → SalvagesAreReadByFunctions
+  salvages_graph strips chains files = record {
+    strip = λ form b rows.
+        let is = strip_is runs_read modes_read form b in
+        let one = strips form 0 None (white_row form.width) b (omega arith) in (
+          λ at. one.one (salvage_strip form b) is ∙ sym (one.one rows at),
+          λ same. subst (λ all. IsSalvagedStrip form b all) same is,
+        );
+    file = λ file items.
+        let is = file_is runs_read modes_read file chains (header file) in
+        let one = files file in (
+          λ at. one.one (salvage_file file) is ∙ sym (one.one items at),
+          λ same. subst (λ all. IsSalvaged file all) same is,
+        );
+  }

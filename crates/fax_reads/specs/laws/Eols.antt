@@ -1,0 +1,30 @@
+-- No EOL stands among a row's codes, so that each row that is found reaches to the EOL after it
+-- (T.4, section 4.1.2, and tables 2, 3a, 3b and 4). A function of the module `laws` proves it.
+use Rattle.std.specs.Prelude.{◌≡◌, ℕ, ◌⊎◌, Bool, List, ◌∷◌, ◌++◌, Option, Some, None}
+use Rattle.fax_bits.specs.Bits.{IsAllZeros}
+use Rattle.fax_bits.specs.declared.Colour.{Colour}
+use Rattle.fax_page.specs.declared.StripFault.{StripFault}
+use Rattle.fax_page.specs.declared.StripForm.{StripForm}
+use Rattle.fax_page.specs.Lines.{IsEndOfLine, IsLine}
+use Rattle.fax_page.specs.Salvage.{AreSalvaged, IsEolDue, SalvagedRow, after_eol, found}
+
+-- the codes of a row hold no EOL, and none begins among them and ends after them where one follows:
+-- the first from the row's first code on is that one
+pub record RowsHoldNoEol : Type 0 where
+  pub inside : (form : StripForm) (i : ℕ) (reference : List Colour) (b : List Bool)
+      (row : List Colour) (rest : List Bool) (line : IsLine form i reference b row rest)
+      → (own : List Bool) × (line.codes ≡ own ++ rest) × (after_eol 0 own ≡ None)
+  pub next : (form : StripForm) (i : ℕ) (reference : List Colour) (b : List Bool)
+      (row : List Colour) (rest : List Bool) (line : IsLine form i reference b row rest)
+      (after : List Bool) → IsEndOfLine rest after → after_eol 0 line.codes ≡ Some after
+
+-- a row that is found, and after which an EOL is due, reaches from its own EOL to the next one, or
+-- nothing but zeros follows it
+abbrev pub FoundRowsReachToTheNextEol : Type 0
+FoundRowsReachToTheNextEol =
+    (form : StripForm) (i : ℕ) (before : Option StripFault) (reference : List Colour)
+    (b : List Bool) (row : List Colour) (rows : List SalvagedRow)
+    → AreSalvaged form i before reference b (found row ∷ rows) → IsEolDue form i
+    → (rest : List Bool) × (line : IsLine form i reference b row rest)
+    × (IsAllZeros rest
+    ⊎ ((after : List Bool) × IsEndOfLine rest after × (after_eol 0 line.codes ≡ Some after)))
