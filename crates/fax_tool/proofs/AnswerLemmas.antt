@@ -1,13 +1,14 @@
 -- The answers of words exclude one another.
 use Rattle.std.proofs.Common.{arith, ◌≡◌, ◌∙◌, Bool, ap, codes, inl, inr, refl, subst, sym, List, Option, Some, None}
-use Rattle.std.proofs.Common.{map}
+use Rattle.std.proofs.Common.{[], map}
 use mathlib.Core.HLevel.{Π_prop, is_prop→PathP, ⊥_prop}
 use native.Mathlib.Bridge.{le_prop}
 use Rattle.std.specs.Prelude.{IfSome, false, true, ◌⊎◌, ◌≢◌, ◌<◌}
 use Rattle.std.specs.Option.{ForSome}
-use Rattle.fax_tool.specs.Grammar.{AreOfCommand, Text, Use, text_in}
+use Rattle.fax_tool.specs.Grammar.{AreOfCommand, AreOfNoCommand, AskForVersion, Text, Use, text_in}
 use Rattle.clap.specs.Walk.{Row, first_of}
-use Rattle.fax_tool.proofs.ReadLemmas.{command_is_read}
+use Rattle.clap.proofs.OnLiterals.{clap_on_literals}
+use Rattle.fax_tool.proofs.ReadLemmas.{command_is_read, command_rows, unread_is_no_command}
 use Rattle.fax_tool.proofs.RowLemmas.{first_use}
 use Rattle.fax_tool.proofs.UseLemmas.{row_of}
 use Rattle.fax_walk.specs.Pages.{IsCursor, IsLongCursor, LongPlace}
@@ -18,7 +19,7 @@ use Rattle.fax_walk.specs.views.Walk.{begun_place}
 use Rattle.fax_tool.specs.laws.Runs.{IsBegun}
 use Rattle.fax_tool.proofs.BeginLemmas.{IsBegunBy, inside_of, one_begun}
 use Rattle.fax_tool.specs.Job.{AreOptions, Given, HasCursors, HasNoCursor, HasNoTarget, IsCommand, IsFault, IsJob}
-use Rattle.fax_tool.specs.Job.{IsPart, is_set}
+use Rattle.fax_tool.specs.Job.{IsJobFault, IsJobOfCommand, IsPart, is_set}
 use Rattle.fax_tool.specs.Run.{begun_of}
 use Rattle.fax_walk.specs.Items.{begun_cursor}
 use Rattle.fax_tool.specs.code.Entries.{IsNoCursor, IsNoLongCursor}
@@ -26,20 +27,30 @@ use Rattle.fax_tool.specs.Program.{file_name}
 use Rattle.fax_tool.specs.laws.Words.{AskTheSame, WordsHaveOneAnswer}
 use Rattle.fax_walk.specs.laws.Cursors.{TextsNameOne}
 use Rattle.fax_tool.specs.declared.words.Command.{Command}
-use Rattle.fax_tool.specs.declared.words.Command.TheVariants.{Check, Convert, List as Forms, Rows}
+use Rattle.fax_tool.specs.declared.words.Command.TheVariants.{Check, Convert, List as Forms, Rows, Salvage, Version}
 use Rattle.fax_tool.specs.declared.words.Job.{Job}
 use Rattle.fax_tool.specs.declared.words.Part.{Part}
+use Rattle.fax_tool.specs.declared.words.WordsFault.{WordsFault}
 use Rattle.fax_tool.specs.declared.words.WordsFault.TheVariants.{NotACursor, Usage}
+use Rattle.std.specs.Prelude.{option_map}
+use Rattle.std.specs.String.{string_bytes}
 
--- the name of a command
+-- the name of a command; none has that of the version
 abbrev name_of : Command → Text
 name_of (Forms part) = codes "list"
 name_of (Rows part) = codes "rows"
 name_of (Convert options) = codes "convert"
 name_of Check = codes "check"
+name_of Salvage = codes "salvage"
+name_of Version = []
 
 named : (name : Text) (given : Given) (command : Command) → IsCommand name given command → name ≡ name_of command
 named name given command is = grind arith
+
+-- words that ask for the version are those of no command
+no_version : (words : List Text) → AskForVersion words → AreOfNoCommand words
+unfolding clap_on_literals
+no_version words (program, is) = unread_is_no_command words (ap command_rows is)
 
 -- the words name one command, and give one text for a name
 same_uses : (words : List Text) (a b : Text) (xs ys : List Use) → AreOfCommand words a xs → AreOfCommand words b ys
@@ -56,14 +67,14 @@ command_or_usage : (name : Text) (given : Given) (command : Command) → IsComma
     → HasNoTarget given → ⊥
 command_or_usage name given command is convert none = grind arith
 
-job_or_usage : (words : List Text) (job : Job) → IsJob words job → IsFault words Usage → ⊥
+job_or_usage : (words : List Text) (job : Job) → IsJobOfCommand words job → IsJobFault words Usage → ⊥
 job_or_usage words job is (inl none) = none is.name is.uses is.named
 job_or_usage words job is (inr refused) =
     let same = same_uses words refused.name is.name refused.uses is.uses refused.named is.named in
     let command = subst (λ (c : Text × Given). (c.0 ≡ codes "convert") × HasNoTarget c.1) same refused.command in
     command_or_usage is.name (text_in is.uses) job.command is.command command.0 command.1
 
-usage_or_no_cursor : (words : List Text) → IsFault words Usage → IsFault words NotACursor → ⊥
+usage_or_no_cursor : (words : List Text) → IsJobFault words Usage → IsJobFault words NotACursor → ⊥
 usage_or_no_cursor words (inl none) no_cursor = none no_cursor.name no_cursor.uses no_cursor.named
 usage_or_no_cursor words (inr refused) no_cursor = grind arith
 
@@ -82,7 +93,7 @@ command_or_no_cursor : (name : Text) (given : Given) (command : Command) → Has
     → HasNoCursor name given → ⊥
 command_or_no_cursor name given command in_range is none = grind (arith, no_begun)
 
-job_or_no_cursor : (words : List Text) (job : Job) → IsJob words job → IsFault words NotACursor → ⊥
+job_or_no_cursor : (words : List Text) (job : Job) → IsJobOfCommand words job → IsJobFault words NotACursor → ⊥
 job_or_no_cursor words job is none =
     let same = same_uses words none.name is.name none.uses is.uses none.named is.named in
     command_or_no_cursor is.name (text_in is.uses) job.command is.cursors is.command
@@ -149,11 +160,12 @@ one_command names name given (Rows part) (Rows other) in_range in_range' first s
 one_command names name given (Convert options) (Convert other) in_range in_range' first second =
     ap (λ (o : Options). Convert o) (one_options given options other first.1 second.1)
 one_command names name given Check Check in_range in_range' first second = refl
+one_command names name given Salvage Salvage in_range in_range' first second = refl
 one_command names name given command other in_range in_range' first second = grind arith
 
-one_job : TextsNameOne → (words : List Text) (job other : Job) → IsJob words job → IsJob words other
-    → AskTheSame job other
-one_job names words job other first second =
+same_of_command : TextsNameOne → (words : List Text) (job other : Job) → IsJobOfCommand words job
+    → IsJobOfCommand words other → AskTheSame job other
+same_of_command names words job other first second =
     let same = same_uses words second.name first.name second.uses first.uses second.named first.named in
     let command = subst (λ (c : Text × Given). IsCommand c.0 c.1 other.command) same second.command in
     let file = subst (λ (c : Text × Given). file_name other ≡ c.1 (codes "FILE")) same second.file in
@@ -163,10 +175,28 @@ one_job names words job other first second =
       file = first.file ∙ sym file;
     }
 
+one_job : TextsNameOne → (words : List Text) (job other : Job) → IsJob words job → IsJob words other
+    → AskTheSame job other
+one_job names words job other (inl first) (inl second) = same_of_command names words job other first second
+one_job names words job other (inl first) (inr asked) =
+    absurd (no_version words asked.0 first.name first.uses first.named)
+one_job names words job other (inr asked) (inl second) =
+    absurd (no_version words asked.0 second.name second.uses second.named)
+one_job names words job other (inr (asked, command, file)) (inr (asked', command', file')) = record {
+  command = command ∙ sym command';
+  file = ap (option_map string_bytes) (file ∙ sym file');
+}
+
+-- a job, where a job of a command is none
+no_other : (words : List Text) (job : Job) (fault : WordsFault) → IsJob words job → IsFault words fault
+    → (IsJobOfCommand words job → IsJobFault words fault → ⊥) → ⊥
+no_other words job fault (inl is) (of, unasked) none = none is of
+no_other words job fault (inr is) (of, unasked) none = unasked is.0
+
 pub words_have_one_answer : TextsNameOne → WordsHaveOneAnswer
 words_have_one_answer names words = record {
   one_job = one_job names words;
-  job_or_usage = job_or_usage words;
-  job_or_no_cursor = job_or_no_cursor words;
-  usage_or_no_cursor = usage_or_no_cursor words;
+  job_or_usage = λ job is of. no_other words job Usage is of (job_or_usage words job);
+  job_or_no_cursor = λ job is of. no_other words job NotACursor is of (job_or_no_cursor words job);
+  usage_or_no_cursor = λ usage no_cursor. usage_or_no_cursor words usage.0 no_cursor.0;
 }

@@ -176,7 +176,10 @@ have_entries = All-from_recursion HasItsEntries commands (
         };
         known = refl;
       }),
-      ((λ uses words are. record { list = λ is. cc; rows = λ is. cc; convert = λ is. cc; known = refl }), tt),
+      (
+        (λ uses words are. record { list = λ is. cc; rows = λ is. cc; convert = λ is. cc; known = refl }),
+        ((λ uses words are. record { list = λ is. cc; rows = λ is. cc; convert = λ is. cc; known = refl }), tt),
+      ),
     ),
   ),
 )

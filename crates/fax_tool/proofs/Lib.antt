@@ -21,6 +21,7 @@ mod AnswerLemmas
 pub mod LineLemmas
 pub mod StopLemmas
 pub mod PrintLemmas
+pub mod SalvageLemmas
 pub mod TextLemmas
 pub mod CommandLemmas
 pub mod WholeLemmas

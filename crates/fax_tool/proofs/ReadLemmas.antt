@@ -232,7 +232,11 @@ own_commands = All-from_recursion IsOwn commands (
       (
         own_of (codes "check") (items_at 3) refl refl refl refl (0, lit< tt, refl) ((refl, tt, tt), tt)
             (λ uses lacking. cc),
-        tt,
+        (
+          own_of (codes "salvage") (items_at 4) refl refl refl refl (0, lit< tt, refl) ((refl, tt, tt), tt)
+              (λ uses lacking. cc),
+          tt,
+        ),
       ),
     ),
   ),

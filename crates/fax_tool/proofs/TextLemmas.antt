@@ -22,7 +22,7 @@ pub all_taken : {A : Type 0} (n : ℕ) (xs : List A) → length xs ≤ n → tak
 all_taken n xs within = grind (arith, common_steps)
 
 -- the error line of an end, and its status
-end_is : (end : End) (next : Begun) → ((end_text (Some end) next).error ≡ error_of (end_line (Some end)))
+pub end_is : (end : End) (next : Begun) → ((end_text (Some end) next).error ≡ error_of (end_line (Some end)))
     × ((end_text (Some end) next).status ≡ status_of (end_line (Some end)))
 end_is Proper next = (refl, refl)
 end_is (Fault page row cause) next = (refl, refl)

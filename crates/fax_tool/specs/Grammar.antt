@@ -54,7 +54,7 @@ commands = (codes "list", part) ∷ (codes "rows", part ++ flag (codes "long") �
       letter 111 ∷ number (codes "order") 2 ∷ number (codes "k") most_rows
           ∷ number (codes "strip") most_rows ∷ flag (codes "align") ∷ file ∷ [],
     )
-    ∷ (codes "check", file ∷ []) ∷ []
+    ∷ (codes "check", file ∷ []) ∷ (codes "salvage", file ∷ []) ∷ []
 
 -- one use of an item, with its text: a flag's is `true`
 pub record Use : Type 0 where
@@ -118,3 +118,7 @@ pub record AreOfCommand (words : List Text) (name : Text) (uses : List Use) : Ty
 -- the words are those of no command
 abbrev pub AreOfNoCommand : List Text → Type 0
 AreOfNoCommand words = (name : Text) (uses : List Use) → ¬ AreOfCommand words name uses
+
+-- the words ask for the version: `--version` stands alone after the program's name
+abbrev pub AskForVersion : List Text → Type 0
+AskForVersion words = (program : Text) × (words ≡ program ∷ codes "--version" ∷ [])

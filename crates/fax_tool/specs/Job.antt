@@ -17,9 +17,10 @@ use Rattle.fax_walk.specs.declared.options.Target.{Target}
 use Rattle.fax_walk.specs.declared.options.Target.TheVariants.{Mh, Mmr, Mr, Pbm}
 use Rattle.fax_walk.specs.Pages.{IsCursor, cursor_text, start, IsLongCursor, LongPlace}
 use Rattle.fax_walk.specs.Pages.{long_cursor_text}
-use Rattle.fax_tool.specs.Grammar.{AreOfCommand, AreOfNoCommand, Text, Use, text_in}
+use Rattle.fax_tool.specs.Grammar.{AreOfCommand, AreOfNoCommand, AskForVersion, Text, Use, text_in}
 use Rattle.fax_tool.specs.declared.words.Command.{Command}
 use Rattle.fax_tool.specs.declared.words.Command.TheVariants.{Check, Convert, List as Forms, Rows}
+use Rattle.fax_tool.specs.declared.words.Command.TheVariants.{Salvage, Version}
 use Rattle.fax_tool.specs.declared.words.Job.{Job}
 use Rattle.fax_tool.specs.declared.words.Part.{Part}
 use Rattle.fax_tool.specs.declared.words.WordsFault.{WordsFault}
@@ -71,7 +72,7 @@ pub record AreOptions (given : Given) (options : Options) : Type 0 where
   pub strip : options.strip ≡ number_in (codes "strip") given
   pub aligned : options.aligned ≡ is_set (codes "align") given
 
--- a command's name and what is given after it give this command
+-- a command's name and what is given after it give this command: none gives the version
 abbrev pub IsCommand : Text → Given → Command → Type 0
 IsCommand name given (Forms part) =
     (name ≡ codes "list") × IsPart given false part × (part.from ≡ None)
@@ -79,6 +80,8 @@ IsCommand name given (Rows part) =
     (name ≡ codes "rows") × IsPart given (is_set (codes "long") given) part
 IsCommand name given (Convert options) = (name ≡ codes "convert") × AreOptions given options
 IsCommand name given Check = name ≡ codes "check"
+IsCommand name given Salvage = name ≡ codes "salvage"
+IsCommand name given Version = ⊥
 
 -- a command's cursor is one, as not each `Cursor` is, and so is its `LongPlace`, which has a run
 abbrev pub HasCursors : Command → Type 0
@@ -86,14 +89,19 @@ HasCursors (Forms part) = IsCursor part.cursor
 HasCursors (Rows part) = IsCursor part.cursor × IfSome part.from IsLongCursor
 HasCursors other = Unit {0}
 
--- the words give this job
-pub record IsJob (words : List Text) (job : Job) : Type 0 where
+-- the words are those of a command, and give this job
+pub record IsJobOfCommand (words : List Text) (job : Job) : Type 0 where
   pub name : Text
   pub uses : List Use
   pub named : AreOfCommand words name uses
   pub command : IsCommand name (text_in uses) job.command
   pub cursors : HasCursors job.command
   pub file : option_map string_bytes job.file ≡ text_in uses (codes "FILE")
+
+-- the words give this job: that of a command, or the version, which has no file
+abbrev pub IsJob : List Text → Job → Type 0
+IsJob words job = IsJobOfCommand words job
+    ⊎ (AskForVersion words × (job.command ≡ Version) × (job.file ≡ None))
 
 -- what is given after `convert` names no target, or one without EOLs where these are to be aligned
 abbrev pub HasNoTarget : Given → Type 0
@@ -116,10 +124,14 @@ pub record AreRefused (words : List Text) (why : Text → Given → Type 0) : Ty
   pub named : AreOfCommand words name uses
   pub command : why name (text_in uses)
 
--- the words give no job, but this fault: Usage also where they are those of no command, and so
--- before any other; of Memory nothing can be said but that a growth was refused
-abbrev pub IsFault : List Text → WordsFault → Type 0
-IsFault words Usage = AreOfNoCommand words
+-- the words give no command, but this fault: Usage also where they are those of no command, and
+-- so before any other; of Memory nothing can be said but that a growth was refused
+abbrev pub IsJobFault : List Text → WordsFault → Type 0
+IsJobFault words Usage = AreOfNoCommand words
     ⊎ AreRefused words (λ name given. (name ≡ codes "convert") × HasNoTarget given)
-IsFault words NotACursor = AreRefused words HasNoCursor
-IsFault words Memory = Unit {0}
+IsJobFault words NotACursor = AreRefused words HasNoCursor
+IsJobFault words Memory = Unit {0}
+
+-- the words give no job, but this fault: nor do they ask for the version
+abbrev pub IsFault : List Text → WordsFault → Type 0
+IsFault words fault = IsJobFault words fault × ¬ AskForVersion words

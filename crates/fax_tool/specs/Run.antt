@@ -13,8 +13,11 @@ use Rattle.fax_tool.specs.declared.refusal.Refusal.{Refusal}
 use Rattle.fax_tool.specs.declared.refusal.Refusal.TheVariants.{Memory, Read, Write}
 use Rattle.fax_tool.specs.declared.words.Command.{Command}
 use Rattle.fax_tool.specs.declared.words.Command.TheVariants.{List as Forms, Rows, Convert, Check}
+use Rattle.fax_tool.specs.declared.words.Command.TheVariants.{Salvage, Version}
 use Rattle.fax_tool.specs.declared.words.Part.{Part}
 use Rattle.fax_tool.specs.ReportText.{IsCheckText, IsConversionText}
+use Rattle.fax_tool.specs.SalvageText.{IsSalvageFront, IsSalvageText}
+use Rattle.fax_tool.specs.Words.{version_text}
 
 -- how many calls on a stream were interrupted, how many failed, and how many files were not opened
 pub record Counts : Type 0 where
@@ -95,7 +98,7 @@ IsTextOfFirst are max begun output =
 abbrev pub begun_of : Part → Begun
 begun_of part = option_map_or Inside part.from (At part.cursor)
 
--- what a command writes of a file
+-- what a command writes of a file; the version is the same for each
 abbrev pub IsTextOf : Command → List ℕ → Printed → Type 0
 IsTextOf (Forms part) file =
     IsTextOfLines (ArePageLines file part.cursor) false part.max (At part.cursor)
@@ -103,6 +106,9 @@ IsTextOf (Rows part) file =
     IsTextOfLines (AreRowLines file (begun_of part)) part.long part.max (begun_of part)
 IsTextOf (Convert options) file = IsConversionText options file
 IsTextOf Check file = IsCheckText file
+IsTextOf Salvage file = IsSalvageText file
+IsTextOf Version file =
+    λ printed. printed ≡ record { output = version_text; error = []; status = 0 }
 
 -- what a command writes of a file where memory is refused
 abbrev pub IsTextAfterMemory : Command → List ℕ → List ℕ → Type 0
@@ -110,6 +116,7 @@ IsTextAfterMemory (Forms part) file =
     IsTextOfFirst (ArePageLines file part.cursor) part.max (At part.cursor)
 IsTextAfterMemory (Rows part) file =
     IsTextOfFirst (AreRowLines file (begun_of part)) part.max (begun_of part)
+IsTextAfterMemory Salvage file = IsSalvageFront file
 IsTextAfterMemory other file = λ output. output ≡ []
 
 -- what a refusal leaves of such a text, of which so much is written where memory is refused: after

@@ -3,6 +3,7 @@
 pub mod Adapters
 pub mod Transfers
 pub mod Printing
+pub mod Salvaging
 pub mod ReportParts
 pub mod Outcome
 pub mod Entries

@@ -26,6 +26,8 @@ pub fn texts_are_one()
     fax_walk::laws::beginnings_have_one_tail();
     fax_walk::laws::form_tails_are_one();
     fax_walk::laws::answers_are_one();
+    fax_walk::laws::files_are_salvaged_in_one_way();
+    fax_walk::laws::tails_go_on();
 }
 
 /// The answers of `parse_words` exclude one another, and two jobs of the same words have the same

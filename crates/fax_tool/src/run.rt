@@ -3,10 +3,13 @@ ghost use Rattle.std.specs.Prelude.{◌≡◌, ◌⊎◌, ◌<◌, IfErr, IfOk};
 ghost use Rattle.fax_tool.specs.code.Outcome.{IsDone, IsReported, IsSaid, IsStopped};
 ghost use Rattle.fax_tool.specs.Run.{IsRefused, WritesText};
 ghost use Rattle.fax_tool.specs.Streams.{input_after, no_faults, output_after};
+ghost use Rattle.fax_tool.specs.declared.words.Command.TheVariants.{Version};
 
 use crate::commands::check::check;
 use crate::commands::convert::convert;
 use crate::commands::print::{list, rows};
+use crate::commands::salvage::salvage;
+use crate::commands::version::version;
 use crate::refusal::Refusal;
 use crate::streams::transfer::{Interruptions, give_all};
 use crate::streams::{Sink, Source};
@@ -50,8 +53,8 @@ fn report<E: Sink>(outcome: Result<Option<ErrorLine>, Refusal>, err: &mut E) -> 
     }
 }
 
-/// Carries out a command: reads the input whole and writes the output. It answers the line of the
-/// input's fault, if there is one.
+/// Carries out a command: reads the input whole and writes the output; for the version nothing is
+/// read. It answers the line of the input's fault, if there is one.
 fn carry_out<R: Source, W: Sink>(
     alloc: Global,
     command: &Command,
@@ -67,17 +70,23 @@ fn carry_out<R: Source, W: Sink>(
     ensures err { IfErr result (λ refusal. IsStopped command.now refusal
         (input_after (R.left input.old) (R.taken input.new) (R.counts input.new))
         (output_after (W.written out.old) (W.written out.new) (W.counts out.new))) }
+    ensures unread { command.now ≡ Version → input.new ≡ input.old }
 {
     match command {
         Command::List(part) => list(alloc, part, input, out),
         Command::Rows(part) => rows(alloc, part, input, out),
         Command::Convert(options) => convert(alloc, *options, input, out),
         Command::Check => check(alloc, input, out),
+        Command::Salvage => salvage(alloc, input, out),
+        Command::Version => {
+            version(out)?;
+            Ok(None)
+        }
     }
 }
 
-/// Carries out a job: reads the input whole, writes the output, and says on the error stream why
-/// that is not all. It answers the program's status: 0 where all is done; 1 at a fault of the
+/// Carries out a job: reads the input whole, but for the version, writes the output, and says on
+/// the error stream why that is not all. It answers the program's status: 0 where all is done; 1 at a fault of the
 /// input; 3 where memory, a read or a write was refused, or the error stream failed.
 pub fn run<R: Source, W: Sink, E: Sink>(
     alloc: Global,
@@ -91,6 +100,9 @@ pub fn run<R: Source, W: Sink, E: Sink>(
     requires output_counts { W.counts out.old ≡ no_faults }
     requires error_counts { E.counts err.old ≡ no_faults }
     ensures status { (result ≡ 0) ⊎ (result ≡ 1) ⊎ (result ≡ 3) }
+
+    // For the version nothing is read.
+    ensures unread { job.now.command ≡ Version → input.new ≡ input.old }
 
     // What was done is the text of what the job's command tells of the input, and no stream failed.
     ensures written { result < 3 → WritesText job.now.command

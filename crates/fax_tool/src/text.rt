@@ -4,6 +4,7 @@ ghost use Rattle.arrayvec.specs.ArrayString.{array_string_len};
 
 pub mod collected;
 pub mod fault;
+pub mod lost_line;
 pub mod page_line;
 pub mod remembered;
 pub mod row_line;

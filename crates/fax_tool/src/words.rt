@@ -10,14 +10,15 @@ ghost use Rattle.fax_walk.specs.declared.options.Target.TheVariants.{Mmr, Pbm};
 ghost use Rattle.fax_tool.specs.declared.words.WordsFault.TheVariants.{Usage as BadWords};
 ghost use Rattle.fax_tool.specs.Grammar.{Text, most_lines, texts};
 ghost use Rattle.fax_walk.specs.Pages.{IsCursor, IsLongCursor};
+ghost use Rattle.fax_tool.specs.Grammar.{AskForVersion};
 ghost use Rattle.fax_tool.specs.Job.{AreOptions, HasCursors, HasNoTarget, IsCommand};
-ghost use Rattle.fax_tool.specs.Job.{IsFault, IsJob, IsPart, is_set};
+ghost use Rattle.fax_tool.specs.Job.{IsFault, IsJob, IsJobFault, IsJobOfCommand, IsPart, is_set};
 ghost use Rattle.fax_tool.specs.Job.{number_in, order_by, target_in};
 ghost use Rattle.fax_tool.specs.Run.{HasFailed};
 ghost use Rattle.fax_tool.specs.Streams.{no_faults};
-ghost use Rattle.fax_tool.specs.Words.{words_status, words_text};
+ghost use Rattle.fax_tool.specs.Words.{names_salvage, usage_for, words_status, words_text};
 ghost use Rattle.fax_tool.specs.code.Entries.{HasEntries, HasFlag, HasNumber, HasOptions};
-ghost use Rattle.fax_tool.specs.code.CommandLine.{check_app, coding_app, convert_app, faxpages_app};
+ghost use Rattle.fax_tool.specs.code.CommandLine.{coding_app, convert_app, faxpages_app, file_app};
 ghost use Rattle.fax_tool.specs.code.CommandLine.{printers_app, printing_app, rows_app, value_rule};
 ghost use Rattle.fax_tool.specs.code.Entries.{IsApp, IsCommandFault, IsNoCursor, IsNoLongCursor};
 ghost use Rattle.fax_tool.specs.code.Entries.{entries_of, given_by};
@@ -50,6 +51,10 @@ pub enum Command {
     Convert(Options),
     /// Prints what is worth a note.
     Check,
+    /// Prints the rows that stand between their EOLs, and which are lost.
+    Salvage,
+    /// Prints the version, and reads nothing.
+    Version,
 }
 
 /// The part of a file's pages or rows that is printed.
@@ -119,7 +124,7 @@ const MOST_ROWS: i64 = 1_000_000;
 /// K where none is given.
 const USUAL_K: u32 = 4;
 
-/// The four lines of the usage.
+/// The four lines of the usage, which has the commands that were there first.
 const USAGE: &str = "\
 usage: faxpages list [--cursor C] [--max N] [FILE]
        faxpages rows [--cursor C] [--max N] [--long] [FILE]
@@ -127,27 +132,53 @@ usage: faxpages list [--cursor C] [--max N] [FILE]
        faxpages check [FILE]
 ";
 
+/// The usage of `salvage`.
+const SALVAGE_USAGE: &str = "usage: faxpages salvage [FILE]\n";
+
+/// Whether words name `salvage`.
+fn name_salvage(words: &[&str]) -> bool
+    ensures { result ≡ names_salvage (texts words.now) }
+{
+    match words {
+        [_, name, ..] => *name == "salvage",
+        _ => false,
+    }
+}
+
+/// The usage for words: that of `salvage` where they name it.
+fn usage_for(words: &[&str]) -> &'static str
+    ensures { result.now ≡ usage_for (texts words.now) }
+{
+    if name_salvage(words) {
+        SALVAGE_USAGE
+    } else {
+        USAGE
+    }
+}
+
 impl WordsFault {
-    /// The text for the error stream, with its line ends, and the program's status.
-    pub fn text(&self) -> (&'static str, u8)
-        ensures text { result.0.now ≡ words_text self.now }
+    /// The text for the error stream, with its line ends, and the program's status, for these words.
+    pub fn text(&self, words: &[&str]) -> (&'static str, u8)
+        ensures text { result.0.now ≡ words_text (texts words.now) self.now }
         ensures status { result.1 ≡ words_status self.now }
     {
         match self {
-            WordsFault::Usage => (USAGE, 2),
+            WordsFault::Usage => (usage_for(words), 2),
             WordsFault::NotACursor => ("fault cursor: NotACursor\n", 2),
             WordsFault::Memory => ("fault: Memory\n", 3),
         }
     }
 
-    /// Says the text on the error stream, and answers the status, also where the stream fails.
-    pub fn say<E: Sink>(&self, err: &mut E) -> u8
+    /// Says the text for these words on the error stream, and answers the status, also where the
+    /// stream fails.
+    pub fn say<E: Sink>(&self, words: &[&str], err: &mut E) -> u8
         requires { E.counts err.old ≡ no_faults }
         ensures status { result ≡ words_status self.now }
         ensures said { HasFailed (E.counts err.new)
-            ⊎ Appends (E.written err.old) (E.written err.new) (words_text self.now) }
+            ⊎ Appends (E.written err.old) (E.written err.new)
+            (words_text (texts words.now) self.now) }
     {
-        let (text, status) = self.text();
+        let (text, status) = self.text(words);
         let mut interruptions = Interruptions::NONE;
         match give_all(err, &mut interruptions, text.as_bytes()) {
             Ok(()) | Err(_) => status,
@@ -263,11 +294,11 @@ fn converting<'a>(alloc: Global) -> Result<clap::Command<'a>, AllocError>
         .arg(Arg::new(alloc, "FILE"))
 }
 
-/// The command that looks for what is worth a note.
-fn checking<'a>(alloc: Global) -> Result<clap::Command<'a>, AllocError>
-    ensures { IfOk result (λ c. IsApp c check_app) }
+/// A command whose words name a file alone.
+fn reading<'a>(alloc: Global, name: &'a str) -> Result<clap::Command<'a>, AllocError>
+    ensures { IfOk result (λ c. IsApp c (file_app name.entry.now)) }
 {
-    clap::Command::new(alloc, "check")
+    clap::Command::new(alloc, name)
         .disable_help_flag(true)
         .arg(Arg::new(alloc, "FILE"))
 }
@@ -290,7 +321,8 @@ fn command_line<'a>(alloc: Global) -> Result<clap::Command<'a>, AllocError>
 {
     printers(alloc)?
         .subcommand(converting(alloc)?)?
-        .subcommand(checking(alloc)?)
+        .subcommand(reading(alloc, "check")?)?
+        .subcommand(reading(alloc, "salvage")?)
 }
 
 /// The file among the words after a command.
@@ -432,7 +464,19 @@ fn command_of(alloc: Global, name: &str, matches: &ArgMatches) -> Result<Command
             None => Err(WordsFault::Usage),
         },
         "check" => Ok(Command::Check),
+        "salvage" => Ok(Command::Salvage),
         _ => Err(WordsFault::Usage),
+    }
+}
+
+/// Whether the words ask for the version: `--version`, alone.
+fn ask_for_version(words: &[&str]) -> bool
+    ensures some { result ≡ true → AskForVersion (texts words.now) }
+    ensures none { result ≡ false → ¬ AskForVersion (texts words.now) }
+{
+    match words {
+        [_, word] => *word == "--version",
+        _ => false,
     }
 }
 
@@ -445,16 +489,10 @@ fn see_texts(words: &[&str])
     }
 }
 
-/// The job that the words name, the program's own name first.
-///
-/// # Errors
-///
-/// `Usage` where the words are not those of a command, a request for help or the version included,
-/// or `-o` names no target, or `--align` meets one that has no EOLs. `NotACursor` where the words
-/// are those of a command, but for the text of `--cursor`. `Memory` where a growth was refused.
-pub fn parse_words(alloc: Global, words: &[&str]) -> Result<Job, WordsFault>
-    ensures job { IfOk result (λ job. IsJob (texts words.now) job) }
-    ensures fault { IfErr result (λ fault. IsFault (texts words.now) fault) }
+/// The job of a command that the words name, the program's own name first.
+fn job_of(alloc: Global, words: &[&str]) -> Result<Job, WordsFault>
+    ensures job { IfOk result (λ job. IsJobOfCommand (texts words.now) job) }
+    ensures fault { IfErr result (λ fault. IsJobFault (texts words.now) fault) }
 {
     see_texts(words);
     let matches = command_line(alloc)?.try_get_matches_from(words)?;
@@ -465,4 +503,24 @@ pub fn parse_words(alloc: Global, words: &[&str]) -> Result<Job, WordsFault>
         command: command_of(alloc, name, of_command)?,
         file: file_of(alloc, of_command)?,
     })
+}
+
+/// The job that the words name, the program's own name first.
+///
+/// # Errors
+///
+/// `Usage` where the words are not those of a command, a request for help included, nor ask for the
+/// version, or `-o` names no target, or `--align` meets one that has no EOLs. `NotACursor` where the
+/// words are those of a command, but for the text of `--cursor`. `Memory` where a growth was refused.
+pub fn parse_words(alloc: Global, words: &[&str]) -> Result<Job, WordsFault>
+    ensures job { IfOk result (λ job. IsJob (texts words.now) job) }
+    ensures fault { IfErr result (λ fault. IsFault (texts words.now) fault) }
+{
+    if ask_for_version(words) {
+        return Ok(Job {
+            command: Command::Version,
+            file: None,
+        });
+    }
+    job_of(alloc, words)
 }

@@ -54,8 +54,9 @@ abbrev pub convert_app : App
 convert_app = with_rule (with_rule (with_rule coding_app (number_rule (codes "strip") most_rows))
     (flag_rule (codes "align"))) file_rule
 
-abbrev pub check_app : App
-check_app = with_rule (bare_app (codes "check")) file_rule
+-- a command whose words name a file alone
+abbrev pub file_app : Text → App
+file_app name = with_rule (bare_app name) file_rule
 
 -- the program with the commands that print a part of a file
 abbrev pub printers_app : App
@@ -67,6 +68,7 @@ printers_app = with_subcommand (with_subcommand
     }) (new_app (codes "faxpages")))
     (printing_app (codes "list")).top) rows_app.top
 
--- the program: one of four commands
+-- the program: one of five commands
 abbrev pub faxpages_app : App
-faxpages_app = with_subcommand (with_subcommand printers_app convert_app.top) check_app.top
+faxpages_app = with_subcommand (with_subcommand (with_subcommand printers_app convert_app.top)
+    (file_app (codes "check")).top) (file_app (codes "salvage")).top

@@ -54,7 +54,8 @@ pub record HasEntries (name : Text) (entries : List Row) : Type 0 where
       → HasNumber (codes "max") most_lines entries × HasFlag (codes "long") entries
   pub convert : bytes_eq name (codes "convert") ≡ true → HasOptions entries
   pub known : (bytes_eq name (codes "list") || (bytes_eq name (codes "rows")
-      || (bytes_eq name (codes "convert") || bytes_eq name (codes "check")))) ≡ true
+      || (bytes_eq name (codes "convert") || (bytes_eq name (codes "check")
+      || bytes_eq name (codes "salvage"))))) ≡ true
 
 -- a text is that of no cursor, of no long one
 abbrev pub IsNoCursor : Text → Type 0

@@ -52,6 +52,7 @@ pub record AreSpellingsRead : Type 0 where
   pub file_after : Gives (codes "rows -- -x") (text (codes "FILE")) (Some (codes "-x"))
   pub file_hyphen : Gives (codes "list -") (text (codes "FILE")) (Some (codes "-"))
   pub no_file : Gives (codes "list") (text (codes "FILE")) None
+  pub salvage : Gives (codes "salvage a.tif") (text (codes "FILE")) (Some (codes "a.tif"))
 
 -- words that no command has, and words without a target
 pub record AreNotTaken : Type 0 where
@@ -59,6 +60,9 @@ pub record AreNotTaken : Type 0 where
   pub name : GivesNothing (codes "row")
   pub help : GivesNothing (codes "--help")
   pub help_of_rows : GivesNothing (codes "rows --help")
+  pub help_of_salvage : GivesNothing (codes "salvage --help")
+  pub version_of_rows : GivesNothing (codes "rows --version")
+  pub command_after_version : GivesNothing (codes "--version list")
   pub command_after : GivesNothing (codes "-- list")
   pub one_file : GivesNothing (codes "list a b")
   pub no_value : GivesNothing (codes "list --max")

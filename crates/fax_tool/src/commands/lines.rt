@@ -57,7 +57,7 @@ pub trait Lines {
 }
 
 /// How lines end where a walk or a reader of pages answers so; want of memory is no end.
-fn end_of(fault: WalkFault) -> Result<End, Memory>
+pub fn end_of(fault: WalkFault) -> Result<End, Memory>
     ensures { IfOk result (λ end. Spec.end_of fault ≡ Some end) }
 {
     match fault {

@@ -82,7 +82,7 @@ fn stop_for_memory<W: Sink>(
 }
 
 /// Writes the text that is collected, and empties it; its room stays.
-fn write_out<W: Sink>(
+pub fn write_out<W: Sink>(
     out: &mut W,
     interruptions: &mut Interruptions,
     text: &mut Collected,
@@ -91,6 +91,7 @@ fn write_out<W: Sink>(
     ensures ok { OnOk result (Appends (W.written out.old) (W.written out.new) text.old) }
     ensures emptied { OnOk result (text.new ≡ []) }
     ensures counts { OnOk result (W.counts out.new ≡ counted interruptions.new) }
+    ensures worked { OnOk result (HasWorked (W.counts out.new)) }
     ensures err { IfErr result (IsGivenInPart (W.written out.old) (W.written out.new) text.old
         (W.counts out.new)) }
 {
@@ -100,7 +101,7 @@ fn write_out<W: Sink>(
 }
 
 /// Writes the text that is collected where it is long, and empties it then.
-fn write_where_long<W: Sink>(
+pub fn write_where_long<W: Sink>(
     out: &mut W,
     interruptions: &mut Interruptions,
     text: &mut Collected,

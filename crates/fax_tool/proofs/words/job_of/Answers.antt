@@ -13,14 +13,14 @@ use Rattle.clap.specs.declared.error.kind.ErrorKind.TheVariants.{OutOfMemory}
 use Rattle.fax_tool.specs.Grammar.{Text, texts}
 use Rattle.fax_tool.specs.code.CommandLine.{faxpages_app}
 use Rattle.fax_tool.specs.code.Entries.{IsCommandFault, entries_of, given_by}
-use Rattle.fax_tool.specs.Job.{IsFault, target_of}
+use Rattle.fax_tool.specs.Job.{IsJobFault, target_of}
 use Rattle.fax_tool.specs.declared.words.WordsFault.{WordsFault}
 use Rattle.fax_tool.specs.declared.words.WordsFault.TheVariants.{NotACursor, Usage}
 use Rattle.fax_tool.proofs.AgreeLemmas.{command_agrees}
 use Rattle.fax_tool.proofs.EntryLemmas.{taken_entries}
 use Rattle.fax_tool.proofs.ReadLemmas.{AreTaken, IsReadAs, command_of, taken_is_read, untaken_is_unread}
-use Rattle.fax_tool.proofs.words.parse_words.Goals as goal
-use Rattle.fax_tool.proofs.words.parse_words.Goals.{In-Some}
+use Rattle.fax_tool.proofs.words.job_of.Goals as goal
+use Rattle.fax_tool.proofs.words.job_of.Goals.{In-Some}
 
 taken : (c : In-Some) → AreTaken (texts c.args.words.now)
 taken c = search rules
@@ -44,14 +44,14 @@ command_of-requires c =
     taken_entries (texts c.args.words.now) c.in-Some.name.now (entries_of c.in-Some.of_command.now) (of_words c)
 
 refused : (words : List Text) (name : Text) (entries : List Row) (fault : WordsFault) → IsReadAs words name entries
-    → IsCommandFault name (given_by entries) fault → IsFault words fault
+    → IsCommandFault name (given_by entries) fault → IsJobFault words fault
 refused words name entries fault of is = grind arith
 
 pub returns-in_err-command_of-clause-fault : goal.returns-in_err-command_of-clause-fault
 returns-in_err-command_of-clause-fault c =
     let at = (goal.at.returns-in_err-command_of-clause-fault c).In-Some in
     let words = texts c.args.words.now in
-    passed_up c.from_residual-in_err-command_of.result c.in_err-command_of.field-0.0 (IsFault words)
+    passed_up c.from_residual-in_err-command_of.result c.in_err-command_of.field-0.0 (IsJobFault words)
     c.from_residual-in_err-command_of.ensures.1
     (refused words c.in-Some.name.now (entries_of c.in-Some.of_command.now) c.in_err-command_of.field-0.0 (of_words at)
     c.in_err-command_of.ensures.fault)
@@ -71,7 +71,7 @@ returns-clause-job c =
     }
 
 -- words that clap does not take
-unread : (words : List Text) → All IsUtf8 words → (AreTaken words → ⊥) → IsFault words Usage
+unread : (words : List Text) → All IsUtf8 words → (AreTaken words → ⊥) → IsJobFault words Usage
 unread words utf8 untaken = elim (untaken_is_unread words utf8 untaken) [
   | inl none ↦ inl none
   | inr of ↦ inr (record {
@@ -84,7 +84,7 @@ unread words utf8 untaken = elim (untaken_is_unread words utf8 untaken) [
 
 untaken_up : {T : Type 0} (r : Result T WordsFault) (words : List Text) (error : Error) → All IsUtf8 words
     → IsErrAnd r (λ gives. (gives ≢ NotACursor) × (gives ≡ Usage → kind_of error ≢ OutOfMemory))
-    → HasKind (fault_of faxpages_app words) error → IfErr r (IsFault words)
+    → HasKind (fault_of faxpages_app words) error → IfErr r (IsJobFault words)
 untaken_up r words error utf8 gives is = grind (arith, unread)
 
 pub returns-in_err-matches-clause-fault : goal.returns-in_err-matches-clause-fault

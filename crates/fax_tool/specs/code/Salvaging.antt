@@ -1,0 +1,31 @@
+-- Steps of printing what is left of a file, line by line.
+use Rattle.std.specs.Prelude.{◌≡◌, ℕ, ◌+◌, ◌≤◌, List, ◌++◌, flat_map, length, take, Some, Result}
+use Rattle.std.specs.Prelude.{Ok, Err, slice_get, true, false, Bool}
+use Rattle.fax_bits.specs.declared.Memory.{Memory as NoMemory}
+
+-- the texts of lines, one after another
+abbrev pub texts_of : List (List ℕ) → List ℕ
+texts_of = flat_map (λ line. line)
+
+-- these are the lines, and no others are
+pub record IsOneList (are : List (List ℕ) → Type 0) : Type 0 where
+  pub lines : List (List ℕ)
+  pub is : are lines
+  pub one : (others : List (List ℕ)) → are others → others ≡ lines
+
+-- line number `given` is collected, or the lines have ended after so many; where memory was refused
+-- the text is as it was
+abbrev pub IsLinePut : (List (List ℕ) → Type 0) → ℕ → List ℕ → Result Bool NoMemory → ℕ → List ℕ
+    → Type 0
+IsLinePut are given text (Ok true) new_given new_text =
+    (lines : List (List ℕ)) × (line : List ℕ) × are lines × (slice_get lines given ≡ Some line)
+    × (new_given ≡ given + 1) × (new_text ≡ text ++ line)
+IsLinePut are given text (Ok false) new_given new_text =
+    (lines : List (List ℕ)) × are lines × (given ≡ length lines) × (new_text ≡ text)
+IsLinePut are given text (Err memory) new_given new_text = new_text ≡ text
+
+-- the first of such lines
+abbrev pub IsFrontOf : (List (List ℕ) → Type 0) → List ℕ → Type 0
+IsFrontOf are text =
+    (lines : List (List ℕ)) × are lines × (count : ℕ) × (count ≤ length lines)
+    × (text ≡ texts_of (take count lines))
