@@ -41,8 +41,8 @@
 #include <stdint.h>
 
 /* The version of this header, as text and as a number; faxpages_version tells the library's. */
-#define FAXPAGES_VERSION "1.5.2"
-#define FAXPAGES_VERSION_NUMBER 10502
+#define FAXPAGES_VERSION "1.6.0"
+#define FAXPAGES_VERSION_NUMBER 10600
 
 #ifdef __cplusplus
 extern "C" {
