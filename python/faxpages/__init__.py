@@ -79,7 +79,7 @@ from .faults import (
     OutputTooLarge, OutsideError, PbmFault, RunTooLong, ShortHeader, StripFault, StripOutside, TooManyRows,
     UnknownInput, Unsupported)
 
-__version__ = "1.5.2"
+__version__ = "1.6.0"
 __all__ = [
     "open", "check", "convert", "write", "encode", "strip", "check_strip", "encode_strip", "register", "version",
     "Source", "Writable", "Fax", "Page", "Row", "Raster", "Cursor", "Note", "Report", "StripReader", "StripReport",
@@ -91,7 +91,7 @@ __all__ = [
 
 
 def version() -> str:
-    """The version of libfaxpages, as "1.5.2". That of this module is faxpages.__version__.
+    """The version of libfaxpages, as "1.6.0". That of this module is faxpages.__version__.
 
     >>> faxpages.version().count(".")
     2

@@ -18,6 +18,7 @@ from . import _archive_files as files
 from . import _library as _c
 from ._archive_files import Seen, Stood
 from ._archive_lacks import PRINTED, lacks
+from ._archive_marks import Owner, Place
 
 # The largest fax, as of the program faxpages; a copy may have as much again, and what stands before its rows.
 _MOST = 268435456
@@ -64,17 +65,19 @@ class Found(NamedTuple):
 
 class Done(NamedTuple):
     """What came of a fax: its row; its copy and the copy's fields, if they stand; and, of a fax that was compared with
-    its copy, what it is known by."""
+    its copy, what it is known by, and what these are."""
 
     found: Found
     copy: Optional[Stood] = None
     fields: Optional[Stood] = None
     seen: Optional[Seen] = None
+    copy_seen: Optional[Seen] = None
+    fields_seen: Optional[Seen] = None
 
 
 class Job(NamedTuple):
     """What is done with each fax below a tree: a check; or, where a target is named, a conversion; or a comparison
-    with the copy that is there. owner is the number of the table; adopt takes over copies that have the right bytes."""
+    with the copy that is there. owner is whose copies are ours; adopt takes over copies that have the right bytes."""
 
     tree: bytes
     target: Optional[bytes] = None
@@ -86,7 +89,7 @@ class Job(NamedTuple):
     fields: bool = False
     follow: bool = False
     compare: bool = False
-    owner: str = ""
+    owner: Owner = Owner("")
     adopt: bool = False
 
     def copy_of(self, path: bytes) -> bytes:
@@ -149,17 +152,17 @@ class Job(NamedTuple):
             if kept is not None:
                 return kept
             copy = files.Copy(faxpages.convert(data, self.to, self.order, self.k, self.strip, self.align), told,
-                              fax.copy, self.owner, self.adopt)
+                              name, fax.copy, self.owner, self.adopt)
             if not self.fields:
                 return files.put(place, copy, lambda written: _has_rows(written, data)), None
-            fields = files.Copy(_fields_of(os.path.join(self.tree, fax.path), data), told, fax.fields,
-                                self.owner, self.adopt)
+            fields = files.Copy(_fields_of(os.path.join(self.tree, fax.path), data), told, name + FIELDS,
+                                fax.fields, self.owner, self.adopt)
             # Nothing is written where one of the two places is another's.
             files.stands(place, copy)
             stood = files.put(beside, fields, None)
             return files.put(place, copy, lambda written: _has_rows(written, data)), stood
 
-    def _kept(self, place: files.Place, beside: files.Place, fax: Waiting) -> Optional[Tuple[Stood, Optional[Stood]]]:
+    def _kept(self, place: Place, beside: Place, fax: Waiting) -> Optional[Tuple[Stood, Optional[Stood]]]:
         """The copy and its fields where they are of this fax, and still have their digests."""
         if not fax.proven or self.fields != bool(fax.fields):
             return None
@@ -171,12 +174,12 @@ class Job(NamedTuple):
         """A good row of a fax whose copy has its rows, and which is as it was found; else one that says why not."""
         if now != fax:
             return Done(not_read(fax, "Changed"))
-        fields = None
+        fields, fields_seen = None, None
         try:
             with self.target_root().place(self.copy_of(fax.path)) as place:
-                copy, written = _stands(place, fax.copy, told)
+                copy, copy_seen, written = _stands(place, fax.copy, told)
                 if self.fields:
-                    fields, _ = _stands(place._replace(name=place.name + FIELDS), fax.fields, told)
+                    fields, fields_seen, _ = _stands(place._replace(name=place.name + FIELDS), fax.fields, told)
                 # The names of the copies have to be on the disk, wherever this runs.
                 os.fsync(place.folder)
         except _NotWritten as error:
@@ -187,7 +190,7 @@ class Job(NamedTuple):
             return Done(not_read(fax, "RowsDiffer"))
         notes = " ".join(note.name for note in faxpages.check(data).notes)
         row = Found(*fax[:3], GOOD, lacks=lacks(data, notes, self.to, self.fields))
-        return Done(row, copy, fields, files.seen_of(told))
+        return Done(row, copy, fields, files.seen_of(told), copy_seen, fields_seen)
 
 
 class _NotRead(Exception):
@@ -203,20 +206,21 @@ def not_read(fax: Waiting, fault: str, why: Optional[str] = None, seconds: Optio
     return Found(fax.path, fax.size, fax.mtime, NOT_READ, fault=fault, why=why, seconds=seconds)
 
 
-def _as_known(place: files.Place, digest: str) -> Optional[Stood]:
+def _as_known(place: Place, digest: str) -> Optional[Stood]:
     """A file that has this digest."""
     try:
         with files.opened(place) as file:
             if file is None or files.digest_of(file) != digest:
                 return None
             told = os.fstat(file)
-            return Stood(told.st_size, told.st_mtime_ns, digest, True)
+            return Stood(told.st_size, files.time_of(told.st_mtime_ns), digest, True)
     except files.NotOurs:
         return None
 
 
-def _stands(place: files.Place, digest: str, fax: os.stat_result) -> Tuple[Stood, bytes]:
-    """A copy that has the digest that the table knows, and is not the fax itself under another name; and its bytes."""
+def _stands(place: Place, digest: str, fax: os.stat_result) -> Tuple[Stood, Seen, bytes]:
+    """A copy that has the digest that the table knows, and is not the fax itself under another name; what it is known
+    by, and its bytes."""
     try:
         data, told = files.read(place, 2 * _MOST)
     except files.NotOurs as error:
@@ -225,7 +229,7 @@ def _stands(place: files.Place, digest: str, fax: os.stat_result) -> Tuple[Stood
         raise _NotWritten("NoCopy", "the copy is the fax itself")
     if hashlib.sha256(data).hexdigest() != digest:
         raise _NotWritten("RowsDiffer", "changed since it was written")
-    return Stood(told.st_size, told.st_mtime_ns, digest, True), data
+    return Stood(told.st_size, files.time_of(told.st_mtime_ns), digest, True), files.seen_of(told), data
 
 
 def _read(path: bytes, follow: bool) -> Tuple[bytes, os.stat_result]:

@@ -1,9 +1,9 @@
 """All that is written, moved or deleted beside the table: copies and their fields below TARGET, and faxes of TREE. No
 other module of the package does that.
 
-Below TARGET no link is followed, and what stands there and is not ours is left. A file is ours where its bytes are
-those that the table says this archive wrote, or those that its mark names, which is an extended attribute with the
-number of the table. In doubt a file is left."""
+Below TARGET no link is followed, and what stands there and is not ours is left. A file is ours where its mark says so
+(_archive_marks.py), and its bytes are those that the mark or the table knows; without a mark, where they are those of
+the table. In doubt a file is left."""
 
 from __future__ import annotations
 
@@ -16,10 +16,11 @@ import stat
 import time
 from typing import BinaryIO, Callable, Dict, Iterator, NamedTuple, Optional, Tuple
 
+from ._archive_marks import Mark, Owner, Place, is_only, mark_of, name_of, only_of, put_mark, put_only, take_only
+
 _FOLDER = os.O_RDONLY | os.O_DIRECTORY | os.O_CLOEXEC
 # A name that is a link is refused, and one that is a pipe is not waited for.
 _FILE = os.O_RDONLY | os.O_NOFOLLOW | os.O_NONBLOCK | os.O_CLOEXEC
-_MARK = "user.faxpages.copy"
 _PIECE = 1 << 20
 _AT_WORK = "another run writes it"
 # So many seconds another run may write a copy, or the worker of one that was killed, until it is told.
@@ -54,24 +55,32 @@ class Seen(NamedTuple):
     mtime: int
     ctime: int
 
+    def is_same(self, other: "Seen") -> bool:
+        """Whether this is the same file with the same bytes, whatever its marks are."""
+        return self[:4] == other[:4]
 
-class Place(NamedTuple):
-    """A folder that is open, and a name in it."""
 
-    folder: int
-    name: bytes
+def time_of(nanoseconds: int) -> int:
+    """A time as a table can keep it, in 64 bits: of two that are equal so one is 584 years later."""
+    return (nanoseconds + (1 << 63)) % (1 << 64) - (1 << 63)
 
 
 def seen_of(told: os.stat_result) -> Seen:
     """What a file is known by."""
-    return Seen(told.st_dev, told.st_ino, told.st_size, told.st_mtime_ns, told.st_ctime_ns)
+    return Seen(_number(told.st_dev), _number(told.st_ino), told.st_size, time_of(told.st_mtime_ns),
+                time_of(told.st_ctime_ns))
+
+
+def _number(number: int) -> int:
+    """A number of a file as a table can keep it."""
+    return time_of(number)
 
 
 class Root:
     """A folder below which no link is followed. Folders that are those of a stranger's tree are refused."""
 
     def __init__(self, path: bytes, other: Optional[bytes] = None) -> None:
-        self._folder = os.open(path, _FOLDER)
+        self._path, self._folder = path, os.open(path, _FOLDER)
         told = os.stat(other) if other is not None else None
         self._other = (told.st_dev, told.st_ino) if told is not None else None
         self._kept: Tuple[bytes, Optional[int]] = b"", None
@@ -99,6 +108,13 @@ class Root:
             return os.stat(name, dir_fd=self._kept[1], follow_symlinks=False)
         except OSError:
             return None
+
+    def is_there(self) -> bool:
+        """Whether the folder is still the one of its name."""
+        try:
+            return os.path.samestat(os.stat(self._path), os.fstat(self._folder))
+        except OSError:
+            return False
 
     def forget(self) -> None:
         """Closes the folder that look keeps open."""
@@ -223,18 +239,23 @@ def read(place: Place, most: int) -> Tuple[bytes, os.stat_result]:
 
 
 class Copy(NamedTuple):
-    """What is to stand in a place: bytes, like which file, the digest that the table knows of what stands there, the
-    number of the table, and whether a file that has the bytes already becomes ours."""
+    """What is to stand in a place: bytes, like which file, its name below TARGET, the digest that the table knows of what
+    stands there, whose copies are ours, and whether a file that has the bytes already becomes ours."""
 
     data: bytes
     like: os.stat_result
+    relative: bytes
     known: str
-    owner: str
+    owner: Owner
     adopt: bool
 
-    def mark(self) -> bytes:
+    def digest(self) -> str:
+        """The SHA-256 of the bytes."""
+        return hashlib.sha256(self.data).hexdigest()
+
+    def mark(self) -> Mark:
         """What is noted at the file."""
-        return f"{self.owner} {hashlib.sha256(self.data).hexdigest()}".encode()
+        return Mark(self.owner.noted(), self.digest(), name_of(self.relative))
 
 
 def stands(place: Place, copy: Copy) -> Tuple[Optional[Stood], Optional[Seen]]:
@@ -244,28 +265,33 @@ def stands(place: Place, copy: Copy) -> Tuple[Optional[Stood], Optional[Seen]]:
         if file is None:
             return None, None
         told = os.fstat(file)
-        found = digest_of(file)
-        owner, _, marked = _mark_of(file).partition(" ")
-        ours = found == copy.known or (owner == copy.owner and found == marked)
-        if found == hashlib.sha256(copy.data).hexdigest():
-            ours = ours or copy.adopt or copy.known == NOT_KEPT
-            return Stood(told.st_size, told.st_mtime_ns, found, ours), seen_of(told)
-        was_ours = bool(copy.known) or owner == copy.owner
+        found, mark, only = digest_of(file), mark_of(file), only_of(place, file)
+        was_ours = mark.is_of(copy.owner, name_of(copy.relative)) if mark is not None else bool(copy.known)
+        ours = was_ours and found in (copy.known, mark.digest if mark is not None else copy.known)
+        if found == copy.digest():
+            ours = ours or copy.adopt or (copy.known == NOT_KEPT and mark is None)
+            # TARGET may have the fax itself under another name, which is no copy.
+            ours = ours and not os.path.samestat(told, copy.like)
+            # The only copy of a fax that is there again, since a run was killed before it was deleted.
+            again = copy.known == NOT_KEPT and only is not None and (copy.owner.has(only) or only == "?")
+            return Stood(told.st_size, time_of(told.st_mtime_ns), found, ours if only is None else again), seen_of(told)
+        if only is not None:
+            raise NotOurs("the only copy of a fax that is gone")
         if not ours and not (was_ours and _is_cut(file, told.st_size, copy.data)):
-            raise NotOurs("changed since it was written" if was_ours else "not written by this archive")
+            raise NotOurs("changed since it was written" if was_ours else _whose(copy, mark))
         return None, seen_of(told)
+
+
+def _whose(copy: Copy, mark: Optional[Mark]) -> str:
+    """Why a file that is not ours is not."""
+    if mark is not None and copy.owner.has(mark.number):
+        return "the copy of a fax with another name"
+    return "not written by this archive"
 
 
 def _is_cut(file: int, size: int, data: bytes) -> bool:
     """Whether a file has the first bytes of these, so that nothing is lost with it."""
     return size < len(data) and os.pread(file, size, 0) == data[:size]
-
-
-def _mark_of(file: int) -> str:
-    try:
-        return os.getxattr(file, _MARK).decode("ascii", "replace")
-    except OSError:
-        return ""
 
 
 def put(place: Place, copy: Copy, is_right: Optional[Callable[[bytes], bool]]) -> Stood:
@@ -293,7 +319,7 @@ def put(place: Place, copy: Copy, is_right: Optional[Callable[[bytes], bool]]) -
         if not _is_of(part, file):
             raise NotOurs(_AT_WORK)
         _move(part, place, replaced)
-        return Stood(len(copy.data), os.fstat(file).st_mtime_ns, hashlib.sha256(copy.data).hexdigest(), True)
+        return Stood(len(copy.data), time_of(os.fstat(file).st_mtime_ns), hashlib.sha256(copy.data).hexdigest(), True)
     finally:
         _end(part, file)
 
@@ -302,8 +328,7 @@ def _fill(file: int, copy: Copy) -> None:
     left = memoryview(copy.data)
     while left:
         left = left[os.write(file, left):]
-    with contextlib.suppress(OSError):  # where the file system keeps no such attributes, the table alone knows it
-        os.setxattr(file, _MARK, copy.mark())
+    put_mark(file, copy.mark())
     _become(file, copy.like)
     os.utime(file, ns=(copy.like.st_atime_ns, copy.like.st_mtime_ns))
     os.fsync(file)
@@ -339,11 +364,11 @@ def _renewed(place: Place, copy: Copy, there: Stood) -> Stood:
     with opened(place) as file:
         if file is None:
             raise NotOurs("it went while it was looked at")
-        with contextlib.suppress(OSError):
-            os.setxattr(file, _MARK, copy.mark())
+        take_only(place, file)
+        put_mark(file, copy.mark())
         _become(file, copy.like)
         os.utime(file, ns=(copy.like.st_atime_ns, copy.like.st_mtime_ns))
-        return there._replace(mtime=os.fstat(file).st_mtime_ns)
+        return there._replace(mtime=time_of(os.fstat(file).st_mtime_ns))
 
 
 def _begun(part: Place) -> Optional[int]:
@@ -415,12 +440,12 @@ def _remove(part: Place) -> None:
         os.unlink(part.name, dir_fd=part.folder)
 
 
-def disown(target: Root, relative: bytes, owner: str) -> None:
-    """Takes the mark of a table from a copy whose fax is gone, so that no other fax of this name replaces it."""
+def disown(target: Root, relative: bytes, owner: Owner, stood: Optional[Stood]) -> None:
+    """Marks a copy whose fax is gone as the only one, so that no other fax of this name replaces it."""
     try:
         with target.place(relative) as place, opened(place) as file:
-            if file is not None and _mark_of(file).partition(" ")[0] == owner:
-                _unmark(file)
+            if file is not None and _is_known(file, relative, owner, stood):
+                put_only(place, file, owner)
     except NotOurs:
         pass
     except OSError as error:
@@ -428,44 +453,100 @@ def disown(target: Root, relative: bytes, owner: str) -> None:
             raise
 
 
-def _unmark(file: int) -> None:
-    """Takes the mark from a file that is open, also where its owner may not write into it: the system asks for that. A
-    run that is killed just then leaves that the owner may."""
-    mode = stat.S_IMODE(os.fstat(file).st_mode)
+def _is_known(file: int, relative: bytes, owner: Owner, stood: Optional[Stood]) -> bool:
+    """Whether a copy is ours by its mark; without one, whether it is as the table knows it."""
+    mark, told = mark_of(file), os.fstat(file)
+    if mark is not None:
+        return mark.is_of(owner, name_of(relative))
+    return stood is not None and stood.ours and (told.st_size, time_of(told.st_mtime_ns)) == (stood.size, stood.mtime)
+
+
+def keep_only(target: Root, relative: bytes, copy: Seen, owner: Owner) -> Optional[str]:
+    """Marks a copy as the only one of a fax that is about to be deleted; why not, if it is not as it was compared, or
+    cannot be marked."""
     try:
-        os.removexattr(file, _MARK)
-    except PermissionError:
-        os.fchmod(file, mode | 0o200)
+        with target.place(relative) as place, opened(place) as file:
+            if file is None or not seen_of(os.fstat(file)).is_same(copy):
+                return "NoCopy"
+            put_only(place, file, owner)
+            return None
+    except NotOurs as error:
+        return f"NoCopy: {error}"
+    except OSError as error:
+        return f"NoMark: {error.strerror}"
+
+
+def is_kept(target: Root, relative: bytes, copy: Seen) -> bool:
+    """Whether the only copy stands in its place in TARGET, is as it was compared, and has its mark: the last look before
+    its fax goes."""
+    try:
+        with target.place(relative) as place, opened(place) as file:
+            return (file is not None and seen_of(os.fstat(file)).is_same(copy) and is_only(place, file)
+                    and target.is_there())
+    except (NotOurs, OSError):
+        return False
+
+
+def is_as(target: Root, relative: bytes, copy: Seen) -> bool:
+    """Whether a copy is as it was compared."""
+    now = target.look(relative)
+    return now is not None and seen_of(now).is_same(copy)
+
+
+class Links:
+    """When faxes changed last since another name of them was deleted, which is a change of them all."""
+
+    def __init__(self) -> None:
+        self._changed: Dict[Tuple[int, int], int] = {}
+
+    def is_still(self, place: Place, fax: Seen) -> bool:
+        """Whether a fax is as it was; of a link, what it leads to."""
+        changed = self._changed.get((fax.device, fax.inode), fax.ctime)
         try:
-            os.removexattr(file, _MARK)
+            return seen_of(os.stat(place.name, dir_fd=place.folder)) == fax._replace(ctime=changed)
+        except OSError:
+            return False
+
+    def unlink(self, place: Place, fax: Seen) -> bool:
+        """Deletes a name of a fax, or a link to one, if it is as it was; whether it was."""
+        file = os.open(place.name, os.O_PATH | os.O_NOFOLLOW | os.O_CLOEXEC, dir_fd=place.folder)
+        try:
+            if not self.is_still(place, fax):
+                return False
+            os.unlink(place.name, dir_fd=place.folder)
+            told = os.fstat(file)
+            if told.st_nlink:
+                self._changed[_number(told.st_dev), _number(told.st_ino)] = time_of(told.st_ctime_ns)
+            return True
         finally:
-            os.fchmod(file, mode)
+            os.close(file)
 
 
-def stays(tree: Root, relative: bytes, fax: Seen) -> Optional[str]:
+def depth_of(path: bytes) -> int:
+    """How many links lead from a name to a file, one after another."""
+    for depth in range(40):
+        try:
+            path = os.path.join(os.path.dirname(path), os.readlink(path))
+        except OSError:
+            return depth
+    return 40
+
+
+def stays(tree: Root, relative: bytes, fax: Seen, links: Links) -> Optional[str]:
     """Why a fax is not to be deleted: it stands in a folder that a link leads to, or it is not as it was; else None."""
     try:
         with tree.place(relative) as place:
-            return None if _is_still(place, fax) else "Changed"
+            return None if links.is_still(place, fax) else "Changed"
     except OSError as error:
         return "OutsideTree" if error.errno in (errno.ENOTDIR, errno.ELOOP) else "Changed"
 
 
-def _is_still(place: Place, fax: Seen) -> bool:
-    """Whether a fax is as it was; of a link, what it leads to."""
-    try:
-        return seen_of(os.stat(place.name, dir_fd=place.folder)) == fax
-    except OSError:
-        return False
-
-
-def delete(tree: Root, relative: bytes, fax: Seen) -> bool:
-    """Deletes a fax that stands in the tree and is as it was, or a link; whether it is gone."""
+def delete(tree: Root, relative: bytes, fax: Seen, links: Links) -> Optional[str]:
+    """Deletes a fax that stands in the tree and is as it was, or a link; why it is not gone, if it is not."""
     try:
         with tree.place(relative) as place:
-            if not _is_still(place, fax):
-                return False
-            os.unlink(place.name, dir_fd=place.folder)
-            return True
-    except OSError:
-        return False
+            return None if links.unlink(place, fax) else "Changed"
+    except FileNotFoundError:
+        return "Changed"
+    except OSError as error:
+        return f"NotDeleted: {error.strerror}"

@@ -6,10 +6,12 @@ import struct
 from typing import Dict, Iterator, List, NamedTuple, Tuple
 
 # What can be given up, by the word for it and the name in the table.
-NAMES = {"data": "DataAfterEnd", "fields": "Fields", "private": "PrivateFields", "bytes": "OtherBytes"}
+NAMES = {"data": "DataAfterEnd", "fields": "Fields", "private": "PrivateFields", "bytes": "OtherBytes",
+         "resolution": "Resolution"}
 # The fields that a converted file has too, but for those whose values are looked at.
 _KEPT = frozenset([256, 257, 258, 259, 262, 266, 273, 277, 278, 279, 282, 283, 292, 293, 296])
 _NOT_IN_PBM = frozenset([282, 283, 296])
+_RESOLUTIONS, _UNIT, _RATIONAL = (282, 283), 296, 5
 _KIND, _OFFSETS, _COUNTS, _FOLDERS, _NUMBER = 254, 273, 279, 330, 297
 _PRIVATE = 32768
 # Fields of faxes that are registered, and that tiffdump prints whole.
@@ -63,7 +65,8 @@ class _File:
 
 def lacks(data: bytes, notes: str, to: str, fields: bool) -> str:
     """The names of what a copy lacks: data after the end of a page, fields if they are not written beside it, private
-    fields, and bytes that are of no page."""
+    fields, bytes that are of no page, and that nobody gave a resolution, which a copy in TIFF then has as if it was
+    given."""
     found = {"DataAfterEnd"} & set(notes.split())
     try:
         file = _File(data)
@@ -81,6 +84,8 @@ def lacks(data: bytes, notes: str, to: str, fields: bool) -> str:
 def _lacking(file: _File, entries: List[_Entry], place: Span, to: str, fields: bool) -> "set[str]":
     """What is lacking of one page."""
     found = set()
+    if to != "pbm" and not _has_resolution(file, {entry.tag: entry for entry in reversed(entries)}):
+        found.add("Resolution")
     if len({entry.tag for entry in entries}) < len(entries) and not fields:
         found.add("Fields")
     for entry in entries:
@@ -89,6 +94,18 @@ def _lacking(file: _File, entries: List[_Entry], place: Span, to: str, fields: b
         elif not _is_kept(file, entry, place, to) and not (fields and _is_printed(file, entry)):
             found.add("Fields")
     return found
+
+
+def _has_resolution(file: _File, entries: Dict[int, _Entry]) -> bool:
+    """Whether a page says its resolution; else the library takes 204 by 196 to the inch."""
+    for tag in _RESOLUTIONS:
+        entry = entries.get(tag)
+        if entry is None or entry.kind != _RATIONAL or not entry.values or entry.at + 8 > len(file.data):
+            return False
+        if 0 in file.numbers("II", entry.at):
+            return False
+    unit = entries.get(_UNIT)
+    return unit is None or unit.kind in (3, 4) and unit.values == 1 and file.values(unit)[0] in (1, 2, 3)
 
 
 def _is_kept(file: _File, entry: _Entry, place: Span, to: str) -> bool:

@@ -10,7 +10,7 @@ from typing import Any, Dict, List, Optional, Set, Tuple
 
 from . import _archive_walk as walk
 from ._archive_fax import FAULTY, GOOD, NOT_READ, Found
-from ._archive_run import say, state_of
+from ._archive_run import say, shown, state_of
 from ._archive_table import Look, Table, TableError
 
 # How many rows are taken over at a time.
@@ -23,6 +23,7 @@ def merge(words: argparse.Namespace) -> int:
     if os.path.realpath(words.name) in map(os.path.realpath, words.parts):
         raise TableError(f"{words.name} cannot be a part of itself")
     parts = [Table(name, new=False) for name in words.parts]
+    _refuse_others(parts)
     with Table(words.name) as table:
         shares = [_job_of(table, part) for part in parts]
         lacking = _lacking(parts, shares)
@@ -41,6 +42,20 @@ def merge(words: argparse.Namespace) -> int:
     for line in lacking:
         say(line)
     return NOT_READ if counts[NOT_READ] or lacking else FAULTY if counts[FAULTY] else GOOD
+
+
+def _refuse_others(parts: List[Table]) -> None:
+    """Refuses parts that are of arrays of different sizes, or of different trees: each fax is in one part of an array,
+    and may be in another one of another."""
+    first = parts[0]
+    for part in parts:
+        jobs = [it.job() or {} for it in (first, part)]
+        counts = [job.get("share", [0, 0])[1] for job in jobs]
+        trees = [it.where().get("tree") for it in (first, part)]
+        if None not in trees and trees[0] != trees[1]:
+            raise TableError(f"{first.name} is of {shown(trees[0])}, and {part.name} of {shown(trees[1])}")
+        if 0 not in counts and counts[0] != counts[1]:
+            raise TableError(f"{first.name} is a part of {counts[0]}, and {part.name} one of {counts[1]}")
 
 
 def _job_of(table: Table, part: Table) -> walk.Share:
@@ -110,14 +125,20 @@ def summary(table: Table) -> Dict[str, Any]:
         "ended": last.ended if last else None, "finished": bool(last and last.finished()),
         "unread_folders": last.unread if last else None, "faxes": sum(counts.values()), "good": counts[GOOD],
         "faulty": counts[FAULTY], "not_read": counts[NOT_READ], "deleted": table.count_deleted(),
-        "faults": table.faults()}
+        "faults": table.faults(), "lacks": table.lacks()}
+
+
+def _label(text: str) -> str:
+    """A value of a label, in which Prometheus knows three escapes. A byte of a name that is no UTF-8 is shown as one."""
+    shown_bytes = text.encode("utf-8", "surrogateescape").decode("utf-8", "backslashreplace")
+    return shown_bytes.replace("\\", "\\\\").replace('"', '\\"').replace("\n", "\\n")
 
 
 def prometheus(told: Dict[str, Any]) -> str:
     """A summary in Prometheus' text format."""
     lines = ["# HELP faxpages_archive_faxes Faxes of the archive, by their status.",
              "# TYPE faxpages_archive_faxes gauge"]
-    labels = f"tree={json.dumps(told['tree'])}"
+    labels = f'tree="{_label(str(told["tree"]))}"'
     if told["share"] and told["share"][1] > 1:
         labels += f',share="{told["share"][0]}/{told["share"][1]}"'
     for name in ("good", "faulty", "not_read"):

@@ -9,7 +9,7 @@ import os
 import signal
 import sys
 import time
-from typing import Any, Iterator, List, Optional, Tuple
+from typing import Any, Iterator, List, Optional, Set, Tuple
 
 from . import _archive_engine as engine
 from . import _archive_files as files
@@ -18,7 +18,7 @@ from ._archive_fax import FAULTY, FIELDS, GOOD, NOT_READ, Done, Found, Job, Wait
 from ._archive_files import Seen, Stood
 from ._archive_lacks import NAMES
 from ._archive_progress import Gathering, Progress
-from ._archive_table import Copied, Known, Table, text_of
+from ._archive_table import Compared, Copied, Known, Table, text_of
 
 # Of how many rows one may be gone at once.
 _TENTH = 10
@@ -97,6 +97,9 @@ class Run:
         self._kept = self._due = self._gone = self._failed = self._changed = 0
         self._began = time.monotonic()
         self._target = job.target_root() if job.target is not None else None
+        # When hard links of a fax that is deleted changed, and to which faxes a link leads that stays.
+        self._links = files.Links()
+        self._linked: Set[Tuple[int, int]] = set()
         self._run_words = json.dumps([words.again, bool(job.fields)])
         self._number = table.next_run(words.command, self._run_words)
 
@@ -109,6 +112,7 @@ class Run:
         if refused:
             say(f"{refused}; nothing is changed (--gone allows it)")
             return NOT_READ
+        self._settle()
         self._forget(unseen)
         self._begin()
         self._do_all()
@@ -135,6 +139,12 @@ class Run:
     def _is_moved(self) -> bool:
         """Whether the tree of the table stood elsewhere."""
         return self._table.where().get("tree", text_of(self._job.tree)) != text_of(self._job.tree)
+
+    def _settle(self) -> None:
+        """Notes which faxes are gone that were about to be deleted when a run was killed."""
+        if not self._failed and self._target is not None:
+            self._table.are_deleted([path for path in self._table.about_to_be_deleted()
+                                     if not os.path.lexists(os.path.join(self._job.tree, path))])
 
     def _begin(self) -> None:
         """Notes in the table that this run is at work."""
@@ -213,7 +223,8 @@ class Run:
     def _stands(self, name: bytes, stood: Stood) -> bool:
         assert self._target is not None
         now = self._target.look(name)
-        return now is not None and (now.st_size, now.st_mtime_ns) == (stood.size, stood.mtime)
+        return now is not None and (now.st_size, files.time_of(now.st_mtime_ns)) == (
+            stood.size, stood.mtime)
 
     def _fail(self, error: OSError) -> None:
         self._failed += 1
@@ -230,9 +241,9 @@ class Run:
 
     def _disown(self, path: bytes) -> None:
         assert self._target is not None
-        name = self._job.copy_of(path)
-        for each in (name, name + FIELDS):
-            files.disown(self._target, each, self._job.owner)
+        name, copied = self._job.copy_of(path), self._table.copied(path)
+        files.disown(self._target, name, self._job.owner, copied.copy if copied else None)
+        files.disown(self._target, name + FIELDS, self._job.owner, copied.fields if copied else None)
 
     def _do_all(self) -> None:
         """Does what is due."""
@@ -260,7 +271,7 @@ class Run:
     def _put(self, done: List[Done]) -> None:
         with signals.held():
             if done:
-                self._table.put(done, self._number, self._job.owner)
+                self._table.put(done, self._number, self._job.owner.number)
             self._table.turn()
         for one in done:
             self._counts[one.found.status] += 1
@@ -309,8 +320,8 @@ class Run:
         tree = files.root_of(self._job.tree)
         lacking = kept = 0
         for done in self._done():
-            for row, copy, _, seen in done:
-                if row.status != GOOD or copy is None or seen is None:
+            for row, copy, _, seen, copy_seen, fields_seen in done:
+                if row.status != GOOD or copy is None or seen is None or copy_seen is None:
                     lacking += 1
                     say(f"{row.fault}: {shown(row.path)}" + (f": {row.why}" if row.why else ""))
                     continue
@@ -318,44 +329,79 @@ class Run:
                 copied = self._table.copied(row.path)
                 if copied is None or not copied.copy.ours or (copied.fields is not None and not copied.fields.ours):
                     missed.add("NotOurs")
-                if missed and files.stays(tree, row.path, seen) != "OutsideTree":
+                if missed and files.stays(tree, row.path, seen, self._links) != "OutsideTree":
                     kept += 1
                     say(f"kept: {shown(row.path)}: {' '.join(sorted(missed))}")
+                    if self._depth(row.path):
+                        self._linked.add((seen.device, seen.inode))
                 else:
-                    self._table.compared(row.path, seen, copy)
+                    self._table.compared(Compared(row.path, seen, copy_seen, fields_seen, self._depth(row.path)))
         return lacking, kept
 
-    def _delete_some(self, batch: List[Tuple[bytes, Seen, Tuple[int, int]]]) -> Tuple[int, int, int]:
-        """Deletes some faxes: how many are deleted, how many are not as they were, and how many stand outside."""
-        tree = files.root_of(self._job.tree)
-        ready: List[Tuple[bytes, Seen]] = []
-        changed = outside = 0
-        for path, seen, copy in batch:
-            why = files.stays(tree, path, seen) or self._lost(path, copy)
-            outside += why == "OutsideTree"
-            if why is None:
-                ready.append((path, seen))
-            elif why != "OutsideTree":
-                changed += 1
-                say(f"{why}: {shown(path)}")
-        # A row that is left, or a mark, would have the next fax of this name be written over the copy.
-        self._table.forget_deleted([path for path, _ in ready])
-        for path, _ in ready:
-            self._disown(path)
-        gone = 0
-        for path, seen in ready:
-            if files.delete(tree, path, seen):
-                gone += 1
-            else:
-                say(f"Changed: {shown(path)}")
-        return gone, changed + len(ready) - gone, outside
+    def _depth(self, path: bytes) -> int:
+        """How many links lead from the name of a fax to a file."""
+        return files.depth_of(os.path.join(self._job.tree, path)) if self._job.follow else 0
 
-    def _lost(self, path: bytes, copy: Tuple[int, int]) -> Optional[str]:
-        """Whether a copy has gone, or changed, since it was compared."""
+    def _delete_some(self, batch: List[Compared]) -> Tuple[int, int, int]:
+        """Deletes some faxes: how many are deleted, how many are not, and how many stand outside. Their rows go first,
+        since a row that is left would have the next fax of this name be written over the copy. Then the copies are marked
+        as the only ones; and right before a fax goes its copy is looked at once more."""
+        tree = files.root_of(self._job.tree)
+        ready: List[Compared] = []
+        outside = 0
         assert self._target is not None
         self._target.forget()
-        now = self._target.look(self._job.copy_of(path))
-        return None if now is not None and (now.st_size, now.st_mtime_ns) == copy else "NoCopy"
+        for it in batch:
+            why = files.stays(tree, it.path, it.fax, self._links) or self._lost(it)
+            outside += why == "OutsideTree"
+            if why is None:
+                ready.append(it)
+            elif why != "OutsideTree":
+                self._keep(it, why)
+        self._table.forget_deleted([it.path for it in ready])
+        marked = [it for it in ready if self._is_marked(it)]
+        os.sync()
+        gone = [it.path for it in marked if self._is_gone(tree, it)]
+        self._table.are_deleted(gone)
+        return len(gone), len(batch) - len(gone) - outside, outside
+
+    def _keep(self, it: Compared, why: str) -> None:
+        """Says why a fax is not deleted, and notes what a link leads to that stays."""
+        name, _, more = why.partition(": ")
+        say(f"{name}: {shown(it.path)}" + (f": {more}" if more else ""))
+        if it.depth:
+            self._linked.add((it.fax.device, it.fax.inode))
+
+    def _lost(self, it: Compared) -> Optional[str]:
+        """Whether a copy has gone, or changed, since it was compared; or a link leads to the fax, and stays."""
+        assert self._target is not None
+        if not it.depth and (it.fax.device, it.fax.inode) in self._linked:
+            return "Linked"
+        return None if all(files.is_as(self._target, *each) for each in self._copies(it)) else "NoCopy"
+
+    def _is_marked(self, it: Compared) -> bool:
+        """Whether the copy of a fax is marked as the only one."""
+        assert self._target is not None
+        for name, seen in self._copies(it):
+            why = files.keep_only(self._target, name, seen, self._job.owner)
+            if why is not None:
+                self._keep(it, why)
+                return False
+        return True
+
+    def _is_gone(self, tree: files.Root, it: Compared) -> bool:
+        """Deletes a fax; whether it is gone."""
+        assert self._target is not None
+        kept = all(files.is_kept(self._target, *each) for each in self._copies(it))
+        why = files.delete(tree, it.path, it.fax, self._links) if kept else "NoCopy"
+        if why is not None:
+            self._keep(it, why)
+        return why is None
+
+    def _copies(self, it: Compared) -> List[Tuple[bytes, Seen]]:
+        """The copy of a fax, and its fields, by their names below TARGET."""
+        name = self._job.copy_of(it.path)
+        return [(name, it.copy)] + ([(name + FIELDS, it.fields)] if it.fields is not None else [])
 
 
 def state_of(table: Table) -> str:

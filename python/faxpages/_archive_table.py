@@ -14,6 +14,7 @@ from typing import Any, Callable, Dict, Iterator, List, NamedTuple, Optional, Tu
 from . import _archive_files as files
 from ._archive_fax import Done, Found, Job, Waiting
 from ._archive_files import Seen, Stood
+from ._archive_marks import Owner
 
 COLUMNS = Found._fields
 # A commit waits for the disk: at most one a second.
@@ -22,6 +23,8 @@ _COMMIT = 1.0
 _WAIT, _LONG = 0.25, 60.0
 # How many rows are read at a time.
 _READ = 1000
+# How many faxes are deleted at a time, with one commit before.
+_DELETED = 512
 _FORMAT = 2
 _SCHEMA = """
 CREATE TABLE IF NOT EXISTS faxes (
@@ -45,7 +48,10 @@ _TEMPORARY = """
 CREATE TEMP TABLE waiting (
     path BLOB NOT NULL, size INTEGER NOT NULL, mtime REAL NOT NULL, copy TEXT NOT NULL, fields TEXT NOT NULL,
     proven INTEGER NOT NULL);
-CREATE TEMP TABLE compared (path BLOB NOT NULL, device, inode, size, mtime, ctime, copy_size, copy_mtime);
+CREATE TEMP TABLE compared (
+    path BLOB NOT NULL, device, inode, size, mtime, ctime, copy_device, copy_inode, copy_size, copy_mtime, copy_ctime,
+    fields_device, fields_inode, fields_size, fields_mtime, fields_ctime, depth);
+CREATE INDEX temp.compared_depths ON compared (depth DESC);
 """
 # Its values are path, since, checked, run, origin, status, fault, fault_page and fault_row.
 _PUT_TIME = """
@@ -99,6 +105,17 @@ class Copied(NamedTuple):
         """The digests of what may be written over."""
         return (self.copy.digest if self.copy.ours else "",
                 self.fields.digest if self.fields is not None and self.fields.ours else "")
+
+
+class Compared(NamedTuple):
+    """A fax that was compared with its copy: its path, what it, the copy and the copy's fields are known by, and how many
+    links lead from its name to a file."""
+
+    path: bytes
+    fax: Seen
+    copy: Seen
+    fields: Optional[Seen]
+    depth: int = 0
 
 
 class Runs(NamedTuple):
@@ -176,15 +193,23 @@ class Table:
 
     def _locked(self) -> Any:
         try:
-            return files.lock(f"{self.name}-lock")
+            # A table by two names, as by a link, has one lock.
+            return files.lock(f"{os.path.realpath(self.name)}-lock")
         except BlockingIOError:
             raise TableError(f"another run writes to {self.name}") from None
 
     def _format(self) -> int:
         return int(self._base.execute("PRAGMA user_version").fetchone()[0])
 
+    def _is_foreign(self) -> bool:
+        """Whether there are tables already, and these are not those of an archive."""
+        tables = {str(name) for (name,) in self._base.execute("SELECT name FROM sqlite_master")}
+        return self._format() not in (0, _FORMAT) or bool(tables) and not {"faxes", "times", "job"} <= tables
+
     def _make(self) -> None:
         """Makes the tables, and brings those of an earlier version up to date."""
+        if self._is_foreign():
+            raise TableError(f"{self.name} is a database of another program, or of a later version, and stays as it is")
         self._base.executescript(_TEMPORARY)
         if self._format() == _FORMAT:
             return
@@ -273,6 +298,18 @@ class Table:
         """The number of the table, by which its rows and its copies are known."""
         return self._value("table") or ""
 
+    def owner(self) -> Owner:
+        """Whose copies are ours: those of this table, and of the parts that it was merged of, which its rows name until
+        they are noted. A row is of this table once it has been looked at again."""
+        noted = self._value("parts")
+        found = set(json.loads(noted or "[]")) | {
+            str(it) for (it,) in self._base.execute("SELECT DISTINCT origin FROM times") if it}
+        parts = sorted(found - {self.number()})
+        if json.dumps(parts) != noted:
+            self.begin()
+            self._base.execute("INSERT OR REPLACE INTO job VALUES ('parts', ?)", (json.dumps(parts),))
+        return Owner(self.number(), frozenset(parts))
+
     def job(self) -> Optional[Dict[str, Any]]:
         """Which job the table is of, or None where it is new."""
         told = self._value("job")
@@ -349,7 +386,7 @@ class Table:
 
     def count_deleted(self) -> int:
         """How many faxes were deleted after they had been copied."""
-        (count,) = self._base.execute("SELECT count(*) FROM deleted").fetchone()
+        (count,) = self._base.execute("SELECT count(*) FROM deleted WHERE deleted > 0").fetchone()
         return int(count)
 
     def was_deleted(self, fax: Waiting) -> bool:
@@ -388,15 +425,27 @@ class Table:
             self._base.executemany(f"DELETE FROM {name} WHERE path = ?", kept)
 
     def forget_deleted(self, paths: List[bytes]) -> None:
-        """Takes out the rows of faxes that are about to be deleted, and keeps their sizes and times. Committed."""
+        """Takes out the rows of faxes that are about to be deleted, and keeps their sizes and times. Committed. The time
+        of their deletion is 0 until it is known that they are gone."""
         self.begin()
         self._base.executemany(
             "DELETE FROM deleted WHERE (path, size, mtime) IN (SELECT path, size, mtime FROM faxes WHERE path = ?)",
             ((kept_path(path),) for path in paths))
         self._base.executemany(
             "INSERT INTO deleted SELECT path, faxes.size, faxes.mtime, digest, ? FROM faxes JOIN copies USING (path) "
-            "WHERE path = ?", ((time.time(), kept_path(path)) for path in paths))
+            "WHERE path = ?", ((0, kept_path(path)) for path in paths))
         self.forget(paths)
+        self.commit_all()
+
+    def about_to_be_deleted(self) -> List[bytes]:
+        """The faxes that were about to be deleted, and of which it is not known whether they are gone."""
+        return [bytes_of(path) for (path,) in self._base.execute("SELECT path FROM deleted WHERE deleted = 0")]
+
+    def are_deleted(self, paths: List[bytes]) -> None:
+        """Notes that faxes are gone that were about to be deleted. Committed."""
+        self.begin()
+        self._base.executemany("UPDATE deleted SET deleted = ? WHERE path = ? AND deleted = 0",
+                               ((time.time(), kept_path(path)) for path in paths))
         self.commit_all()
 
     def wait(self, fax: Waiting) -> None:
@@ -424,21 +473,24 @@ class Table:
 
         return take
 
-    def compared(self, path: bytes, fax: Seen, copy: Stood) -> None:
+    def compared(self, it: Compared) -> None:
         """Notes that a fax was compared with its copy, and what both are known by."""
-        self._base.execute("INSERT INTO compared VALUES (?, ?, ?, ?, ?, ?, ?, ?)",
-                           (path, *fax, copy.size, copy.mtime))
+        self._base.execute(f"INSERT INTO compared VALUES ({', '.join('?' * 17)})",
+                           (it.path, *it.fax, *it.copy, *(it.fields or (None,) * 5), it.depth))
 
-    def all_compared(self) -> Iterator[List[Tuple[bytes, Seen, Tuple[int, int]]]]:
-        """The faxes that were compared, some at a time, each with its copy's size and time."""
-        last = 0
-        while True:
-            found = self._base.execute("SELECT rowid, * FROM compared WHERE rowid > ? ORDER BY rowid LIMIT 64",
-                                       (last,)).fetchall()
-            if not found:
-                return
-            last = found[-1][0]
-            yield [(row[1], Seen(*row[2:7]), (row[7], row[8])) for row in found]
+    def all_compared(self) -> Iterator[List[Compared]]:
+        """The faxes that were compared, some at a time. A link in the tree to a fax of the tree comes before it: alone it
+        would lead nowhere."""
+        for (depth,) in self._base.execute("SELECT DISTINCT depth FROM compared ORDER BY depth DESC").fetchall():
+            last = 0
+            while True:
+                found = self._base.execute(
+                    "SELECT rowid, * FROM compared WHERE depth = ? AND rowid > ? ORDER BY rowid LIMIT ?",
+                    (depth, last, _DELETED)).fetchall()
+                if not found:
+                    break
+                last = found[-1][0]
+                yield [_compared(row[1:]) for row in found]
 
     def rows(self) -> Iterator[Found]:
         """All rows in order of their paths' bytes. Some are read at a time, so that whoever takes them slowly keeps no
@@ -489,10 +541,24 @@ class Table:
         found.update(self._base.execute("SELECT status, count(*) FROM faxes GROUP BY status"))
         return found
 
+    def lacks(self) -> Dict[str, int]:
+        """How many copies lack each thing."""
+        found: Dict[str, int] = {}
+        for names, count in self._base.execute("SELECT lacks, count(*) FROM faxes WHERE lacks != '' GROUP BY lacks"):
+            for name in str(names).split():
+                found[name] = found.get(name, 0) + int(count)
+        return dict(sorted(found.items()))
+
     def faults(self) -> Dict[str, int]:
         """How many rows have each fault."""
         return dict(self._base.execute(
             "SELECT fault, count(*) FROM faxes WHERE fault IS NOT NULL GROUP BY fault ORDER BY fault"))
+
+
+def _compared(row: Tuple[Any, ...]) -> Compared:
+    """A fax that was compared, of its row."""
+    fields = Seen(*row[11:16]) if row[11] is not None else None
+    return Compared(row[0], Seen(*row[1:6]), Seen(*row[6:11]), fields, row[16])
 
 
 def _address(name: str, new: bool) -> str:

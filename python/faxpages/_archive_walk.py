@@ -7,6 +7,7 @@ import stat
 import zlib
 from typing import Callable, FrozenSet, Iterator, List, Mapping, NamedTuple, Optional, Tuple
 
+from . import _archive_mounts as mounts
 from ._archive_fax import Waiting
 
 _ENDINGS = (b".tif", b".tiff")
@@ -69,9 +70,14 @@ def is_within(inner: bytes, outer: bytes) -> bool:
 
 
 def refuse_one_in_the_other(tree: bytes, target: bytes) -> None:
-    """WrongTarget where TREE and TARGET are one, or one stands in the other."""
+    """WrongTarget where TREE and TARGET are one, or one stands in the other, by links or by mounts."""
     if is_within(target, tree) or os.path.isdir(target) and is_within(tree, target):
         raise WrongTarget("TREE and TARGET are one in the other")
+    for one, other, said in ((target, tree, "TARGET is mounted in TREE"), (tree, target, "TREE is mounted in TARGET")):
+        if os.path.isdir(one):
+            for way in mounts.ways_into(one):
+                if mounts.below(way, os.path.realpath(other)) is not None:
+                    raise WrongTarget(f"a folder of {said}: {os.fsdecode(way)!r}")
 
 
 class Way(NamedTuple):
@@ -92,7 +98,8 @@ class Walk:
     def __init__(self, tree: bytes, way: Way, failed: Failed) -> None:
         self._tree, self._way, self._failed = tree, way, failed
         self._target = place_of(way.target) if way.target is not None else None
-        self._inside = os.path.join(os.path.realpath(way.target), b"") if way.target is not None else None
+        self._inside = [] if way.target is None else [
+            os.path.realpath(way.target), *(mounts.ways_into(way.target) if way.follow else [])]
         self.all = 0
 
     def faxes(self) -> Iterator[Waiting]:
@@ -136,7 +143,8 @@ class Walk:
         place = place_of(path)
         if place == self._target:
             raise WrongTarget(f"TREE leads to TARGET by {os.fsdecode(folder)!r}")
-        if self._inside is not None and self._way.follow and os.path.realpath(path).startswith(self._inside):
+        real = os.path.realpath(path) if self._way.follow else path
+        if self._way.follow and any(mounts.below(real, it) is not None for it in self._inside):
             raise WrongTarget(f"TREE leads into TARGET by {os.fsdecode(folder)!r}")
         if place in above:
             return None

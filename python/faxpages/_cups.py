@@ -106,9 +106,14 @@ def within(seconds: int, work: Callable[[], None]) -> None:
         os.close(reader)
         _do(seconds, work, writer)
     os.close(writer)
-    with open(reader, "rb") as file:
-        said = file.read()
-    _, status = os.waitpid(child, 0)
+    try:
+        with open(reader, "rb") as file:
+            said = file.read()
+        _, status = os.waitpid(child, 0)
+    except BaseException:
+        os.kill(child, signal.SIGKILL)
+        os.waitpid(child, 0)
+        raise
     if os.WIFSIGNALED(status):
         number = os.WTERMSIG(status)
         raise Refused(f"it takes longer than {seconds} seconds" if number in (signal.SIGALRM, signal.SIGXCPU)

@@ -8,14 +8,17 @@ import re
 import signal
 import subprocess
 import sys
-import tempfile
-from typing import Dict, List, NamedTuple, NoReturn, Optional, Sequence
+from typing import Dict, Iterator, List, NamedTuple, NoReturn, Optional, Sequence
 from urllib.parse import unquote
 
 from ._cups import InDoubt, Job, Refused, one_line, say, seconds_of, within
-from ._fax import Fax
+from ._cups_documents import count_of, documents_of
+from ._cups_ending import end_filters
+from ._fax import Fax, Page
 from ._report import check
+from ._scratch import scratch
 from ._spool import Spool
+from ._writing import write
 
 # What CUPS does after a backend ended with this status: it holds the job.
 HOLD = 3
@@ -41,29 +44,34 @@ class Form(NamedTuple):
 
 
 class Device(NamedTuple):
-    """Where faxes go: the folder, and whether they are handed to HylaFAX from there."""
+    """Where faxes go: the folder, whether they are handed to HylaFAX from there, and whether a title may name the
+    number: the title of a document is often its author's, who may be a stranger."""
 
     folder: str
     to_hylafax: bool
+    by_title: bool
 
     @classmethod
     def of(cls, uri: str) -> Device:
-        """The device of `faxpages:/folder`, or `faxpages:/folder?sendfax`."""
-        found = re.fullmatch(r"faxpages:(?://)?(/[^?]+?)/?(\?sendfax)?", uri)
-        if not found:
-            raise Refused("the device is faxpages:/FOLDER or faxpages:/FOLDER?sendfax")
-        return cls(unquote(found.group(1)), found.group(2) is not None)
+        """The device of `faxpages:/folder`, after which `?sendfax`, `?title` or both may stand."""
+        found = re.fullmatch(r"faxpages:(?://)?(/[^?]+?)/?(?:\?([a-z&]+))?", uri)
+        words = set((found.group(2) or "").split("&")) - {""} if found else set()
+        if not found or words - {"sendfax", "title"}:
+            raise Refused("the device is faxpages:/FOLDER, and ?sendfax, ?title or ?sendfax&title may follow")
+        return cls(unquote(found.group(1)), "sendfax" in words, "title" in words)
 
 
-def number_of(job: Job) -> str:
+def number_of(job: Job, by_title: bool) -> str:
     """The number that a job names. None is guessed: where there is none, or more than one, the job is held."""
     stray = [name for name in job.options if re.fullmatch(r"[0-9()+./-]+", name)]
     if stray:
         raise Refused(f"{min(stray)!r} is no option: write the number without blanks")
     told = [job.options[name] for name in _NUMBERS if job.options.get(name, "None") not in ("None", "")]
-    told = [text[7:] if text.startswith("Custom.") else text for text in told] or _IN_TITLE.findall(job.title)
+    told = [text[7:] if text.startswith("Custom.") else text for text in told] or (
+        _IN_TITLE.findall(job.title) if by_title else [])
     if not told:
-        raise Refused("no number: print with -o FaxNumber=NUMBER, or with fax:NUMBER in the title")
+        raise Refused("no number: print with -o FaxNumber=NUMBER" + (
+            ", or with fax:NUMBER in the title" if by_title else ""))
     numbers = {digits_of(text) for text in told}
     if len(numbers) > 1:
         raise Refused(f"more than one number: {' and '.join(sorted(numbers))}")
@@ -95,12 +103,27 @@ def form_of(options: Dict[str, str], defaults: Dict[str, str]) -> Form:
     return Form(choice("FaxCoding", CODINGS), choice("FaxResolution", RESOLUTIONS), choice("FaxWidth", WIDTHS))
 
 
-def identity_of(job: Job) -> str:
-    """The name of a job, which no other job has, and which it keeps if CUPS begins it again."""
-    found = _UUID.fullmatch(job.options.get("job-uuid", ""))
-    if not found:
-        raise Refused("CUPS tells no job-uuid")
-    return found.group(1).lower()
+class Identity(NamedTuple):
+    """What CUPS knows a job by, also if it begins it again: its number, when it was made, and its uuid. A client may
+    choose a uuid, also that of another job; but not the number, nor the time."""
+
+    number: str
+    made: str
+    uuid: str
+
+    @classmethod
+    def of(cls, job: Job) -> Identity:
+        """That of a job."""
+        found = _UUID.fullmatch(job.options.get("job-uuid", ""))
+        if not found:
+            raise Refused("CUPS tells no job-uuid")
+        if not re.fullmatch(r"[0-9]{1,10}", job.number):
+            raise Refused(f"{one_line(job.number, 60)!r} is no number of a job")
+        made = job.options.get("time-at-creation", "")
+        return cls(job.number, made if re.fullmatch(r"[0-9]{1,20}", made) else "0", found.group(1).lower())
+
+    def __str__(self) -> str:
+        return "-".join(self)
 
 
 def program(name: str) -> str:
@@ -112,9 +135,11 @@ def program(name: str) -> str:
     raise Refused(f"there is no {name}")
 
 
-def run(words: List[str], seconds: int, what: str) -> str:
-    """Runs a program to its end, and tells what it said. It ends with this one, and after so many seconds."""
+def run(words: List[str], seconds: int, what: str, room: Optional[str] = None) -> str:
+    """Runs a program to its end, and tells what it said. It ends with this one, and after so many seconds; room is for
+    its temporary files."""
     environment = {**os.environ, "PATH": f"{os.environ.get('PATH', '')}:{_PLACES}"}
+    environment.update({"TMPDIR": room} if room else {})
     with subprocess.Popen(["/usr/bin/timeout", "--kill-after=2", str(seconds), *words], env=environment,
                           stdin=subprocess.DEVNULL, stdout=subprocess.PIPE, stderr=subprocess.STDOUT) as child:
         try:
@@ -122,35 +147,60 @@ def run(words: List[str], seconds: int, what: str) -> str:
         except BaseException:
             child.terminate()
             raise
-    if child.returncode >= 124:
+    # A plain refusal ends with a status of the program's own; else it takes too long, or was killed.
+    if not 0 <= child.returncode < 124:
         raise InDoubt(f"{what} takes longer than {seconds} seconds, or was killed")
     if child.returncode:
         raise Refused(f"{what}: {said.strip() or f'status {child.returncode}'}")
     return said
 
 
-def fax_of(data: bytes, form: Form, seconds: int) -> bytes:
-    """The fax of a PDF: one that `check` passes without a note, of pages of the form."""
-    if not data.lstrip()[:5] == b"%PDF-":
-        raise Refused("what is printed is no PDF" if data else "nothing is printed")
-    # CUPS goes on with a job whose filter was killed, and poppler guesses at what is missing.
-    if b"%%EOF" not in data[-1024:]:
-        raise Refused("the PDF is cut short")
-    with tempfile.TemporaryDirectory(prefix="faxpages-") as folder:
-        pdf, fax = os.path.join(folder, "job.pdf"), os.path.join(folder, "job.tif")
-        with open(pdf, "wb") as file:
-            file.write(data)
-        told = run([program("pdfinfo"), pdf], seconds, "pdfinfo")
-        pages = int((re.findall(r"(?m)^Pages: +([0-9]{1,9})$", told) or ["0"])[0])
-        if not 0 < pages <= PAGES:
-            raise Refused(f"the PDF has {pages} pages, and a fax from 1 to {PAGES}")
-        how = ["--standard"] if form.resolution == "standard" else []
-        run([program("faxpages-from-pdf"), *how, "--coding", form.coding, "--width", form.width, pdf, fax], seconds,
-            "faxpages-from-pdf")
+def fax_of(documents: Sequence[bytes], form: Form, seconds: int) -> bytes:
+    """The fax of all documents in order: one that `check` passes without a note, of pages of the form."""
+    with scratch() as folder:
+        pdfs = [_kept(folder, number, data) for number, data in enumerate(documents)]
+        counts = [pages_in(pdf, seconds) for pdf in pdfs]
+        if min(counts) == 0 or sum(counts) > PAGES:
+            raise Refused(f"the PDF has {0 if min(counts) == 0 else sum(counts)} pages, and a fax from 1 to {PAGES}")
+        faxes = [drawn(pdf, form, seconds) for pdf in pdfs]
+        fax = faxes[0]
+        if len(faxes) > 1:
+            fax = os.path.join(folder, "all.tif")
+            within(seconds, lambda: write(all_pages(faxes), fax, form.coding, align=form.coding != "mmr"))
         with open(fax, "rb") as file:
             made = file.read()
-    within(seconds, lambda: look_at(made, form, pages))
+    within(seconds, lambda: look_at(made, form, sum(counts)))
     return made
+
+
+def _kept(folder: str, number: int, data: bytes) -> str:
+    """A document of a job in a file of its own."""
+    path = os.path.join(folder, f"job-{number}.pdf")
+    with open(path, "wb") as file:
+        file.write(data)
+    return path
+
+
+def pages_in(pdf: str, seconds: int) -> int:
+    """How many pages a PDF has."""
+    told = run([program("pdfinfo"), pdf], seconds, "pdfinfo")
+    return int((re.findall(r"(?m)^Pages: +([0-9]{1,9})$", told) or ["0"])[0])
+
+
+def drawn(pdf: str, form: Form, seconds: int) -> str:
+    """The fax of a PDF, beside it."""
+    fax = f"{pdf[:-4]}.tif"
+    how = ["--standard"] if form.resolution == "standard" else []
+    run([program("faxpages-from-pdf"), *how, "--coding", form.coding, "--width", form.width, pdf, fax], seconds,
+        "faxpages-from-pdf", os.path.dirname(pdf))
+    return fax
+
+
+def all_pages(faxes: Sequence[str]) -> Iterator[Page]:
+    """The pages of faxes, one after another."""
+    for path in faxes:
+        with open(path, "rb") as file:
+            yield from Fax(file.read())
 
 
 def look_at(made: bytes, form: Form, pages: int) -> None:
@@ -162,7 +212,7 @@ def look_at(made: bytes, form: Form, pages: int) -> None:
         raise Refused("the fax has a page of another form")
 
 
-def told_of(job: Job, identity: str, number: str, form: Form, made: bytes) -> Dict[str, str]:
+def told_of(job: Job, identity: Identity, number: str, form: Form, made: bytes) -> Dict[str, str]:
     """The lines of a job's file."""
     return {"number": number, "user": job.user, "title": job.title, "pages": str(len(Fax(made))),
             "coding": form.coding, "resolution": form.resolution, "width": form.width,
@@ -175,6 +225,12 @@ def send(number: str, user: str, fax: str, seconds: int) -> None:
     say("INFO", run([program("sendfax"), "-n", "-f", name, "-d", number, fax], seconds, "sendfax").strip() or "sent")
 
 
+def late(*_: object) -> NoReturn:
+    """Ends as the seconds of a job are over, which begin with the job: a filter before this one may never end."""
+    end_filters()
+    raise Refused(f"it takes longer than {seconds_of(SECONDS)} seconds")
+
+
 def stop(*_: object) -> NoReturn:
     """Ends as the job is cancelled; what is not handed on leaves nothing."""
     signal.signal(signal.SIGTERM, signal.SIG_IGN)
@@ -183,19 +239,20 @@ def stop(*_: object) -> NoReturn:
 
 def hand_on(job: Job, data: bytes) -> None:
     """Hands a job on, once."""
-    device, identity = Device.of(os.environ.get("DEVICE_URI", "")), identity_of(job)
+    device, identity = Device.of(os.environ.get("DEVICE_URI", "")), Identity.of(job)
     seconds = seconds_of(SECONDS)
-    with Spool(device.folder, identity) as spool:
+    with Spool(device.folder, str(identity), identity.uuid) as spool:
         if spool.is_done():
             say("INFO", "the fax was handed on before, and is not once more")
             return
-        spool.keep(data)
+        documents = documents_of(data, count_of(job))
+        spool.keep(documents)
         for path in spool.forsaken():
             say("WARNING", f"{path} is left of a job that was killed before it was faxed: print it again, or delete it")
-        number, form = number_of(job), form_of(job.options, defaults_of(os.environ.get("PPD")))
+        number, form = number_of(job, device.by_title), form_of(job.options, defaults_of(os.environ.get("PPD")))
         if job.copies != "1":
             say("WARNING", "copies of a fax are not made")
-        made = fax_of(data, form, seconds)
+        made = fax_of(documents, form, seconds)
         told = told_of(job, identity, number, form, made)
         if device.to_hylafax:
             spool.send(made, lambda fax: send(number, job.user, fax, seconds))
@@ -210,6 +267,8 @@ def main(words: Sequence[str]) -> int:
         print('file faxpages:/var/spool/faxpages "Unknown" "Faxes into a folder, or to HylaFAX"')
         return 0
     signal.signal(signal.SIGTERM, stop)
+    signal.signal(signal.SIGALRM, late)
+    signal.alarm(seconds_of(SECONDS))
     try:
         job = Job.of(words)
         hand_on(job, job.read())

@@ -16,10 +16,10 @@ from typing import IO, Any, Iterator, List, NamedTuple, Sequence, Tuple, Union
 import pikepdf
 
 from ._cups import Job, Other, Refused, say, seconds_of, within
-from ._cursor import Cursor
 from ._fax import Fax, Page
 from ._raster import Raster
 from ._report import check
+from ._salvaged import NotSalvaged, Salvage, Stretch
 from ._writing import encode_strip
 from .faults import Fault, OutsideError
 
@@ -38,19 +38,11 @@ _LATER = ("page-ranges", "page-set", "number-up", "number-up-layout", "page-bord
           "multiple-document-handling", "orientation-requested", "landscape", "sides")
 
 
-class Lost(NamedTuple):
-    """Rows that cannot be read, from one to another, and the fault."""
-
-    first: int
-    last: int
-    name: str
-
-
 class Sheet(NamedTuple):
     """A page as it is printed: its pels, of which there are none if its form cannot be read, and what it lacks."""
 
     raster: Raster
-    lost: List[Lost]
+    lost: List[Stretch]
     lines: List[str]
 
 
@@ -72,8 +64,12 @@ def sheets(data: bytes, salvage: bool) -> Iterator[Sheet]:
         if fault:
             raise Refused(f"fault {fault}: the fax is damaged, and not printed; with -o faxpages=salvage what can be "
                           "read of it is printed")
-    for page in forms(fax):
-        yield Sheet(page.raster(), [], []) if not salvage else salvaged(page)
+        for page in forms(fax):
+            yield Sheet(page.raster(), [], [])
+        return
+    with Salvage(data) as left:
+        for page in forms(fax):
+            yield salvaged(page, left)
 
 
 def forms(fax: Fax) -> Iterator[Union[Page, Any]]:
@@ -106,38 +102,23 @@ def bound(fax: Fax) -> None:
             raise Refused(f"its pages have more than {ALL_PELS} pels")
 
 
-def salvaged(page: Union[Page, Fault]) -> Sheet:
-    """What can be read of a page, with lines that say what cannot."""
+def salvaged(page: Union[Page, Fault], left: Salvage) -> Sheet:
+    """What is left of a page, with lines that say what is lost."""
     if isinstance(page, Fault):
         blank = Raster(1728, 1143, bytes(216 * 1143), y=Fraction(98))
         where = f"page {page.page}" if page.row == 0 else f"page {page.page} row {page.row}"
-        return Sheet(blank, [Lost(0, blank.rows - 1, page.name)], [f"{where} is missing: {page.name}"])
-    packed, lost = bytearray(page.rows * ((page.width + 7) // 8)), []
-    at = 0
-    while at < page.rows:
-        end, fault = readable(page, at, packed)
-        at = end
-        if fault:
-            at = min(page.rows, (end // page.rows_per_strip + 1) * page.rows_per_strip)
-            lost.append(Lost(end, at - 1, fault.name))
-    raster = Raster(page.width, page.rows, bytes(packed), page.x or Fraction(1), page.y or Fraction(1), page.unit)
+        return Sheet(blank, [Stretch(0, blank.rows, page.name)], [f"{where} is missing: {page.name}"])
+    try:
+        return Sheet(page.raster(), [], [])
+    except Fault:
+        pass
+    try:
+        packed, lost = left.page(page)
+    except NotSalvaged as why:
+        raise Refused(str(why)) from why
+    raster = Raster(page.width, page.rows, packed, page.x or Fraction(1), page.y or Fraction(1), page.unit)
     lines = [f"page {page.number} rows {it.first} to {it.last} are missing: {it.name}" for it in lost]
     return Sheet(raster, lost, lines)
-
-
-def readable(page: Page, at: int, packed: bytearray) -> Tuple[int, Union[Fault, None]]:
-    """Puts the rows of a page, from one on up to a fault, where they belong; and tells how far it came, and the
-    fault."""
-    stride = (page.width + 7) // 8
-    while at < page.rows:
-        try:
-            rows, _ = page.fax.read_rows(Cursor(page.number, at), page.rows - at)
-        except Fault as fault:
-            return at, fault
-        for row in rows:
-            packed[row.number * stride:(row.number + 1) * stride] = row.packed
-        at = rows[-1].number + 1
-    return at, None
 
 
 def dpi_of(raster: Raster) -> Tuple[float, float]:
@@ -170,9 +151,8 @@ def content_of(sheet: Sheet, width: float, height: float) -> bytes:
     foot = _LINE * len(lines)
     drawn = [f"q {width:.4f} 0 0 {height:.4f} 0 {foot:.4f} cm /I Do Q"]
     for lost in sheet.lost:
-        top, rows = height * (1 - lost.first / sheet.raster.rows), lost.last - lost.first + 1
-        drawn.append(f"q 0.75 g 0 {foot + top - height * rows / sheet.raster.rows:.4f} {width:.4f} "
-                     f"{height * rows / sheet.raster.rows:.4f} re f Q")
+        top, deep = height * (1 - lost.first / sheet.raster.rows), height * lost.rows / sheet.raster.rows
+        drawn.append(f"q 0.75 g 0 {foot + top - deep:.4f} {width:.4f} {deep:.4f} re f Q")
     for number, line in enumerate(lines, 1):
         text = re.sub(r"([\\()])", r"\\\1", line)
         drawn.append(f"BT /F 9 Tf 9 {foot - _LINE * number + 4:.4f} Td ({text}) Tj ET")
@@ -202,7 +182,7 @@ def write_pdf(data: bytes, file: IO[bytes], salvage: bool) -> None:
     font = pdf.make_indirect(pikepdf.Dictionary(
         Type=pikepdf.Name.Font, Subtype=pikepdf.Name.Type1, BaseFont=pikepdf.Name.Helvetica))
     for sheet in sheets(data, salvage):
-        read += sheet.raster.rows - sum(lost.last - lost.first + 1 for lost in sheet.lost)
+        read += sheet.raster.rows - sum(lost.rows for lost in sheet.lost)
         for line in sheet.lines[:_LINES]:
             say("WARNING", line)
         add_page(pdf, font, sheet)

@@ -10,21 +10,25 @@ from __future__ import annotations
 import contextlib
 import fcntl
 import os
+import re
 import signal
 import stat
 from types import TracebackType
-from typing import Callable, Dict, List, Optional, Type
+from typing import Callable, Dict, List, Optional, Sequence, Tuple, Type
 
 from ._cups import InDoubt, Refused, one_line
 
 _KEPT = ".faxpages"
+# A document of a job that is kept: the job's name, and the number of the document if there are several.
+_DOCUMENT = re.compile(r"(.+)\.part(?:-[0-9]+)?\.pdf")
 
 
 class Spool:
-    """A folder for faxes, for one job. Of all files there it writes, and deletes, those of its name alone."""
+    """A folder for faxes, for one job. Of all files there it writes, and deletes, those of its name alone. Versions
+    before 1.6 knew a job by an older name."""
 
-    def __init__(self, folder: str, name: str) -> None:
-        self._path, self._name = folder, name
+    def __init__(self, folder: str, name: str, older: str) -> None:
+        self._path, self._name, self._older = folder, name, older
         self._folder = self._kept = self._lock = -1
 
     def __enter__(self) -> Spool:
@@ -36,6 +40,9 @@ class Spool:
         except FileExistsError:
             pass
         self._kept = os.open(_KEPT, os.O_RDONLY | os.O_DIRECTORY | os.O_NOFOLLOW, dir_fd=self._folder)
+        told = os.fstat(self._kept)
+        if told.st_uid != os.geteuid() or told.st_mode & stat.S_IRWXO:
+            raise Refused(f"{self._path}/{_KEPT} is of another user, or open to others")
         # One process has a job, also where CUPS begins it again while one that it lost sight of goes on.
         while not self._takes_lock():
             os.close(self._lock)
@@ -53,8 +60,11 @@ class Spool:
 
     def __exit__(self, kind: Optional[Type[BaseException]], _error: Optional[BaseException],
                  _trace: Optional[TracebackType]) -> None:
-        names = ["part.tif", "part.job", "lock"]
-        for name in names if kind and not _is_watched() else ["part.pdf", *names]:
+        if not kind or _is_watched():
+            for name, its in self._documents():
+                if its == self._name:
+                    os.unlink(name, dir_fd=self._kept)
+        for name in ("part.tif", "part.job", "lock"):
             self._remove(name)
         for file in (self._lock, self._kept, self._folder):
             os.close(file)
@@ -69,17 +79,27 @@ class Spool:
         if self._is_there("begun"):
             raise Refused(f"it was ended just as it was handed on, and may be on its way: if it is not, delete "
                           f"{self._path}/{_KEPT}/{self._name}.begun and release the job, else cancel it")
+        for kind in ("done", "begun"):
+            # That name was a uuid, which a client may have chosen: whether it was this job nobody knows.
+            if _exists(f"{self._older}.{kind}", self._kept):
+                raise Refused(f"it may have been handed on by an earlier version: if it was not, delete "
+                              f"{self._path}/{_KEPT}/{self._older}.{kind} and release the job, else cancel it")
         return False
 
-    def keep(self, data: bytes) -> None:
+    def keep(self, documents: Sequence[bytes]) -> None:
         """Keeps what is to be faxed until it is handed on or held: CUPS takes a job as done if its backend is
-        killed."""
-        self._write("part.pdf", data)
+        killed. Of several documents each has a file, since who reads one file of all would see the last alone."""
+        for number, data in enumerate(documents, 1):
+            self._write("part.pdf" if len(documents) == 1 else f"part-{number}.pdf", data)
 
     def forsaken(self) -> List[str]:
         """The documents that jobs have left which were killed, and which CUPS took as done."""
-        found = [name for name in os.listdir(self._kept) if name.endswith(".part.pdf")]
-        return [f"{self._path}/{_KEPT}/{name}" for name in found if self._is_free(name[:-len(".part.pdf")])]
+        return [f"{self._path}/{_KEPT}/{name}" for name, its in self._documents() if self._is_free(its)]
+
+    def _documents(self) -> List[Tuple[str, str]]:
+        """The documents that are kept, with the names of their jobs."""
+        found = (_DOCUMENT.fullmatch(name) for name in sorted(os.listdir(self._kept)))
+        return [(it.group(), it.group(1)) for it in found if it]
 
     def _is_free(self, name: str) -> bool:
         """Whether no process has the job of another name."""
@@ -111,8 +131,9 @@ class Spool:
 
     def _once(self, work: Callable[[], None]) -> None:
         """Does what hands the job on, between the two marks; where it fails it is as if it had not begun. A job that is
-        cancelled from here on is handed on."""
+        cancelled from here on is handed on, and so is one whose seconds are over."""
         signal.signal(signal.SIGTERM, signal.SIG_IGN)
+        signal.alarm(0)
         os.close(os.open(f"{self._name}.begun", os.O_WRONLY | os.O_CREAT | os.O_EXCL, 0o660, dir_fd=self._kept))
         os.fsync(self._kept)
         try:

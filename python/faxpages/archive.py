@@ -27,6 +27,7 @@ from . import _archive_merge as merging
 from . import _archive_walk as walk
 from ._archive_engine import NoEngine
 from ._archive_fax import GOOD, NOT_READ, Found, Job
+from ._archive_marks import Owner
 from ._archive_run import Run, Stopped, say, shown, signals, state_of, told
 from ._archive_table import COLUMNS, Table, TableError, WrongTable, job_of, text_of, where_of
 from ._archive_words import words_of
@@ -54,7 +55,7 @@ def _do_tree(words: argparse.Namespace) -> int:
         if job.target is not None:
             files.make_target(job.target)
             walk.refuse_one_in_the_other(tree, job.target)
-        return Run(words, job._replace(owner=table.number()), table).do()
+        return Run(words, job._replace(owner=table.owner() if job.target is not None else Owner(table.number())), table).do()
 
 
 def _do_table(words: argparse.Namespace) -> int:

@@ -21,7 +21,7 @@ _faxpages() {
     local word=${COMP_WORDS[COMP_CWORD]} before=${COMP_WORDS[COMP_CWORD - 1]} words=
     COMPREPLY=()
     if [ "$COMP_CWORD" = 1 ]; then
-        words='list rows convert check'
+        words='list rows convert check salvage'
     else
         case $before in
         -o | --order) words=$(_faxpages_values "$before") ;;

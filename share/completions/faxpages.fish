@@ -1,12 +1,13 @@
 # Completes the words of faxpages(1) in fish.
 
-set -l commands list rows convert check
+set -l commands list rows convert check salvage
 
 complete -c faxpages -n "not __fish_seen_subcommand_from $commands" -f
 complete -c faxpages -n "not __fish_seen_subcommand_from $commands" -a list -d 'print a line for each page'
 complete -c faxpages -n "not __fish_seen_subcommand_from $commands" -a rows -d 'print a line for each row'
 complete -c faxpages -n "not __fish_seen_subcommand_from $commands" -a convert -d 'write the pages in another form'
 complete -c faxpages -n "not __fish_seen_subcommand_from $commands" -a check -d 'report faults and notes'
+complete -c faxpages -n "not __fish_seen_subcommand_from $commands" -a salvage -d 'print the rows that are left of a damaged fax'
 
 complete -c faxpages -n '__fish_seen_subcommand_from list rows' -l cursor -x -d 'resume at this cursor'
 complete -c faxpages -n '__fish_seen_subcommand_from list rows' -l max -x -d 'print at most this many lines'
