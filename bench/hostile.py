@@ -7,11 +7,13 @@ MH, MMR = 3, 4
 WIDEST = 65535
 
 
-def tiff(width: int, rows: int, compression: int, strip: bytes) -> bytes:
-    """A file of one page, of one strip."""
+def tiff(width: int, rows: int, compression: int, strip: bytes, options: int = 0) -> bytes:
+    """A file of one page, of one strip, with these T4Options."""
     at = 8 + len(strip) + len(strip) % 2
     fields = [(256, 4, width), (257, 4, rows), (258, 3, 1), (259, 3, compression), (262, 3, 0), (266, 3, 1),
               (273, 4, 8), (277, 3, 1), (278, 4, rows), (279, 4, len(strip)), (282, 5, 0), (283, 5, 8), (296, 3, 2)]
+    if options:
+        fields.insert(-1, (292, 4, options))
     values = at + 2 + 12 * len(fields) + 4
     directory = struct.pack("<H", len(fields))
     for tag, kind, value in fields:

@@ -4,6 +4,7 @@ module of the current folder runs."""
 import contextlib
 import fcntl
 import hashlib
+import json
 import os
 import shutil
 import signal
@@ -55,7 +56,8 @@ def convert(room, name, *words, **more):
 def lacking(room, *_):
     """A fax stays whose copy lacks something, unless that is given up."""
     faxes = drawn()
-    names = {"data": "DataAfterEnd", "fields": "Fields", "private": "PrivateFields", "bytes": "OtherBytes"}
+    names = {"data": "DataAfterEnd", "fields": "Fields", "private": "PrivateFields", "bytes": "OtherBytes",
+             "resolution": "Resolution"}
     for kind, told in names.items():
         put(room(f"lacking-{kind}/tree/a.tif"), faxes[kind])
         put(room(f"lacking-{kind}/tree/b.tif"), faxes[""])
@@ -63,6 +65,8 @@ def lacking(room, *_):
         room.claim(f"{kind}: is kept, and told", (status, f"kept: a.tif: {told}" in error, b"deleted 1 faxes" in out),
                    (3, True, True))
         room.claim(f"{kind}: is there", os.listdir(room(f"lacking-{kind}/tree")), ["a.tif"])
+        summary = json.loads(room.run("table", f"lacking-{kind}/t.sqlite", "--summary")[1])
+        room.claim(f"{kind}: it is counted", summary["lacks"], {told: 1})
         rows = room.rows(f"lacking-{kind}/t.sqlite").values()
         room.claim(f"{kind}: the table tells it", [row["lacks"] for row in rows],
                    [told])

@@ -24,9 +24,12 @@ def in_grammar():
 
 
 def in_synopsis(lines):
-    """What the lines of the synopsis have: an option, and its value beside it if it has one."""
+    """What the lines of the synopsis have, but for that of the version: an option, and its value beside it if it has
+    one."""
     found = {}
     for line in lines:
+        if line == "faxpages --version":
+            continue
         name, rest = re.match(r"faxpages (\w+) (.*)", line).groups()
         found[name] = [(option, value != "") for option, value in re.findall(r"(--?\w+)( [^\]\s]+)?", rest)]
     return found

@@ -8,6 +8,7 @@ import subprocess
 
 import made
 import server
+from strangers import by_hand, new_identity
 
 FORMS = [("MH", "Fine", "1728"), ("MR", "Standard", "1728"), ("MMR", "Fine", "2048"), ("MMR", "Standard", "2432")]
 
@@ -163,6 +164,28 @@ def numbers(room):
         room.claim(f"{title}", got[title][0]["number"] if title in got else None, number)
 
 
+def without_titles(room):
+    """A queue whose device does not ask for it takes no number of a title; and a policy hides numbers."""
+    folder = room.new_spool("untitled")
+    room.fax_queue("Untitled", folder)
+    pdf = room.made("gs-1.pdf")
+    job = room.server.print("Untitled", "-t", "Re: fax:0900999", pdf)
+    (told,) = room.server.ended(job)
+    said = "the fax is held: no number: print with -o FaxNumber=NUMBER"
+    room.claim("a title names no number", (told.state, told.message), ("pending-held", said))
+    room.server.do("lp", "-i", f"Untitled-{job}", "-o", "FaxNumber=0301262", "-H", "resume")
+    server.wait_for(lambda: room.server.jobs()[job].state == "completed")
+    room.claim("an option does", [told["number"] for told, _ in spooled(folder).values()], ["0301262"])
+    ask = ("import cups, sys; cups.setUser('stranger'); "
+           "print('FaxNumber' in cups.Connection().getJobAttributes(int(sys.argv[1])))")  # fmt: skip
+    for policy, wanted in (("default", "True"), ("numbers", "False")):
+        room.server.do("lpadmin", "-p", "Untitled", "-o", f"printer-op-policy={policy}")
+        job = room.server.print("Untitled", "-o", "FaxNumber=0301263", pdf)
+        room.server.ended(job)
+        shown = room.server.do("/usr/bin/python3", "-Ic", ask, str(job)).strip()
+        room.claim(f"policy {policy}: strangers see the number", shown, wanted)
+
+
 def released(room):
     """A job that was held is faxed, once, when it gets its number."""
     job = room.server.print("Fax", "-t", "released", room.made("gs-1.pdf"))
@@ -222,6 +245,85 @@ def a_fax_again(room):
     room.claim("nothing of it is spooled", "spoiled fax:1" in spooled(room.spool), False)
 
 
+def several(room):
+    """The documents of one job are one fax, in order: PDFs, text, a fax in TIFF-F, and a banner at the end."""
+    one, four, scan, text = (room.made(it) for it in ("gs-1.pdf", "gs-4.pdf", "scan.tif", "page.txt"))
+    cases = {
+        "two PDFs": [one, four], "the same twice": [four, four], "PDF and text": [four, text],
+        "TIFF and PDF": [scan, one], "five": [one, one, scan, four, one], "a banner": ["-o", "job-sheets=none,standard", four],
+    }  # fmt: skip
+    for form in (FORMS[0], FORMS[3]):
+        how = [word for pair in zip(("FaxCoding", "FaxResolution", "FaxWidth"), form) for word in ("-o", "=".join(pair))]
+        jobs = [room.server.print("Fax", "-t", f"{form[0]} {name} fax:1", *how, *words) for name, words in cases.items()]
+        room.claim(f"several, {form[0]}: done", {it.state for it in room.server.ended(*jobs)}, {"completed"})
+        got = spooled(room.spool)
+        for name, words in cases.items():
+            wanted = [page for path in words if path.endswith((".pdf", ".txt"))
+                      for page in (from_pdf(room, path, form) if path.endswith(".pdf") else [None])]  # fmt: skip
+            told, fax = got.get(f"{form[0]} {name} fax:1", ({"pages": "0"}, None))
+            pages = room.pages(fax) if fax else []
+            count = len(wanted) + 4 * words.count(scan) + (name == "a banner")
+            room.claim(f"several, {form[0]}, {name}: pages", (told["pages"], len(pages)), (str(count), count))
+            if scan not in words and name != "PDF and text" and fax:
+                room.claim(f"several, {form[0]}, {name}: pels, in order", pages[:len(wanted)] == wanted)
+            report = room.run(room.program, "check", fax) if fax else None
+            room.claim(f"several, {form[0]}, {name}: check", bool(report) and report[0] == 0 and b"note" not in report[1])
+
+
+def one_is_lost(room):
+    """A job of two documents of which one comes, as where its filter was killed or CUPS hands over a file, is held."""
+    one, four = room.made("gs-1.pdf"), room.made("gs-4.pdf")
+    told = room.server.ended(room.server.print(
+        "Fax", "-t", "as it stands fax:1", "-o", "document-format=application/vnd.cups-pdf", one, four))  # fmt: skip
+    said = "the fax is held: the job has 2 documents, and 1 came whole: print each by itself"
+    # CUPS itself ends a job of several files whose backend ends before the last of them is due.
+    room.claim("two files without a filter", (told[0].state, told[0].message), ("aborted", said))
+    two = room.server.print("Fax", "-H", "hold", "-t", "fax:1", one, four)
+    with open(one, "rb") as first, open(four, "rb") as second:
+        pair = [first.read(), second.read()]
+    cases = {"one": pair[0], "a cut one and one": pair[0][:-30] + pair[1], "one and a cut one": pair[1] + pair[0][:-30]}
+    for name, data in cases.items():
+        with open(room.made("pair.pdf"), "wb") as file:
+            file.write(data)
+        option, identity = new_identity(room)
+        status, _, said = by_hand(room, True, option, room.made("pair.pdf"), number=two)
+        room.claim(f"{name} of two: held: {said}", (status, os.listdir(room.spool).count(f"{identity}.tif")), (3, 0))
+    option, identity = new_identity(room, two)
+    with open(room.made("pair.pdf"), "wb") as file:
+        file.write(b"\n".join(pair))
+    status, _, said = by_hand(room, True, option, room.made("pair.pdf"), number=two)
+    room.claim(f"both of two: {said}", (status, len(room.pages(f"{room.spool}/{identity}.tif"))), (0, 5))
+    option, _ = new_identity(room)
+    status, _, said = by_hand(room, True, option, one, {"CUPS_SERVER": "127.0.0.1:1"})
+    room.claim(f"CUPS does not answer: held: {said}", (status, "it is not known how many documents" in said), (3, True))
+    room.server.do("cancel", str(two))
+
+
+def with_the_same_uuid(room):
+    """A job that has chosen the uuid of another one is a job of its own, and neither is dropped."""
+    pdf = room.made("gs-1.pdf")
+    victim = room.server.print("Fax", "-H", "hold", "-t", "victim fax:0301260", pdf)
+    uuid = room.server.jobs()[victim].uuid
+    other = room.server.print("Fax", "-t", "other fax:0301261", "-o", f"job-uuid=urn:uuid:{uuid}", pdf)
+    room.server.ended(other)
+    room.claim("a uuid can be chosen", room.server.jobs()[other].uuid, uuid)
+    room.server.do("lp", "-i", f"Fax-{victim}", "-H", "resume")
+    server.wait_for(lambda: room.server.jobs()[victim].state == "completed")
+    got = spooled(room.spool)
+    room.claim("one uuid, two faxes", [f"{who} fax:030126{number}" in got for number, who in enumerate(
+        ("victim", "other"))], [True, True])  # fmt: skip
+    for kind in ("done", "begun"):
+        option, name = new_identity(room)
+        older = f"{room.spool}/.faxpages/{name[-36:]}.{kind}"
+        with open(older, "w"):
+            pass
+        status, _, said = by_hand(room, True, option, pdf)
+        is_told = f"delete {older} and release" in said
+        room.claim(f"{kind} by an earlier version: held: {said}", (status, is_told), (3, True))
+        os.remove(older)
+        room.claim(f"{kind} by an earlier version: released", by_hand(room, True, option, pdf)[0], 0)
+
+
 def by_libreoffice(room):
     """A letter that LibreOffice prints: by hand, with FAXPAGES_OFFICE set, since its package is large."""
     if not os.environ.get("FAXPAGES_OFFICE"):
@@ -259,10 +361,11 @@ def by_hylafax(room):
     with open(stand_in, "w") as file:
         file.write(f'#!/bin/sh\nprintf "%s\\n" "$@" >{taken}/words.$$\nfor fax in "$@"; do :; done\n'
                    f'cp "$fax" {taken}/fax.$$\n'
+                   f'[ ! -e {taken}/dies ] || kill -9 $$\n[ ! -e {taken}/alone ] || kill -9 $PPID\n'
                    f'[ ! -e {taken}/refuse ] || {{ echo "no such modem" >&2; exit 1; }}\n'
                    'echo "request id is 5 (group id 5) for host localhost (1 file)"\n')  # fmt: skip
     room.server.put("filter/sendfax", stand_in)
-    room.fax_queue("HylaFAX", folder, "?sendfax")
+    room.fax_queue("HylaFAX", folder, "?sendfax&title")
     job = room.server.print("HylaFAX", "-t", "a; b fax:0301242", "-U", "-x; id", room.made("gs-1.pdf"))
     (told,) = room.server.ended(job)
     room.claim(f"sendfax: {told.message}", told.state, "completed")
@@ -282,8 +385,31 @@ def by_hylafax(room):
     room.server.do("lp", "-i", f"HylaFAX-{job}", "-H", "resume")
     server.wait_for(lambda: room.server.jobs()[job].state == "completed")
     room.claim("sendfax: none in the folder", [it for it in os.listdir(folder) if not it.startswith(".")], [])
-    left = [it for it in os.listdir(f"{folder}/.faxpages") if not re.fullmatch(r"[0-9a-f-]{36}\.done", it)]
+    left = [it for it in os.listdir(f"{folder}/.faxpages") if not re.fullmatch(r"[0-9]+-[0-9]+-[0-9a-f-]{36}\.done", it)]
+    not_known(room, folder, taken)
     room.claim("sendfax: nothing is left", (left, len(os.listdir(f"{folder}/.faxpages"))), ([], 2))
+
+
+def not_known(room, folder, taken):
+    """A sendfax that is killed, or whose watcher is, may have queued the fax: the job is held, and its release hands
+    nothing on."""
+    for number, way in enumerate(("dies", "alone")):
+        before = len(os.listdir(taken))
+        with open(f"{taken}/{way}", "w"):
+            pass
+        job = room.server.print("HylaFAX", "-t", f"fax:030125{number}", room.made("gs-1.pdf"))
+        (told,) = room.server.ended(job)
+        os.remove(f"{taken}/{way}")
+        wanted = "the fax is held: sendfax takes longer than "
+        room.claim(f"{way}: {told}", (told.state, told.message.startswith(wanted)), ("pending-held", True))
+        room.server.do("lp", "-i", f"HylaFAX-{job}", "-H", "resume")
+        server.wait_for(lambda: "may be on its way" in room.server.jobs()[job].message)  # noqa: B023
+        (told,) = room.server.ended(job)
+        room.claim(f"{way}: sent once", (told.state, len(os.listdir(taken)) - before), ("pending-held", 2))
+        room.server.do("cancel", str(job))
+        for name in os.listdir(f"{folder}/.faxpages"):
+            if name.endswith(".begun"):
+                os.remove(f"{folder}/.faxpages/{name}")
 
 
 def play(room):
@@ -291,9 +417,13 @@ def play(room):
     proportions(room)
     held(room)
     numbers(room)
+    without_titles(room)
     released(room)
     queue_says(room)
     raster(room)
     a_fax_again(room)
+    several(room)
+    one_is_lost(room)
+    with_the_same_uuid(room)
     by_libreoffice(room)
     by_hylafax(room)

@@ -53,7 +53,7 @@ def in_child(folder, name, at, how):
     if at is not None:
         fail_at(at, how)
     try:
-        with _spool.Spool(folder, name) as spool:
+        with _spool.Spool(folder, name, f"older-{name}") as spool:
             if not spool.is_done():
                 spool.put(f"fax {name}".encode(), {"number": "1", "fax": f"{name}.tif"})
     except _cups.Refused as refused:

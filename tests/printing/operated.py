@@ -18,7 +18,7 @@ import server
 from faxed import told_of
 from strangers import by_hand, new_identity
 
-JOBS, PRINTED = 18, 8
+JOBS, PRINTED = int(os.environ.get("JOBS", "24")), 8
 
 
 def enumerated(room, folder):
@@ -37,14 +37,22 @@ class Operator:
 
     def __init__(self, room, seed, folder):
         self.room, self.server, self.rng, self.folder = room, room.server, random.Random(seed), folder
-        self.taken, self.cancelled, self.numbers = [], set(), {}
-        self.pdf = made.pdf(room.made(""), "drawn-4.pdf", 4)
-        room.fax_queue("Drawn", folder)
+        self.taken, self.cancelled, self.numbers, self.pages = [], set(), {}, {}
+        self.pdf, self.one = made.pdf(room.made(""), "drawn-4.pdf", 4), made.pdf(room.made(""), "drawn-1.pdf", 1, 5)
+        room.fax_queue("Drawn", folder, "?title")
         self.server.do("lpadmin", "-p", "Drawn", "-o", "printer-error-policy=retry-current-job")
 
     def print(self):
+        """Prints one document or several; now and then with the uuid of another job."""
         number = str(1000 + len(self.numbers))
-        self.numbers[number] = self.server.print("Drawn", "-t", f"drawn fax:{number}", self.pdf)
+        documents = self.rng.choice([[self.pdf], [self.pdf], [self.pdf, self.one], [self.one, self.pdf, self.one]])
+        self.pages[number] = sum(4 if it == self.pdf else 1 for it in documents)
+        more = []
+        if self.numbers and self.rng.random() < 0.2:
+            with contextlib.suppress(KeyError):
+                other = self.server.jobs()[self.rng.choice(list(self.numbers.values()))]
+                more = ["-o", f"job-uuid=urn:uuid:{other.uuid}"]
+        self.numbers[number] = self.server.print("Drawn", "-t", f"drawn fax:{number}", *more, *documents)
         return self.numbers[number]
 
     def pause(self):
@@ -76,7 +84,7 @@ class Operator:
                 told = told_of(f"{self.folder}/{name}")
                 fax = f"{self.folder}/{told['fax']}"
                 report = self.room.run(self.room.program, "check", fax)
-                is_whole = report[0] == 0 and report[1].startswith(b"pages 4 ")
+                is_whole = report[0] == 0 and report[1].startswith(b"pages %d " % self.pages[told["number"]])
                 self.room.claim(f"drawn {told['number']}: whole: {report}", is_whole)
                 os.remove(f"{self.folder}/{name}")
                 os.remove(fax)
@@ -136,9 +144,10 @@ def parent_of(process):
             return int(file.read().rpartition(")")[2].split()[1])
 
 
-def is_kept(room, folder, name):
-    """Whether a job's document is kept in the folder, whole."""
-    return room.run("pdfinfo", f"{folder}/.faxpages/{name}.part.pdf")[0] == 0
+def is_kept(room, folder, job):
+    """Whether a job's documents are kept in the folder, whole."""
+    kept = [it for it in os.listdir(f"{folder}/.faxpages") if it.startswith(f"{job}-") and it.endswith(".pdf")]
+    return bool(kept) and all(room.run("pdfinfo", f"{folder}/.faxpages/{it}")[0] == 0 for it in kept)
 
 
 def processes(told):
@@ -164,8 +173,9 @@ def full_temporary_folder(room, folder):
     status, out, said = by_hand(room, False, "", fax, {"TMPDIR": folder})
     is_whole = status == 0 and out.endswith(b"%%EOF\n")
     room.claim(f"no room for the filter: {said}", is_whole or (status, out) == (1, b""))
-    status, _, said = by_hand(room, True, new_identity()[0], pdf, {"TMPDIR": folder})
-    room.claim(f"no room for the backend: {said}", (status, "is there room for temporary files?" in said), (3, True))
+    status, _, said = by_hand(room, True, new_identity(room)[0], pdf, {"TMPDIR": folder})
+    is_right = status == 0 or (status == 3 and ("room for temporary files?" in said or "No space left" in said))
+    room.claim(f"no room for the backend: {status}, {said}", is_right)
     os.remove(f"{folder}/filler")
     left = [it for it in os.listdir(folder) if it != ".faxpages"]
     room.claim("no temporary file is left", left, [])
@@ -189,10 +199,10 @@ def drawn(room, folder, is_small):
         operator.take()
     counts = {number: operator.taken.count(number) for number in operator.numbers}
     jobs = operator.server.jobs()
-    absent = [jobs[operator.numbers[number]] for number, count in counts.items()
+    absent = [operator.numbers[number] for number, count in counts.items()
               if count == 0 and number not in operator.cancelled]  # fmt: skip
     # Where all processes of a job were killed CUPS takes it as done: then the folder keeps what was to be faxed.
-    lost = [it for it in absent if it.state != "completed" or not is_kept(room, folder, it.uuid)]
+    lost = [it for it in absent if jobs[it].state != "completed" or not is_kept(room, folder, it)]
     room.claim(f"seed {seed}: nothing is lost", lost, [])
     room.claim(f"seed {seed}: nothing twice", [number for number, count in counts.items() if count > 1], [])
     left = [name for name in os.listdir(folder) if name != ".faxpages"]

@@ -1,7 +1,6 @@
 """Faxes that are printed: what the printers receive is what `convert` writes of the faxes, and of damaged ones
 nothing, or with faxpages=salvage what can be read of them."""
 
-import collections
 import os
 import re
 import shutil
@@ -102,7 +101,8 @@ def damaged(room, faxes):
     spoiled = [made.damaged(path, room.program, number) for number, path in enumerate(faxes)]
     spoiled += [(f"{SAMPLES}/{name}.tif", fault) for name, fault in
                 (("damaged-fourth-page", "fault page 3 row 5: OutOfRow"),
-                 ("three-pages", "fault page 2 row 1: DataEnds"))]  # fmt: skip
+                 ("three-pages", "fault page 2 row 1: DataEnds"),
+                 ("received/over-a-noisy-line", "fault page 0 row 72: MissingEol"))]  # fmt: skip
     jobs = [(re.sub(r"\W", "_", os.path.basename(path)), [], path) for path, _ in spoiled]
     before = set(received(room))
     told, got = sent(room, jobs)
@@ -117,7 +117,7 @@ def damaged(room, faxes):
 
 
 def salvaged(room, spoiled):
-    """With salvage a line says what each page lacks, and no row is another than the program prints."""
+    """With salvage a line says what each page lacks, and no row is another than the program finds."""
     jobs = [(f"salvaged_{number}", ["-o", "faxpages=salvage"], fax) for number, (fax, _) in enumerate(spoiled)]
     told, got = sent(room, jobs)
     for number, (title, _, fax) in enumerate(jobs):
@@ -129,10 +129,29 @@ def salvaged(room, spoiled):
         room.claim(f"{name}: printed", told[title].state, "completed")
         said = room.run("pdftotext", "-layout", got[title], "-")[1].decode()
         lost = [f"{where}: {why}" for where, why in LINE.findall(said)]
-        room.claim(f"{name}: lines", bool(lost) and fault_of(lost[0]), told_fault(spoiled[number][1]))
-        room.claim(f"{name}: rows", readable_rows(room, fax, got[title], lost))
+        room.claim(f"{name}: lines", bool(lost) and fault_of(lost[0]), first_lost(room, fax, spoiled[number][1]))
+        room.claim(f"{name}: rows", readable_rows(room, fax, got[title]))
         if number % 5 == 0:
             room.claim(f"{name}: as faxpages-salvage has it", lost, as_salvage_has_it(room, fax)[: len(lost)])
+    without_all_lines(room)
+
+
+def without_all_lines(room):
+    """Nothing is printed where there is no `faxpages`, or it ends before it has said all."""
+    noisy = f"{SAMPLES}/received/over-a-noisy-line.tif"
+    folder = room.made("broken")
+    os.mkdir(folder)
+    words = [f"{room.server.folder}/bin/filter/faxtopdf", "1", "user", "title", "1", "faxpages=salvage", noisy]
+    told = room.run(*words, env={**environment(room), "PATH": folder})
+    room.claim("no faxpages", told, (1, b"", "ERROR: faxpages: No such file or directory\n"))
+    for name, ending, said in (("refused", "echo fault: Memory >&2; exit 3", "`faxpages salvage`: fault: Memory"),
+                               ("killed", "kill -9 $$", "`faxpages salvage` ended with status -9"),
+                               ("ended", "exit 1", "`faxpages salvage` ended with status 1")):  # fmt: skip
+        with open(f"{folder}/faxpages", "w") as file:
+            file.write(f"#!/bin/sh\necho row 0 0 1728\necho lost 0 1 338 BadCode\n{ending}\n")
+        os.chmod(f"{folder}/faxpages", 0o755)
+        told = room.run(*words, env={**environment(room), "PATH": folder})
+        room.claim(f"faxpages {name}", told, (1, b"", f"ERROR: {said}\n"))
 
 
 def fault_of(line):
@@ -156,34 +175,33 @@ def as_salvage_has_it(room, fax):
         return [line.strip() for line in file if " is not in pages.tif" not in line]
 
 
-def readable_rows(room, fax, path, lost):
-    """Whether each row before, between and after what is lost is the program's, and what is lost has no ink, and
-    cannot be read."""
-    gone = collections.defaultdict(list)
-    for line in lost:
-        page, first, last = re.match(r"page (\d+)(?: rows (\d+) to (\d+))?", line).groups()
-        gone[int(page)].append((int(first), int(last)) if first else None)
+def readable_rows(room, fax, path):
+    """Whether each row is the one that the program finds, and what it does not find has no ink."""
+    told = what_is_left(room, fax)
     for page, (width, rows) in enumerate(room.images(path)):
-        if None in gone[page]:
+        found = {int(line[2]): [int(it) for it in line[3:]] for line in told if line[:2] == ["row", str(page)]}
+        if not found and not any(line[:2] == ["lost", str(page)] and len(line) == 5 for line in told):
             continue
-        at = 0
-        for first, last in [*gone[page], (len(rows), len(rows))]:
-            if any(map(any, rows[first : last + 1])):
-                return f"page {page}: there is ink in rows {first} to {last}"
-            read = rows_from(room, fax, page, at, first - at) if first > at else []
-            if read != [(at + number, runs_of(width, row)) for number, row in enumerate(rows[at:first])]:
-                return f"page {page}: rows {at} to {first - 1} are others"
-            if first < len(rows) and rows_from(room, fax, page, first, 1):
-                return f"page {page} row {first} can be read"
-            at = last + 1
+        for number, row in enumerate(rows):
+            if number in found and runs_of(width, row) != found[number]:
+                return f"page {page}: row {number} is another"
+            if number not in found and any(row):
+                return f"page {page}: there is ink in row {number}"
     return True
 
 
-def rows_from(room, fax, page, row, count):
-    """The rows that the program prints from there on: their numbers and their runs."""
-    told = room.run(room.program, "rows", "--cursor", f"1:{page}:{row}", "--max", str(count), fax)[1].decode()
-    lines = [[int(it) for it in line.split()[1:]] for line in told.splitlines() if line.startswith("row ")]
-    return [(number, runs) for _, number, *runs in lines]
+def what_is_left(room, fax):
+    """The words of the lines that `salvage` prints."""
+    return [line.split() for line in room.run(room.program, "salvage", fax)[1].decode().splitlines()]
+
+
+def first_lost(room, fax, fault):
+    """The page, the first row and the name of what is lost first; of a broken chain of pages the fault says it."""
+    lost = [line for line in what_is_left(room, fax) if line[0] == "lost"]
+    if not lost:
+        return told_fault(fault)
+    _, page, row, *rest = lost[0]
+    return (int(page), int(row), rest[1]) if row.isdigit() else (int(page), 0, " ".join([row, *rest]))
 
 
 def runs_of(width, row):

@@ -15,7 +15,7 @@ class Room:
         os.makedirs(f"{folder}/made")
         self.server = self.bus = None
         self.printers = []
-        self.for_raster = None
+        self.for_raster = self._job = None
 
     def start(self, queues):
         """Starts cupsd, and so many printers with a queue for each, one for faxes too."""
@@ -33,12 +33,19 @@ class Room:
         self.server.do("lpadmin", "-p", "raster", "-E", "-v", self.for_raster.uri, "-m", "everywhere")
         server.wait_for(lambda: b'Printer "raster" is now available' in self.server.get("log/error"))
         self.spool = self.new_spool("faxes")
-        self.fax_queue("Fax", self.spool)
+        self.fax_queue("Fax", self.spool, "?title")
 
     def fax_queue(self, name, folder, more=""):
         self.server.do(
             "lpadmin", "-p", name, "-E", "-v", f"faxpages:{folder}{more}", "-P", f"{server.TOP}/share/cups/fax.ppd"
         )
+
+    def job_of_one(self):
+        """The number of a job of one document, which stays held: what is run by hand is given it, since CUPS is asked
+        how many documents a job has."""
+        if self._job is None:
+            self._job = self.server.print("Fax", "-H", "hold", self.made(made.sheets(self.made(""), "one.ps", 1)))
+        return self._job
 
     def new_spool(self, name):
         """A folder for faxes, into which the backend may write."""

@@ -58,6 +58,12 @@ SubscriptionPrivateValues none
 Order deny,allow
 </Limit>
 </Policy>
+<Policy numbers>
+JobPrivateValues default FaxNumber
+<Limit All>
+Order deny,allow
+</Limit>
+</Policy>
 """
 # What a server says of a job: its state in words, its message, and the name that no other has.
 Told = collections.namedtuple("Told", "state message uuid")

@@ -1,7 +1,10 @@
 """What strangers send: words that a shell or CUPS could take for their own, files that are made to take long, and
 folders that are not as they should be. The filter and the backend run as the user lp, with few rights."""
 
+import contextlib
 import os
+import re
+import signal
 import struct
 import subprocess
 import uuid
@@ -13,32 +16,37 @@ TITLE = "x\nATTR: job-state=9\nERROR: owned; $(touch {0}) `touch {0}` '\"\\ | to
 USER = "-u; touch {0}"
 
 
-def by_hand(room, backend, options, path, more=None, title="fax:1"):
+def by_hand(room, backend, options, path, more=None, title="fax:1", number=None, read=None):
     """Runs the filter or the backend as CUPS does, as the user lp: its status, its output and what it says."""
-    user = room.server.user
-    module = f"{room.server.folder}/module"
-    environment = {
-        "PATH": f"{room.server.folder}/bin/filter:/usr/bin:/bin", "FAXPAGES_MODULE": module,
-        "FAXPAGES_LIBRARY": f"{module}/libfaxpages.so.1", "TMPDIR": f"{room.server.folder}/temporary",
-        "CUPS_SERVERBIN": f"{room.server.folder}/bin", "PRINTER": "Fax", "DEVICE_URI": f"faxpages:{room.spool}",
-        "FAXPAGES_SECONDS": str(server.PATIENCE), **(more or {})}  # fmt: skip
+    user, environment = room.server.user, environment_of(room, more)
     name = "backend/faxpages" if backend else "filter/faxtopdf"
-    ran = subprocess.run([f"{room.server.folder}/bin/{name}", "1", "user", title, "1", options, path], env=environment,
-                         user=user.pw_uid, group=user.pw_gid, extra_groups=[], umask=0o077, capture_output=True,
-                         timeout=server.PATIENCE, check=False)  # fmt: skip
+    words = [f"{room.server.folder}/bin/{name}", str(number or room.job_of_one()), "user", title, "1", options, *([path] if path else [])]
+    ran = subprocess.run(words, env=environment, user=user.pw_uid, group=user.pw_gid, extra_groups=[],
+                         stdin=read, umask=0o077, capture_output=True, timeout=server.PATIENCE, check=False)  # fmt: skip
     return ran.returncode, ran.stdout, ran.stderr.decode(errors="replace")
 
 
-def new_identity():
+def environment_of(room, more=None):
+    """The variables of a filter or a backend."""
+    module = f"{room.server.folder}/module"
+    return {
+        "PATH": f"{room.server.folder}/bin/filter:/usr/bin:/bin", "FAXPAGES_MODULE": module,
+        "FAXPAGES_LIBRARY": f"{module}/libfaxpages.so.1", "TMPDIR": f"{room.server.folder}/temporary",
+        "CUPS_SERVERBIN": f"{room.server.folder}/bin", "PRINTER": "Fax", "DEVICE_URI": f"faxpages:{room.spool}?title",
+        "CUPS_SERVER": room.server.environment["CUPS_SERVER"], "FAXPAGES_SECONDS": str(server.PATIENCE),
+        **(more or {})}  # fmt: skip
+
+
+def new_identity(room, number=None):
     """The option by which CUPS names a job, and the name that a fax gets of it."""
     name = str(uuid.uuid4())
-    return f"job-uuid=urn:uuid:{name}", name
+    return f"job-uuid=urn:uuid:{name} time-at-creation=1700000000", f"{number or room.job_of_one()}-1700000000-{name}"
 
 
 def words(room):
     """A title, a user and options with words of a shell and lines of CUPS, on both ways."""
     owned = f"{room.server.folder}/temporary/owned"
-    option, name = new_identity()
+    option, name = new_identity(room)
     pdf = room.made("gs-1.pdf") if os.path.exists(room.made("gs-1.pdf")) else made.pdf(room.made(""), "gs-1.pdf", 1)
     fax = room.made("plain.tif")
     with open(fax, "wb") as file:
@@ -99,7 +107,7 @@ def bounds(room):
     with open(room.made("large.tif"), "wb") as file:
         file.truncate((1 << 28) + 1)
     for backend in (False, True):
-        status, _, said = by_hand(room, backend, new_identity()[0], room.made("large.tif"))
+        status, _, said = by_hand(room, backend, new_identity(room)[0], room.made("large.tif"))
         room.claim("many bytes", (status, "it has more than 268435456 bytes" in said), (3 if backend else 1, True))
 
 
@@ -120,8 +128,16 @@ def pdf_of(pages, content, size=(595, 842)):
     return made_of + b"trailer << /Size %d /Root 1 0 R >>\nstartxref\n%d\n%%%%EOF\n" % (count, at)
 
 
+def damaged_page(pages, which):
+    """A PDF of which one page has operators that there are none of."""
+    data = pdf_of(pages, b"0 0 100 100 re f\n")
+    at = [found.start() for found in re.finditer(rb"/Contents 3 0 R", data)][which - 1]
+    return data[:at] + b"/Contents 9 0 R" + data[at + 15:]
+
+
 def documents(room):
     """PDFs that are none, or too large, or slow: they are held, and nothing is left."""
+    drawing = "faxpages-from-pdf: faxpages-from-pdf: "
     slow = b"0 0 595 842 re 0 0 m " + b"595 842 l 3 8 l 590 1 l 1 800 l " * 30000 + b"f*\n"
     cases = {
         "empty": (b"", {}, "nothing is printed"),
@@ -130,14 +146,18 @@ def documents(room):
         "cut short": (pdf_of(3, b"0 0 100 100 re f\n")[:-20], {}, "the PDF is cut short"),
         "many pages": (pdf_of(501, b""), {}, "the PDF has 501 pages, and a fax from 1 to 500"),
         "narrow": (pdf_of(1, b"", (3, 14400)), {}, "faxpages-from-pdf: faxpages-from-pdf: a page is too narrow"),
+        "a page as high as a tower": (pdf_of(1, b"", (595, 1000000)), {}, f"{drawing}page 1 has more than 100000000 pels"),
+        "high pages": (pdf_of(30, b"", (595, 20000)), {}, f"{drawing}its pages have more than 2000000000 pels"),
+        "a page that cannot be drawn": (damaged_page(10, 7), {}, f"{drawing}page 7 of the PDF: Syntax Error"),
         # On a slow machine that is so of the first program already.
-        "slow": (pdf_of(40, slow), {"FAXPAGES_SECONDS": "1"}, ("faxpages-from-pdf takes longer than 1 seconds",
+        "slow": (pdf_of(40, slow), {"FAXPAGES_SECONDS": "1"}, ("it takes longer than 1 seconds",
+                                                               "faxpages-from-pdf takes longer than 1 seconds",
                                                                "pdfinfo takes longer than 1 seconds")),
     }  # fmt: skip
     for name, (data, more, wanted) in cases.items():
         with open(room.made("hostile.pdf"), "wb") as file:
             file.write(data)
-        option, identity = new_identity()
+        option, identity = new_identity(room)
         status, _, said = by_hand(room, True, option, room.made("hostile.pdf"), more)
         start, _, why = said.splitlines()[-1].partition(" held: ")
         is_told = start == "ERROR: the fax is" and why.startswith(wanted)
@@ -146,6 +166,72 @@ def documents(room):
         room.claim(f"{name}: nothing is left", left, [])
     left = [it for it in os.listdir(f"{room.server.folder}/temporary") if "faxpages" in it]
     room.claim("no temporary file is left", left, [])
+
+
+def processes_of(session):
+    """The processes of a session."""
+    for name in filter(str.isdecimal, os.listdir("/proc")):
+        with contextlib.suppress(OSError), open(f"/proc/{name}/stat") as file:
+            if os.getsid(int(name)) == session and file.read().rpartition(")")[2].split()[0] != "Z":
+                yield name
+
+
+def endless(room):
+    """What comes from a filter that never ends holds the queue for no longer than a job's seconds; nothing is left of
+    what was killed, once another job has come."""
+    user, temporary = room.server.user, f"{room.server.folder}/temporary"
+    never = room.made("never")
+    os.mkfifo(never)
+    os.chmod(never, 0o644)
+    held = os.open(never, os.O_RDWR)
+    try:
+        option, _ = new_identity(room)
+        status, _, said = by_hand(room, True, option, never, {"FAXPAGES_SECONDS": "1"})
+    finally:
+        os.close(held)
+    room.claim(f"a document that never ends: {said}", (status, "it takes longer than 1 seconds" in said), (3, True))
+    # A filter that waits for a program, and one after it: they end with the backend.
+    as_user = {"user": user.pw_uid, "group": user.pw_gid, "extra_groups": []}
+    first = subprocess.Popen(["sh", "-c", "sleep 900; :"], stdout=subprocess.PIPE, start_new_session=True, **as_user)
+    second = subprocess.Popen(["cat"], stdin=first.stdout, stdout=subprocess.PIPE, **as_user)
+    option, _ = new_identity(room)
+    status, _, said = by_hand(room, True, option, None, {"FAXPAGES_SECONDS": "1"}, read=second.stdout)
+    ended = (second.wait(server.PATIENCE), first.wait(server.PATIENCE))
+    room.claim(f"filters that never end: {said}", (status, *ended), (3, -signal.SIGKILL, -signal.SIGKILL))
+    room.claim("and what they have started", list(processes_of(first.pid)), [])
+    option, _ = new_identity(room)
+    with open(room.made("hostile.pdf"), "wb") as file:
+        file.write(pdf_of(40, b"0 0 595 842 re 0 0 m " + b"595 842 l 3 8 l 590 1 l 1 800 l " * 30000 + b"f*\n"))
+    before = set(os.listdir(temporary))
+    ran = subprocess.Popen(
+        [f"{room.server.folder}/bin/backend/faxpages", str(room.job_of_one()), "user", "fax:1", "1", option,
+         room.made("hostile.pdf")], env=environment_of(room), user=user.pw_uid, group=user.pw_gid, extra_groups=[],
+        stderr=subprocess.DEVNULL, start_new_session=True)  # fmt: skip
+    server.wait_for(lambda: any(it.startswith("faxpages-job-") for it in os.listdir(temporary)))
+    os.killpg(ran.pid, signal.SIGKILL)
+    ran.wait()
+    left = set(os.listdir(temporary)) - before
+    room.claim("killed: something is left", any(it.startswith("faxpages-job-") for it in left))
+    status, _, said = by_hand(room, True, new_identity(room)[0], room.made("gs-1.pdf"))
+    room.claim(f"the next job: {said.splitlines()[-1:]}", status, 0)
+    room.claim("the next job takes it away", set(os.listdir(temporary)) & left, set())
+    for name in os.listdir(f"{room.spool}/.faxpages"):
+        if name.endswith(".part.pdf"):
+            os.remove(f"{room.spool}/.faxpages/{name}")
+
+
+def kept_by_others(room):
+    """A folder .faxpages of another user, or that others may look into, is not used."""
+    pdf = room.made("gs-1.pdf")
+    for owner, mode in ((0, 0o2777), (0, 0o2770), (None, 0o2775), (None, 0o2771), (None, 0o2770)):
+        folder = room.new_spool(f"kept-{owner}-{mode:o}")
+        kept = f"{folder}/.faxpages"
+        os.mkdir(kept)
+        os.chown(kept, room.server.user.pw_uid if owner is None else owner, room.server.user.pw_gid)
+        os.chmod(kept, mode)
+        status, _, said = by_hand(room, True, new_identity(room)[0], pdf, {"DEVICE_URI": f"faxpages:{folder}?title"})
+        right = owner is None and mode == 0o2770
+        room.claim(f"kept by {owner}, {mode:o}: {said}", (status, "open to others" in said), (0 if right else 3, not right))
 
 
 def folders(room):
@@ -161,7 +247,8 @@ def folders(room):
     for path, wanted in ((f"{base}/none", "No such file"), (roots, "Permission denied"),
                          (anyones, "anyone may write into"), (linked, "Not a directory"),
                          ("relative", "the device is")):  # fmt: skip
-        status, _, said = by_hand(room, True, new_identity()[0], pdf, {"DEVICE_URI": f"faxpages:{path}"})
+        more = {"DEVICE_URI": f"faxpages:{path}?title"}
+        status, _, said = by_hand(room, True, new_identity(room)[0], pdf, more)
         room.claim(f"{path}: {said.strip()}", (status, wanted in said), (3, True))
     room.claim("nothing is elsewhere", (os.listdir(elsewhere), os.listdir(roots)), ([], []))
     victim = f"{base}/temporary/victim"
@@ -169,7 +256,7 @@ def folders(room):
         file.write("a victim")
     os.chown(victim, room.server.user.pw_uid, room.server.user.pw_gid)
     for kind in ("tif", "job"):
-        option, name = new_identity()
+        option, name = new_identity(room)
         os.symlink(victim, f"{room.spool}/{name}.{kind}")
         status, _, _ = by_hand(room, True, option, pdf)
         with open(victim) as file:
@@ -184,4 +271,6 @@ def play(room):
     words(room)
     bounds(room)
     documents(room)
+    endless(room)
+    kept_by_others(room)
     folders(room)

@@ -9,7 +9,8 @@ import subprocess
 
 import files
 import pages
-from recipes import SCRIPTS
+import spoiled
+from recipes import ROOT, SCRIPTS
 from room import HOSTILE, WIDTH, is_there
 
 PNG = b"\x89PNG"
@@ -329,6 +330,10 @@ def salvage(room, commands):
     yield from salvage_strips(room, images)
     yield from salvage_odd(room)
     yield from salvage_standard(room)
+    yield from salvage_noisy(room)
+    yield from salvage_chain(room)
+    yield from salvage_many(room)
+    yield from spoiled.drawn(room)
     for name in HOSTILE:
         room.others(name, 1)
         status, _, said = room.call("faxpages-salvage", name, f"{name}.d")
@@ -408,6 +413,98 @@ def salvage_strips(room, images):
     yield "refused: pages", len(room.run("list", name="refused/pages.tif")[1].splitlines()), 5 - (number != 0)
 
 
+def pages_of_pdf(room, name):
+    """The images of a PDF, each the one of its page: width, height and bits of a pel."""
+    listed = subprocess.run(["pdfimages", "-list", room(name)], capture_output=True, check=True).stdout.decode()
+    images = [line.split() for line in listed.splitlines()[2:]]
+    assert [int(image[0]) for image in images] == list(range(1, len(images) + 1)), listed
+    return [(int(image[3]), int(image[4]), int(image[7])) for image in images]
+
+
+def salvage_noisy(room):
+    """What a server received over a noisy line: all rows but eight are there, the PDF shows what the picture does, and
+    `lost.txt` has a line for each stretch."""
+    room.sample("received/over-a-noisy-line.tif", "noisy.tif")
+    yield "noisy", room.call("faxpages-salvage", "noisy.tif", "noisy"), (1, b"0 pages whole, 1 in part\n", "")
+    yield "noisy: files", room.names("noisy"), ["lost.txt", "page-0.png", "pages.pdf"]
+    said = room.run("salvage", name="noisy.tif")[1].decode().splitlines()
+    stretches = [list(map(int, line.split()[2:4])) + line.split()[4:] for line in said if line.startswith("lost ")]
+    lines = [f"page 0 rows {first} to {first + rows - 1}: {name}" for first, rows, name in stretches]
+    yield "noisy: lost", (room.get("noisy/lost.txt").decode().splitlines(), len(lines)), (lines, 5)
+    width, height, most, raster = grey(room.get("noisy/page-0.png"))
+    lost = [row for first, rows, _ in stretches for row in range(first, first + rows)]
+    yield "noisy: picture", (width, height), (WIDTH, 680)
+    # Each row stands there twice, since the page is of standard resolution.
+    colours = [{value * 3 // most for value in line} == {2} for line in raster]
+    yield "noisy: grey rows", [at for at, it in enumerate(colours) if it], [at for row in lost for at in (2 * row, 2 * row + 1)]
+    rows = [line for line in said if line.startswith("row ")]
+    wanted = [raster_row(b"row 0 %d" % row, "\n".join(rows).encode(), most) for row in (0, 75, 197, 300, 339)]
+    yield "noisy: rows", [bytes(raster[2 * row]) for row in (0, 75, 197, 300, 339)], wanted
+    yield "noisy: PDF", pages_of_pdf(room, "noisy/pages.pdf"), [(WIDTH, 680, 2)]
+    room.bash("pdfimages -png noisy/pages.pdf shown")
+    yield "noisy: the PDF shows the picture", grey(room.get("shown-000.png"))[:2], (width, height)
+    shown = grey(room.get("shown-000.png"))
+    yield "noisy: pel by pel", [[v * 3 // shown[2] for v in line] for line in shown[3]] == [
+        [v * 3 // most for v in line] for line in raster
+    ], True
+    yield "noisy: one picture", room.call("faxpages-picture", "noisy.tif", "0")[1:], (
+        room.get("noisy/page-0.png"), "".join(f"{line}\n" for line in lines))  # fmt: skip
+
+
+def page_of(name):
+    """The fields and the strip of a sample of one page that a server received."""
+    data = files.get(f"{ROOT}/samples/received/{name}")
+    (fields,) = files.directories_of(data)
+    return {tag: values[0] for tag, values in fields.items()}, files.strips_of(data, fields)[0]
+
+
+def chained(made):
+    """A file of pages in one strip each, whose last directory is followed by the first."""
+    data, link = b"II*\0" + bytes(4), 4
+    for fields, strip in made:
+        place = len(data)
+        data += strip + bytes(len(strip) % 2) + struct.pack("<4I", 204, 1, 98, 1)
+        told = {**{tag: fields[tag] for tag in (256, 257, 259, 262, 266)}, 273: place, 278: fields[257], 279: len(strip)}
+        told |= {282: len(data) - 16, 283: len(data) - 8, 292: fields.get(292, 0), 296: 2}
+        data = data[:link] + struct.pack("<I", len(data)) + data[link + 4 :] + struct.pack("<H", len(told))
+        for tag, value in sorted(told.items()):
+            data += struct.pack("<HHII", tag, 5 if tag in (282, 283) else 4, 1, value)
+        link = len(data)
+        data += bytes(4)
+    return data[:link] + data[4:8] + data[link + 4 :]
+
+
+def salvage_chain(room):
+    """Pages in their order: whole, refused, in part, whole; and a chain that leads back after them."""
+    sent, noisy = page_of("as-it-was-sent.tif"), page_of("over-a-noisy-line.tif")
+    refused = {**sent[0], 256: 0}, sent[1]
+    room.put("chain.tif", chained([sent, refused, noisy, sent]))
+    yield "chain: status", room.call("faxpages-salvage", "chain.tif", "chain")[:2], (1, b"2 pages whole, 1 in part\n")
+    lines = room.get("chain/lost.txt").decode().splitlines()
+    yield "chain: refused and broken", (lines[0], lines[-1]), ("page 1: OutOfLimits 256", "page 4: DirectoryLoop")
+    yield "chain: the page in part", all(line.startswith("page 2 rows ") for line in lines[1:-1]), True
+    sizes = [(WIDTH, 360, 1), (WIDTH, 680, 2), (WIDTH, 360, 1)]
+    yield "chain: PDF", pages_of_pdf(room, "chain/pages.pdf"), sizes
+    yield "chain: files", room.names("chain"), ["lost.txt", "page-2.png", "pages.pdf", "pages.tif"]
+
+
+def salvage_many(room):
+    """A fax of so many damaged pages that they are not drawn is refused at once; pages of which nothing is left are
+    listed."""
+    head = b"II*\0" + struct.pack("<I", 16) + bytes.fromhex("0018e000") + bytes(4)
+    for coding, wanted in ((3, (3, ["more than 1000 pages are damaged, or there is no room for them"])), (4, (1, []))):
+        fields = [(256, 8), (257, 1000000), (259, coding), (262, 0), (273, 8), (278, 1000000), (279, 3)]
+        entries = b"".join(struct.pack("<HHII", tag, 4, 1, value) for tag, value in fields)
+        directory, size = struct.pack("<H", len(fields)) + entries, 6 + len(entries)
+        nexts = [16 + size * number for number in range(1, 20000)] + [0]
+        room.put("many.tif", head + b"".join(directory + struct.pack("<I", place) for place in nexts))
+        status, _, said = room.call("faxpages-salvage", "many.tif", f"many-{coding}")
+        yield f"many: {coding}", (status, [line.split(": ", 1)[1] for line in said.splitlines()]), wanted
+    lines = room.get("many-4/lost.txt").decode().splitlines()
+    yield "many: all are listed", (len(lines), lines[-1]), (20000, "page 19999 rows 0 to 999999: EndMarker")
+    yield "many: no PDF", room.names("many-4"), ["lost.txt"]
+
+
 def salvage_odd(room):
     """A page that libtiff 4.5 cannot read, since its rows have the most runs: it is there as a picture."""
     room.others("odd.tif", 0)
@@ -451,5 +548,8 @@ TESTS = {
         compare,
     ),
     "A PDF of a fax": (["img2pdf", "tiff2pdf"], pdf),
-    "Salvage a damaged fax": (["tiffcp", "tiff2pdf", "pnmtopng", "pngtopnm", "pgmtopgm", "pnmtotiff"], salvage),
+    "Salvage a damaged fax": (
+        ["tiffcp", "tiff2pdf", "pnmtopng", "pngtopnm", "pgmtopgm", "pnmtotiff", "pdfimages"],
+        salvage,
+    ),
 }

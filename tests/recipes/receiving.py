@@ -82,6 +82,7 @@ def sorted_faxes(room, commands):
         ["fax.tif", "faxes", "folder.tif"],
     )
     room.tool("faxpages", f'#!/bin/sh\nexec {room.program} "$@"\n')
+    yield from received_of_other_kinds(room)
     yield from received_at_once(room)
     yield from received_from_elsewhere(room)
     yield from received_again(room)
@@ -89,6 +90,27 @@ def sorted_faxes(room, commands):
     yield from received_links(room)
     yield from received_while_it_changes(room)
     yield "nothing else is in the folders", room.names("faxes"), ["faulty", "good"]
+
+
+SAMPLE = os.path.realpath(f"{os.path.dirname(__file__)}/../../samples/one-mh-page.tif")
+
+
+def received_of_other_kinds(room):
+    """Sound files that are no faxes read here stay where they are, and nobody calls them faulty."""
+    made = [room.bash(f"tiffcp -s -c {kind} {SAMPLE} kind-{kind}.tif")[0]
+            for kind in ("lzw", "packbits", "zip", "none")]  # fmt: skip
+    made.append(room.bash(f"tiffcp -s -t -w 16 -l 16 -c g4 {SAMPLE} kind-tiles.tif")[0])
+    made.append(room.bash(f"tiffcp -8 {SAMPLE} kind-big.tif")[0])
+    yield "other kinds are made", made, [0] * 6
+    room.put("kind.pdf", b"%PDF-1.4\n%%EOF\n")
+    for name in ["kind.pdf", *(f"kind-{kind}.tif" for kind in ("lzw", "packbits", "zip", "none", "tiles", "big"))]:
+        before = room.get(name)
+        status, _, said = room.call("faxpages-receive", name, "faxes")
+        told = f"faxpages-receive: ./{name} stays: it is no fax that is read here, but a" in said
+        yield f"{name}: {said}", (status, told, room.get(name) == before), (3, True, True)
+        there = [os.path.exists(room(f"faxes/{kind}/{name}")) for kind in ("good", "faulty")]
+        yield f"{name}: it is in neither folder", there, [False, False]
+        os.remove(room(name))
 
 
 def received_at_once(room):
@@ -363,7 +385,7 @@ def figures(room):
 
 # The program, but where three faxes are seen it waits, so that a sweep can be killed in the middle.
 WAITING = """#!/bin/sh
-while [ -n "$GATE" ] && [ "$({{ wc -l <"$GATE"; }} 2>/dev/null)" -ge 3 ]; do sleep 0.05; done 2>/dev/null
+while [ -n "$GATE" ] && [ "$({{ grep -c "^[0-9]" "$GATE"; }} 2>/dev/null)" -ge 3 ]; do sleep 0.05; done 2>/dev/null
 exec {program} "$@"
 """
 
@@ -450,7 +472,7 @@ def swept_gone(room, commands):
     room.tool("faxpages", f'#!/bin/sh\nexec {room.program} "$@"\n')
     room.bash(commands)
     known, told = room.get(".faxpages-sweep/seen"), room.get("faxpages.prom")
-    count = known.count(b"\n")
+    count = seen(room)
     os.rename(room("faxes"), room("unmounted"))
     os.mkdir(room("faxes"))
     said = f"faxpages-sweep: {count} of {count} faxes are gone from {room('')}faxes, and stay in"
@@ -468,7 +490,7 @@ def swept_gone(room, commands):
     known = room.get(".faxpages-sweep/seen")
     yield "much is gone", (room.bash(commands)[0], room.get(".faxpages-sweep/seen")), (3, known)
     gone = commands.replace("faxpages-sweep ", "faxpages-sweep --gone ", 1)
-    yield "it is to go", (room.bash(gone), room.get(".faxpages-sweep/seen").count(b"\n")), ((0, b"", ""), count)
+    yield "it is to go", (room.bash(gone), seen(room)), ((0, b"", ""), count)
     yield "it is to go: figures", figures(room)['faxpages_faxes{result="good"}'] < count + 1, True
     room.sample("one-mh-page.tif", "faxes/future.tif")
     os.utime(room("faxes/future.tif"), (time.time() + 30,) * 2)
@@ -480,15 +502,33 @@ def swept_gone(room, commands):
 
 def swept_others(room, commands):
     """What is in the places of the state and of the figures, and is not of a sweep, stays."""
-    for place in ("faxpages.prom", ".faxpages-sweep/seen"):
+    others = {"faxpages.prom": b"# HELP faxpages_archive_faxes Faxes of the archive\n", ".faxpages-sweep/seen": b"20261128\n"}
+    for place, other in others.items():
         ours = room.get(place)
-        for content in (b"of somebody else\n", b"\n", room.get("faxes/again.tif")):
+        for content in (b"of somebody else\n", b"\n", room.get("faxes/again.tif"), other):
             room.put(place, content)
             status, _, said = room.bash(commands)
             yield f"{place} of somebody else", (status, said.endswith("is not of a sweep, and stays\n")), (3, True)
             yield f"{place} of somebody else: it stays", room.get(place), content
         room.put(place, ours)
     yield "of sweeps again", room.bash(commands)[0], 0
+    # A file of an earlier version has no first line of its own, and its last line may be cut.
+    ours = room.get(".faxpages-sweep/seen")
+    for content in (ours.partition(b"\n")[2], ours.partition(b"\n")[2][:20]):
+        room.put(".faxpages-sweep/seen", content)
+        yield "of an earlier version", room.bash(commands)[0] in (0, 1), True
+        yield "of an earlier version: all is known", seen(room) == ours.count(b"\n") - 1, True
+    for place in ("seen", "lock"):
+        for figures_place in (f".faxpages-sweep/{place}", f"faxes/../.faxpages-sweep/{place}"):
+            status, _, said = room.call("faxpages-sweep", "faxes", ".faxpages-sweep", figures_place)
+            yield f"figures in {place}", (status, "is a file of the sweep's own" in said), (3, True)
+    yield "the state stays", seen(room) == ours.count(b"\n") - 1, True
+    real = os.path.realpath(f"{room.path}/bin/flock")
+    room.tool("flock", "#!/bin/sh\necho 'flock: 5: No locks available' >&2\nexit 71\n")
+    status, _, said = room.bash(commands)
+    yield "no lock", (status, said.endswith("/lock cannot be locked: No locks available\n")), (3, True)
+    os.remove(f"{room.path}/bin/flock")
+    os.symlink(real, f"{room.path}/bin/flock")
 
 
 def swept_links(room, commands):
@@ -584,11 +624,11 @@ def sweep_by_timer(room, commands):
 
 def seen(room):
     place = room(".faxpages-sweep/seen")
-    return len(open(place, "rb").read().splitlines()) if os.path.exists(place) else 0
+    return sum(line[:1].isdigit() for line in open(place, "rb")) if os.path.exists(place) else 0
 
 
 TESTS = {
-    "Sort faxes as they come in": (["cmp"], receive),
+    "Sort faxes as they come in": (["cmp", "tiffcp"], receive),
     "HylaFAX": (["tiff2pdf", f"{HYLAFAX}/bin/faxrcvd", tool_of("faxinfo") or "faxinfo"], hylafax),
     "Asterisk": ([], asterisk),
     "A mail gateway": (["tiff2pdf", "tiffcp", "pnmtopng", "base64"], mail_gateway),

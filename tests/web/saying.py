@@ -59,7 +59,7 @@ def texts(browser, program, room):
 
 
 def lost(browser, program, room):
-    """The rows that are lost are those that faxpages-picture names, in as many words."""
+    """The rows that are lost are those up to the next strip, in the words of faxpages-picture."""
     if not shutil.which("pngtopnm"):
         print("SKIPPED: lost rows beside faxpages-picture (netpbm)")
         return

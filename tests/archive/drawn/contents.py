@@ -63,6 +63,18 @@ def with_value(fax: bytes, tags, value: int) -> bytes:
     return bytes(whole)
 
 
+def without_resolution(fax: bytes) -> bytes:
+    """A fax of one page whose horizontal resolution has 0 below the line."""
+    whole = bytearray(fax)
+    (at,) = struct.unpack_from("<I", fax, 4)
+    (count,) = struct.unpack_from("<H", fax, at)
+    for number in range(count):
+        tag, _, _, place = struct.unpack_from("<HHII", whole, at + 2 + ENTRY * number)
+        if tag == 282:
+            struct.pack_into("<I", whole, place + 4, 0)
+    return bytes(whole)
+
+
 def drawn(faxpages, seed: int) -> List[Content]:
     """Some faxes: good ones in each coding, some with what a copy lacks, and damaged ones."""
     rng = pages.seeded("operator", seed)
@@ -76,6 +88,7 @@ def drawn(faxpages, seed: int) -> List[Content]:
     found.append(Content(with_field(plain[0], 270, b"a description\0"), frozenset(["fields"])))
     found.append(Content(with_field(plain[1], 34909, b"a sub address\0"), frozenset(["fields"])))
     found.append(Content(with_field(plain[2], 65000, b"what nobody knows\0"), frozenset(["private"])))
+    found.append(Content(without_resolution(plain[2]), frozenset(["resolution"])))
     found.append(Content(plain[0] + b"\0\0\0\0more of it", frozenset(["bytes"])))
     found.append(Content(plain[0][:-20]))
     found.append(Content(with_value(plain[2], (259,), 5)))

@@ -179,6 +179,8 @@ class Model:
         self.ours: Dict[str, Dict[bytes, bytes]] = {}
         self.maybe: Dict[str, Set[bytes]] = {}
         self.stood: Dict[str, Dict[bytes, Stood]] = {}
+        # The copies whose faxes are gone for sure: nothing replaces them, whatever a table says.
+        self.only: Dict[bytes, bytes] = {}
         # All that was written into a place, or taken over, by any table.
         self.written: Dict[bytes, Set[bytes]] = {}
 

@@ -97,11 +97,31 @@ class Episode:
 
     def _events(self) -> List[Callable[[], None]]:
         world = self.world
-        common = [world.change, world.touch, world.more, world.more, world.vanish, world.move, world.hurt_copy]
-        rare = [world.foreign, world.new_link, world.link_in_target, world.away, world.move_tree]
+        common = [world.change, world.touch, world.more, world.more, world.vanish, world.move, world.hurt_copy,
+                  world.hard_link]
+        rare = [world.foreign, world.new_link, world.link_in_target, world.away, world.move_tree,
+                self._back_up, self._restore, self._restore]
         if self.other_user:
             rare.append(self._close_or_open)
         return common * 3 + rare
+
+    def _back_up(self) -> None:
+        """A table is copied to where backups are."""
+        for job in self.jobs[1:]:
+            path = os.path.join(os.fsdecode(self.world.tables), job.table)
+            if os.path.exists(path):
+                shutil.copy(path, path + "-backup")
+
+    def _restore(self) -> None:
+        """Tables are those of the last backup again. What was whose since is not known."""
+        for job in self.jobs[1:]:
+            path = os.path.join(os.fsdecode(self.world.tables), job.table)
+            if os.path.exists(path + "-backup"):
+                shutil.copy(path + "-backup", path)
+                names = {name for name, entry in snapshot(self.world.target).items() if entry.kind == "file"}
+                names |= {name for path in rows_of(path)[0] for name in (
+                    job.copy_of(path), job.copy_of(path) + b".fields")}
+                self.model.maybe.setdefault(job.table, set()).update(names)
 
     def _close_or_open(self) -> None:
         """A fax or a folder cannot be read any more, or can again."""
@@ -125,7 +145,7 @@ class Episode:
         if not job.to:
             return Words(again, gone, faults_ok=rng.random() < 0.1)
         delete = rng.random() < 0.3
-        give_up = tuple(it for it in ("data", "fields", "private", "bytes") if delete and rng.random() < 0.3)
+        give_up = tuple(it for it in ("data", "fields", "private", "bytes", "resolution") if delete and rng.random() < 0.3)
         return Words(again, gone, delete, give_up, rng.random() < 0.1, not delete and rng.random() < 0.1)
 
     def _given(self, job: Job, words: Words) -> List[str]:
@@ -271,6 +291,11 @@ class Episode:
         before = rows_of(merged)[0]
         ran = playing.run(["merge", merged, *parts], folder, Trouble(clock=self.rng.choice([0.0, 4e8, -4e8])))
         self.log.append(f"merge {parts}: {ran.status} {ran.out!r} {ran.error!r}")
+        if len({where_in(part) for part in parts}) > 1:
+            # The tree was moved between two tasks.
+            if ran.status != NOT_READ or rows_of(merged)[0] != before:
+                raise Difference(f"merge of two trees: status {ran.status}")
+            return
         self._compare_merge(before, rows_of(merged), parts, count, ran)
 
     def _compare_merge(self, before, after, parts: List[str], count: int, ran: Ran) -> None:
@@ -436,6 +461,9 @@ class Comparison:
             lacks.discard("fields")
         elif self.job.to[0] == "pbm":
             lacks.add("fields")
+        if self.job.to[0] == "pbm":
+            # No image says a resolution.
+            lacks.discard("resolution")
         self.claim(lacks <= set(self.words.give_up), f"deleted, copy lacks {lacks}: {name!r}")
 
     def _target(self, refused: bool) -> None:
@@ -482,6 +510,7 @@ class Comparison:
         self.claim(name in self.wanted, f"no copy of a good fax: {name!r}")
         _, fax, data = self.wanted[name]
         self.claim(now.kind == "file" and now.data == data, f"a copy is wrong: {name!r}")
+        self.claim(name not in self.model.only or self.model.only[name] == data, f"an only copy is replaced: {name!r}")
         wider = now.mode & ~(fax.mode & 0o777) and not (self.trouble.at and was is not None and was.mode == now.mode)
         self.claim(not wider, f"a copy is wider: {name!r}: {now.mode:o}, of {fax.mode:o}")
         self.claim(now.mtime == fax.mtime_ns or self.trouble.at > 0, f"a copy has another time: {name!r}")
@@ -518,12 +547,28 @@ class Comparison:
             if now is not None and now.kind == "file" and now.data == data and (name in ours or name in maybe):
                 self._mark_may_be_ours(name)
         deleted = {path for path in self.before.seen.faxes if path in self.before.tree and path not in self.after.tree}
+        self._note_only(deleted)
         for path in (set(self.before.rows) | deleted) - set(self.after.rows):
             for name in (job.copy_of(path), job.copy_of(path) + b".fields"):
                 if path in self.after.tree or self.trouble.at:
                     maybe.add(name)
                 ours.pop(name, None)
                 model.stood.setdefault(job.table, {}).pop(name, None)
+
+    def _note_only(self, deleted: Set[bytes]) -> None:
+        """Notes the copies whose faxes this run has deleted, or found gone, where it is sure that they were ours."""
+        only, target = self.model.only, self.after.target
+        for name in [name for name, data in only.items() if name not in target or target[name].data != data]:
+            del only[name]
+        if self.troubled or self.beside is not None or self.ran.status not in (0, 1, 3):
+            return
+        gone = set(self.before.rows) - set(self.after.rows) - set(self.after.tree)
+        for path in deleted | gone:
+            for name in (self.job.copy_of(path), self.job.copy_of(path) + b".fields"):
+                owned, there = self.model.owned(self.job, name), target.get(name)
+                sure = name not in self.model.maybe.setdefault(self.job.table, set())
+                if sure and there is not None and there.kind == "file" and there.data == owned:
+                    only[name] = there.data
 
     def _mark_may_be_ours(self, name: bytes) -> None:
         """A copy has the mark of one table: another that wrote it and was killed may have known it by that alone."""

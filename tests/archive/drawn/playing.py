@@ -20,7 +20,7 @@ from waiting import PATIENCE  # noqa: E402
 
 # The calls that change something on the disk: where one is made a run may be killed, or be refused it.
 CALLS = ["open", "mkdir", "link", "replace", "unlink", "fsync", "utime", "fchmod", "setxattr", "removexattr", "write",
-         "dup", "stat"]
+         "dup", "stat", "getxattr"]
 OTHER = 65534
 # A run by the Python that has Dask, which this process is not: how far the clock jumps, the module, and the words. The
 # clock jumps for the table alone, since Dask waits by it. What came while Python started ends it now, as it would a
@@ -111,15 +111,16 @@ def _hook(trouble: Trouble, room: str) -> None:
         return instead
 
     class Hooked:
-        """os, as the module that changes files sees it."""
+        """os, as the modules that change files see it."""
 
         def __getattr__(self, name: str) -> object:
             found = getattr(os, name)
             return wrapped(found) if name in CALLS else found
 
     import faxpages._archive_files as files
+    import faxpages._archive_marks as marks
 
-    files.os = Hooked()  # type: ignore[assignment]
+    files.os = marks.os = Hooked()  # type: ignore[assignment]
 
 
 def _inline() -> None:

@@ -153,6 +153,14 @@ class World:
             os.rename(self.tree, to)
             self.tree = to
 
+    def hard_link(self) -> None:
+        """A fax gets a second name."""
+        fax = self.any_fax()
+        to = os.path.join(self.tree, self.rng.choice(FOLDERS[:2]), self.rng.choice(NAMES))
+        if fax is not None and not os.path.lexists(to) and os.path.isdir(os.path.dirname(to)) and (
+                not self.blocked(os.path.dirname(to))):
+            os.link(os.path.join(self.tree, fax), to)
+
     def more(self) -> None:
         self.new_fax(self.tree)
 

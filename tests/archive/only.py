@@ -1,0 +1,341 @@
+"""The only copies of faxes: what --delete leaves is never replaced, whatever a table says; and a fax goes only where its
+copy stands right before."""
+
+import contextlib
+import errno
+import fcntl
+import json
+import os
+import re
+import shutil
+import sqlite3
+import subprocess
+
+from converting import files_below
+from keeping import CALLS, drawn, put
+from keeping import playing
+
+# At two calls for each of three faxes, TARGET gone and renamed, a fax may go with its copy.
+LEAST = 12
+MARKS = ("setxattr", "getxattr", "removexattr")
+
+
+def two():
+    """Two faxes with other rows."""
+    import faxpages
+
+    return [faxpages.convert(b"P4 8 %d\n" % rows + bytes([24]) * rows, "mh") for rows in (1, 2)]
+
+
+def words_of(place, *more):
+    return ["convert", f"{place}/tree", f"{place}/copies", "--to", "mmr", "--table", f"{place}/t.sqlite", "--gone", *more]
+
+
+@contextlib.contextmanager
+def refused(error, *names):
+    """Calls of the system that are refused in runs that are begun now."""
+    kept = {name: getattr(os, name) for name in names}
+
+    def refuse(*_, **__):
+        raise OSError(error, os.strerror(error))
+
+    try:
+        for name in names:
+            setattr(os, name, refuse)
+        yield
+    finally:
+        for name, call in kept.items():
+            setattr(os, name, call)
+
+
+def backup(room, *_):
+    """A table out of a backup does not have the only copies be written over, with attributes and without."""
+    one, other = two()
+    for way, error in (("with attributes", None), ("without attributes", errno.ENOTSUP)):
+        place = room(f"backup-{error}")
+        for fields in ([], ["--fields"]):
+            shutil.rmtree(place, ignore_errors=True)
+            put(f"{place}/tree/a.tif", one)
+            put(f"{place}/tree/b.tif", one)
+            with refused(error or 0, *(MARKS if error else ())):
+                playing.run(words_of(place, *fields), place, playing.Trouble())
+                shutil.copy(f"{place}/t.sqlite", f"{place}/backup.sqlite")
+                ran = playing.run(words_of(place, "--delete", *fields), place, playing.Trouble())
+                room.claim(f"{way}: deleted: {ran.error}", (ran.status, os.listdir(f"{place}/tree")), (0, []))
+                before = files_below(f"{place}/copies")
+                shutil.copy(f"{place}/backup.sqlite", f"{place}/t.sqlite")
+                put(f"{place}/tree/a.tif", other)
+                put(f"{place}/tree/b.tif", one)
+                ran = playing.run(words_of(place, *fields), place, playing.Trouble())
+            room.claim(f"{way}: a fax with an old name: {ran.out}", ran.status, 3)
+            room.claim(f"{way}: no copy is written over", files_below(f"{place}/copies") == before)
+            (why,) = {row["why"] for row in room.rows(f"{place}/t.sqlite").values() if row["fault"]}
+            room.claim(f"{way}: told", why, "the only copy of a fax that is gone")
+    gone_by_hand(room, one, other)
+
+
+def gone_by_hand(room, one, other):
+    """The same where somebody else deleted the fax."""
+    place = room("gone-by-hand")
+    put(f"{place}/tree/a.tif", one)
+    playing.run(words_of(place), place, playing.Trouble())
+    shutil.copy(f"{place}/t.sqlite", f"{place}/backup.sqlite")
+    os.unlink(f"{place}/tree/a.tif")
+    playing.run(words_of(place), place, playing.Trouble())
+    before = files_below(f"{place}/copies")
+    shutil.copy(f"{place}/backup.sqlite", f"{place}/t.sqlite")
+    put(f"{place}/tree/a.tif", other)
+    ran = playing.run(words_of(place), place, playing.Trouble())
+    room.claim("a fax that somebody deleted", (ran.status, files_below(f"{place}/copies") == before), (3, True))
+
+
+def adopted(room, *_):
+    """Two tables with one TARGET: what one has adopted, and deleted the faxes of, the other does not replace."""
+    one, other = two()
+    place = room("adopted")
+    put(f"{place}/tree/a.tif", one)
+    second = [*words_of(place)]
+    second[second.index(f"{place}/t.sqlite")] = f"{place}/second.sqlite"
+    playing.run(words_of(place), place, playing.Trouble())
+    playing.run([*second, "--adopt"], place, playing.Trouble())
+    before = files_below(f"{place}/copies")
+    put(f"{place}/tree/a.tif", other)
+    ran = playing.run(words_of(place), place, playing.Trouble())
+    room.claim("what another table has adopted", (ran.status, files_below(f"{place}/copies") == before), (3, True))
+    put(f"{place}/tree/a.tif", one)
+    ran = playing.run([*second, "--delete"], place, playing.Trouble())
+    room.claim("and deleted the fax of", (ran.status, os.listdir(f"{place}/tree")), (0, []))
+    put(f"{place}/tree/a.tif", other)
+    ran = playing.run(words_of(place), place, playing.Trouble())
+    room.claim("is not replaced", (ran.status, files_below(f"{place}/copies") == before), (3, True))
+
+
+def merged(room, *_):
+    """The copies of parts are those of the table that is merged of them."""
+    one, other = two()
+    place = room("merged-copies")
+    for name in "abcd":
+        put(f"{place}/tree/{name}.tif", one)
+    for part in (0, 1):
+        words = words_of(place, "--share", f"{part}/2")
+        words[words.index(f"{place}/t.sqlite")] = f"{place}/{part}.sqlite"
+        playing.run(words, place, playing.Trouble())
+    playing.run(["merge", f"{place}/t.sqlite", f"{place}/0.sqlite", f"{place}/1.sqlite"], place, playing.Trouble())
+    playing.run(words_of(place, "--again", "copies"), place, playing.Trouble())
+    for name in "abcd":
+        put(f"{place}/tree/{name}.tif", other)
+    ran = playing.run(words_of(place), place, playing.Trouble())
+    room.claim("a merged table follows its faxes", (ran.status, len(set(files_below(f"{place}/copies").values()))), (0, 1))
+
+
+class Goes(playing.Event):
+    """TARGET that goes amid a run: it is deleted, or another folder has its name. What of TREE is left then is noted."""
+
+    def happen(self, room):
+        left = sorted(os.listdir(f"{room}/tree"))
+        if self.replaces:
+            shutil.rmtree(f"{room}/copies")
+        else:
+            os.rename(f"{room}/copies", f"{room}/moved")
+            os.mkdir(f"{room}/copies")
+        with open(f"{room}/amid", "w", encoding="utf-8") as file:
+            json.dump(left, file)
+
+
+def target_goes(room, *_):
+    """TARGET goes at each call of a run that deletes: all faxes that are left then stay, but for one, whose copy went in
+    the instant after the last look at it, which is two calls of the system."""
+    fax, place, lost = drawn()[""], room("target-goes"), []
+    for name in "abc":
+        put(f"{place}/tree/{name}.tif", fax)
+    playing.run(words_of(place), place, playing.Trouble())
+    os.rename(place, f"{place}-before")
+    for replaces in (True, False):
+        for at in range(1, 2 * CALLS):
+            shutil.rmtree(place, ignore_errors=True)
+            shutil.copytree(f"{place}-before", place)
+            event = Goes(b"", b"", replaces)
+            playing.run(words_of(place, "--delete"), place, playing.Trouble(at, event=event))
+            if not os.path.exists(f"{place}/amid"):
+                break
+            with open(f"{place}/amid", encoding="utf-8") as file:
+                gone = set(json.load(file)) - set(os.listdir(f"{place}/tree"))
+            # Where it was only renamed its copies are there, and early in the run they are made again.
+            copies = {name for folder in ("moved", "copies") if os.path.exists(f"{place}/{folder}")
+                      for name in os.listdir(f"{place}/{folder}")}  # fmt: skip
+            if gone - copies:
+                lost.append((at, sorted(gone - copies)))
+        room.claim(f"TARGET goes: all {at - 1} calls are met", 40 < at < 2 * CALLS - 1)
+    room.claim("TARGET goes: one fax at most, at two calls for each", (
+        [it for it in lost if len(it[1]) > 1], lost[LEAST:]), ([], []))  # fmt: skip
+
+
+def other_names(room, *_):
+    """A folder that folds case leads by two names to one copy, as hard links do: the second fax is told, each time."""
+    one, other = two()
+    place = room("folded")
+    put(f"{place}/tree/a.tif", one)
+    playing.run(words_of(place), place, playing.Trouble())
+    put(f"{place}/tree/A.TIF", other)
+    os.link(f"{place}/copies/a.tif", f"{place}/copies/A.TIF")
+    before = files_below(f"{place}/copies")
+    for _ in range(3):
+        ran = playing.run(words_of(place), place, playing.Trouble())
+        rows = {os.path.basename(path): row["why"] for path, row in room.rows(f"{place}/t.sqlite").items()}
+        room.claim("two names of one copy", (ran.status, rows, files_below(f"{place}/copies") == before), (
+            3, {b"a.tif": "", b"A.TIF": "the copy of a fax with another name"}, True))  # fmt: skip
+
+
+def linked(room, *_):
+    """Hard links of a fax go by one run, and so do links to faxes of the tree, which never lead nowhere."""
+    one, _ = two()
+    place = room("hard")
+    put(f"{place}/tree/a.tif", one)
+    for name in "bcd":
+        os.link(f"{place}/tree/a.tif", f"{place}/tree/{name}.tif")
+    ran = playing.run(words_of(place, "--delete"), place, playing.Trouble())
+    room.claim(f"hard links: {ran.error}", (ran.status, os.listdir(f"{place}/tree")), (0, []))
+    for first, last in (("a", "z"), ("z", "a")):
+        place = room(f"links-{first}")
+        put(f"{place}/tree/{first}.tif", one)
+        os.symlink(f"{first}.tif", f"{place}/tree/{last}.tif")
+        os.symlink(f"{last}.tif", f"{place}/tree/m.tif")
+        ran = playing.run(words_of(place, "--follow", "--delete"), place, playing.Trouble())
+        room.claim(f"links: {ran.error}", (ran.status, os.listdir(f"{place}/tree")), (0, []))
+        place = room(f"kept-links-{first}")
+        put(f"{place}/tree/{first}.tif", one)
+        os.symlink(f"{first}.tif", f"{place}/tree/{last}.tif")
+        put(f"{place}/copies/{last}.tif", b"x")
+        playing.run(words_of(place, "--follow"), place, playing.Trouble())
+        import faxpages
+
+        put(f"{place}/copies/{last}.tif", faxpages.convert(one, "mmr"))
+        ran = playing.run(words_of(place, "--follow", "--delete"), place, playing.Trouble())
+        left = sorted(os.listdir(f"{place}/tree"))
+        room.claim(f"what a link leads to that stays: {ran.error}", (ran.status, left), (3, ["a.tif", "z.tif"]))
+
+
+def odd(room, *_):
+    """A fax of a year that no table of before could keep; a copy that is the fax; and what cannot be deleted."""
+    one, _ = two()
+    place = room("late-year")
+    put(f"{place}/tree/a.tif", one, mtime=10_000_000_000 * 10**9)
+    if os.stat(f"{place}/tree/a.tif").st_mtime_ns >= 1 << 63:
+        for more in ([], ["--again", "copies"], ["--delete"]):
+            ran = playing.run(words_of(place, *more), place, playing.Trouble())
+            room.claim(f"the year 2286 {more}: {ran.error}", ran.status, 0)
+    else:
+        print("SKIPPED: no time after 2262 can be kept here, so: no fax of such a time is copied")
+    place = room("itself")
+    import faxpages
+
+    put(f"{place}/tree/a.tif", faxpages.convert(one, "mmr"), 0o600)
+    os.makedirs(f"{place}/copies")
+    os.link(f"{place}/tree/a.tif", f"{place}/copies/a.tif")
+    ran = playing.run(words_of(place, "--adopt", "--delete"), place, playing.Trouble())
+    marks = [it for it in os.listxattr(f"{place}/tree/a.tif") if "faxpages" in it]
+    room.claim("a copy that is the fax", (ran.status, marks, os.path.exists(f"{place}/tree/a.tif")), (3, [], True))
+    not_deleted(room, one)
+
+
+def not_deleted(room, one):
+    """What cannot be deleted is told, and is not counted as deleted."""
+    place = room("not-deleted")
+    for name in "ab":
+        put(f"{place}/tree/{name}.tif", one)
+    unlink = os.unlink
+
+    def refuse(path, **more):
+        if path == b"b.tif":
+            raise OSError(errno.EROFS, os.strerror(errno.EROFS))
+        return unlink(path, **more)
+
+    os.unlink = refuse
+    try:
+        ran = playing.run(words_of(place, "--delete"), place, playing.Trouble())
+    finally:
+        os.unlink = unlink
+    room.claim("what cannot be deleted", (ran.status, "NotDeleted: b.tif: Read-only file system" in ran.error,
+                                          "deleted 1 faxes" in ran.out), (3, True, True))  # fmt: skip
+    for wanted in (1, 2):
+        told = json.loads(room.run("table", f"{place}/t.sqlite", "--summary")[1])
+        out = room.run("table", f"{place}/t.sqlite", "--prometheus")[1].decode()
+        room.claim("counted are those that are gone", (told["deleted"], f"}} {wanted}\n" in out.partition(
+            "# TYPE faxpages_archive_deleted")[2]), (wanted, True))  # fmt: skip
+        ran = playing.run(words_of(place, "--delete"), place, playing.Trouble())
+    room.claim("it goes once it can", (ran.status, os.listdir(f"{place}/tree")), (0, []))
+    killed_amid(room, one)
+
+
+def killed_amid(room, one):
+    """Faxes that were deleted by a run that was killed then are counted by the next one."""
+    place = room("killed-amid")
+    put(f"{place}/tree/a.tif", one)
+    playing.run(words_of(place, "--delete"), place, playing.Trouble())
+    with contextlib.closing(sqlite3.connect(f"{place}/t.sqlite")) as base:
+        base.execute("UPDATE deleted SET deleted = 0")
+        base.commit()
+    playing.run(words_of(place), place, playing.Trouble())
+    told = json.loads(room.run("table", f"{place}/t.sqlite", "--summary")[1])
+    room.claim("deleted by a run that was killed", told["deleted"], 1)
+
+
+def foreign(room, *_):
+    """A database of another program is no table, and stays as it is, byte for byte."""
+    put(room("foreign/tree/a.tif"), drawn()[""])
+    cases = {"tables": "CREATE TABLE faxes (number)", "a view": "CREATE VIEW job AS SELECT 1",
+             "a version": "PRAGMA user_version = 7"}  # fmt: skip
+    for name, change in cases.items():
+        path = room(f"foreign/{len(name)}.sqlite")
+        with contextlib.closing(sqlite3.connect(path)) as base:
+            base.execute(change)
+            base.commit()
+        with open(path, "rb") as file:
+            before = file.read()
+        for words in (["check", "foreign/tree", "--table", path], ["merge", path, path + "-part"]):
+            if words[0] == "merge":
+                room.run("check", "foreign/tree", "--table", path + "-part")
+            status, _, error = room.run(*words)
+            with open(path, "rb") as file:
+                same = file.read() == before
+            room.claim(f"a database with {name}: {words[0]}", (status, "of another program" in error, same), (3, True, True))
+
+
+def parts(room, *_):
+    """Parts of arrays of different sizes, or of different trees, are refused, and the table stays."""
+    for tree in ("one", "two"):
+        for number in range(6):
+            put(room(f"parts/{tree}/{number}.tif"), drawn()[""])
+    made = {"0-2": "one", "1-2": "one", "1-3": "one", "1-2-two": "two"}
+    for name, tree in made.items():
+        share = "/".join(name.split("-")[:2])
+        room.run("check", f"parts/{tree}", "--share", share, "--gone", "--table", f"parts/{name}.sqlite")
+    whole = ["merge", "parts/whole.sqlite", "parts/0-2.sqlite"]
+    room.claim("parts of one array", room.run(*whole, "parts/1-2.sqlite")[0], 0)
+    rows = room.rows("parts/whole.sqlite")
+    for other, said in (("1-3", "one of 3"), ("1-2-two", "/two")):
+        status, _, error = room.run(*whole, f"parts/{other}.sqlite")
+        room.claim(f"a part {other}: {error}", (status, said in error, room.rows("parts/whole.sqlite") == rows), (3, True, True))
+    os.symlink("whole.sqlite", room("parts/linked.sqlite"))
+    with open(room("parts/whole.sqlite-lock"), "rb") as held:
+        fcntl.flock(held, fcntl.LOCK_EX)
+        status, _, error = room.run("merge", "parts/linked.sqlite", "parts/0-2.sqlite", "parts/1-2.sqlite")
+    room.claim("a table by two names has one lock", (status, "another run writes to" in error), (3, True))
+
+
+def figures(room, *_):
+    """What is told to Prometheus is what it reads, whatever the tree is called."""
+    for number, name in enumerate(("p\u00e4ge", 'a "quote\\"', "a\nline", b"\xff".decode("utf-8", "surrogateescape"))):
+        put(room(f"figures/{number}/{name}/a.tif"), drawn()[""])
+        room.run("check", f"figures/{number}/{name}", "--table", f"figures/{number}.sqlite")
+        status, out, _ = room.run("table", f"figures/{number}.sqlite", "--prometheus")
+        escapes = set(re.findall(rb"\\(.)", out))
+        room.claim(f"figures of {name!a}", (status, escapes <= {b'"', b"\\", b"n"}), (0, True))
+        if shutil.which("promtool"):
+            ran = subprocess.run(["promtool", "check", "metrics"], input=out, capture_output=True, check=False)
+            room.claim(f"promtool reads {name!a}: {ran.stderr[-200:]}", ran.returncode in (0, 3))
+    if not shutil.which("promtool"):
+        print("SKIPPED: promtool (prometheus) is not installed, so: it does not read the figures of an archive")
+
+
+PARTS = [parts, figures, foreign, backup, adopted, merged, target_goes, other_names, linked, odd]
