@@ -20,9 +20,9 @@ pub data SalvagedRow : Type 0 where
 
 -- what follows the first EOL, where so many zeros stand before the bits (T.4, section 4.1.2)
 abbrev pub after_eol : ℕ → List Bool → Option (List Bool)
-after_eol zeros [] = None
-after_eol zeros (false ∷ b) = after_eol (suc zeros) b
-after_eol zeros (true ∷ b) = if nat_le 11 zeros then (Some b) else (after_eol 0 b)
+after_eol ahead [] = None
+after_eol ahead (false ∷ b) = after_eol (suc ahead) b
+after_eol ahead (true ∷ b) = if nat_le 11 ahead then (Some b) else (after_eol 0 b)
 
 -- where the next row is due after a lost one, of which the EOL is looked for in these bits: at the
 -- first EOL among them. In MMR no row has one (T.4, section 4.1.2; T.6, section 2.2.1)
