@@ -233,6 +233,38 @@ uint32_t faxpages_page(const uint8_t *file, size_t file_len, uint32_t page,
                        struct faxpages_form *form, uint8_t *out, size_t out_room, size_t stride,
                        struct faxpages_told *told);
 
+/* Rows of a page or a strip that are lost, one after another. */
+struct faxpages_lost {
+    uint32_t row;   /* the first of them, from 0 */
+    uint32_t rows;  /* how many they are */
+    uint32_t fault; /* why the first of them is lost: enum faxpages_fault_number */
+};
+
+/* Writes what is left of a page that may be damaged into a raster: each row that is found as
+ * faxpages_page has it, and zeros, which are white, for each row that is lost. In MH and MR a row
+ * is found if it can be read and an EOL follows it, or nothing but zeros, or it is the last one of
+ * its strip; after a row that is lost the next one is due at the next EOL. In MMR all rows of a
+ * strip after one that cannot be read are lost. No row is copied or guessed; which number a row
+ * has after a lost one is a count of EOLs. `lost` says which rows are lost, in order: a stretch of
+ * them ends where a row is found or the page ends, and has the fault of its first row, which is
+ * STRIP_OUTSIDE or one of a strip's data.
+ *
+ * `form` is written if the file has the page, even with out_room 0: so ask for its size first. A
+ * page has at most (rows + 1) / 2 stretches. `count` of `told` says how many rows the page has,
+ * found and lost, and `used` how many stretches, also where `lost` has room for fewer, after DONE
+ * and this NO_ROOM; otherwise both are 0. A page is found by its number, also after one that is
+ * refused.
+ *
+ * In this order: END, if the file has exactly `page` pages, OUTSIDE, if it has fewer, or FAULT, at
+ * a fault of the header, a directory or a field: then no form is written. NO_ROOM, if `stride` is
+ * less than (width + 7) / 8, or out_room less than rows * stride: then nothing else is written, and
+ * no row is looked at; MEMORY, where nothing else is written either. Otherwise all rows are
+ * written, and the first stretches, as many as have room: DONE, if these are all, or NO_ROOM. */
+uint32_t faxpages_salvage(const uint8_t *file, size_t file_len, uint32_t page,
+                          struct faxpages_form *form, uint8_t *out, size_t out_room, size_t stride,
+                          struct faxpages_lost *lost, size_t lost_room,
+                          struct faxpages_told *told);
+
 /* The form of a strip of rows with no file around it, as a fax is on the line, or in a PDF. */
 struct faxpages_strip {
     uint32_t width;   /* pels of a row, 1 to 65535 */
@@ -296,6 +328,19 @@ uint32_t faxpages_strip_part(const uint8_t *strip, size_t strip_len,
                              const struct faxpages_strip *form, struct faxpages_place *place,
                              uint32_t *runs, size_t runs_room, uint8_t *out, size_t out_room,
                              size_t stride, struct faxpages_told *told);
+
+/* Writes what is left of a strip that may be damaged into a raster, with the rows that are lost, all
+ * as faxpages_salvage has it. Somebody counted its rows: `rows` of the form is not 0. `page` of
+ * `told` is 0.
+ *
+ * In this order: NO_OPTIONS, if the form is invalid, or strip_len is more than 536870911: then
+ * nothing is told; NO_ROOM, if `stride` is less than (width + 7) / 8, or out_room less than rows *
+ * stride: then nothing is written; MEMORY, where nothing is written either. Otherwise all rows are
+ * written, and the first stretches, as many as have room: DONE, if these are all, or NO_ROOM. */
+uint32_t faxpages_salvage_strip(const uint8_t *strip, size_t strip_len,
+                                const struct faxpages_strip *form, uint8_t *out, size_t out_room,
+                                size_t stride, struct faxpages_lost *lost, size_t lost_room,
+                                struct faxpages_told *told);
 
 /* What was found in a strip, and after its last row. */
 struct faxpages_strip_report {

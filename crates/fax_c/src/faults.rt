@@ -70,7 +70,7 @@ pub(crate) fn pbm_fault_number(fault: PbmFault) -> u32
 }
 
 /// The number of a cause.
-fn fault_number(cause: Cause) -> u32
+pub(crate) fn fault_number(cause: Cause) -> u32
     ensures { result ≡ Spec.fault_number cause }
 {
     match cause {

@@ -25,7 +25,7 @@ fn clear(bytes: &mut [u8])
 }
 
 /// Writes zeros from a place to another.
-fn put_zeros(out: &mut [u8], at: usize, to: usize)
+pub(crate) fn put_zeros(out: &mut [u8], at: usize, to: usize)
     requires order { at ≤ to }
     requires within { to ≤ length out.old }
     ensures { out.new ≡ take at out.old ++ replicate (to - at) 0 ++ drop to out.old }
