@@ -1,6 +1,6 @@
 "use strict";
 
-/** Draws parts of pages, as pels of four bytes: white, black, and grey where a row cannot be read. */
+/** Draws parts of pages, as pels of four bytes: white, black, and grey where a row is lost. */
 class Drawing {
     static WHITE = 0xffffffff;
     static BLACK = 0xff000000;
@@ -11,37 +11,46 @@ class Drawing {
     /** Longer pages have no thumbnail. */
     static MOST_ROWS = 20000;
 
-    /** @param {Library} library */
-    constructor(library) {
+    /** @param {Library} library @param {Salvaging} salvaging */
+    constructor(library, salvaging) {
         this.library = library;
+        this.salvaging = salvaging;
         this.cursor = library.cursor(0, 0);
         /** @type {Map<string, Uint32Array>} */
         this.kept = new Map();
     }
 
-    /** Hands out the rows of a page from one on, each once: its bytes, or none where it cannot be read.
+    /** Hands out the rows of a page from one on, each once: its bytes, or none where it is lost.
      * @param {number} page @param {Form} form @param {number} from @param {number} to
      * @param {(row: number, bytes: Uint8Array | null) => void} use */
     eachRow(page, form, from, to, use) {
+        const left = this.salvaging.of(page, form);
+        if (left?.raster) {
+            left.eachRow(from, to, use);
+            return;
+        }
+        const end = left ? left.stretches[0] : to;
+        this.readRows(page, from, Math.min(to, end), use);
+        for (let row = Math.max(from, end); row < to; row++) {
+            use(row, null);
+        }
+    }
+
+    /** Reads rows that can be read.
+     * @param {number} page @param {number} from @param {number} to
+     * @param {(row: number, bytes: Uint8Array) => void} use */
+    readRows(page, from, to, use) {
         const kept = this.kept.get(`${page} ${from}`);
         this.cursor.set(page, from);
         if (kept) {
             this.cursor.comeBack(kept);
         }
-        for (let due = from, faults = 0; due < to;) {
+        for (let due = from; due < to;) {
             const told = this.library.readRows(this.cursor, to - due);
             for (let index = 0; index < told.count; index++) {
                 use(due++, this.library.row(index).bytes);
             }
-            if (told.status === Library.FAULT) {
-                faults++;
-                const next = form.stripAfter(Math.max(due, told.fault.row));
-                const after = faults < Reading.MOST_FAULTS ? Math.min(to, next) : to;
-                for (; due < after; due++) {
-                    use(due, null);
-                }
-                this.cursor.set(page, due);
-            } else if (told.count === 0) {
+            if (told.count === 0) {
                 throw new Error(`rows end with status ${told.status}`);
             }
         }

@@ -10,7 +10,7 @@ class Known {
         this.forms = [];
         /** @type {Map<number, { name: string, fault: Fault }>} */
         this.refused = new Map();
-        /** @type {Map<number, LostRows[]>} */
+        /** @type {Map<number, LostRows>} */
         this.lost = new Map();
         /** @type {Map<number, { strip: number, name: string }[]>} */
         this.notes = new Map();
@@ -29,16 +29,37 @@ class Known {
     }
 }
 
+/** The stretches of a page's rows that are lost, three numbers each, and the names of their faults. */
+class LostRows {
+    /** @param {Uint32Array} numbers @param {Record<number, string>} names */
+    constructor(numbers, names) {
+        this.numbers = numbers;
+        this.names = names;
+    }
+
+    get count() {
+        return this.numbers.length / 3;
+    }
+
+    /** The first stretches, as many as are asked for.
+     * @param {number} most @returns {{ from: number, to: number, name: string }[]} */
+    stretches(most) {
+        return Array.from({ length: Math.min(most, this.count) }, (_, at) => {
+            const [from, count, fault] = this.numbers.subarray(3 * at, 3 * at + 3);
+            return { from, to: from + count - 1, name: this.names[fault] };
+        });
+    }
+}
+
 /**
  * A file that is open: what is known of it, and the worker that reads it. Pages and rows are numbered from 0, as the
  * program numbers them.
  *
- * @typedef {{ name: string, fault: Fault, from: number, to: number }} LostRows
  * @typedef {{ page: number, row: number, head: string, name: string, tag: number, kind: "fault" | "note" }} Finding
  */
 class Fax extends Known {
     /** The classes that a worker is made of. */
-    static WORKER = [Library, Cursor, Form, Reading, Drawing, Shrunk, Cells, Pdf, Png, Saving, Importing, FaxWorker];
+    static WORKER = [Library, Cursor, Form, Left, Salvaging, Reading, Drawing, Shrunk, Cells, Pdf, Png, Saving, Importing, FaxWorker];
     static ids = 0;
 
     /** @param {File} file @param {(fax: Fax) => void} changed */
@@ -215,10 +236,8 @@ class Fax extends Known {
     }
 
     /** @param {any} data */
-    onLost({ page, from, to, fault, name }) {
-        const lost = this.lost.get(page) ?? [];
-        lost.push({ from, to, fault, name });
-        this.lost.set(page, lost);
+    onLost({ page, stretches, names }) {
+        this.lost.set(page, new LostRows(stretches, names));
         this.changed(this);
     }
 
@@ -290,9 +309,9 @@ class Fax extends Known {
         const found = [];
         const pages = [...new Set([...this.refused.keys(), ...this.lost.keys(), ...this.notes.keys()])];
         const all = pages.sort((one, other) => one - other).reduce((count, page) => {
-            const here = found.length < most ? this.findingsOf(page) : [];
+            const here = found.length < most ? this.findingsOf(page, most) : [];
             found.push(...here.slice(0, most - found.length));
-            return count + (this.refused.has(page) ? 1 : 0) + (this.lost.get(page)?.length ?? 0) +
+            return count + (this.refused.has(page) ? 1 : 0) + (this.lost.get(page)?.count ?? 0) +
                 (this.notes.get(page)?.length ?? 0);
         }, 0);
         if (this.end && found.length < most) {
@@ -308,8 +327,9 @@ class Fax extends Known {
         return { page: Math.max(0, fault.page - 1), row: 0, head, name, tag: fault.tag, kind: "fault" };
     }
 
-    /** @param {number} page @returns {Finding[]} */
-    findingsOf(page) {
+    /** As many of a page as are asked for, and maybe more.
+     * @param {number} page @param {number} most @returns {Finding[]} */
+    findingsOf(page, most) {
         const refused = this.refused.get(page);
         const texts = TEXTS.findings;
         const notes = (this.notes.get(page) ?? []).map(({ strip, name }) => {
@@ -318,8 +338,8 @@ class Fax extends Known {
                 kind: /** @type {"note"} */ ("note"),
                 head: isStrip ? say(texts.strip, String(page), String(strip)) : say(texts.directory, String(page)) };
         });
-        const lost = (this.lost.get(page) ?? []).map(({ from, to, fault, name }) => ({
-            page, row: from, name, tag: fault.tag, kind: /** @type {"fault"} */ ("fault"),
+        const lost = (this.lost.get(page)?.stretches(most) ?? []).map(({ from, to, name }) => ({
+            page, row: from, name, tag: 0, kind: /** @type {"fault"} */ ("fault"),
             head: from === to ? say(texts.row, String(page), from) : say(texts.rows, String(page), from, to) }));
         const faults = refused ? [{ page, row: 0, name: refused.name, tag: refused.fault.tag,
             kind: /** @type {"fault"} */ ("fault"), head: say(texts.page, String(page)) }] : [];
@@ -395,7 +415,9 @@ class Fax extends Known {
         }
         lines.push("");
         for (const [page, lost] of [...this.lost].sort(([one], [other]) => one - other)) {
-            lines.push(...lost.map(({ from, to, name }) => `page ${page} rows ${from} to ${to}: ${name}`));
+            for (const { from, to, name } of lost.stretches(Infinity)) {
+                lines.push(`page ${page} rows ${from} to ${to}: ${name}`);
+            }
         }
         return `${this.file.name}\n${this.verdict()}\n\n${lines.join("\n")}\n`;
     }

@@ -199,6 +199,22 @@ class Library {
             strip, length, at, cursor.at, cursor.runs, Library.RUNS, raster, room, stride, this.told));
     }
 
+    /** What is left of a page, in memory that has a name: a page that is salvaged later takes its place.
+     * @param {number} page @param {Form} form */
+    salvage(page, form) {
+        const most = (form.rows + 1) >> 1;
+        const size = form.rows * form.stride;
+        const raster = this.room("left", size);
+        const lost = this.room("lost", 12 * most);
+        const status = this.calls.faxpages_salvage(this.file, this.length, page,
+            this.room("form", 4 * Library.FORM_NUMBERS), raster, size, form.stride, lost, most, this.told);
+        if (status !== Library.DONE) {
+            throw new Error(`what is left of page ${page} is told with status ${status}`);
+        }
+        const count = this.numbers(this.told, 2)[1];
+        return new Left(this, form, raster, this.numbers(lost, 3 * count).slice());
+    }
+
     /** The name of a fault, or of a note.
      * @param {"fault" | "note"} kind @param {number} number */
     name(kind, number) {
@@ -267,12 +283,6 @@ class Form {
     /** The bytes of a row. */
     get stride() {
         return (this.width + 7) >> 3;
-    }
-
-    /** The first row after the strip that has a row.
-     * @param {number} row */
-    stripAfter(row) {
-        return Math.min(this.rows, (Math.floor(row / this.rowsOfStrip) + 1) * this.rowsOfStrip);
     }
 
     /** Pels of a row in a unit, and rows in a unit: 0 where the file does not say. */

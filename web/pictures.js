@@ -72,7 +72,7 @@ class Pdf {
 
 /**
  * A page as a PNG, in its proportions: pels or rows are repeated where the resolutions differ, as faxpages-picture
- * does. Rows that cannot be read are grey.
+ * does. Rows that are lost are grey.
  */
 class Png {
     static MOST_PELS = 100000000;
@@ -98,7 +98,7 @@ class Png {
         if (!form || form.width * across * form.rows * down > Png.MOST_PELS) {
             throw new Error(`page ${page} is too large for a picture`);
         }
-        const bits = this.hasLost(page, form) ? 2 : 1;
+        const bits = this.drawing.salvaging.of(page, form) ? 2 : 1;
         const packed = await Png.through(Png.stream("Compression"), this.lines(page, form, bits, across, down));
         await this.compare(packed, page, form, bits, across, down);
         const head = new DataView(new ArrayBuffer(13));
@@ -109,15 +109,6 @@ class Png {
             Uint8Array.of(0x89, 0x50, 0x4e, 0x47, 13, 10, 26, 10), Png.chunk("IHDR", new Uint8Array(head.buffer)),
             Png.chunk("IDAT", packed), Png.chunk("IEND", new Uint8Array(0)),
         ], { type: "image/png" });
-    }
-
-    /** @param {number} page @param {Form} form */
-    hasLost(page, form) {
-        let lost = false;
-        this.drawing.eachRow(page, form, 0, form.rows, (_, bytes) => {
-            lost = lost || !bytes;
-        });
-        return lost;
     }
 
     /** The lines of the picture, each after a 0, in pieces: white is the highest number, and grey is 2 of 3.

@@ -2,29 +2,25 @@
 
 /**
  * Reads a file in slices, between which the worker answers other calls: first the forms of all pages, then all rows.
- * After a row that cannot be read it goes on at the next strip, or at the next page.
- *
- * @typedef {{ from: number, to: number, fault: Fault }} Lost
+ * After a row that cannot be read it tells what is left of its page, and goes on at the next one.
  */
 class Reading {
     /** How long a slice is to take, in milliseconds. */
     static SLICE = 20;
-    /** After so many faults the rest of a page is given up. */
-    static MOST_FAULTS = 100;
 
     /**
      * @param {Library} library
+     * @param {Salvaging} salvaging
      * @param {(message: object) => void} send
      * @param {() => Promise<void>} pause
      */
-    constructor(library, send, pause) {
+    constructor(library, salvaging, send, pause) {
         this.library = library;
+        this.salvaging = salvaging;
         this.send = send;
         this.pause = pause;
         this.most = 64;
         this.rows = 0;
-        this.faults = 0;
-        this.faultsOfPage = -1;
         this.pages = 0;
         this.told = 0;
     }
@@ -33,12 +29,6 @@ class Reading {
      * @param {Fault} fault */
     static isOfFields(fault) {
         return fault.number >= 7 && fault.number <= 10;
-    }
-
-    /** Whether a fault is of rows of a page: of the data of a strip, or of its place.
-     * @param {Fault} fault */
-    static isOfRows(fault) {
-        return fault.number >= 11 && fault.number < 200;
     }
 
     /** Lists all pages. A page whose fields are refused is listed with its fault. */
@@ -104,31 +94,32 @@ class Reading {
         return took < Reading.SLICE ? Math.min(Library.ROWS, 2 * most) : most;
     }
 
-    /** Goes on after a fault, if there is anything after it.
+    /** Goes on at the page after a fault, if there is anything after it; of a page that is damaged it tells what is lost.
      * @param {Cursor} cursor @param {Fault} fault */
     skip(cursor, fault) {
-        if (Reading.isOfFields(fault)) {
-            cursor.set(fault.page + 1, 0);
-            return true;
-        }
-        const form = Reading.isOfRows(fault) ? this.library.form(fault.page) : null;
-        if (!form) {
+        const form = Salvaging.isOfRows(fault) ? this.library.form(fault.page) : null;
+        if (!form && !Reading.isOfFields(fault)) {
             return false;
         }
-        const after = this.afterLost(form, fault);
-        this.send({
-            event: "lost", page: fault.page, from: fault.row, to: after - 1, fault, name: this.nameOf(fault),
-        });
-        cursor.set(after < form.rows ? fault.page : fault.page + 1, after < form.rows ? after : 0);
+        if (form) {
+            this.tellLost(fault, form);
+        }
+        cursor.set(fault.page + 1, 0);
         return true;
     }
 
-    /** The row after those that a fault takes away.
-     * @param {Form} form @param {Fault} fault */
-    afterLost(form, fault) {
-        this.faults = this.faultsOfPage === fault.page ? this.faults + 1 : 1;
-        this.faultsOfPage = fault.page;
-        return this.faults < Reading.MOST_FAULTS ? form.stripAfter(fault.row) : form.rows;
+    /** Tells the rows of a page that are lost. Those before its first fault are counted already.
+     * @param {Fault} fault @param {Form} form */
+    tellLost(fault, form) {
+        this.salvaging.faults.set(fault.page, fault);
+        const { found, stretches } = /** @type {Left} */ (this.salvaging.of(fault.page, form));
+        this.rows += found - fault.row;
+        /** @type {Record<number, string>} */
+        const names = {};
+        for (let at = 2; at < stretches.length; at += 3) {
+            names[stretches[at]] ??= this.library.name("fault", stretches[at]);
+        }
+        this.send({ event: "lost", page: fault.page, stretches, names });
     }
 
     /** Tells how far it is, ten times a second at most.

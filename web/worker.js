@@ -136,10 +136,12 @@ class FaxWorker {
         this.scope = scope;
         /** @type {(() => void)[]} */
         this.waiting = [];
-        const set = /** @type {{ module: WebAssembly.Module, library: Library, drawing: Drawing }} */ ({});
+        const set = /** @type {{ module: WebAssembly.Module, library: Library, salvaging: Salvaging, drawing: Drawing }} */
+            ({});
         /** These are set by `open`. */
         this.module = set.module;
         this.library = set.library;
+        this.salvaging = set.salvaging;
         this.drawing = set.drawing;
         /** @type {() => void} */
         this.isReady = () => {};
@@ -224,7 +226,8 @@ class FaxWorker {
             }
             this.library = made.library;
         }
-        this.drawing = new Drawing(this.library);
+        this.salvaging = new Salvaging(this.library);
+        this.drawing = new Drawing(this.library, this.salvaging);
         this.isReady();
         this.send({ event: "opened", version: this.version() });
         if (reads) {
@@ -239,7 +242,7 @@ class FaxWorker {
     }
 
     async read() {
-        const reading = new Reading(this.library, this.send, this.pause);
+        const reading = new Reading(this.library, this.salvaging, this.send, this.pause);
         await reading.list();
         const took = await reading.walk();
         if (took < FaxWorker.LONG) {

@@ -28,6 +28,14 @@ else works without numpy and Pillow. A damaged page raises its fault, or with pa
     part = page.raster(partial=True)
     print(part.rows, "rows, and", part.lost, "are lost:", part.fault)
 
+What is left of it after that is found where rows stand between their EOLs, as `faxpages salvage` finds it; what is lost
+is white in the raster, grey in the image, and named:
+
+    left = page.salvaged()
+    for stretch in left.lost:
+        print("rows", stretch.first, "to", stretch.last, "are lost:", stretch.name)
+    left.image().save("page.png")
+
 Files are written from pages, rasters, images, arrays or rows, and T.4 or T.6 data with no file around it is read, at
 once or as it comes, coded and checked:
 
@@ -70,8 +78,9 @@ from ._plugin import register
 from ._raster import Raster
 from ._report import Note, Report, check
 from ._rows import Row
+from ._salvaged import Salvaged, Stretch
 from ._source import Source
-from ._strips import StripReader, StripReport, check_strip, strip
+from ._strips import StripReader, StripReport, check_strip, salvage_strip, strip
 from ._writing import encode, encode_strip, write
 from .faults import (
     BadCode, BadField, ByteOrder, ConversionError, DataEnds, DirectoryLoop, DirectoryOutside, EndMarker, Extension,
@@ -81,8 +90,10 @@ from .faults import (
 
 __version__ = "1.6.0"
 __all__ = [
-    "open", "check", "convert", "write", "encode", "strip", "check_strip", "encode_strip", "register", "version",
-    "Source", "Writable", "Fax", "Page", "Row", "Raster", "Cursor", "Note", "Report", "StripReader", "StripReport",
+    "open", "check", "convert", "write", "encode", "strip", "check_strip", "encode_strip", "salvage_strip", "register",
+    "version",
+    "Source", "Writable", "Fax", "Page", "Row", "Raster", "Cursor", "Note", "Report", "Salvaged", "Stretch",
+    "StripReader", "StripReport",
     "FaxError", "Fault", "FileFault", "StripFault", "OutsideError", "NotACursorError", "ConversionError", "PbmFault",
     "UnknownInput", "OutputTooLarge",
     "BadCode", "BadField", "ByteOrder", "DataEnds", "DirectoryLoop", "DirectoryOutside", "EndMarker", "Extension",

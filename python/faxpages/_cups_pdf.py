@@ -19,7 +19,7 @@ from ._cups import Job, Other, Refused, say, seconds_of, within
 from ._fax import Fax, Page
 from ._raster import Raster
 from ._report import check
-from ._salvaged import NotSalvaged, Salvage, Stretch
+from ._salvaged import Stretch
 from ._writing import encode_strip
 from .faults import Fault, OutsideError
 
@@ -67,9 +67,8 @@ def sheets(data: bytes, salvage: bool) -> Iterator[Sheet]:
         for page in forms(fax):
             yield Sheet(page.raster(), [], [])
         return
-    with Salvage(data) as left:
-        for page in forms(fax):
-            yield salvaged(page, left)
+    for page in forms(fax):
+        yield salvaged(page)
 
 
 def forms(fax: Fax) -> Iterator[Union[Page, Any]]:
@@ -102,7 +101,7 @@ def bound(fax: Fax) -> None:
             raise Refused(f"its pages have more than {ALL_PELS} pels")
 
 
-def salvaged(page: Union[Page, Fault], left: Salvage) -> Sheet:
+def salvaged(page: Union[Page, Fault]) -> Sheet:
     """What is left of a page, with lines that say what is lost."""
     if isinstance(page, Fault):
         blank = Raster(1728, 1143, bytes(216 * 1143), y=Fraction(98))
@@ -112,13 +111,9 @@ def salvaged(page: Union[Page, Fault], left: Salvage) -> Sheet:
         return Sheet(page.raster(), [], [])
     except Fault:
         pass
-    try:
-        packed, lost = left.page(page)
-    except NotSalvaged as why:
-        raise Refused(str(why)) from why
-    raster = Raster(page.width, page.rows, packed, page.x or Fraction(1), page.y or Fraction(1), page.unit)
-    lines = [f"page {page.number} rows {it.first} to {it.last} are missing: {it.name}" for it in lost]
-    return Sheet(raster, lost, lines)
+    left = page.salvaged()
+    lines = [f"page {page.number} rows {it.first} to {it.last} are missing: {it.name}" for it in left.lost]
+    return Sheet(left.raster, list(left.lost), lines)
 
 
 def dpi_of(raster: Raster) -> Tuple[float, float]:

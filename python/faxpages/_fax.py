@@ -18,6 +18,7 @@ from ._image import Image
 from ._raster import Raster, dpi_of
 from ._report import Report, check
 from ._rows import ROWS, Ahead, Row, read
+from ._salvaged import Salvaged, salvage_page
 from ._source import ReadableBuffer, Source, bytes_of, own
 from ._told import MOST, fraction, number_of, stopped
 from .faults import Fault, OutsideError
@@ -177,6 +178,16 @@ class Page:
         if raster.lost:
             image.info["lost"] = raster.lost
         return image
+
+    def salvaged(self) -> Salvaged:
+        """What is left of the page, however it is damaged: each row that stands between its EOLs, and each stretch of
+        rows that are lost, with the name of its fault. It takes memory for all rows that the form says.
+
+        >>> [stretch.first for stretch in faxpages.open("samples/damaged-fourth-page.tif")[3].salvaged().lost]
+        [5]
+        """
+        like = Raster(self.width, 0, b"", self.x, self.y, self.unit)
+        return salvage_page(self.fax._data, self.number, self.rows, like)
 
     def _read(self, partial: bool) -> Tuple[bytes, Optional[Fault]]:
         """The bytes of the rows before a fault, and the fault, if it is not to be raised."""

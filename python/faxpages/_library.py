@@ -68,6 +68,13 @@ class Place(ctypes.Structure):
     _fields_ = [("page", U32), ("row", U32), ("bits", U32), ("runs", U32)]
 
 
+class Lost(ctypes.Structure):
+    row: int
+    rows: int
+    fault: int
+    _fields_ = [("row", U32), ("rows", U32), ("fault", U32)]
+
+
 class Note(ctypes.Structure):
     page: int
     strip: int
@@ -129,6 +136,10 @@ CALLS = {
     "faxpages_rows_from": (U32, FILE + [ctypes.POINTER(Place)] + NUMBERS * 3 + [ctypes.POINTER(Told)]),
     "faxpages_runs_from": (U32, FILE + [ctypes.POINTER(Place)] + NUMBERS * 3 + [ctypes.POINTER(Told)]),
     "faxpages_changes_from": (U32, FILE + [ctypes.POINTER(Place)] + NUMBERS * 3 + [ctypes.POINTER(Told)]),
+    "faxpages_salvage": (
+        U32, FILE + [U32, ctypes.POINTER(Form)] + NUMBERS + [SIZE] + NUMBERS + [ctypes.POINTER(Told)]),
+    "faxpages_salvage_strip": (
+        U32, FILE + [ctypes.POINTER(Strip)] + NUMBERS + [SIZE] + NUMBERS + [ctypes.POINTER(Told)]),
     "faxpages_check": (U32, FILE + [ctypes.c_void_p, SIZE, ctypes.POINTER(Report)]),
     "faxpages_convert": (U32, FILE + [ctypes.POINTER(Options), ctypes.c_void_p, SIZE, ctypes.POINTER(Converted)]),
     "faxpages_strip_rows": (

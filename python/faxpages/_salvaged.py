@@ -1,29 +1,26 @@
-"""What is left of damaged pages, as `faxpages salvage` prints it: the rows that stand between their EOLs, and the
-stretches of rows that are lost. The program is the one on the PATH."""
+"""What is left of damaged pages and strips: the rows that stand between their EOLs, and the stretches of those that are
+lost."""
 
 from __future__ import annotations
 
-import contextlib
-import itertools
-import subprocess
-import tempfile
-from types import TracebackType
-from typing import Dict, Iterator, List, NamedTuple, Optional, Tuple, Type
+import ctypes
+from dataclasses import dataclass
+from typing import Any, NamedTuple, Tuple
 
-from ._fax import Page
-
-_WORDS = ("faxpages", "salvage")
-# The statuses of a run that has read all: nothing is lost, or something is.
-_READ = (0, 1)
-_WHITE_BLACK = "01"
-
-
-class NotSalvaged(Exception):
-    """Why the program cannot tell what is left."""
+from . import _library as _c
+from ._array import Mask, mask_of
+from ._image import Image, salvaged_image_of
+from ._raster import Raster
+from ._told import fault_of, name_of, refusal
 
 
 class Stretch(NamedTuple):
-    """Rows that are lost one after another: the first one's number, how many they are, and the first one's fault."""
+    """Rows that are lost one after another: the first one's number, how many they are, and the name of the first one's
+    fault.
+
+    >>> faxpages.Stretch(first=3, rows=2, name="BadCode").last
+    4
+    """
 
     first: int
     rows: int
@@ -31,90 +28,80 @@ class Stretch(NamedTuple):
 
     @property
     def last(self) -> int:
-        """The number of the last one."""
+        """The number of the last one.
+
+        >>> faxpages.Stretch(0, 1, "MissingEol").last
+        0
+        """
         return self.first + self.rows - 1
 
 
-class Left(NamedTuple):
-    """What is left of a page: its rows as bytes, white where they are lost, and what is lost."""
+@dataclass(frozen=True)
+class Salvaged:
+    """What is left of a page or of a strip: a raster of all its rows, where those that are lost are white, and the
+    stretches of these, from the top down. No row is made up, copied or guessed.
 
-    packed: bytes
-    lost: List[Stretch]
+    >>> left = faxpages.open("samples/three-pages.tif").page(2).salvaged()
+    >>> left.raster.packed, left.lost
+    (b'\\x18\\x00', (Stretch(first=1, rows=1, name='DataEnds'),))
+    """
 
+    raster: Raster
+    lost: Tuple[Stretch, ...]
 
-class Salvage:
-    """One run of the program over a file, begun when a page is first asked for; pages are asked for in their order."""
+    @property
+    def found(self) -> int:
+        """How many rows are found.
 
-    def __init__(self, data: bytes) -> None:
-        self._data, self._process = data, None  # type: bytes, Optional[subprocess.Popen[bytes]]
-        self._open = contextlib.ExitStack()
-        self._pages: Iterator[Tuple[int, Iterator[List[bytes]]]] = iter(())
+        >>> faxpages.open("samples/three-pages.tif").page(2).salvaged().found
+        1
+        """
+        return self.raster.rows - sum(stretch.rows for stretch in self.lost)
 
-    def __enter__(self) -> Salvage:
-        return self
+    @property
+    def ok(self) -> bool:
+        """Whether no row is lost.
 
-    def __exit__(self, kind: Optional[Type[BaseException]], error: Optional[BaseException],
-                 trace: Optional[TracebackType]) -> None:
-        if self._process:
-            self._process.kill()
-            self._process.wait()
-        self._open.close()
+        >>> faxpages.open("samples/three-pages.tif").page(1).salvaged().ok
+        True
+        """
+        return not self.lost
 
-    def page(self, page: Page) -> Left:
-        """What is left of a page, later in the file than those that were asked for before."""
-        if not self._process:
-            self._begin()
-        for number, lines in self._pages:
-            if number == page.number:
-                left, told = _left(page, lines)
-                if told == page.rows:
-                    return left
-        raise NotSalvaged(self._why())
+    def mask(self) -> Mask:
+        """Which rows are lost, as an array of numpy, which has to be installed: a bool for each row of raster.array().
 
-    def _begin(self) -> None:
-        given, self._said = (self._open.enter_context(tempfile.TemporaryFile()) for _ in range(2))
-        given.write(self._data)
-        given.seek(0)
-        try:
-            self._process = subprocess.Popen(_WORDS, stdin=given, stdout=subprocess.PIPE, stderr=self._said)
-        except OSError as error:
-            raise NotSalvaged(f"{_WORDS[0]}: {error.strerror}") from error
-        assert self._process.stdout
-        self._open.enter_context(self._process.stdout)
-        lines = (line.split() for line in self._process.stdout)
-        self._pages = itertools.groupby((line for line in lines if len(line) > 1), lambda line: int(line[1]))
+        >>> faxpages.open("samples/three-pages.tif").page(2).salvaged().mask().tolist()
+        [False, True]
+        """
+        return mask_of(self.raster.rows, self.lost)
 
-    def _why(self) -> str:
-        """Why a page is not among the program's lines: what it said, if it did not read all."""
-        assert self._process
-        status = self._process.wait()
-        self._said.seek(0)
-        told = self._said.read().decode(errors="replace").splitlines()
-        if status in _READ or not told:
-            return f"`faxpages salvage` ended with status {status}"
-        return f"`faxpages salvage`: {told[-1]}"
+    def image(self) -> Image:
+        """An image of Pillow, which has to be installed: mode L, black on white, with grey where rows are lost.
+
+        >>> image = faxpages.open("samples/three-pages.tif").page(2).salvaged().image()
+        >>> image.mode, list(image.tobytes())[3:9]
+        ('L', [0, 0, 255, 255, 255, 170])
+        """
+        return salvaged_image_of(self.raster, self.lost)
 
 
-def _left(page: Page, lines: Iterator[List[bytes]]) -> Tuple[Left, int]:
-    """What the lines of a page say is left of it, and of how many rows they speak."""
-    stride, told = (page.width + 7) // 8, 0
-    lost: List[Stretch] = []
-    packed, known = bytearray(page.rows * stride), {}  # type: bytearray, Dict[bytes, bytes]
-    for word, _, number, *rest in lines:
-        if word == b"lost":
-            lost.append(Stretch(int(number), int(rest[0]), rest[1].decode()))
-            told += lost[-1].rows
-            continue
-        told += 1
-        runs, at = b" ".join(rest), int(number) * stride
-        # Rows that follow each other are often the same.
-        if runs not in known:
-            known = {runs: _packed(rest, stride)}
-        packed[at:at + stride] = known[runs]
-    return Left(bytes(packed), lost), told
+def salvage_page(data: bytes, page: int, rows: int, like: Raster) -> Salvaged:
+    """What is left of a page of a file, of which the form has so many rows, and is else like this raster."""
+    return salvaged(
+        like, rows,
+        lambda *rooms: _c.library.faxpages_salvage(data, len(data), page, _c.Form(), *rooms))
 
 
-def _packed(runs: List[bytes], stride: int) -> bytes:
-    """A row's bytes by its runs."""
-    pels = "".join(_WHITE_BLACK[number & 1] * int(run) for number, run in enumerate(runs))
-    return int(pels.ljust(8 * stride, "0"), 2).to_bytes(stride, "big")
+def salvaged(like: Raster, rows: int, call: Any) -> Salvaged:
+    """What a call leaves in a raster of so many rows, and in a table that has room for all stretches that these can
+    have."""
+    size, most = rows * like.stride, (rows + 1) // 2
+    out, lost, told = ctypes.create_string_buffer(size), (_c.Lost * most)(), _c.Told()
+    status = call(out, size, like.stride, lost, most, told)
+    if status == _c.FAULT:
+        raise fault_of(told.fault)
+    if status != _c.DONE:
+        raise refusal(status)
+    raster = Raster(like.width, rows, out.raw, like.x, like.y, like.unit)
+    names = {it.fault: name_of(it.fault) for it in lost[:told.used]}
+    return Salvaged(raster, tuple(Stretch(it.row, it.rows, names[it.fault]) for it in lost[:told.used]))

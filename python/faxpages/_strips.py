@@ -11,6 +11,7 @@ from . import _library as _c
 from ._raster import MOST_ROWS, MOST_WIDTH, Raster
 from ._report import NOTES, Note
 from ._rows import Row
+from ._salvaged import Salvaged, salvaged
 from ._source import ReadableBuffer, own
 from ._told import choice_of, fault_of, number_of, refusal
 from ._writing import CODINGS
@@ -145,6 +146,24 @@ def strip(data: ReadableBuffer, width: SupportsIndex = 1728, rows: Optional[Supp
     return Raster(
         reader.form.width, reader.due, packed, lost=0 if rows is None else reader.form.rows - reader.due,
         fault=fault)
+
+
+def salvage_strip(data: ReadableBuffer, width: SupportsIndex = 1728, *, rows: SupportsIndex, coding: str = "mr",
+                  order: SupportsIndex = 1) -> Salvaged:
+    """What is left of T.4 or T.6 data that has no file around it, and of which the rows were counted. The words are
+    those of strip.
+
+    >>> data = b"\\x00\\x19\\x80\\x0f\\x00\\x19\\x80"
+    >>> faxpages.salvage_strip(data, width=8, rows=3, coding="mh").lost
+    (Stretch(first=1, rows=1, name='BadCode'),)
+    """
+    own_data = own(data)
+    if len(own_data) > MOST_BYTES:
+        raise ValueError(f"a strip has at most {MOST_BYTES} bytes")
+    form = _form(width, rows, coding, order)
+    return salvaged(
+        Raster(form.width, 0, b""), form.rows,
+        lambda *rooms: _c.library.faxpages_salvage_strip(own_data, len(own_data), form, *rooms))
 
 
 class StripReader:

@@ -27,6 +27,7 @@ pub(crate) const NO_FAULT: FaxFault = FaxFault { number: 0, tag: 0, page: 0, row
 pub(crate) const TOLD: FaxTold = FaxTold { count: 0, used: 0, page: 0, row: 0, fault: NO_FAULT };
 pub(crate) const ROW: FaxRow = FaxRow { at: 0, len: 0, page: 0, row: 0, width: 0 };
 pub(crate) const PLACE: FaxPlace = FaxPlace { page: 0, row: 0, bits: 0, runs: 0 };
+pub(crate) const LOST: FaxLost = FaxLost { row: 0, rows: 0, fault: 0 };
 pub(crate) const NOTE: FaxNote = FaxNote { page: 0, strip: 0, kind: 0 };
 pub(crate) const REPORT: FaxReport = FaxReport { pages: 0, rows: 0, notes: 0, fault: NO_FAULT };
 pub(crate) const CONVERTED: FaxConverted = FaxConverted { len: 0, image: 0, fault: NO_FAULT };

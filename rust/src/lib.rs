@@ -22,9 +22,9 @@
 //! A fax is a slice of the bytes of a file; nothing of it is copied. Pages and rows are numbered from 0. What comes
 //! before an error is right; the error is the last item of an iterator. Rows come as packed bytes ([`Fax::rows`]), as
 //! runs ([`Fax::runs`]) or as changing elements ([`Fax::changes`]), from the beginning or from a [`Cursor`] on; or a
-//! page at a time ([`Fax::pages`], [`Fax::page`], [`Fax::page_into`]). A [`Writer`] writes a file page by page. A
-//! [`Strip`] is rows with no file around them, as on a line or in a PDF: a [`StripReader`] reads it as it comes, and
-//! [`code_strip`] and [`code_strip_runs`] code it.
+//! page at a time ([`Fax::pages`], [`Fax::page`], [`Fax::page_into`]). What is left of a damaged page is told by
+//! [`Fax::salvaged`]. A [`Writer`] writes a file page by page. A [`Strip`] is rows with no file around them, as on a
+//! line or in a PDF: a [`StripReader`] reads it as it comes, and [`code_strip`] and [`code_strip_runs`] code it.
 //!
 //! With files from strangers: a page takes memory for the rows that were read, whatever its form says, so check the
 //! rows and the width of its [`Form`] before. [`Fax::check`] and [`Fax::convert`] read all rows of all pages.
@@ -46,6 +46,7 @@ mod cursor;
 mod error;
 mod page;
 mod rows;
+mod salvaged;
 mod strip;
 mod writer;
 
@@ -53,6 +54,7 @@ pub use cursor::Cursor;
 pub use error::{Error, Fault, Invalid, PbmFault};
 pub use page::{Filled, Page, Pages};
 pub use rows::{Row, RowChanges, RowFormat, RowRuns, Rows};
+pub use salvaged::{Salvaged, Stretch};
 pub use strip::{code_strip, code_strip_runs, Strip, StripForm, StripReader, StripReport, StripRows};
 pub use writer::Writer;
 
@@ -360,6 +362,29 @@ impl<'a> Fax<'a> {
     /// ```
     pub fn partial_page(&self, page: u32) -> Result<Page, Error> {
         page::read(self.file, self.form(page)?)
+    }
+
+    /// What is left of a page, however it is damaged: each row that stands between its EOLs, and each stretch of rows
+    /// that are lost. It takes memory for all rows that the form says.
+    ///
+    /// # Errors
+    ///
+    /// As [`Fax::form`], or [`Error::Memory`].
+    ///
+    /// ```
+    /// # let mut writer = faxpages::Writer::new(1)?;
+    /// # writer.add(&faxpages::Form::new(8, 20, faxpages::Coding::Mmr), 1, &[0; 20], 1)?;
+    /// # let mut file = writer.finish()?;
+    /// file[9..14].fill(0); // after the bits of eight white rows
+    /// let left = faxpages::Fax::new(&file).salvaged(0)?;
+    /// assert_eq!((left.found(), left.lost.len()), (8, 1));
+    /// assert_eq!((left.lost[0].first, left.lost[0].rows), (8, 12));
+    /// assert_eq!(left.lost[0].fault, faxpages::Fault::EndMarker);
+    /// # Ok::<(), faxpages::Error>(())
+    /// ```
+    pub fn salvaged(&self, page: u32) -> Result<Salvaged, Error> {
+        let form = self.form(page)?;
+        salvaged::page(self.file, page, form.width, form.rows)
     }
 
     /// All pages, each whole. They end at the first that is not, with its error.

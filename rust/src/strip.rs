@@ -2,6 +2,7 @@
 
 use crate::calls::{self, FaxFault, FaxPlace, RUNS};
 use crate::error::{fault_of, refused, Error, Invalid};
+use crate::salvaged::{salvaged, Salvaged};
 use crate::writer::{invalid_raster, invalid_rows};
 use crate::{filled, Coding, FillOrder, Note, NoteKind, Row};
 use std::collections::VecDeque;
@@ -180,6 +181,33 @@ impl<'a> Strip<'a> {
     /// Its rows, whose page is 0, and the error that ends them. [`Error::Invalid`] where the form is none.
     pub fn rows(&self) -> StripRows<'a> {
         StripRows { strip: self.bytes, reading: Reading::new(self.form), rows: 0, ended: None }
+    }
+
+    /// What is left of it, however it is damaged: each row that stands between its EOLs, and each stretch of rows that
+    /// are lost. The form says how many rows there are.
+    ///
+    /// # Errors
+    ///
+    /// [`Error::Invalid`] where the form is none, says no number of rows, or the strip is too long; or
+    /// [`Error::Memory`].
+    ///
+    /// ```
+    /// use faxpages::{Coding, Strip, StripForm};
+    /// let form = StripForm { rows: Some(3), ..StripForm::new(8, Coding::Mh) };
+    /// let left = Strip::new(&[0x00, 0x19, 0x80, 0x0F, 0x00, 0x19, 0x80], form).salvaged()?;
+    /// assert_eq!((left.found(), left.is_lost(1)), (2, true));
+    /// # Ok::<(), faxpages::Error>(())
+    /// ```
+    pub fn salvaged(&self) -> Result<Salvaged, Error> {
+        let StripForm { width, rows, coding, aligned, .. } = self.form;
+        let rows = rows.ok_or(Invalid::Rows(0))?;
+        if invalid_rows(width, rows, coding, aligned).is_some() || self.bytes.len() > MOST_BYTES {
+            return Err(self.form.invalid(self.bytes.len()).into());
+        }
+        let form = self.form.given(rows);
+        salvaged(width, rows, |out, stride, lost, told| {
+            calls::faxpages_salvage_strip(self.bytes, &form, out, stride, lost, told)
+        })
     }
 
     /// Reads all rows, and reports what stands after them.

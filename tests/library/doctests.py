@@ -16,7 +16,7 @@ import sys
 from counted import TOP, Claims, faxpages
 
 # What an example needs, by the ending of its name.
-NEEDS = {".image": "PIL", ".array": "numpy", ".register": "PIL"}
+NEEDS = {".image": "PIL", ".array": "numpy", ".mask": "numpy", ".register": "PIL"}
 # Modules that import what need not be installed.
 IMPORTS = {"_tiff": "PIL", "_pdf": "pikepdf", "_cups_pdf": "pikepdf"}
 # Names of types that are written out, and so have no docstring.

@@ -37,7 +37,7 @@ static struct guarded make(size_t len) {
 }
 
 /* Bytes that may be read and not written. */
-static struct guarded copy_of(const void *bytes, size_t len) {
+static inline struct guarded copy_of(const void *bytes, size_t len) {
     struct guarded made = make(len);
     memcpy(made.at, bytes, len);
     if (mprotect(made.pages + PAGE, made.room, PROT_READ)) die("no memory");

@@ -6,7 +6,6 @@ import random
 import re
 import subprocess
 import sys
-import tempfile
 
 HERE = os.path.dirname(os.path.abspath(__file__))
 TOP = os.path.dirname(os.path.dirname(HERE))
@@ -18,7 +17,6 @@ from files import get, put  # noqa: E402,F401
 
 CODINGS = ["mh", "mr", "mmr"]
 DAMAGED = 40
-FAULT = re.compile(r"^fault page \d+ row (\d+): (\w+)", re.M)
 
 
 def image(kind, rows):
@@ -74,48 +72,11 @@ def said(program, *words):
 
 
 def picture(program, name, page):
-    """The page as faxpages-picture draws it of these lines: width, height, and 0, 1 or 2 a pel: white, black, grey."""
+    """The page as faxpages-picture draws it: width, height, and 0, 1 or 2 a pel: white, black, grey."""
     script = os.path.join(TOP, "share", "recipes", "faxpages-picture")
     path = os.pathsep.join([os.path.dirname(os.path.abspath(program)), os.environ["PATH"]])
-    with tempfile.NamedTemporaryFile("w") as lines:
-        lines.write(lines_by_strips(program, name, page))
-        lines.flush()
-        ran = subprocess.run([script, name, str(page), lines.name], env=dict(os.environ, PATH=path),
-                             capture_output=True, check=False)
+    ran = subprocess.run([script, name, str(page)], env=dict(os.environ, PATH=path), capture_output=True, check=False)
     return (*pels_of_png(ran.stdout), ran.stderr.decode()) if ran.stdout else None
-
-
-def lines_by_strips(program, name, page):
-    """The rows of a page and what is lost of it, as salvage writes them, but found as the page in the browser finds
-    them: after a row that cannot be read it goes on at the next strip."""
-    form = said(program, "list", "--cursor", f"1:{page}:0", "--max", "1", name).split()
-    if form[0] != "page":
-        return ""
-    height, row, lines = int(form[3]), 0, []
-    while row < height:
-        read = rows_from(program, name, page, row, height - row)
-        lines += re.findall("^row .*\n", read, re.M)
-        fault = FAULT.search(read)
-        if not fault:
-            break
-        bad, cause = int(fault[1]), fault[2]
-        row = next_strip(program, name, page, bad, height)
-        lines.append(f"lost {page} {bad} {row - bad} {cause}\n")
-    return "".join(lines)
-
-
-def next_strip(program, name, page, bad, height):
-    """The first row of the next strip: from each row of a strip the same row is the one that cannot be read."""
-    inside, after = bad, height
-    while after - inside > 1:
-        middle = (inside + after) // 2
-        fault = FAULT.search(rows_from(program, name, page, middle, 1))
-        inside, after = (middle, after) if fault and int(fault[1]) == bad else (inside, middle)
-    return after
-
-
-def rows_from(program, name, page, row, most):
-    return said(program, "rows", "--cursor", f"1:{page}:{row}", "--max", str(most), name)
 
 
 def pels_of_png(data):

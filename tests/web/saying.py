@@ -59,7 +59,7 @@ def texts(browser, program, room):
 
 
 def lost(browser, program, room):
-    """The rows that are lost are those up to the next strip, in the words of faxpages-picture."""
+    """The rows that are lost are those that `faxpages salvage` finds lost, in the words of faxpages-picture."""
     if not shutil.which("pngtopnm"):
         print("SKIPPED: lost rows beside faxpages-picture (netpbm)")
         return

@@ -80,6 +80,29 @@ mod c {
             stride: usize,
             told: *mut FaxTold,
         ) -> u32;
+        pub fn faxpages_salvage(
+            file: *const u8,
+            file_len: usize,
+            page: u32,
+            form: *mut FaxForm,
+            out: *mut u8,
+            out_len: usize,
+            stride: usize,
+            lost: *mut FaxLost,
+            lost_len: usize,
+            told: *mut FaxTold,
+        ) -> u32;
+        pub fn faxpages_salvage_strip(
+            strip: *const u8,
+            strip_len: usize,
+            form: *const FaxStrip,
+            out: *mut u8,
+            out_len: usize,
+            stride: usize,
+            lost: *mut FaxLost,
+            lost_len: usize,
+            told: *mut FaxTold,
+        ) -> u32;
         pub fn faxpages_rows_from(
             file: *const u8,
             file_len: usize,
@@ -233,6 +256,18 @@ pub struct FaxRow {
     pub row: u32,
     /// How many pels it has.
     pub width: u32,
+}
+
+/// Rows of a page or of a strip that are lost, one after another.
+#[repr(C)]
+#[derive(Clone, Copy)]
+pub struct FaxLost {
+    /// The first of them, from 0.
+    pub row: u32,
+    /// How many they are.
+    pub rows: u32,
+    /// The number of the fault for which the first of them is lost.
+    pub fault: u32,
 }
 
 /// Where to go on: a cursor; and where `runs` is not 0 a place inside a strip, after so many bits
@@ -478,6 +513,58 @@ pub fn faxpages_page(
             out.as_mut_ptr(),
             out.len(),
             stride,
+            told,
+        )
+    }
+}
+
+/// As the header says.
+pub fn faxpages_salvage(
+    file: &[u8],
+    page: u32,
+    form: &mut FaxForm,
+    out: &mut [u8],
+    stride: usize,
+    lost: &mut [FaxLost],
+    told: &mut FaxTold,
+) -> u32 {
+    // SAFETY: each length is that of the slice of its pointer, and what is written is borrowed alone.
+    unsafe {
+        c::faxpages_salvage(
+            file.as_ptr(),
+            file.len(),
+            page,
+            form,
+            out.as_mut_ptr(),
+            out.len(),
+            stride,
+            lost.as_mut_ptr(),
+            lost.len(),
+            told,
+        )
+    }
+}
+
+/// As the header says.
+pub fn faxpages_salvage_strip(
+    strip: &[u8],
+    form: &FaxStrip,
+    out: &mut [u8],
+    stride: usize,
+    lost: &mut [FaxLost],
+    told: &mut FaxTold,
+) -> u32 {
+    // SAFETY: each length is that of the slice of its pointer, and what is written is borrowed alone.
+    unsafe {
+        c::faxpages_salvage_strip(
+            strip.as_ptr(),
+            strip.len(),
+            form,
+            out.as_mut_ptr(),
+            out.len(),
+            stride,
+            lost.as_mut_ptr(),
+            lost.len(),
             told,
         )
     }

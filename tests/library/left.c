@@ -1,0 +1,137 @@
+/* left: reads what damaged.py prints, and sees that the calls for what is left of strips and pages tell the same, with a
+ * row's bytes one after another, and with more bytes between them. Each buffer ends at a page that nobody may touch. Prints
+ * how many strips and pages were tried, and how many pages are refused. */
+#include "words.h"
+#include <faxpages.h>
+
+enum { MOST_ROWS = 64, EXTRA = 3 };
+
+/* What is wanted: the rows, packed, and the stretches of those that are lost. */
+struct wanted {
+    uint32_t rows, count;
+    struct guarded row[MOST_ROWS];
+    struct faxpages_lost lost[MOST_ROWS];
+};
+
+/* What a call filled. */
+struct filled {
+    struct guarded out, lost;
+    struct faxpages_told told;
+};
+
+static void read_wanted(struct wanted *wanted, uint32_t rows) {
+    uint32_t i;
+    if (rows > MOST_ROWS) die("too many rows");
+    wanted->rows = rows;
+    for (i = 0; i < rows; i++) wanted->row[i] = digits();
+    wanted->count = number();
+    for (i = 0; i < wanted->count; i++) {
+        wanted->lost[i].row = number();
+        wanted->lost[i].rows = number();
+        wanted->lost[i].fault = number();
+    }
+}
+
+static struct filled rooms(uint32_t rows, size_t stride) {
+    struct filled made;
+    memset(&made, 0, sizeof made);
+    made.out = make(rows * stride);
+    made.lost = make((rows + 1) / 2 * sizeof(struct faxpages_lost));
+    return made;
+}
+
+/* The rows, with zeros up to the stride, and the stretches are those that are wanted; and nothing else was written. */
+static void see_left(const struct wanted *wanted, struct filled *left, uint32_t status, size_t stride) {
+    size_t i, j;
+    if (status != FAXPAGES_DONE) die("a call ends with another status");
+    if (left->told.count != wanted->rows || left->told.used != wanted->count) die("another number of rows is told");
+    if (left->told.fault.number) die("a fault is told");
+    for (i = 0; i < wanted->rows; i++) {
+        const struct guarded *row = &wanted->row[i];
+        if (memcmp(left->out.at + i * stride, row->at, row->len)) die("a row is another");
+        for (j = row->len; j < stride; j++)
+            if (left->out.at[i * stride + j]) die("a byte after a row is not 0");
+    }
+    if (memcmp(left->lost.at, wanted->lost, wanted->count * sizeof *wanted->lost)) die("a stretch is another");
+    see(left->out, wanted->rows * stride);
+    see(left->lost, wanted->count * sizeof *wanted->lost);
+    drop(left->out);
+    drop(left->lost);
+}
+
+static void drop_wanted(struct wanted *wanted) {
+    uint32_t i;
+    for (i = 0; i < wanted->rows; i++) drop(wanted->row[i]);
+}
+
+static void see_strip(void) {
+    struct faxpages_strip form = {0, 0, 0, 0, 0};
+    struct wanted wanted;
+    struct guarded data;
+    size_t stride, more;
+    form.coding = number();
+    form.order = number();
+    form.width = number();
+    form.rows = number();
+    data = digits();
+    read_wanted(&wanted, form.rows);
+    stride = (form.width + 7) / 8;
+    for (more = 0; more <= EXTRA; more += EXTRA) {
+        struct filled left = rooms(form.rows, stride + more);
+        uint32_t status = faxpages_salvage_strip(data.at, data.len, &form, left.out.at, left.out.len, stride + more,
+                                                 (struct faxpages_lost *)(void *)left.lost.at, (form.rows + 1) / 2,
+                                                 &left.told);
+        see_left(&wanted, &left, status, stride + more);
+    }
+    drop(data);
+    drop_wanted(&wanted);
+}
+
+static void see_page(void) {
+    uint32_t page = number(), width = number(), rows = number();
+    struct guarded file = digits();
+    struct wanted wanted;
+    size_t stride = (width + 7) / 8, more;
+    read_wanted(&wanted, rows);
+    for (more = 0; more <= EXTRA; more += EXTRA) {
+        struct faxpages_form form = {0};
+        struct filled left = rooms(rows, stride + more);
+        uint32_t status = faxpages_salvage(file.at, file.len, page, &form, left.out.at, left.out.len, stride + more,
+                                           (struct faxpages_lost *)(void *)left.lost.at, (rows + 1) / 2, &left.told);
+        see_left(&wanted, &left, status, stride + more);
+        if (form.width != width || form.rows != rows) die("a form is another");
+    }
+    drop(file);
+    drop_wanted(&wanted);
+}
+
+static void see_refused(void) {
+    uint32_t page = number(), fault = number(), status;
+    struct guarded file = digits();
+    struct faxpages_form form = {0};
+    struct filled left = rooms(1, 1);
+    status = faxpages_salvage(file.at, file.len, page, &form, left.out.at, 1, 1,
+                              (struct faxpages_lost *)(void *)left.lost.at, 1, &left.told);
+    if (status != FAXPAGES_FAULT || left.told.fault.number != fault || left.told.fault.page != page)
+        die("a page is not refused");
+    if (form.width || left.told.count || left.told.used) die("something is told of a page that is refused");
+    see(left.out, 0);
+    see(left.lost, 0);
+    drop(left.out);
+    drop(left.lost);
+    drop(file);
+}
+
+int main(void) {
+    static char line[1 << 20];
+    unsigned long strips = 0, pages = 0, refused = 0;
+    while (fgets(line, sizeof line, stdin)) {
+        const char *kind = strtok(line, " \n");
+        if (!kind) die("a line is empty");
+        if (!strcmp(kind, "strip")) see_strip(), strips++;
+        else if (!strcmp(kind, "page")) see_page(), pages++;
+        else see_refused(), refused++;
+    }
+    printf("%lu strips, %lu pages, %lu refused\n", strips, pages, refused);
+    return 0;
+}

@@ -1,0 +1,65 @@
+#!/usr/bin/env python3
+"""left.py <LINES: reads what damaged.py prints, and sees that the Python module finds the same of each strip and page.
+Prints how many strips and pages were tried, and how many pages are refused. FAXPAGES_LIBRARY names the library."""
+
+from __future__ import annotations
+
+import collections
+import os
+import sys
+from typing import Dict, List
+
+sys.path.insert(0, os.path.join(os.path.dirname(os.path.abspath(__file__)), os.pardir, os.pardir, "python"))
+
+import faxpages  # noqa: E402
+
+CODINGS = {1: "mh", 2: "mr", 3: "mmr"}
+NAMES: Dict[int, str] = {number: kind.__name__ for number, kind in faxpages.faults.BY_NUMBER.items()}
+
+
+def bytes_of(word: str) -> bytes:
+    return b"" if word == "-" else bytes.fromhex(word)
+
+
+def see(left: faxpages.Salvaged, rows: int, words: List[str], line: str) -> None:
+    """That these are the rows and the stretches of a line."""
+    packed, (_, *numbers) = b"".join(map(bytes_of, words[:rows])), map(int, words[rows:])
+    lost = [faxpages.Stretch(first, count, NAMES[fault])
+            for first, count, fault in zip(numbers[::3], numbers[1::3], numbers[2::3])]
+    if (left.raster.rows, left.raster.packed, list(left.lost)) != (rows, packed, lost):
+        sys.exit(f"left: {left} {left.raster.packed.hex()}: {line}")
+    if left.found != rows - sum(stretch.rows for stretch in lost) or left.ok == bool(lost):
+        sys.exit(f"left: another number of rows is found: {line}")
+
+
+def see_line(line: str) -> str:
+    """That a line is so. Answers of what it is."""
+    kind, *words = line.split()
+    if kind == "strip":
+        coding, order, width, rows = map(int, words[:4])
+        see(faxpages.salvage_strip(bytes_of(words[4]), width, rows=rows, coding=CODINGS[coding], order=order), rows,
+            words[5:], line)
+    elif kind == "page":
+        number, width, rows = map(int, words[:3])
+        page = faxpages.open(bytes_of(words[3])).page(number)
+        if (page.width, page.rows) != (width, rows):
+            sys.exit(f"left: a form is another: {line}")
+        see(page.salvaged(), rows, words[4:], line)
+    else:
+        number, fault = map(int, words[:2])
+        try:
+            faxpages.open(bytes_of(words[2])).page(number)
+            sys.exit(f"left: a page is not refused: {line}")
+        except faxpages.Fault as told:
+            if (told.page, told.name) != (number, NAMES[fault]):
+                sys.exit(f"left: a page is refused for {told}: {line}")
+    return kind
+
+
+def main() -> None:
+    kinds = collections.Counter(see_line(line) for line in sys.stdin)
+    print(f"{kinds['strip']} strips, {kinds['page']} pages, {kinds['refused']} refused")
+
+
+if __name__ == "__main__":
+    main()
