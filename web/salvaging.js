@@ -56,7 +56,8 @@ class Salvaging {
     /** @param {Library} library */
     constructor(library) {
         this.library = library;
-        /** The first fault of the rows of each page that was read to its end, or none. @type {Map<number, Fault | null>} */
+        /** The first fault of the rows of each page that was looked at, or none.
+         * @type {Map<number, Fault | null>} */
         this.faults = new Map();
         /** @type {{ page: number, left: Left } | null} */
         this.last = null;

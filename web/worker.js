@@ -122,7 +122,11 @@ class Importing {
     }
 }
 
-/** Answers the calls of the page for one file: a worker has one of it. */
+/**
+ * Answers the calls of the page for one file: a worker has one of it.
+ *
+ * @typedef {{ module: WebAssembly.Module, library: Library, salvaging: Salvaging, drawing: Drawing }} Opened
+ */
 class FaxWorker {
     /** Bytes that are read from the file at once. */
     static PIECE = 1 << 20;
@@ -136,8 +140,7 @@ class FaxWorker {
         this.scope = scope;
         /** @type {(() => void)[]} */
         this.waiting = [];
-        const set = /** @type {{ module: WebAssembly.Module, library: Library, salvaging: Salvaging, drawing: Drawing }} */
-            ({});
+        const set = /** @type {Opened} */ ({});
         /** These are set by `open`. */
         this.module = set.module;
         this.library = set.library;

@@ -247,11 +247,12 @@ def hylafax(room, commands):
     room.tool("faxinfo", f"#!/bin/sh\nexec {tool_of('faxinfo')} \"$@\"\n")
     yield "run", room.bash(f"cd spool/etc\n{commands}")[::2], (0, "")
     room.put("spool/etc/FaxDispatch", b"SENDTO=office\nFILETYPE=pdf\n" + room.get("spool/etc/FaxDispatch"))
-    for kind in ("good", "faulty"):
+    for kind, sample in (("good", ""), ("faulty", "damaged-fourth-page.tif"),
+                         ("noisy", "received/over-a-noisy-line.tif")):  # fmt: skip
         name = f"spool/recvq/{kind}.tif"
         room.others(name)
-        if kind == "faulty":
-            room.sample("damaged-fourth-page.tif", name)
+        if sample:
+            room.sample(sample, name)
         data = room.get(name)
         status, mails = received_by_hylafax(room, kind)
         texts = [text_of(mail).replace("\r", "") for mail in mails]
@@ -261,7 +262,7 @@ def hylafax(room, commands):
             True,
             True,
         ]
-        yield f"{kind}: told as an error", told_as_errors(mails), int(kind == "faulty")
+        yield f"{kind}: told as an error", told_as_errors(mails), int(sample != "")
         attached = [part.get_content_type() for mail in mails for part in mail.walk() if part.get_filename()]
         yield f"{kind}: the PDF is attached", attached, ["application/pdf"]
         yield f"{kind}: the fax stays", room.get(name), data

@@ -130,6 +130,24 @@ def million_rows(browser, _program, room):
     close_all(browser)
 
 
+def many_stretches(browser, program, room):
+    """A page of which every second row is lost: each stretch is told, and some are listed."""
+    strip = hostile.packed(("000000000001" + "10011" + "000000000001" + "111") * 20000)
+    path = faxes.put(f"{room}/stretches.tif", pages(1, strip, rows=40000))
+    took = answers(browser, path, 'app.fax && app.fax.state === "done"')
+    yield f"20,000 stretches: it answers within {BOUND} ms", took <= BOUND, True
+    told = faxes.said(program, "salvage", path)
+    lines = [line.split() for line in told.splitlines() if line.startswith("lost ")]
+    wanted = [f"page {page} rows {row} to {int(row) + int(rows) - 1}: {name}" for _, page, row, rows, name in lines]
+    lost = browser.run("app.fax.text()").split("\n\n")[3].strip().split("\n")
+    yield "20,000 stretches: the report has all", lost == wanted, True
+    found = len([line for line in told.splitlines() if line.startswith("row ")])
+    yield "20,000 stretches: rows are counted", browser.run("app.fax.rows"), found
+    listed = browser.run('document.querySelectorAll("#findings li").length')
+    yield "20,000 stretches: few are listed", 0 < listed < len(lines), True
+    close_all(browser)
+
+
 def many_files(browser, program, room):
     """A hundred files at once: few keep a worker, and each can be gone back to."""
     names = [faxes.put(f"{room}/file-{number}.tif", faxes.drawn(program, 3000 + number)) for number in range(100)]
