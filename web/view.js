@@ -259,7 +259,7 @@ class View {
         this.paper.querySelectorAll(".mark").forEach((mark) => mark.remove());
         if (fax && form) {
             const high = this.size()[1];
-            const found = fax.findingsOf(this.page).slice(0, View.MOST_MARKS);
+            const found = fax.findingsOf(this.page, View.MOST_MARKS).slice(0, View.MOST_MARKS);
             this.paper.append(...found.map(({ row, head, name, kind }) => {
                 const mark = document.createElement("div");
                 mark.className = `mark ${kind}`;
