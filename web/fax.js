@@ -390,6 +390,9 @@ class Fax extends Known {
             return texts.nothing;
         }
         const parts = damaged ? [say(texts.damaged, this.pages - damaged, pages)] : [];
+        if (this.lost.size) {
+            parts.push(texts.unseen);
+        }
         if (this.end) {
             parts.push(say(texts.chain, String(this.end.fault.page - 1)));
         }

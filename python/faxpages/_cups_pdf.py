@@ -31,6 +31,8 @@ _DPI, _LEAST_DPI, _MOST_DPI = (204.0, 196.0), 20.0, 3000.0
 _SIDE, _LINE, _LETTER = 14400.0, 14.0, 5.0
 # How many lines a page has about what it lacks, before the rest is counted.
 _LINES = 6
+# The line after those.
+_UNSEEN = "faxpages: a row above missing ones may be wrong too: no reader sees damage that makes other codes"
 # Fields by which a TIFF file is another picture, and no fax: BitsPerSample, Compression, SamplesPerPixel.
 _NO_FAX = (258, 259, 277)
 # Options that pdftopdf sees to, after a filter that would too.
@@ -128,7 +130,7 @@ def size_of(raster: Raster) -> Tuple[float, float]:
     """The size of a page in points: its true one, but for a page that PDF has no room for, which is made smaller."""
     across, down = dpi_of(raster)
     width, height = 72 * raster.width / across, 72 * raster.rows / down
-    factor = min(1.0, (_SIDE - _LINE * (_LINES + 2)) / max(width, height))
+    factor = min(1.0, (_SIDE - _LINE * (_LINES + 3)) / max(width, height))
     return max(3.0, width * factor), max(3.0, height * factor)
 
 
@@ -137,7 +139,8 @@ def lines_of(sheet: Sheet) -> List[str]:
     lines = sheet.lines[:_LINES]
     if len(sheet.lines) > _LINES:
         lines.append(f"and {len(sheet.lines) - _LINES} more stretches of rows are missing")
-    return [f"faxpages: {line} (numbered from 0)" for line in lines]
+    told = [f"faxpages: {line} (numbered from 0)" for line in lines]
+    return told + [_UNSEEN] if sheet.lost and told else told
 
 
 def content_of(sheet: Sheet, width: float, height: float) -> bytes:

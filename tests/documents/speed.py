@@ -13,7 +13,6 @@ FIRST = re.compile(
     r"faxpages (\S+), measured on (\d{4}-\d\d-\d\d) at a load of (\d+(?:\.\d+)?)( \(other programs ran\))?")
 LINE = re.compile(r"(\w+) +((?:rows|check) m\w+|\w+-\w+) +((?:[\d.-]+ +){9}[\d.-]+)")
 GROUP = re.compile(r"(all|rows|check|to PBM|conversions|from PBM) +(\d+)(?= )")
-PEAK = re.compile(r"^usual +mmr-pbm +(?:[\d.]+ +){3}([\d.]+) +([\d.]+) +[\d.]+$", re.M)
 # Where the blocks of the summary stand in its lines, and in which columns of a page and job their numbers: ours, the
 # other's, the ratio.
 BLOCKS = {18: (5, 6, 7), 52: (0, 1, 2), 86: (5, 8, 9)}
@@ -97,14 +96,10 @@ def in_words(block: Block) -> str:
 
 
 def for_readme() -> str:
-    """The README's sentences."""
-    count, (seconds, instructions, _) = summary()["all"]
+    """The README's sentence."""
+    count, (seconds, _, _) = summary()["all"]
     said = (f"Of {count} pages and jobs the worst, {in_words(seconds)}, takes {seconds.ratio} times libtiff's seconds, "
-            f"and the geometric mean is {seconds.mean}; of instructions they are {instructions.ratio} "
-            f"({in_words(instructions)}) and {instructions.mean}. ")
-    peak = PEAK.search(numbers())
-    if peak:
-        said += f"150 letters from MMR to PBM take {peak[1]} MB of memory, and by libtiff {peak[2]}. "
+            f"and the geometric mean is {seconds.mean}. ")
     return f"{said}{measured()}."
 
 

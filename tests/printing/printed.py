@@ -212,7 +212,7 @@ def runs_of(width, row):
 
 
 def grey(room):
-    """What is lost is grey on paper, and only that, and the page has its line below."""
+    """What is lost is grey on paper, and only that, and the page has its two lines below."""
     path, fault = made.damaged(room.made("gs-tiffg4-196-1.tif"), room.program, 5)
     row = int(re.search(r"row (\d+)", fault).group(1))
     told, got = sent(room, [("grey", ["-o", "faxpages=salvage", *PAPER], path)])
@@ -222,8 +222,8 @@ def grey(room):
     width, height = map(int, re.search(rb"\n(\d+) (\d+)\n255\n", drawn).groups())
     column = [drawn[len(drawn) - width * height + width * line + 8] for line in range(height)]
     shades = [line for line, shade in enumerate(column) if 180 < shade < 200]
-    # The page and its line stand in the middle of the paper.
-    top = (1008 - 2292 * 72 / 196 - 14) / 2 / 2
+    # The page and its lines stand in the middle of the paper.
+    top = (1008 - 2292 * 72 / 196 - 28) / 2 / 2
     room.claim("grey: from where", abs(shades[0] - (top + row * 36 / 196)) <= 1.5)
     room.claim("grey: to where", abs(shades[-1] - (top + 2292 * 36 / 196)) <= 1.5)
     room.claim("grey: all between", len(shades), shades[-1] - shades[0] + 1)

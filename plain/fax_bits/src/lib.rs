@@ -1,0 +1,51 @@
+//! Bits of coded strips, read and written, and the code tables of ITU-T T.4.
+#![forbid(unsafe_code)]
+
+mod codes;
+mod indexes;
+mod lanes;
+pub mod laws;
+mod look_up;
+mod modes;
+mod pairs;
+mod pending;
+mod put;
+mod runs;
+mod sink;
+mod source;
+mod vertical_indexes;
+mod verticals;
+mod window;
+
+pub use codes::{CodeEntry, CodeFault, CodeTable, read_code};
+pub use lanes::reverse_bits;
+pub use modes::{ModeCode, Modes};
+pub use pairs::{Pair, SHORT_RUN};
+pub use pending::PendingBits;
+pub use put::{put_mode, put_run};
+pub use runs::{BlackRuns, LONGEST_MAKE_UP, RunCode, WhiteRuns};
+pub use sink::BitSink;
+pub use source::BitSource;
+use thiserror::Error;
+pub use verticals::Verticals;
+
+/// The colour of a pel.
+#[derive(Clone, Copy, Debug, PartialEq, Eq)]
+pub enum Colour {
+    White,
+    Black,
+}
+
+/// Which bit of a byte comes first (TIFF 6.0, FillOrder).
+#[derive(Clone, Copy, Debug, PartialEq, Eq)]
+pub enum FillOrder {
+    /// The highest bit is first: FillOrder 1.
+    MsbFirst,
+    /// The lowest bit is first: FillOrder 2.
+    LsbFirst,
+}
+
+/// Want of memory: a growth was refused.
+#[derive(Clone, Copy, Debug, PartialEq, Eq, Error)]
+#[error("out of memory")]
+pub struct Memory;

@@ -1,0 +1,146 @@
+//! What one look-up of the next bits finds: a run, a white run and the black one after it, a mode.
+
+use crate::codes::LONGEST_CODE;
+use crate::modes::{HORIZONTAL_CODE, HORIZONTAL_LEN, ModeCode, find_mode};
+use crate::pairs::{Pair, find_pair};
+use crate::runs::{RunCode, find_run_code};
+use crate::verticals::{Verticals, find_verticals};
+use crate::{BitSource, Colour};
+
+/// How many bits are looked at: those of a make-up code and a terminating code, and some more.
+const LOOKED_AT: u32 = 32;
+
+/// How many of them stand after those of the longest code.
+const AFTER_CODE: u32 = LOOKED_AT - LONGEST_CODE;
+
+/// How many bits are looked at for horizontal mode and its two runs.
+const LOOKED_AT_FOR_RUNS: u32 = HORIZONTAL_LEN + LONGEST_CODE;
+
+/// The length of a run of the colour that begins thirty-two bits, of one make-up code at most, and
+/// how many pels it has. `None` says nothing of the bits.
+#[inline(always)]
+fn find_whole_run(colour: Colour, bits: u32) -> Option<(u32, u32)> {
+    let (first, code) = find_run_code(colour, bits >> AFTER_CODE)?;
+    match code {
+        RunCode::Terminating(pels) => Some((first, u32::from(pels))),
+        RunCode::MakeUp(more) => {
+            let next = find_run_code(colour, (bits << first) >> AFTER_CODE)?;
+            let (second, RunCode::Terminating(last)) = next else {
+                return None;
+            };
+            Some((first + second, u32::from(more) + u32::from(last)))
+        }
+        RunCode::Extension => None,
+    }
+}
+
+/// The code of horizontal mode and the pair whose terminating codes come after it, where they begin
+/// sixteen bits, and how many of these they take. `None` says nothing of the bits.
+#[inline(always)]
+fn find_horizontal_pair(bits: u32) -> Option<(u32, Pair)> {
+    if bits >> LONGEST_CODE != HORIZONTAL_CODE {
+        return None;
+    }
+    let (len, pair) = find_pair(bits % (1 << LONGEST_CODE))?;
+    Some((HORIZONTAL_LEN + len, pair))
+}
+
+impl<'a> BitSource<'a> {
+    /// Reads a white run and the black one after it by one look-up, in a row of `width` pels of
+    /// which `total` stand before them (T.4, section 4.1.1). Where they go past the row's end, or
+    /// where that look-up has no such pair, the source is as it was.
+    #[inline(always)]
+    pub fn pair_within(&mut self, total: u32, width: u32) -> Option<Pair> {
+        self.window = self.window.loaded(self.bytes, self.order)?;
+        let (len, pair) = find_pair(self.window.number(LOOKED_AT) >> AFTER_CODE)?;
+        if total + pair.white + pair.black > width {
+            return None;
+        }
+        self.window = self.window.after(len);
+        Some(pair)
+    }
+
+    /// Reads horizontal mode with a white run and the black one after it by one look-up, in a row of
+    /// `width` pels of which `total` stand before them (T.4, sections 4.1.1 and 4.2.1.3.2). Where
+    /// they go past the row's end, or where that look-up has no such pair, the source is as it was.
+    #[inline(always)]
+    pub fn horizontal_pair_within(&mut self, total: u32, width: u32) -> Option<Pair> {
+        self.window = self
+            .window
+            .loaded_for(LOOKED_AT_FOR_RUNS, self.bytes, self.order)?;
+        let (len, pair) = find_horizontal_pair(self.window.number(LOOKED_AT_FOR_RUNS))?;
+        let end = total + pair.white + pair.black;
+        if end > width {
+            return None;
+        }
+        self.window = self.window.after(len);
+        Some(pair)
+    }
+
+    /// Reads a run of the colour, of one make-up code at most and of at most so many pels (T.4,
+    /// section 4.1.1). Where it has more, or is not found so, the source is as it was.
+    #[inline(always)]
+    pub fn run_within(&mut self, colour: Colour, most: u32) -> Option<u32> {
+        self.window = self.window.loaded(self.bytes, self.order)?;
+        let (len, pels) = find_whole_run(colour, self.window.number(LOOKED_AT))?;
+        if pels > most {
+            return None;
+        }
+        self.window = self.window.after(len);
+        Some(pels)
+    }
+
+    /// Reads a mode by one look-up at most (T.4, table 4). Where it finds none, the source is as it
+    /// was.
+    #[inline(always)]
+    pub fn mode(&mut self) -> Option<ModeCode> {
+        if self.window.begins_with_one() {
+            self.window = self.window.after(1);
+            return Some(ModeCode::Vertical(0));
+        }
+        self.window = self.window.loaded(self.bytes, self.order)?;
+        let (len, mode) = find_mode(self.window.number(LOOKED_AT) >> AFTER_CODE)?;
+        self.window = self.window.after(len);
+        Some(mode)
+    }
+
+    /// Reads vertical modes by one look-up: two to four of them, of twelve bits at most (T.4, table
+    /// 4). Where it finds no two, the source is as it was.
+    #[inline(always)]
+    pub fn verticals(&mut self) -> Option<Verticals> {
+        self.window = self.window.loaded(self.bytes, self.order)?;
+        let (len, found) = find_verticals(self.window.number(LOOKED_AT) >> AFTER_CODE)?;
+        self.window = self.window.after(len);
+        Some(found)
+    }
+
+    /// So many ones are next. More of them may follow.
+    #[inline(always)]
+    pub fn ones(&self) -> u32 {
+        self.window.ones()
+    }
+
+    /// Goes past ones that are next, at most so many of them, and says how many they are. More of
+    /// them may follow.
+    #[inline(always)]
+    pub fn past_ones(&mut self, most: u32) -> u32 {
+        let count = self.window.ones().min(most);
+        self.window = self.window.after(count);
+        count
+    }
+
+    /// Goes past zeros that are next, `least` of them or more, and the 1 after them, by one look-up,
+    /// and answers whether it finds them so. Else the source is as it was.
+    #[inline(always)]
+    pub fn past_zeros_and_one(&mut self, least: u32) -> bool {
+        let Some(ahead) = self.window.loaded(self.bytes, self.order) else {
+            return false;
+        };
+        let zeros = ahead.zeros();
+        if zeros < least || zeros >= LOOKED_AT {
+            return false;
+        }
+        self.window = ahead.after(zeros + 1);
+        true
+    }
+}

@@ -1,0 +1,81 @@
+//! Bits that wait for a sink, by value: what the codes of a row are put into one after another.
+//! Whole words of them go to the sink.
+
+use crate::{BitSink, BitSource, Memory};
+use kit_std::marker::Model;
+
+/// How many bits a word has that goes to the sink.
+const WORD: u32 = 32;
+
+/// At most 32 bits that wait for a sink: a code, or what is put after the bits of a sink. Contracts
+/// see the list of them.
+pub struct PendingBits {
+    /// The bits as a number: the highest was put first.
+    number: u64,
+    /// How many they are.
+    count: u32,
+}
+
+impl Model for PendingBits {}
+
+impl PendingBits {
+    /// No bits.
+    #[inline(always)]
+    pub fn none() -> Self {
+        PendingBits {
+            number: 0,
+            count: 0,
+        }
+    }
+
+    /// The lowest `len` bits of `bits`, the highest first.
+    #[inline(always)]
+    pub(crate) fn of(bits: u32, len: u32) -> Self {
+        PendingBits {
+            number: u64::from(bits),
+            count: len,
+        }
+    }
+
+    /// These and the next ones.
+    #[inline(always)]
+    pub(crate) fn then(self, next: Self) -> Self {
+        PendingBits {
+            number: (self.number << next.count) | next.number,
+            count: self.count + next.count,
+        }
+    }
+
+    /// Puts the first word of these and the next ones into the sink, where they are so many, and
+    /// answers the others. After an `Err` the sink is as it was.
+    #[inline(always)]
+    pub(crate) fn put(self, sink: &mut BitSink, next: Self) -> Result<Self, Memory> {
+        let number = (self.number << next.count) | next.number;
+        let count = self.count + next.count;
+        if count < WORD {
+            return Ok(PendingBits { number, count });
+        }
+        let left = count - WORD;
+        sink.put_word((number >> left) as u32)?;
+        Ok(PendingBits {
+            number: number & ((1 << left) - 1),
+            count: left,
+        })
+    }
+
+    /// Goes past these bits in a source, where they stand next, and answers whether they do. Else the
+    /// source stays.
+    #[inline(always)]
+    pub(crate) fn take(self, source: &mut BitSource) -> bool {
+        source.take(self.number as u32, self.count)
+    }
+
+    /// Puts all of these bits.
+    ///
+    /// # Errors
+    ///
+    /// Where a growth was refused. The sink is then as it was.
+    pub fn put_all(self, sink: &mut BitSink) -> Result<(), Memory> {
+        sink.put(self.number as u32, self.count)
+    }
+}

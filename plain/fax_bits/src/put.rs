@@ -1,0 +1,154 @@
+//! The codes of runs and modes as they are written: put into a sink or after pending bits, or looked
+//! for in a source (ITU-T T.4, sections 4.1.1 and 4.2.1.3.2).
+
+use crate::codes::LONGEST_CODE;
+use crate::pairs::{SHORT_RUN, short_pair_code};
+use crate::runs::{TERMINATING_CODES, run_entry};
+use crate::{BitSink, BitSource, Colour, Memory, ModeCode, PendingBits};
+
+/// The codes of vertical modes, from a1 three pels left of b1 to three pels right of it (T.4,
+/// table 4): small, since most modes of a page are written by them.
+pub(crate) struct VerticalCodes {
+    pub codes: [u8; 7],
+    /// Their lengths in bits.
+    pub lens: [u8; 7],
+}
+
+pub(crate) static VERTICAL_CODES: VerticalCodes = VerticalCodes {
+    codes: [0b0000010, 0b000010, 0b010, 0b1, 0b011, 0b000011, 0b0000011],
+    lens: [7, 6, 3, 1, 3, 6, 7],
+};
+
+/// The code at a place of the run table of a colour.
+#[inline(always)]
+fn run_code(colour: Colour, place: usize) -> PendingBits {
+    let entry = run_entry(colour, place);
+    PendingBits::of(u32::from(entry.code), u32::from(entry.len))
+}
+
+/// The make-up code of so many times 64 pels, 1 to 40 times (T.4, tables 3a and 3b).
+#[inline(always)]
+fn make_up_code(colour: Colour, steps: u32) -> PendingBits {
+    run_code(colour, usize::from(TERMINATING_CODES) - 1 + steps as usize)
+}
+
+/// The codes of a run of `n` pels, fewer than 2560: at most one make-up code, and a terminating
+/// code (T.4, section 4.1.1).
+#[inline(always)]
+fn codes_of_run(colour: Colour, n: u32) -> PendingBits {
+    if n < 64 {
+        return run_code(colour, n as usize);
+    }
+    make_up_code(colour, n / 64).then(run_code(colour, (n % 64) as usize))
+}
+
+/// The code of vertical mode with a1 `d` pels right of b1, -3 to 3 (T.4, section 4.2.1.3.2 and
+/// table 4).
+#[inline(always)]
+fn vertical_code(d: i8) -> PendingBits {
+    let place = (i32::from(d) + 3) as usize;
+    PendingBits::of(
+        u32::from(VERTICAL_CODES.codes[place]),
+        u32::from(VERTICAL_CODES.lens[place]),
+    )
+}
+
+/// The code of a mode (T.4, section 4.2.1.3.2 and table 4).
+#[inline(always)]
+fn mode_code(mode: ModeCode) -> PendingBits {
+    match mode {
+        ModeCode::Pass => PendingBits::of(0b0001, 4),
+        ModeCode::Horizontal => PendingBits::of(0b001, 3),
+        ModeCode::Vertical(d) => vertical_code(d),
+        // An extension is not written.
+        ModeCode::Extension => PendingBits::none(),
+    }
+}
+
+/// Puts a run of `n` pels, below 65,536, as codes of its colour: 2560 as often as it fits, at most
+/// one other make-up code, a terminating code (T.4, section 4.1.1).
+///
+/// # Errors
+///
+/// Where a growth was refused. Some of these codes may have been put then, from the first on and
+/// each of them whole.
+pub fn put_run(sink: &mut BitSink, colour: Colour, n: u32) -> Result<(), Memory> {
+    for _ in 0..n / 2560 {
+        make_up_code(colour, 40).put_all(sink)?;
+    }
+    codes_of_run(colour, n % 2560).put_all(sink)
+}
+
+/// Puts a mode: pass, horizontal, or vertical with a1 at most 3 pels from b1 (T.4, section
+/// 4.2.1.3.2 and table 4).
+///
+/// # Errors
+///
+/// Where a growth was refused. The sink is then as it was.
+pub fn put_mode(sink: &mut BitSink, mode: ModeCode) -> Result<(), Memory> {
+    mode_code(mode).put_all(sink)
+}
+
+impl PendingBits {
+    /// Puts a run of `n` pels, below 65,536, as codes of its colour: 2560 as often as it fits, at
+    /// most one other make-up code, a terminating code (T.4, section 4.1.1). The last bits are
+    /// pending then.
+    ///
+    /// # Errors
+    ///
+    /// Where a growth was refused. The pending bits and those of the run were put up to some place
+    /// then.
+    #[inline(always)]
+    pub fn put_run(self, sink: &mut BitSink, colour: Colour, n: u32) -> Result<Self, Memory> {
+        if n < 2560 {
+            return self.put(sink, codes_of_run(colour, n));
+        }
+        self.put_longest_run(sink, colour, n)?;
+        Ok(PendingBits::none())
+    }
+
+    /// Puts these bits and a run of any length, after which none is pending.
+    #[inline(never)]
+    fn put_longest_run(self, sink: &mut BitSink, colour: Colour, n: u32) -> Result<(), Memory> {
+        self.put_all(sink)?;
+        put_run(sink, colour, n)
+    }
+
+    /// Puts a run of the colour and a run of the other colour after it, each of fewer than
+    /// `SHORT_RUN` pels, as their two terminating codes (T.4, section 4.1.1). The last bits are
+    /// pending then.
+    ///
+    /// # Errors
+    ///
+    /// Where a growth was refused. The sink is then as it was.
+    #[inline(always)]
+    pub fn put_short_pair(
+        self,
+        sink: &mut BitSink,
+        colour: Colour,
+        first: u32,
+        second: u32,
+    ) -> Result<Self, Memory> {
+        self.put(sink, short_pair_code(colour, first, second))
+    }
+
+    /// Puts a mode: pass, horizontal, or vertical with a1 at most 3 pels from b1 (T.4, section
+    /// 4.2.1.3.2 and table 4). The last bits are pending then.
+    ///
+    /// # Errors
+    ///
+    /// Where a growth was refused. The sink is then as it was.
+    #[inline(always)]
+    pub fn put_mode(self, sink: &mut BitSink, mode: ModeCode) -> Result<Self, Memory> {
+        self.put(sink, mode_code(mode))
+    }
+}
+
+impl BitSource<'_> {
+    /// Goes past the codes of a run of `n` pels, fewer than 2560, as they are written, where they
+    /// stand next, and answers whether they do (T.4, section 4.1.1). Else it stays.
+    #[inline(always)]
+    pub fn take_run(&mut self, colour: Colour, n: u32) -> bool {
+        codes_of_run(colour, n).take(self)
+    }
+}

@@ -1,0 +1,183 @@
+//! Bits of bytes, read from a place on.
+
+use crate::FillOrder;
+use crate::window::Window;
+use kit_std::marker::Model;
+
+/// A place in the bits of some bytes. Contracts see the bits from there on and the number of bits
+/// before it. Some of the next bits are loaded; past the end of the bytes there are none.
+pub struct BitSource<'a> {
+    pub(crate) bytes: &'a [u8],
+    pub(crate) window: Window,
+    pub(crate) order: FillOrder,
+}
+
+impl<'a> Model for BitSource<'a> {}
+
+impl<'a> BitSource<'a> {
+    /// The first bit of at most 4,294,967,295 bytes; `order` says which bit of a byte comes first
+    /// (TIFF 6.0, FillOrder).
+    #[inline(never)]
+    pub fn new(bytes: &'a [u8], order: FillOrder) -> Self {
+        BitSource {
+            bytes,
+            window: Window::new(0).filled(bytes, order),
+            order,
+        }
+    }
+
+    /// How many bits were skipped since the first one.
+    pub fn place(&self) -> u64 {
+        self.window.place()
+    }
+
+    /// How many bits are left.
+    pub fn remaining(&self) -> u64 {
+        (self.bytes.len() - self.window.at) as u64 * 8 + u64::from(self.window.count)
+    }
+
+    /// The bit that is `i` bits ahead.
+    pub(crate) fn bit(&self, i: u64) -> bool {
+        let at = self.window.place() + i;
+        let byte = self.bytes[(at / 8) as usize];
+        (byte >> bit_in_byte(self.order, at % 8)) & 1 == 1
+    }
+
+    /// The number that the next `n` bits spell, 0 to 32 of them, the highest first. Past the end of
+    /// the bytes it sees zeros, which are no bits: `remaining` says how many bits there are.
+    pub fn peek(&self, n: u32) -> u32 {
+        if n == 0 {
+            return 0;
+        }
+        if n <= self.window.count {
+            return self.window.number(n);
+        }
+        self.window.filled(self.bytes, self.order).number(n)
+    }
+
+    /// The byte that begins `i` bits ahead is whole and all zeros. `false` where no byte begins
+    /// there.
+    fn is_zero_byte(&self, i: u64) -> bool {
+        let at = self.window.place() + i;
+        at % 8 == 0 && self.bytes[(at / 8) as usize] == 0
+    }
+
+    /// How many zeros stand before the next 1, or `None` where no 1 is left.
+    pub fn zeros(&self) -> Option<u64> {
+        let zeros = self.window.zeros();
+        if zeros < self.window.count {
+            return Some(u64::from(zeros));
+        }
+        self.zeros_filled()
+    }
+
+    /// What `zeros` says where no 1 is loaded.
+    #[inline(never)]
+    fn zeros_filled(&self) -> Option<u64> {
+        let ahead = self.window.filled(self.bytes, self.order);
+        let zeros = ahead.zeros();
+        if zeros < ahead.count {
+            return Some(u64::from(zeros));
+        }
+        self.zeros_by_bytes()
+    }
+
+    /// What `zeros` says, by bytes and bits: in fill, and near the end of the bytes.
+    #[inline(never)]
+    fn zeros_by_bytes(&self) -> Option<u64> {
+        let left = self.remaining();
+        let mut zeros = 0;
+        while zeros < left {
+            if self.is_zero_byte(zeros) {
+                zeros += 8;
+            } else if self.bit(zeros) {
+                return Some(zeros);
+            } else {
+                zeros += 1;
+            }
+        }
+        None
+    }
+
+    /// The same place once more.
+    #[inline(always)]
+    pub fn again(&self) -> Self {
+        // By its fields, so that a copy in registers has no gaps that are copied too.
+        BitSource {
+            bytes: self.bytes,
+            window: self.window.again(),
+            order: self.order,
+        }
+    }
+
+    /// Goes to the place of another source.
+    #[inline(always)]
+    pub fn go_to(&mut self, other: &BitSource<'a>) {
+        // By its fields, so that a copy in registers has no gaps that are copied too.
+        self.bytes = other.bytes;
+        self.window = other.window.again();
+        self.order = other.order;
+    }
+
+    /// Goes past the lowest `len` bits of `bits`, 0 to 32 of them, the highest first, where they
+    /// stand next, and answers whether they do. Else it stays.
+    pub fn take(&mut self, bits: u32, len: u32) -> bool {
+        if len == 0 {
+            return true;
+        }
+        let ahead = self.window.filled(self.bytes, self.order);
+        if ahead.count < len || ahead.number(len) != bits {
+            return false;
+        }
+        self.window = ahead.after(len);
+        true
+    }
+
+    /// Whether the lowest `len` bits of `bits`, 0 to 48 of them, the highest first, stand next.
+    pub(crate) fn begins(&self, bits: u64, len: u32) -> bool {
+        let low = len / 2;
+        let mut ahead = self.again();
+        if !ahead.take((bits >> low) as u32, len - low) {
+            return false;
+        }
+        ahead.take((bits & ((1 << low) - 1)) as u32, low)
+    }
+
+    /// Goes on by `n` bits.
+    #[inline(always)]
+    pub fn skip(&mut self, n: u64) {
+        if n <= u64::from(self.window.count) && n < 64 {
+            self.window = self.window.after(n as u32);
+        } else {
+            self.skip_further(n);
+        }
+    }
+
+    /// Goes on to a place.
+    #[inline(always)]
+    pub fn skip_to(&mut self, place: u64) {
+        // By its fields, so that the window that is gone on with need not stand in memory.
+        let window = Window::from_place(self.bytes, self.order, place);
+        self.window = window.again();
+    }
+
+    /// What `skip` does past bits that are not loaded.
+    #[inline(never)]
+    fn skip_further(&mut self, n: u64) {
+        let place = self.window.place() + n;
+        let ahead = self.window.filled(self.bytes, self.order);
+        if n <= u64::from(ahead.count) && n < 64 {
+            self.window = ahead.after(n as u32);
+            return;
+        }
+        self.window = Window::from_place(self.bytes, self.order, place);
+    }
+}
+
+/// Which bit of a byte, 0 the lowest, is coded at a place of its eight bits (TIFF 6.0, FillOrder).
+fn bit_in_byte(order: FillOrder, place: u64) -> u64 {
+    match order {
+        FillOrder::MsbFirst => 7 - place,
+        FillOrder::LsbFirst => place,
+    }
+}

@@ -1,0 +1,28 @@
+//! Vertical modes one after another, of which two to four are looked up at once.
+
+use crate::codes::LONGEST_CODE;
+use crate::vertical_indexes::VERTICALS;
+
+/// Vertical modes one after another: the first `count` of four.
+#[derive(Clone, Copy)]
+pub struct Verticals {
+    pub count: u32,
+    /// How many pels right of the pel three left of b1 a1 is in each: 0 to 6.
+    pub raises: [u8; 4],
+}
+
+/// The vertical modes whose codes begin thirteen bits, of which they take twelve at most, and how
+/// many they take: two modes to four. `None` where fewer begin them.
+#[inline(always)]
+pub(crate) fn find_verticals(bits: u32) -> Option<(u32, Verticals)> {
+    let at = (bits >> 1) as usize;
+    let len = VERTICALS.lens[at];
+    if len == 0 {
+        return None;
+    }
+    let verticals = Verticals {
+        count: u32::from(VERTICALS.counts[at]),
+        raises: VERTICALS.raises[at].to_le_bytes(),
+    };
+    Some((u32::from(len), verticals))
+}

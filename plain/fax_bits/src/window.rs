@@ -1,0 +1,168 @@
+//! The next bits of some bytes, by value: what a fast reader keeps in registers.
+
+use crate::FillOrder;
+
+/// The next bits of some bytes: the first `count` of `bits`, and then those of the bytes from `at`
+/// on.
+#[derive(Clone, Copy, Debug)]
+pub(crate) struct Window {
+    /// The highest is next; zeros stand after `count`.
+    pub bits: u64,
+    pub count: u32,
+    /// The first byte that is not loaded.
+    pub at: usize,
+}
+
+impl Window {
+    /// The bits from a byte on, of which none is loaded.
+    #[inline(always)]
+    pub fn new(at: usize) -> Window {
+        Window {
+            bits: 0,
+            count: 0,
+            at,
+        }
+    }
+
+    /// The bits from a place on, of which no more than those of its byte are loaded.
+    #[inline(never)]
+    pub fn from_place(bytes: &[u8], order: FillOrder, place: u64) -> Window {
+        let at = (place / 8) as usize;
+        let bits = (place % 8) as u32;
+        if bits == 0 {
+            return Window::new(at);
+        }
+        Window::new(at).with_byte(bytes, order).after(bits)
+    }
+
+    /// The same window, made of its fields.
+    #[inline(always)]
+    pub fn again(self) -> Window {
+        Window {
+            bits: self.bits,
+            count: self.count,
+            at: self.at,
+        }
+    }
+
+    /// How many bits of the bytes stand before its own.
+    #[inline(always)]
+    pub fn place(self) -> u64 {
+        self.at as u64 * 8 - u64::from(self.count)
+    }
+
+    /// The bits after the next `n`, which are loaded.
+    #[inline(always)]
+    pub fn after(self, n: u32) -> Window {
+        Window {
+            bits: self.bits << n,
+            count: self.count - n,
+            at: self.at,
+        }
+    }
+
+    /// The same bits, of which four bytes more are loaded.
+    #[inline(always)]
+    pub fn refilled(self, bytes: &[u8], order: FillOrder) -> Window {
+        let word = word_at(bytes, self.at, order);
+        Window {
+            bits: self.bits | u64::from(word) << (32 - self.count),
+            count: self.count + 32,
+            at: self.at + 4,
+        }
+    }
+
+    /// The same bits, of which one byte more is loaded.
+    #[inline(always)]
+    pub fn with_byte(self, bytes: &[u8], order: FillOrder) -> Window {
+        let byte = byte_at(bytes, self.at, order);
+        Window {
+            bits: self.bits | u64::from(byte) << (56 - self.count),
+            count: self.count + 8,
+            at: self.at + 1,
+        }
+    }
+
+    /// The same bits, of which single bytes more are loaded, up to 32 bits or to the end of the
+    /// bytes.
+    #[inline(never)]
+    pub fn with_last_bytes(self, bytes: &[u8], order: FillOrder) -> Window {
+        let mut more = self;
+        while more.count < 32 && more.at < bytes.len() {
+            more = more.with_byte(bytes, order);
+        }
+        more
+    }
+
+    /// The same bits, of which at least 32 are loaded, or all that are left.
+    #[inline(always)]
+    pub fn filled(self, bytes: &[u8], order: FillOrder) -> Window {
+        match self.loaded(bytes, order) {
+            Some(more) => more,
+            None => self.with_last_bytes(bytes, order),
+        }
+    }
+
+    /// The same bits, of which at least 32 are loaded, or `None` near the end of the bytes.
+    #[inline(always)]
+    pub fn loaded(self, bytes: &[u8], order: FillOrder) -> Option<Window> {
+        self.loaded_for(32, bytes, order)
+    }
+
+    /// The same bits, of which at least `least` are loaded, 0 to 32 of them, or `None` near the end
+    /// of the bytes.
+    #[inline(always)]
+    pub fn loaded_for(self, least: u32, bytes: &[u8], order: FillOrder) -> Option<Window> {
+        if self.count >= least {
+            return Some(self);
+        }
+        if bytes.len() - self.at < 4 {
+            return None;
+        }
+        Some(self.refilled(bytes, order))
+    }
+
+    /// How many zeros stand before the first 1, where it is loaded; else no fewer than are loaded.
+    #[inline(always)]
+    pub fn zeros(self) -> u32 {
+        self.bits.leading_zeros()
+    }
+
+    /// Whether the next bit is loaded, and a 1.
+    #[inline(always)]
+    pub fn begins_with_one(self) -> bool {
+        self.bits >> 63 == 1
+    }
+
+    /// How many ones are next, of the bits that are loaded.
+    #[inline(always)]
+    pub fn ones(self) -> u32 {
+        self.bits.leading_ones()
+    }
+
+    /// The number that the next `n` bits spell, where they are loaded, or all that are left are:
+    /// past the end of the bytes it sees zeros, which are no bits.
+    #[inline(always)]
+    pub fn number(self, n: u32) -> u32 {
+        (self.bits >> (64 - n)) as u32
+    }
+}
+
+/// The bits of a byte as a number, the first bit highest.
+#[inline(always)]
+fn byte_at(bytes: &[u8], at: usize, order: FillOrder) -> u8 {
+    match order {
+        FillOrder::MsbFirst => bytes[at],
+        FillOrder::LsbFirst => bytes[at].reverse_bits(),
+    }
+}
+
+/// The bits of four bytes as a number, the first bit highest.
+#[inline(always)]
+pub(crate) fn word_at(bytes: &[u8], at: usize, order: FillOrder) -> u32 {
+    let word = [bytes[at], bytes[at + 1], bytes[at + 2], bytes[at + 3]];
+    match order {
+        FillOrder::MsbFirst => u32::from_be_bytes(word),
+        FillOrder::LsbFirst => u32::from_le_bytes(word).reverse_bits(),
+    }
+}

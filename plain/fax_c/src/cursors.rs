@@ -1,0 +1,66 @@
+//! Places as text and back.
+
+use kit_std::prelude::{str, String};
+
+use crate::places::{FaxPlace, begun_at, tell_place};
+use crate::status;
+use crate::text::put_text;
+use fax_walk::{Begun, Cursor, LongCursor, LongFault};
+use kit_std::alloc::Global;
+
+/// Writes a text where it has room, tells how many bytes it has, and answers whether it had room.
+pub(crate) fn put_counted(text: &[u8], out: &mut [u8], len: &mut usize) -> u32 {
+    *len = put_text(text, out);
+    if *len <= out.len() {
+        status::DONE
+    } else {
+        status::NO_ROOM
+    }
+}
+
+/// Writes a place as text where it has room: as `1:P:R`, or inside a strip as `2:P:R:B:n,n,..`; and
+/// tells how many bytes it has.
+pub fn faxpages_place_text(
+    alloc: Global,
+    place: &FaxPlace,
+    runs: &[u32],
+    text: &mut [u8],
+    len: &mut usize,
+) -> u32 {
+    *len = 0;
+    if place.lacks_runs(runs) {
+        return status::OUTSIDE;
+    }
+    let mut written = String::new(alloc);
+    let made = match begun_at(alloc, place, runs) {
+        Some(Begun::At(cursor)) => cursor.put_text(&mut written),
+        Some(Begun::Inside(found)) => found.put_text(&mut written),
+        None => return status::MEMORY,
+    };
+    match made {
+        Ok(()) => put_counted(written.as_bytes(), text, len),
+        Err(_) => status::MEMORY,
+    }
+}
+
+/// Reads a place from its text.
+pub fn faxpages_place_parse(
+    alloc: Global,
+    text: &[u8],
+    place: &mut FaxPlace,
+    runs: &mut [u32],
+) -> u32 {
+    fax_walk::laws::cursors_are_named();
+    let Ok(text) = str::from_utf8(text) else {
+        return status::NO_PLACE;
+    };
+    if let Ok(cursor) = Cursor::parse(text) {
+        *place = FaxPlace::at(cursor);
+        return status::DONE;
+    }
+    match LongCursor::parse(alloc, text) {
+        Ok(found) => tell_place(&found, place, runs),
+        Err(LongFault::NotACursor) => status::NO_PLACE,
+        Err(LongFault::Memory) => status::MEMORY,
+    }
+}

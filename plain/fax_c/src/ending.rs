@@ -1,0 +1,70 @@
+//! How many pages a file has that is written page by page, told in each of them.
+
+use crate::bytes::{four_at, put_bytes};
+use crate::status;
+use crate::writing::{FaxWritten, MOST_BYTES, MOST_PAGES};
+
+/// How far after the place of a page's directory the offset of the next one stands: after the
+/// number of its fields and twelve bytes of each of the sixteen.
+const TO_LINK: usize = 2 + 12 * 16;
+
+/// Whether the pages of a file can be told how many they are, as far as its numbers say.
+fn is_endable(written: &FaxWritten) -> bool {
+    written.added >= 1
+        && written.added <= MOST_PAGES
+        && written.len >= 8
+        && written.len <= MOST_BYTES
+}
+
+/// Where the link of a page stands to which a link leads, if that page lies after the link.
+fn next_link(file: &[u8], link: usize) -> Option<usize> {
+    let directory = four_at(file, link) as usize;
+    if directory < link + 4 || directory > file.len().saturating_sub(TO_LINK + 4) {
+        return None;
+    }
+    Some(directory + TO_LINK)
+}
+
+/// Whether so many pages stand in a file after its header, and the last has its link here.
+fn are_pages(file: &[u8], count: u32, last: usize) -> bool {
+    let mut link = 4;
+    for _ in 0..count {
+        let Some(next) = next_link(file, link) else {
+            return false;
+        };
+        link = next;
+    }
+    link == last
+}
+
+/// Tells each page of a file how many there are.
+fn put_totals(file: &mut [u8], pages: u16) {
+    let mut link = 4;
+    for _ in 0..pages {
+        link = four_at(file, link) as usize + TO_LINK;
+        put_bytes(file, link - 2, &pages.to_le_bytes());
+    }
+}
+
+/// Tells each page of a file of the caller how many there are, if these are its pages.
+fn end_pages(file: &mut [u8], written: &mut FaxWritten) -> u32 {
+    if !is_endable(written) {
+        return status::NO_OPTIONS;
+    }
+    if written.len > file.len() {
+        return status::NO_ROOM;
+    }
+    let so_far = &mut file[..written.len];
+    if !are_pages(so_far, written.added, written.link as usize) {
+        return status::NO_OPTIONS;
+    }
+    put_totals(so_far, written.added as u16);
+    written.total = written.added;
+    status::DONE
+}
+
+/// Tells each page of a file that was written page by page how many there are, as one does of which
+/// that was known when the first was added.
+pub fn faxpages_end_pages(file: &mut [u8], written: &mut FaxWritten) -> u32 {
+    end_pages(file, written)
+}

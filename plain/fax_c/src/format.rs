@@ -1,0 +1,82 @@
+//! How a row is written in memory of the caller: as numbers, one after another.
+
+use fax_rows::{LongestRuns, Row};
+
+/// How a row is written.
+pub(crate) trait RowFormat {
+    /// What it is written in.
+    type Number: Copy;
+
+    /// How many a row has at most.
+    const MOST: usize;
+
+    /// Writes those of a row at a place, where they have room, and answers where they end.
+    fn put(row: &Row, out: &mut [Self::Number], at: usize) -> Option<usize>;
+}
+
+/// As packed bytes: the highest bit first, 1 for black, with zeros up to a whole byte.
+pub(crate) struct Packed;
+
+impl RowFormat for Packed {
+    type Number = u8;
+
+    const MOST: usize = 8_192;
+    fn put(row: &Row, out: &mut [u8], at: usize) -> Option<usize> {
+        let len = ((row.width() + 7) / 8) as usize;
+        if out.len() - at < len {
+            return None;
+        }
+        let to = at + len;
+        row.to_packed(&mut out[at..to]);
+        Some(to)
+    }
+}
+
+/// As the lengths of its longest runs, white first: the first one is 0 where the row begins black.
+pub(crate) struct Runs;
+
+/// Writes the runs that are left at a place where they have room.
+fn put_runs(runs: &mut LongestRuns, out: &mut [u32], at: usize) {
+    let mut to = at;
+    while let Some(run) = runs.next_run() {
+        out[to] = run;
+        to += 1;
+    }
+}
+
+impl RowFormat for Runs {
+    type Number = u32;
+
+    const MOST: usize = 65_536;
+
+    fn put(row: &Row, out: &mut [u32], at: usize) -> Option<usize> {
+        let mut runs = LongestRuns::of_row(row);
+        let len = runs.len();
+        if out.len() - at < len {
+            return None;
+        }
+        put_runs(&mut runs, out, at);
+        Some(at + len)
+    }
+}
+
+/// As the places of its changing elements: the pels, from 0, of another colour than the pel before
+/// them, where white stands before the first.
+pub(crate) struct Changes;
+
+impl RowFormat for Changes {
+    type Number = u32;
+
+    const MOST: usize = 65_536;
+    fn put(row: &Row, out: &mut [u32], at: usize) -> Option<usize> {
+        // For the proof: a row has no more changes than pels.
+        let _width = row.width();
+        let changes = row.changes();
+        if out.len() - at < changes.len() {
+            return None;
+        }
+        let to = at + changes.len();
+        out[at..to].copy_from_slice(changes);
+        Some(to)
+    }
+}

@@ -1,0 +1,129 @@
+//! The names of faults, statuses and notes.
+
+use crate::text::put_text;
+use fax_files::{Cause, FileFault, PbmFault, StripFault};
+use fax_walk::NoteKind;
+
+/// The fault of a file with this number, if one has it.
+fn file_fault(number: u32) -> Option<FileFault> {
+    match number {
+        1 => Some(FileFault::ShortHeader),
+        2 => Some(FileFault::ByteOrder),
+        3 => Some(FileFault::Magic),
+        4 => Some(FileFault::NoDirectory),
+        5 => Some(FileFault::DirectoryOutside),
+        6 => Some(FileFault::DirectoryLoop),
+        7 => Some(FileFault::MissingField(0)),
+        8 => Some(FileFault::BadField(0)),
+        9 => Some(FileFault::Unsupported(0)),
+        10 => Some(FileFault::OutOfLimits(0)),
+        11 => Some(FileFault::StripOutside),
+        _ => None,
+    }
+}
+
+/// The fault of a strip with this number, if one has it.
+fn strip_fault(number: u32) -> Option<StripFault> {
+    match number {
+        101 => Some(StripFault::DataEnds),
+        102 => Some(StripFault::BadCode),
+        103 => Some(StripFault::Extension),
+        104 => Some(StripFault::RunTooLong),
+        105 => Some(StripFault::OutOfRow),
+        106 => Some(StripFault::MissingEol),
+        107 => Some(StripFault::EndMarker),
+        _ => None,
+    }
+}
+
+/// A cause with this number, if one has it.
+fn cause_of(number: u32) -> Option<Cause> {
+    if let Some(fault) = file_fault(number) {
+        return Some(Cause::File(fault));
+    }
+    match strip_fault(number) {
+        Some(fault) => Some(Cause::Strip(fault)),
+        None => None,
+    }
+}
+
+/// The fault of a raw PBM with this number, if one has it.
+fn pbm_fault(number: u32) -> Option<PbmFault> {
+    match number {
+        201 => Some(PbmFault::BadHeader),
+        202 => Some(PbmFault::OutOfLimits),
+        203 => Some(PbmFault::ShortRaster),
+        _ => None,
+    }
+}
+
+/// The name of the faults with this number, if one has it.
+fn name_of(number: u32) -> Option<&'static str> {
+    if let Some(cause) = cause_of(number) {
+        let (name, _) = cause.name();
+        return Some(name);
+    }
+    if let Some(fault) = pbm_fault(number) {
+        return Some(fault.name());
+    }
+    match number {
+        108 => Some("TooManyRows"),
+        301 => Some("UnknownInput"),
+        302 => Some("OutputTooLarge"),
+        _ => None,
+    }
+}
+
+/// Writes the name of the faults with this number where it has room, and answers how many bytes it
+/// has: 0 where no fault has this number.
+pub fn faxpages_fault_name(number: u32, name: &mut [u8]) -> usize {
+    match name_of(number) {
+        Some(text) => put_text(text.as_bytes(), name),
+        None => 0,
+    }
+}
+
+/// The name of a status, or an empty text where none has this number.
+fn status_name(number: u32) -> &'static str {
+    match number {
+        0 => "Done",
+        1 => "End",
+        2 => "Fault",
+        3 => "Outside",
+        4 => "Memory",
+        5 => "NoRoom",
+        6 => "NoPlace",
+        7 => "NoOptions",
+        8 => "TooLarge",
+        9 => "DataEnd",
+        10 => "More",
+        _ => "",
+    }
+}
+
+/// Writes the name of a status where it has room, and answers how many bytes it has: 0 where none
+/// has this number.
+pub fn faxpages_status_name(number: u32, name: &mut [u8]) -> usize {
+    put_text(status_name(number).as_bytes(), name)
+}
+
+/// The kind of notes with this number, if one has it.
+fn note_kind(number: u32) -> Option<NoteKind> {
+    match number {
+        1 => Some(NoteKind::NoEndOfBlock),
+        2 => Some(NoteKind::ReturnToControl),
+        3 => Some(NoteKind::DataAfterEnd),
+        4 => Some(NoteKind::NotT4Choice),
+        5 => Some(NoteKind::EntriesOutOfOrder),
+        _ => None,
+    }
+}
+
+/// Writes the name of the notes with this number where it has room, and answers how many bytes it
+/// has: 0 where no note has this number.
+pub fn faxpages_note_name(number: u32, name: &mut [u8]) -> usize {
+    match note_kind(number) {
+        Some(kind) => put_text(kind.name().as_bytes(), name),
+        None => 0,
+    }
+}

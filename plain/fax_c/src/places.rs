@@ -1,0 +1,134 @@
+//! Places inside strips, in memory of the caller.
+
+use kit_std::prelude::Vec;
+
+use crate::filled::Filled;
+use crate::format::{RowFormat, Runs};
+use crate::status;
+use fax_walk::{Begun, Cursor, LongCursor, Walk};
+use kit_std::alloc::Global;
+
+/// So many runs hold those of any row.
+const MOST_RUNS: usize = 65_536;
+
+/// Where to go on: a cursor; and where `runs` is not 0 a place inside a strip, after so many bits
+/// of it, whose row before it has so many runs, which stand apart.
+#[repr(C)]
+#[derive(Clone, Copy)]
+pub struct FaxPlace {
+    pub page: u32,
+    pub row: u32,
+    pub bits: u32,
+    pub runs: u32,
+}
+
+impl FaxPlace {
+    /// A cursor alone.
+    pub(crate) fn at(cursor: Cursor) -> Self {
+        FaxPlace {
+            page: cursor.page,
+            row: cursor.row,
+            bits: 0,
+            runs: 0,
+        }
+    }
+
+    /// Whether it has more runs than stand beside it.
+    pub(crate) fn lacks_runs(&self, runs: &[u32]) -> bool {
+        runs.len() < self.runs as usize
+    }
+
+    /// Its cursor.
+    pub(crate) fn cursor(&self) -> Cursor {
+        Cursor {
+            page: self.page,
+            row: self.row,
+        }
+    }
+}
+
+/// What a walk begins with that goes on at a place, or none where memory was refused for its runs.
+pub(crate) fn begun_at(alloc: Global, place: &FaxPlace, runs: &[u32]) -> Option<Begun> {
+    let at = place.cursor();
+    if place.runs == 0 {
+        return Some(Begun::At(at));
+    }
+    match Vec::from_slice(alloc, &runs[..place.runs as usize]) {
+        Ok(runs) => Some(Begun::Inside(LongCursor {
+            at,
+            bits: place.bits,
+            runs,
+        })),
+        Err(_) => None,
+    }
+}
+
+/// Tells a place inside a strip, where its runs have room, and answers how it was told.
+pub(crate) fn tell_place(found: &LongCursor, place: &mut FaxPlace, runs: &mut [u32]) -> u32 {
+    let count = found.runs.len();
+    if count > MOST_RUNS {
+        return status::NO_PLACE;
+    }
+    if count > runs.len() {
+        return status::NO_ROOM;
+    }
+    runs[..count].copy_from_slice(&found.runs);
+    *place = FaxPlace {
+        page: found.at.page,
+        row: found.at.row,
+        bits: found.bits,
+        runs: count as u32,
+    };
+    status::DONE
+}
+
+/// Tells the place inside a strip after the rows that a walk has handed out, where there is one and
+/// its runs have room.
+fn tell_inside(walk: &Walk, place: &mut FaxPlace, runs: &mut [u32]) {
+    let Some(found) = walk.lend_place() else {
+        return;
+    };
+    let Some(to) = Runs::put(found.reference, runs, 0) else {
+        return;
+    };
+    *place = FaxPlace {
+        page: found.at.page,
+        row: found.at.row,
+        bits: found.bits,
+        runs: to as u32,
+    };
+}
+
+/// Tells the place after so many rows, which a walk has handed out and no more: where they are
+/// none, a place inside a strip stays.
+fn tell_after(walk: &Walk, cursor: Cursor, count: usize, place: &mut FaxPlace, runs: &mut [u32]) {
+    if count > 0 {
+        *place = FaxPlace::at(cursor);
+        tell_inside(walk, place, runs);
+    } else if place.runs == 0 {
+        *place = FaxPlace::at(cursor);
+    }
+}
+
+/// Tells the place before the next row, where rows stand before it and it may have no room in so
+/// many numbers: a walk that has handed it out has passed the place.
+pub(crate) fn place_before<F: RowFormat>(
+    walk: &Walk,
+    cursor: Cursor,
+    count: usize,
+    room: usize,
+    place: &mut FaxPlace,
+    runs: &mut [u32],
+) {
+    if count > 0 && room < F::MOST {
+        tell_after(walk, cursor, count, place, runs);
+    }
+}
+
+/// Tells the place after the rows that were written. Where the next one had no room, the walk has
+/// passed it, and it was told before.
+pub(crate) fn place_after(walk: &Walk, filled: &Filled, place: &mut FaxPlace, runs: &mut [u32]) {
+    if filled.count == 0 || !filled.stop.is_no_room() {
+        tell_after(walk, filled.cursor, filled.count, place, runs);
+    }
+}

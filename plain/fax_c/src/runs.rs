@@ -1,0 +1,61 @@
+//! The runs of rows, and their changing elements.
+
+use crate::format::{Changes, Runs};
+use crate::places::FaxPlace;
+use crate::rows::{FaxRow, fill_at, fill_from};
+use crate::told::FaxTold;
+use fax_walk::Cursor;
+use kit_std::alloc::Global;
+
+/// Writes the runs of rows of a file from a cursor on, as `faxpages_rows` writes their bytes.
+pub fn faxpages_runs(
+    alloc: Global,
+    file: &[u8],
+    page: u32,
+    row: u32,
+    rows: &mut [FaxRow],
+    out: &mut [u32],
+    told: &mut FaxTold,
+) -> u32 {
+    fill_at::<Runs>(alloc, file, Cursor { page, row }, rows, out, told)
+}
+
+/// Writes the runs of rows of a file from a place on, which is then the one after them.
+pub fn faxpages_runs_from(
+    alloc: Global,
+    file: &[u8],
+    place: &mut FaxPlace,
+    runs: &mut [u32],
+    rows: &mut [FaxRow],
+    out: &mut [u32],
+    told: &mut FaxTold,
+) -> u32 {
+    fill_from::<Runs>(alloc, file, place, runs, rows, out, told)
+}
+
+/// Writes the changing elements of rows of a file from a cursor on.
+pub fn faxpages_changes(
+    alloc: Global,
+    file: &[u8],
+    page: u32,
+    row: u32,
+    rows: &mut [FaxRow],
+    out: &mut [u32],
+    told: &mut FaxTold,
+) -> u32 {
+    fill_at::<Changes>(alloc, file, Cursor { page, row }, rows, out, told)
+}
+
+/// Writes the changing elements of rows of a file from a place on, which is then the one after
+/// them.
+pub fn faxpages_changes_from(
+    alloc: Global,
+    file: &[u8],
+    place: &mut FaxPlace,
+    runs: &mut [u32],
+    rows: &mut [FaxRow],
+    out: &mut [u32],
+    told: &mut FaxTold,
+) -> u32 {
+    fill_from::<Changes>(alloc, file, place, runs, rows, out, told)
+}

@@ -1,0 +1,59 @@
+//! The form of a strip with no file around it.
+
+use crate::conversion::order_of;
+use fax_page::{Coding, StripForm};
+
+/// The form of a strip.
+#[repr(C)]
+#[derive(Clone, Copy)]
+pub struct FaxStrip {
+    /// The pels of a row, 1 to 65,535.
+    pub width: u32,
+    /// The rows, 1 to 1,000,000, or 0 where nobody counted those that are read.
+    pub rows: u32,
+    /// How the rows are coded: 1 in MH, 2 in MR, 3 in MMR.
+    pub coding: u32,
+    /// Which bit of a byte is first: 1 for the highest, 2 for the lowest.
+    pub order: u32,
+    /// In MH and MR, 1 where each EOL ends on a byte boundary, else 0.
+    pub aligned: u32,
+}
+
+/// The coding with a number, if one has it.
+pub(crate) fn coding_of(number: u32) -> Option<Coding> {
+    match number {
+        1 => Some(Coding::Mh),
+        2 => Some(Coding::Mr),
+        3 => Some(Coding::Mmr),
+        _ => None,
+    }
+}
+
+/// Whether a coding has EOLs.
+pub(crate) fn has_eols(coding: Coding) -> bool {
+    match coding {
+        Coding::Mmr => false,
+        Coding::Mh | Coding::Mr => true,
+    }
+}
+
+impl FaxStrip {
+    /// The form that these numbers are, if they are one.
+    pub(crate) fn form(&self) -> Option<StripForm> {
+        let coding = coding_of(self.coding)?;
+        let order = order_of(self.order)?;
+        if self.width == 0 || self.width > 65_535 || self.rows == 0 || self.rows > 1_000_000 {
+            return None;
+        }
+        if self.aligned > 1 || (self.aligned == 1 && !has_eols(coding)) {
+            return None;
+        }
+        Some(StripForm {
+            coding,
+            order,
+            width: self.width,
+            rows: self.rows,
+            aligned: self.aligned == 1,
+        })
+    }
+}

@@ -1,0 +1,96 @@
+//! Strips of which the first bytes are there, read, where more may follow.
+
+use crate::faults::FaxFault;
+use crate::filled::{Filled, Stop};
+use crate::places::FaxPlace;
+use crate::status;
+use crate::strip_form::FaxStrip;
+use crate::strips::{MOST_RUNS, read_strip, readable_form};
+use crate::told::FaxTold;
+use crate::uncounted::{end_at, met_in_strip, tell_end, uncounted_form};
+use fax_files::Cause;
+use fax_page::{RowsEnd, StripFault, StripForm};
+use fax_walk::End;
+use kit_std::alloc::Global;
+
+/// Whether a row is due at a place that is after these bytes.
+fn is_ahead(strip: &[u8], form: StripForm, place: &FaxPlace) -> bool {
+    place.row < form.rows && u64::from(place.bits) > 8 * strip.len() as u64
+}
+
+/// Whether a stop may be another one where more bytes follow.
+fn may_change(strip: &[u8], form: StripForm, place: &FaxPlace, stop: Stop) -> bool {
+    match stop {
+        Stop::Ended(
+            End::Fault {
+                cause: Cause::Strip(fault),
+                ..
+            },
+        ) => fault == StripFault::DataEnds,
+        Stop::Ended(End::Outside) => is_ahead(strip, form, place),
+        _ => false,
+    }
+}
+
+/// Whether rows that end so may end otherwise where more bytes follow.
+fn end_may_change(end: RowsEnd) -> bool {
+    match end {
+        RowsEnd::Marked => false,
+        RowsEnd::Fault(fault) => fault == StripFault::DataEnds || fault == StripFault::EndMarker,
+        RowsEnd::DataEnd | RowsEnd::TooMany => true,
+    }
+}
+
+/// Tells what was written, and that more bytes are waited for.
+fn tell_more(filled: &Filled, told: &mut FaxTold) -> u32 {
+    *told = FaxTold {
+        count: filled.count,
+        used: filled.used,
+        page: filled.cursor.page,
+        row: filled.cursor.row,
+        fault: FaxFault::none(),
+    };
+    status::MORE
+}
+
+/// Reads rows of a strip of which the first bytes are there into a raster, as `faxpages_strip_rows`
+/// does, where what is told holds whatever bytes follow.
+pub fn faxpages_strip_part(
+    alloc: Global,
+    strip: &[u8],
+    form: &FaxStrip,
+    place: &mut FaxPlace,
+    runs: &mut [u32],
+    out: &mut [u8],
+    stride: usize,
+    told: &mut FaxTold,
+) -> u32 {
+    fax_page::laws::rows_stay_whatever_follows();
+    fax_page::laws::ends_stay_whatever_follows();
+    fax_bits::laws::bits_stand_by_place();
+    if runs.len() < MOST_RUNS {
+        return status::NO_OPTIONS;
+    }
+    if let Some(form) = readable_form(strip, form) {
+        let filled = read_strip(alloc, strip, form, place, runs, stride, out);
+        if may_change(strip, form, place, filled.stop) {
+            return tell_more(&filled, told);
+        }
+        return filled.tell(told);
+    }
+    let Some(form) = uncounted_form(strip, form) else {
+        return status::NO_OPTIONS;
+    };
+    let filled = read_strip(alloc, strip, form, place, runs, stride, out);
+    if may_change(strip, form, place, filled.stop) {
+        return tell_more(&filled, told);
+    }
+    let Some(met) = met_in_strip(filled.stop) else {
+        return filled.tell(told);
+    };
+    let end = end_at(strip, form, place, met);
+    if end_may_change(end) {
+        return tell_more(&filled, told);
+    }
+    tell_end(&filled, place, end, told)
+}

@@ -1,0 +1,101 @@
+//! Rows of a strip that nobody counted.
+
+use crate::faults::FaxFault;
+use crate::filled::{Filled, Stop};
+use crate::places::FaxPlace;
+use crate::status;
+use crate::strip_form::FaxStrip;
+use crate::strips::readable_form;
+use crate::told::FaxTold;
+use fax_files::Cause;
+use fax_page::{MOST_ROWS, RowsEnd, StripFault, StripForm, end_of_rows};
+use fax_rows::BitSource;
+use fax_walk::End;
+
+/// The form in which a strip of so many bytes is read whose rows nobody counted, if these numbers
+/// are one.
+pub(crate) fn uncounted_form(strip: &[u8], given: &FaxStrip) -> Option<StripForm> {
+    if given.rows != 0 {
+        return None;
+    }
+    let most = FaxStrip {
+        rows: MOST_ROWS,
+        ..*given
+    };
+    readable_form(strip, &most)
+}
+
+/// The number that a call answers where rows end so that nobody counted.
+pub(crate) fn end_status(end: RowsEnd) -> u32 {
+    match end {
+        RowsEnd::Marked => status::END,
+        RowsEnd::DataEnd => status::DATA_END,
+        RowsEnd::Fault(_) | RowsEnd::TooMany => status::FAULT,
+    }
+}
+
+/// Goes on by so many bits, or past all of them where there are fewer.
+fn go_on(source: &mut BitSource, bits: u64) {
+    let left = source.remaining();
+    if bits < left {
+        source.skip(bits);
+    } else {
+        source.skip(left);
+    }
+}
+
+/// How rows end that nobody counted and that are read up to a place, where this fault is in the way
+/// of the next one, or none is.
+pub(crate) fn end_at(
+    strip: &[u8],
+    form: StripForm,
+    place: &FaxPlace,
+    met: Option<StripFault>,
+) -> RowsEnd {
+    let mut source = BitSource::new(strip, form.order);
+    go_on(&mut source, u64::from(place.bits));
+    end_of_rows(&source, form.coding, place.row, met)
+}
+
+/// What stopped the rows of a strip, where that is the strip itself: a fault is in the way of the
+/// next row, or there is none.
+pub(crate) fn met_in_strip(stop: Stop) -> Option<Option<StripFault>> {
+    match stop {
+        Stop::Ended(End::Proper) => Some(None),
+        Stop::Ended(
+            End::Fault {
+                cause: Cause::Strip(fault),
+                ..
+            },
+        ) => Some(Some(fault)),
+        _ => None,
+    }
+}
+
+/// Tells what was written of rows that end so at a place, and answers how the call ended.
+pub(crate) fn tell_end(filled: &Filled, place: &FaxPlace, end: RowsEnd, told: &mut FaxTold) -> u32 {
+    *told = FaxTold {
+        count: filled.count,
+        used: filled.used,
+        page: filled.cursor.page,
+        row: filled.cursor.row,
+        fault: FaxFault::of_rows_end(place.page, place.row, end),
+    };
+    end_status(end)
+}
+
+/// Tells what was written of rows that nobody counted, up to a place, and answers how the call
+/// ended.
+pub(crate) fn tell_uncounted(
+    filled: &Filled,
+    strip: &[u8],
+    form: StripForm,
+    place: &FaxPlace,
+    told: &mut FaxTold,
+) -> u32 {
+    let Some(met) = met_in_strip(filled.stop) else {
+        return filled.tell(told);
+    };
+    let end = end_at(strip, form, place, met);
+    tell_end(filled, place, end, told)
+}

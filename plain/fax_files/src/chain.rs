@@ -1,0 +1,184 @@
+//! The chain of a file's directories, read with a search for a loop that goes along.
+//!
+//! The search takes two steps for each directory that is handed out (Floyd's algorithm), so that
+//! it meets the reader before the chain turns back. It takes no memory.
+
+use crate::FileFault;
+use crate::directory::Directory;
+use crate::tiff::Tiff;
+use kit_std::marker::Model;
+
+/// A place on the loop of a chain, and the loop's length.
+#[derive(Clone, Copy)]
+struct Round {
+    start: u64,
+    len: u64,
+}
+
+/// What is known of the page at which a chain turns back: a search is at an offset, or it has
+/// ended.
+#[derive(Clone, Copy)]
+enum Search {
+    Running(u32),
+    Known(Option<u32>),
+}
+
+/// The offset after the directory at an offset, or none where no directory stands.
+fn onward(tiff: &Tiff, offset: u32) -> Option<u32> {
+    if offset == 0 {
+        return None;
+    }
+    match tiff.directory(offset) {
+        Ok(directory) => Some(directory.next_offset()),
+        Err(_) => None,
+    }
+}
+
+/// The offset due after the one at which a directory stands, and 0, which is none, elsewhere.
+fn due_after(tiff: &Tiff, offset: u32) -> u32 {
+    onward(tiff, offset).unwrap_or(0)
+}
+
+/// Computes nothing: the offsets of a chain differ, and each is a number of four bytes, not 0.
+fn has_few_pages(tiff: &Tiff, file: &[u8]) {
+    let _first = tiff.first();
+}
+
+/// The offset due after the first directories of a chain.
+fn due_after_pages(tiff: &Tiff, pages: u64) -> u32 {
+    let mut due = tiff.first();
+    for _page in 0..pages {
+        due = due_after(tiff, due);
+    }
+    due
+}
+
+/// The first page of which the offset comes again after the length of the loop.
+fn first_turn(tiff: &Tiff, round: Round) -> u64 {
+    let mut ahead = due_after_pages(tiff, round.len);
+    let mut before = tiff.first();
+    let mut page: u64 = 0;
+    while before != ahead {
+        before = due_after(tiff, before);
+        ahead = due_after(tiff, ahead);
+        page += 1;
+    }
+    page
+}
+
+/// The length of the loop on which a place lies, which is met again after as many steps.
+fn round_from(tiff: &Tiff, start: u64, kept: u32) -> Round {
+    let mut due = due_after(tiff, kept);
+    let mut len: u64 = 1;
+    while due != kept {
+        due = due_after(tiff, due);
+        len += 1;
+    }
+    Round { start, len }
+}
+
+/// The page at which the chain turns back, where a place is met again after as many steps.
+fn turning_from(tiff: &Tiff, start: u64, kept: u32) -> u32 {
+    has_few_pages(tiff, tiff.bytes());
+    let round = round_from(tiff, start, kept);
+    let page = first_turn(tiff, round);
+    (page + round.len) as u32
+}
+
+/// The search after one more directory, after which this offset is due.
+fn search_on(tiff: &Tiff, search: Search, given: u32, due: u32) -> Search {
+    let Search::Running(fast) = search else {
+        return search;
+    };
+    let Some(between) = onward(tiff, fast) else {
+        return Search::Known(None);
+    };
+    let Some(fast) = onward(tiff, between) else {
+        return Search::Known(None);
+    };
+    if fast == due {
+        let turn = turning_from(tiff, given as u64 + 1, due);
+        return Search::Known(Some(turn));
+    }
+    Search::Running(fast)
+}
+
+/// Whether it is known that the chain turns back after so many directories.
+fn turns_at(search: Search, given: u32) -> bool {
+    match search {
+        Search::Known(Some(turn)) => turn == given,
+        Search::Known(None) | Search::Running(_) => false,
+    }
+}
+
+/// A reader of a file's directories, in the order of their chain. Contracts see its file and how
+/// many directories were handed out.
+pub struct Chain<'a> {
+    tiff: Tiff<'a>,
+    due: u32,
+    given: u32,
+    search: Search,
+}
+
+impl<'a> Model for Chain<'a> {}
+
+impl<'a> Chain<'a> {
+    /// A reader of the directories of a file, before the first one. Nothing is read yet.
+    pub fn new(tiff: Tiff<'a>) -> Self {
+        has_few_pages(&tiff, tiff.bytes());
+        let due = tiff.first();
+        Chain {
+            tiff,
+            due,
+            given: 0,
+            search: Search::Running(due),
+        }
+    }
+
+    /// The same reader once more.
+    pub fn again(&self) -> Self {
+        Chain {
+            tiff: self.tiff.again(),
+            due: self.due,
+            given: self.given,
+            search: self.search,
+        }
+    }
+
+    /// How many directories were handed out.
+    pub fn given(&self) -> u32 {
+        self.given
+    }
+
+    /// The directory that is due, or none after the last one.
+    ///
+    /// # Errors
+    ///
+    /// `DirectoryLoop` where the offset that is due was handed out before, `DirectoryOutside`
+    /// where no whole directory stands there.
+    pub fn due(&self) -> Result<Option<Directory<'a>>, FileFault> {
+        if self.due == 0 {
+            return Ok(None);
+        }
+        if turns_at(self.search, self.given) {
+            return Err(FileFault::DirectoryLoop);
+        }
+        Ok(Some(self.tiff.directory(self.due)?))
+    }
+
+    /// Hands out the next directory, or none after the last one, from then on.
+    ///
+    /// # Errors
+    ///
+    /// As `due`, from then on.
+    pub fn next(&mut self) -> Result<Option<Directory<'a>>, FileFault> {
+        let answer = self.due()?;
+        if let Some(directory) = &answer {
+            let due = directory.next_offset();
+            self.search = search_on(&self.tiff, self.search, self.given, due);
+            self.due = due;
+            self.given += 1;
+        }
+        Ok(answer)
+    }
+}

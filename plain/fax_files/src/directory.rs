@@ -1,0 +1,94 @@
+//! The directory of a page.
+
+use crate::fields::{Fields, FirstEntries};
+use crate::numbers::File;
+use crate::page::read_page;
+use crate::strips::Strips;
+use crate::{Endian, FileFault, PageForm};
+use kit_std::marker::Model;
+
+/// A directory that lies whole in its file: a page.
+pub struct Directory<'a> {
+    bytes: &'a [u8],
+    endian: Endian,
+    offset: usize,
+}
+
+impl<'a> Model for Directory<'a> {}
+
+/// The number of entries in the directory at an offset.
+pub(crate) fn entry_count(file: &File, offset: usize) -> u16 {
+    file.u16_at(offset)
+}
+
+impl<'a> Directory<'a> {
+    /// The directory at an offset.
+    pub(crate) fn new(file: File<'a>, offset: usize) -> Self {
+        Directory {
+            bytes: file.bytes,
+            endian: file.endian,
+            offset,
+        }
+    }
+
+    /// The same directory once more.
+    pub(crate) fn again(&self) -> Self {
+        Directory {
+            bytes: self.bytes,
+            endian: self.endian,
+            offset: self.offset,
+        }
+    }
+
+    /// The file that it stands in.
+    pub(crate) fn file(&self) -> File<'a> {
+        File {
+            bytes: self.bytes,
+            endian: self.endian,
+        }
+    }
+
+    /// The first entry of each tag of `TAGS`. It goes from the last entry to the first.
+    pub(crate) fn first_entries(&self) -> FirstEntries {
+        let file = self.file();
+        let mut first = FirstEntries::new();
+        let count = entry_count(&file, self.offset);
+        for k in (0..count).rev() {
+            first.see(file.entry_at(self.offset + 2 + 12 * k as usize));
+        }
+        first
+    }
+
+    /// The offset of the next directory, in bytes, or 0 at the chain's end.
+    pub fn next_offset(&self) -> u32 {
+        let file = self.file();
+        let count = entry_count(&file, self.offset) as usize;
+        file.u32_at(self.offset + 2 + 12 * count)
+    }
+
+    /// The form of the page, or its first fault, by the fields in the order of their checks: width,
+    /// rows, bits of a sample, compression, photometric interpretation, fill order, samples of a
+    /// pel, rows of a strip, T.4 options, offsets and byte counts of the strips (TIFF 6.0).
+    pub fn page(&self) -> Result<PageForm, FileFault> {
+        Ok(self.page_and_strips()?.0)
+    }
+
+    /// The form of the page, as `page` has it, and the places of its strips, by one pass over the
+    /// entries.
+    pub fn page_and_strips(&self) -> Result<(PageForm, Strips<'a>), FileFault> {
+        read_page(&Fields::new(self))
+    }
+
+    /// Whether the tags of the entries ascend, none standing twice (TIFF 6.0, section 2).
+    pub fn in_order(&self) -> bool {
+        let file = self.file();
+        let count = entry_count(&file, self.offset);
+        for k in 1..count {
+            let place = self.offset + 2 + 12 * k as usize;
+            if file.u16_at(place - 12) >= file.u16_at(place) {
+                return false;
+            }
+        }
+        true
+    }
+}

@@ -1,0 +1,105 @@
+//! The entries of a directory and their values (TIFF 6.0, section 2).
+
+use crate::FileFault;
+use crate::numbers::{File, is_inside};
+use crate::tags::{LONG, RATIONAL, SHORT};
+use kit_std::marker::Model;
+
+/// An entry of a directory.
+#[derive(Clone, Copy)]
+pub(crate) struct Entry {
+    tag: u16,
+    /// The type of the values.
+    kind: u16,
+    /// How many values there are.
+    count: u32,
+    /// Where the entry's last four bytes stand: the values, or their offset.
+    place: usize,
+}
+
+impl Model for Entry {}
+
+impl Entry {
+    /// The tag of the field.
+    pub fn tag(&self) -> u16 {
+        self.tag
+    }
+
+    /// Whether the values are SHORT or LONG.
+    fn is_integer(&self) -> bool {
+        self.kind == SHORT || self.kind == LONG
+    }
+
+    /// How many bytes a value takes, where it is SHORT, LONG or RATIONAL.
+    fn value_len(&self) -> usize {
+        match self.kind {
+            SHORT => 2,
+            LONG => 4,
+            _ => 8,
+        }
+    }
+}
+
+impl<'a> File<'a> {
+    /// The entry of twelve bytes at a place.
+    pub fn entry_at(&self, place: usize) -> Entry {
+        Entry {
+            tag: self.u16_at(place),
+            kind: self.u16_at(place + 2),
+            count: self.u32_at(place + 4),
+            place: place + 8,
+        }
+    }
+
+    /// Where the values of an entry stand.
+    fn values_place(&self, entry: &Entry) -> usize {
+        if (entry.count as usize).saturating_mul(entry.value_len()) <= 4 {
+            entry.place
+        } else {
+            self.u32_at(entry.place) as usize
+        }
+    }
+
+    /// Whether an entry has at least `n` values, SHORT or LONG, and the first `n` lie in the file.
+    pub fn has_integers(&self, entry: &Entry, n: u32) -> bool {
+        entry.is_integer()
+            && n <= entry.count
+            && is_inside(
+                self.bytes,
+                self.values_place(entry),
+                n as usize * entry.value_len(),
+            )
+    }
+
+    /// The value of an entry at index `i`.
+    pub fn value_at(&self, entry: &Entry, i: u32) -> u32 {
+        let place = self.values_place(entry) + i as usize * entry.value_len();
+        if entry.kind == SHORT {
+            u32::from(self.u16_at(place))
+        } else {
+            self.u32_at(place)
+        }
+    }
+
+    /// The value of a scalar.
+    pub fn scalar(&self, entry: &Entry) -> Result<u32, FileFault> {
+        if !self.has_integers(entry, 1) {
+            return Err(FileFault::BadField(entry.tag));
+        }
+        Ok(self.value_at(entry, 0))
+    }
+
+    /// An entry's fraction, where it has one whose numbers are above 0.
+    pub fn good_rational(&self, entry: &Entry) -> Option<(u32, u32)> {
+        let place = self.values_place(entry);
+        if entry.kind != RATIONAL || entry.count < 1 || !is_inside(self.bytes, place, 8) {
+            return None;
+        }
+        let value = (self.u32_at(place), self.u32_at(place + 4));
+        if value.0 > 0 && value.1 > 0 {
+            Some(value)
+        } else {
+            None
+        }
+    }
+}

@@ -1,0 +1,165 @@
+//! The fields of a page: the first entries of the tags that its form depends on.
+
+use crate::directory::Directory;
+use crate::entries::Entry;
+use crate::numbers::File;
+use crate::{FileFault, tags};
+use kit_std::marker::Model;
+
+/// The number of tags that are looked for.
+const SOUGHT: usize = 14;
+
+/// The tags that are looked for, in order.
+pub(crate) const TAGS: [u16; SOUGHT] = [
+    tags::IMAGE_WIDTH,
+    tags::IMAGE_LENGTH,
+    tags::BITS_PER_SAMPLE,
+    tags::COMPRESSION,
+    tags::PHOTOMETRIC_INTERPRETATION,
+    tags::FILL_ORDER,
+    tags::STRIP_OFFSETS,
+    tags::SAMPLES_PER_PIXEL,
+    tags::ROWS_PER_STRIP,
+    tags::STRIP_BYTE_COUNTS,
+    tags::X_RESOLUTION,
+    tags::Y_RESOLUTION,
+    tags::T4_OPTIONS,
+    tags::RESOLUTION_UNIT,
+];
+
+/// The first entry of each tag of `TAGS`.
+pub(crate) struct FirstEntries {
+    entries: [Option<Entry>; SOUGHT],
+}
+
+impl FirstEntries {
+    /// No entries yet.
+    pub fn new() -> Self {
+        FirstEntries {
+            entries: [None; SOUGHT],
+        }
+    }
+
+    /// Puts an entry before those that were seen.
+    pub fn see(&mut self, entry: Entry) {
+        if let Ok(slot) = TAGS.binary_search(&entry.tag()) {
+            self.entries[slot] = Some(entry);
+        }
+    }
+
+    /// The first entry of a tag of `TAGS`.
+    fn first(&self, tag: u16) -> Option<Entry> {
+        match TAGS.binary_search(&tag) {
+            Ok(slot) => self.entries[slot],
+            Err(_) => unreachable!(),
+        }
+    }
+}
+
+/// The numbers of a field that are taken.
+#[derive(Clone, Copy)]
+pub(crate) enum Limits {
+    /// From the first of these to the second.
+    Between(u32, u32),
+    AboveZero,
+    Any,
+}
+
+impl Limits {
+    /// Whether they allow a number.
+    fn allow(self, number: u32) -> bool {
+        match self {
+            Limits::Between(low, high) => low <= number && number <= high,
+            Limits::AboveZero => number > 0,
+            Limits::Any => true,
+        }
+    }
+}
+
+/// How a field is refused whose number is not taken.
+#[derive(Clone, Copy)]
+pub(crate) enum Refusal {
+    OutOfLimits,
+    Unsupported,
+    BadField,
+}
+
+impl Refusal {
+    /// The fault of a tag.
+    fn fault(self, tag: u16) -> FileFault {
+        match self {
+            Refusal::OutOfLimits => FileFault::OutOfLimits(tag),
+            Refusal::Unsupported => FileFault::Unsupported(tag),
+            Refusal::BadField => FileFault::BadField(tag),
+        }
+    }
+}
+
+/// A directory with the first entry of each tag of `TAGS`.
+pub(crate) struct Fields<'d, 'a> {
+    directory: &'d Directory<'a>,
+    first: FirstEntries,
+}
+
+impl<'d, 'a> Model for Fields<'d, 'a> {}
+
+impl<'d, 'a> Fields<'d, 'a> {
+    /// Goes through the entries of a directory once.
+    pub fn new(directory: &'d Directory<'a>) -> Self {
+        Fields {
+            directory,
+            first: directory.first_entries(),
+        }
+    }
+
+    /// The file that the directory stands in.
+    pub fn file(&self) -> File<'a> {
+        self.directory.file()
+    }
+
+    /// The directory.
+    pub fn directory(&self) -> Directory<'a> {
+        self.directory.again()
+    }
+
+    /// The first entry of a tag of `TAGS`.
+    pub fn first(&self, tag: u16) -> Option<Entry> {
+        self.first.first(tag)
+    }
+
+    /// The first entry of a tag, which has to be there.
+    pub fn needed(&self, tag: u16) -> Result<Entry, FileFault> {
+        self.first(tag).ok_or(FileFault::MissingField(tag))
+    }
+
+    /// The first value of a tag, or `absent` where no entry has the tag, if it is given.
+    fn first_number(&self, tag: u16, absent: Option<u32>) -> Result<u32, FileFault> {
+        match (self.first(tag), absent) {
+            (Some(entry), _) => self.file().scalar(&entry),
+            (None, Some(number)) => Ok(number),
+            (None, None) => Err(FileFault::MissingField(tag)),
+        }
+    }
+
+    /// The scalar of a tag, or `absent` where no entry has the tag, if it is given: a number within
+    /// the limits, else it is refused so.
+    pub fn scalar(
+        &self,
+        tag: u16,
+        absent: Option<u32>,
+        limits: Limits,
+        refusal: Refusal,
+    ) -> Result<u32, FileFault> {
+        let number = self.first_number(tag, absent)?;
+        if !limits.allow(number) {
+            return Err(refusal.fault(tag));
+        }
+        Ok(number)
+    }
+
+    /// The fraction of a tag, where it is there and good.
+    pub fn rational_of(&self, tag: u16) -> Option<(u32, u32)> {
+        let entry = self.first(tag)?;
+        self.file().good_rational(&entry)
+    }
+}

@@ -1,0 +1,36 @@
+//! Numbers in a file (TIFF 6.0, section 2).
+
+use crate::Endian;
+use byteorder::{BigEndian, ByteOrder, LittleEndian};
+
+/// A file's bytes, and which byte of a number stands first in them.
+#[derive(Clone, Copy)]
+pub(crate) struct File<'a> {
+    pub bytes: &'a [u8],
+    pub endian: Endian,
+}
+
+/// Whether the `len` bytes from a place on lie in the file.
+pub(crate) fn is_inside(file: &[u8], place: usize, len: usize) -> bool {
+    place <= file.len() && len <= file.len() - place
+}
+
+impl<'a> File<'a> {
+    /// The number of two bytes at a place.
+    pub fn u16_at(&self, place: usize) -> u16 {
+        let bytes = &self.bytes[place..];
+        match self.endian {
+            Endian::Little => LittleEndian::read_u16(bytes),
+            Endian::Big => BigEndian::read_u16(bytes),
+        }
+    }
+
+    /// The number of four bytes at a place.
+    pub fn u32_at(&self, place: usize) -> u32 {
+        let bytes = &self.bytes[place..];
+        match self.endian {
+            Endian::Little => LittleEndian::read_u32(bytes),
+            Endian::Big => BigEndian::read_u32(bytes),
+        }
+    }
+}

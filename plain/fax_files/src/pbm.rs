@@ -1,0 +1,249 @@
+//! Raw PBM, one image after another (the netpbm format, P4): read as slices of the input, and
+//! written.
+
+use kit_std::prelude::Vec;
+
+use fax_bits::Memory;
+use fax_rows::Row;
+use itoa::Buffer;
+use kit_std::marker::Model;
+use thiserror::Error;
+
+/// A number above each limit, which stands for all larger ones.
+const OVER: u32 = 1_000_001;
+
+/// Why no image is read.
+#[derive(Clone, Copy, Debug, PartialEq, Eq, Error)]
+pub enum PbmFault {
+    /// The bytes do not begin with the header of a raw PBM.
+    #[error("the header is not one of a raw PBM")]
+    BadHeader,
+    /// The width is not 1 to 65,535, or the height not 1 to 1,000,000.
+    #[error("the image is out of limits")]
+    OutOfLimits,
+    /// There are fewer bytes than the rows take.
+    #[error("the image has fewer bytes than its rows")]
+    ShortRaster,
+}
+
+impl PbmFault {
+    /// The fault's name.
+    pub fn name(self) -> &'static str {
+        match self {
+            PbmFault::BadHeader => "BadHeader",
+            PbmFault::OutOfLimits => "OutOfLimits",
+            PbmFault::ShortRaster => "ShortRaster",
+        }
+    }
+}
+
+/// A blank, TAB, LF, VT, FF or CR.
+fn is_white_space(byte: u8) -> bool {
+    byte == b' ' || (9 <= byte && byte <= 13)
+}
+
+/// A LF or CR, which ends a comment.
+fn is_line_end(byte: u8) -> bool {
+    byte == b'\n' || byte == b'\r'
+}
+
+/// A decimal digit.
+fn is_digit(byte: u8) -> bool {
+    b'0' <= byte && byte <= b'9'
+}
+
+/// White space, or the `#` of a comment.
+fn begins_piece(byte: u8) -> bool {
+    byte == b'#' || is_white_space(byte)
+}
+
+/// What stands after white space and comments, if anything does.
+fn after_pieces(bytes: &[u8]) -> Option<&[u8]> {
+    let mut in_comment = false;
+    for (i, byte) in bytes.iter().enumerate() {
+        if in_comment {
+            in_comment = !is_line_end(*byte);
+        } else if begins_piece(*byte) {
+            in_comment = *byte == b'#';
+        } else {
+            return Some(&bytes[i..]);
+        }
+    }
+    None
+}
+
+/// What stands after a gap, which is white space or a comment or more of them.
+fn after_gap(bytes: &[u8]) -> Option<&[u8]> {
+    if bytes.is_empty() || !begins_piece(bytes[0]) {
+        return None;
+    }
+    after_pieces(bytes)
+}
+
+/// The number that the digits ahead spell, or `OVER` where it is larger, and what stands after it.
+fn number(bytes: &[u8]) -> Option<(u32, &[u8])> {
+    if bytes.is_empty() || !is_digit(bytes[0]) {
+        return None;
+    }
+    let mut number = 0;
+    for (i, byte) in bytes.iter().enumerate() {
+        if !is_digit(*byte) {
+            return Some((number, &bytes[i..]));
+        }
+        number = (10 * number + u32::from(*byte - b'0')).min(OVER);
+    }
+    Some((number, &bytes[bytes.len()..]))
+}
+
+/// An image's header, and what stands after it. A number above its limit is a number above it.
+struct Head<'a> {
+    width: u32,
+    height: u32,
+    after: &'a [u8],
+}
+
+/// The header at the start of the bytes.
+fn read_head(bytes: &[u8]) -> Option<Head<'_>> {
+    if !bytes.starts_with(b"P4") {
+        return None;
+    }
+    let at_width = after_gap(&bytes[2..])?;
+    let (width, after_width) = number(at_width)?;
+    let at_height = after_gap(after_width)?;
+    let (height, after_height) = number(at_height)?;
+    if after_height.is_empty() || !is_white_space(after_height[0]) {
+        return None;
+    }
+    Some(Head {
+        width,
+        height,
+        after: &after_height[1..],
+    })
+}
+
+/// The bytes of a row of this width.
+fn row_len(width: u32) -> usize {
+    (width as usize).div_ceil(8)
+}
+
+/// An image within the limits: its width, how many rows it has, and their bytes in the input, each
+/// row's from a byte of its own on.
+#[derive(Clone, Copy, Debug, PartialEq, Eq)]
+pub struct PbmImage<'a> {
+    pub width: u32,
+    pub rows: u32,
+    pub raster: &'a [u8],
+}
+
+impl<'a> PbmImage<'a> {
+    /// The bytes of row `i`, from 0 at the top: eight pels in a byte, the leftmost in its highest
+    /// bit, where 1 is black.
+    pub fn row(&self, i: u32) -> &'a [u8] {
+        let len = row_len(self.width);
+        let start = i as usize * len;
+        &self.raster[start..start + len]
+    }
+}
+
+/// The numbers are an image's width and height within the limits.
+fn is_within_limits(width: u32, height: u32) -> bool {
+    (1..=65_535).contains(&width) && (1..=1_000_000).contains(&height)
+}
+
+/// The image at the start of the bytes, and what stands after it.
+fn read_image(bytes: &[u8]) -> Result<(PbmImage<'_>, &[u8]), PbmFault> {
+    let Some(head) = read_head(bytes) else {
+        return Err(PbmFault::BadHeader);
+    };
+    if !is_within_limits(head.width, head.height) {
+        return Err(PbmFault::OutOfLimits);
+    }
+    let len = (head.height as usize).saturating_mul(row_len(head.width));
+    if head.after.len() < len {
+        return Err(PbmFault::ShortRaster);
+    }
+    let image = PbmImage {
+        width: head.width,
+        rows: head.height,
+        raster: &head.after[..len],
+    };
+    Ok((image, &head.after[len..]))
+}
+
+/// Reads image after image. Contracts see the bytes that are left, and the fault that was answered.
+pub struct PbmReader<'a> {
+    left: &'a [u8],
+    fault: Option<PbmFault>,
+}
+
+impl<'a> Model for PbmReader<'a> {}
+
+impl<'a> PbmReader<'a> {
+    /// A reader of the images in these bytes.
+    pub fn new(bytes: &'a [u8]) -> Self {
+        PbmReader {
+            left: bytes,
+            fault: None,
+        }
+    }
+
+    /// The image at the start of the bytes that are left, which then begin after it, or none where
+    /// no bytes are left.
+    ///
+    /// # Errors
+    ///
+    /// The image's fault, which is answered again from then on.
+    pub fn next_image(&mut self) -> Result<Option<PbmImage<'a>>, PbmFault> {
+        if let Some(fault) = self.fault {
+            return Err(fault);
+        }
+        if self.left.is_empty() {
+            return Ok(None);
+        }
+        match read_image(self.left) {
+            Ok((image, after)) => {
+                self.left = after;
+                Ok(Some(image))
+            }
+            Err(fault) => {
+                self.fault = Some(fault);
+                Err(fault)
+            }
+        }
+    }
+}
+
+/// Appends an image's header: `P4`, its width and its height, in decimals without leading zeros.
+///
+/// # Errors
+///
+/// `Memory` where a growth was refused; the bytes are then as they were.
+pub fn put_pbm_head(out: &mut Vec<u8>, width: u32, rows: u32) -> Result<(), Memory> {
+    let mut width_digits = Buffer::new();
+    let mut rows_digits = Buffer::new();
+    let width = width_digits.format(width).as_bytes();
+    let rows = rows_digits.format(rows).as_bytes();
+    out.reserve(5 + width.len() + rows.len())
+        .map_err(|_| Memory)?;
+    out.extend_from_slice(b"P4\n").map_err(|_| Memory)?;
+    out.extend_from_slice(width).map_err(|_| Memory)?;
+    out.extend_from_slice(b" ").map_err(|_| Memory)?;
+    out.extend_from_slice(rows).map_err(|_| Memory)?;
+    out.extend_from_slice(b"\n").map_err(|_| Memory)
+}
+
+/// Appends the bytes of a row: eight pels in a byte, the leftmost in its highest bit, where 1 is
+/// black and the bits after the last pel are 0.
+///
+/// # Errors
+///
+/// `Memory` where a growth was refused; the bytes are then as they were.
+pub fn put_pbm_row(out: &mut Vec<u8>, row: &Row) -> Result<(), Memory> {
+    let start = out.len();
+    let len = row_len(row.width());
+    out.resize(start + len, 0).map_err(|_| Memory)?;
+    if !row.is_white() {
+        row.to_packed(&mut out[start..]);
+    }
+    Ok(())
+}

@@ -1,0 +1,62 @@
+//! Where the strips of a page stand in its file.
+
+use crate::FileFault;
+use crate::directory::Directory;
+use crate::entries::Entry;
+use crate::numbers::is_inside;
+use kit_std::marker::Model;
+
+/// The places of a page's strips: two entries of its directory, with a value for each strip.
+pub struct Strips<'a> {
+    directory: Directory<'a>,
+    count: u32,
+    offsets: Entry,
+    byte_counts: Entry,
+}
+
+impl<'a> Model for Strips<'a> {}
+
+impl<'a> Strips<'a> {
+    /// The strips of the page with this directory.
+    pub(crate) fn new(
+        directory: Directory<'a>,
+        count: u32,
+        offsets: Entry,
+        byte_counts: Entry,
+    ) -> Self {
+        Strips {
+            directory,
+            count,
+            offsets,
+            byte_counts,
+        }
+    }
+
+    /// The number of strips.
+    pub fn count(&self) -> u32 {
+        self.count
+    }
+
+    /// The bytes of strip `s`, from 0, or `StripOutside` where they do not lie in the file
+    /// (TIFF 6.0, StripOffsets and StripByteCounts).
+    pub fn bytes(&self, s: u32) -> Result<&'a [u8], FileFault> {
+        let file = self.directory.file();
+        let offset = file.value_at(&self.offsets, s) as usize;
+        let len = file.value_at(&self.byte_counts, s) as usize;
+        if !is_inside(file.bytes, offset, len) {
+            return Err(FileFault::StripOutside);
+        }
+        Ok(&file.bytes[offset..offset + len])
+    }
+
+    /// The bytes of strip `s`, from 0, that lie in the file: those before its end, where it has not
+    /// all of them (TIFF 6.0, StripOffsets and StripByteCounts).
+    pub fn bytes_inside(&self, s: u32) -> &'a [u8] {
+        let file = self.directory.file();
+        let offset = file.value_at(&self.offsets, s) as usize;
+        let len = file.value_at(&self.byte_counts, s) as usize;
+        let begin = offset.min(file.bytes.len());
+        let rest = &file.bytes[begin..];
+        &rest[..len.min(rest.len())]
+    }
+}

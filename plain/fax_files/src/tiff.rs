@@ -1,0 +1,88 @@
+//! A TIFF file and its directories.
+
+use crate::directory::{Directory, entry_count};
+use crate::numbers::{File, is_inside};
+use crate::{Endian, FileFault, PageForm};
+use kit_std::marker::Model;
+
+/// A file with a good header.
+pub struct Tiff<'a> {
+    file: File<'a>,
+    first: u32,
+}
+
+impl<'a> Model for Tiff<'a> {}
+
+impl<'a> Tiff<'a> {
+    /// Reads a file's header, or gives its first fault (TIFF 6.0, section 2).
+    pub fn read_header(file: &'a [u8]) -> Result<Self, FileFault> {
+        if file.len() < 8 {
+            return Err(FileFault::ShortHeader);
+        }
+        let endian = if file.starts_with(b"II") {
+            Endian::Little
+        } else if file.starts_with(b"MM") {
+            Endian::Big
+        } else {
+            return Err(FileFault::ByteOrder);
+        };
+        let file = File {
+            bytes: file,
+            endian,
+        };
+        if file.u16_at(2) != 42 {
+            return Err(FileFault::Magic);
+        }
+        let first = file.u32_at(4);
+        if first == 0 {
+            return Err(FileFault::NoDirectory);
+        }
+        Ok(Tiff { file, first })
+    }
+
+    /// The bytes of the file.
+    pub(crate) fn bytes(&self) -> &'a [u8] {
+        self.file.bytes
+    }
+
+    /// The same file once more.
+    pub(crate) fn again(&self) -> Self {
+        Tiff {
+            file: self.file,
+            first: self.first,
+        }
+    }
+
+    /// The offset of the first directory, in bytes.
+    pub fn first(&self) -> u32 {
+        self.first
+    }
+
+    /// The directory at an offset in bytes, or `DirectoryOutside` where it does not lie whole in
+    /// the file.
+    pub fn directory(&self, offset: u32) -> Result<Directory<'a>, FileFault> {
+        let offset = offset as usize;
+        if !is_inside(self.file.bytes, offset, 2) {
+            return Err(FileFault::DirectoryOutside);
+        }
+        let len = 6 + 12 * entry_count(&self.file, offset) as usize;
+        if !is_inside(self.file.bytes, offset, len) {
+            return Err(FileFault::DirectoryOutside);
+        }
+        Ok(Directory::new(self.file, offset))
+    }
+
+    /// The bytes of strip `s`, from 0, of a page whose directory and form these are, or
+    /// `StripOutside` where they do not lie in the directory's file. It is for callers that want
+    /// one strip: `Strips` gives one after another.
+    pub fn strip(
+        &self,
+        form: &PageForm,
+        directory: &Directory<'a>,
+        s: u32,
+    ) -> Result<&'a [u8], FileFault> {
+        // Contracts need the form; the strips are found by the directory alone.
+        let _ = form;
+        directory.page_and_strips()?.1.bytes(s)
+    }
+}

@@ -1,0 +1,144 @@
+//! TIFF files, written page by page.
+
+use kit_std::prelude::Vec;
+
+use crate::PageForm;
+use crate::written::{
+    MAX_FILE, StripsAt, TO_LINK, append, laid_out, page_end, page_tail, set_link, strips_end,
+};
+use fax_bits::Memory;
+use kit_std::alloc::Global;
+use kit_std::marker::Model;
+use thiserror::Error;
+
+/// Why a page was not added to a file.
+#[derive(Clone, Copy, Debug, PartialEq, Eq, Error)]
+pub enum WriteFault {
+    /// A growth was refused.
+    #[error("out of memory")]
+    Memory,
+    /// The file would have more than 268,435,456 bytes.
+    #[error("the output is too large")]
+    OutputTooLarge,
+}
+
+/// A page as it stands in a file.
+pub struct PageBytes {
+    /// Its strips, its directory and what belongs to that.
+    pub bytes: Vec<u8>,
+    /// Where in the file its directory begins.
+    pub directory: u32,
+    /// Where in the file the offset of the next page's directory stands, which is 0.
+    pub link: u32,
+}
+
+/// The bytes of page `number`, from 0, of `total` of this form, of which these are the bytes of
+/// each strip, as they stand from byte `start` of a file on.
+///
+/// # Errors
+///
+/// `OutputTooLarge` where the file would have more than 268,435,456 bytes, `Memory` where a growth
+/// was refused.
+pub fn write_page(
+    alloc: Global,
+    form: &PageForm,
+    strips: &[Vec<u8>],
+    start: u32,
+    number: u16,
+    total: u16,
+) -> Result<PageBytes, WriteFault> {
+    let Some(end) = strips_end(start, strips) else {
+        return Err(WriteFault::OutputTooLarge);
+    };
+    if page_end(end + end % 2, form.strips) > u64::from(MAX_FILE) {
+        return Err(WriteFault::OutputTooLarge);
+    }
+    let at = laid_out(form.strips, start, end, number, total);
+    let placed = StripsAt { strips, start, end };
+    let Ok(tail) = page_tail(alloc, form, placed, &at) else {
+        return Err(WriteFault::Memory);
+    };
+    let mut bytes = Vec::new(alloc);
+    let Ok(()) = append(&mut bytes, strips, &tail) else {
+        return Err(WriteFault::Memory);
+    };
+    Ok(PageBytes {
+        bytes,
+        directory: at.directory,
+        link: at.directory + TO_LINK,
+    })
+}
+
+/// Writes a TIFF file page by page. Contracts see its bytes, the place of its last link, of how
+/// many pages it is to be, and how many were added.
+pub struct TiffWriter {
+    alloc: Global,
+    bytes: Vec<u8>,
+    /// Where the offset of the next page's directory goes.
+    link: u32,
+    total: u16,
+    added: u16,
+}
+
+impl Model for TiffWriter {}
+
+impl TiffWriter {
+    /// A file of this many pages, before the first is added.
+    ///
+    /// # Errors
+    ///
+    /// `Memory` where a growth was refused.
+    pub fn new(alloc: Global, pages: u16) -> Result<Self, Memory> {
+        let head = [b'I', b'I', 42, 0, 0, 0, 0, 0];
+        let bytes = Vec::from_slice(alloc, &head).map_err(|_| Memory)?;
+        Ok(TiffWriter {
+            alloc,
+            bytes,
+            link: 4,
+            total: pages,
+            added: 0,
+        })
+    }
+
+    /// Adds a page of this form, of which these are the bytes of each strip.
+    ///
+    /// # Errors
+    ///
+    /// `OutputTooLarge` where the file would have more than 268,435,456 bytes, `Memory` where a
+    /// growth was refused. The file is then as it was.
+    pub fn add_page(&mut self, form: &PageForm, strips: &[Vec<u8>]) -> Result<(), WriteFault> {
+        let start = self.bytes.len() as u32;
+        let Some(end) = strips_end(start, strips) else {
+            return Err(WriteFault::OutputTooLarge);
+        };
+        let page_end = page_end(end + end % 2, form.strips);
+        if page_end > u64::from(MAX_FILE) {
+            return Err(WriteFault::OutputTooLarge);
+        }
+        let at = laid_out(form.strips, start, end, self.added, self.total);
+        let placed = StripsAt { strips, start, end };
+        let Ok(tail) = page_tail(self.alloc, form, placed, &at) else {
+            return Err(WriteFault::Memory);
+        };
+        if self
+            .bytes
+            .reserve((page_end as usize) - (start as usize))
+            .is_err()
+        {
+            return Err(WriteFault::Memory);
+        }
+        if append(&mut self.bytes, strips, &tail).is_err() {
+            self.bytes.truncate(start as usize);
+            return Err(WriteFault::Memory);
+        }
+        set_link(&mut self.bytes, self.link as usize, at.directory);
+        self.link = at.directory + TO_LINK;
+        self.added += 1;
+        Ok(())
+    }
+
+    /// The bytes of the file, to which all pages were added.
+    pub fn finish(self) -> Vec<u8> {
+        self.bytes
+    }
+}

@@ -1,0 +1,299 @@
+//! The parts of a written page (TIFF 6.0; RFC 2306), all numbers with their lowest byte first.
+
+use kit_std::prelude::Vec;
+
+use crate::{PageForm, tags};
+use byteorder::{ByteOrder, LittleEndian};
+use fax_bits::FillOrder;
+use fax_page::Coding;
+use kit_std::alloc::{AllocError, Global};
+use kit_std::marker::Model;
+
+/// The most bytes of a file that is written.
+pub const MAX_FILE: u32 = 268_435_456;
+
+/// The number of fields of a directory.
+const FIELDS: usize = 16;
+/// How far after a directory's place its next offset stands: after the number of its fields, and
+/// twelve bytes of each.
+pub(crate) const TO_LINK: u32 = 2 + 12 * FIELDS as u32;
+/// How far after it the fraction of XResolution stands.
+const TO_X: u32 = TO_LINK + 4;
+/// How far after it the fraction of YResolution stands.
+const TO_Y: u32 = TO_X + 8;
+/// How far after it the strips' offsets stand, where there are more than one.
+const TO_OFFSETS: u32 = TO_Y + 8;
+
+/// The four bytes of a number.
+pub(crate) fn four_bytes(n: u32) -> [u8; 4] {
+    let mut bytes = [0; 4];
+    LittleEndian::write_u32(&mut bytes, n);
+    bytes
+}
+
+/// The two bytes of one number, and then those of another.
+fn two_and_two(first: u16, second: u16) -> [u8; 4] {
+    let mut bytes = [0; 4];
+    LittleEndian::write_u16(&mut bytes, first);
+    LittleEndian::write_u16(&mut bytes[2..], second);
+    bytes
+}
+
+/// Appends a number of two bytes.
+fn put_two(out: &mut Vec<u8>, n: u16) -> Result<(), AllocError> {
+    let mut bytes = [0; 2];
+    LittleEndian::write_u16(&mut bytes, n);
+    out.extend_from_slice(&bytes)
+}
+
+/// Appends a number of four bytes.
+fn put_four(out: &mut Vec<u8>, n: u32) -> Result<(), AllocError> {
+    out.extend_from_slice(&four_bytes(n))
+}
+
+/// A field as it is written.
+struct Field {
+    tag: u16,
+    kind: u16,
+    count: u32,
+    value: [u8; 4],
+}
+
+impl Model for Field {}
+
+/// A field of one SHORT.
+fn short_field(tag: u16, n: u16) -> Field {
+    Field {
+        tag,
+        kind: tags::SHORT,
+        count: 1,
+        value: two_and_two(n, 0),
+    }
+}
+
+/// A field of LONGs: the one that there is, or the place of the first.
+fn long_field(tag: u16, count: u32, n: u32) -> Field {
+    Field {
+        tag,
+        kind: tags::LONG,
+        count,
+        value: four_bytes(n),
+    }
+}
+
+/// A field of one fraction, which stands at a place.
+fn rational_field(tag: u16, place: u32) -> Field {
+    Field {
+        tag,
+        kind: tags::RATIONAL,
+        count: 1,
+        value: four_bytes(place),
+    }
+}
+
+/// T4Options for MH and MR, with bit 2 where EOLs are aligned, T6Options for MMR.
+fn options_field(coding: Coding, aligned: bool) -> Field {
+    match coding {
+        Coding::Mh => long_field(tags::T4_OPTIONS, 1, if aligned { 4 } else { 0 }),
+        Coding::Mr => long_field(tags::T4_OPTIONS, 1, if aligned { 5 } else { 1 }),
+        Coding::Mmr => long_field(tags::T6_OPTIONS, 1, 0),
+    }
+}
+
+/// The number of a coding in Compression.
+fn compression(coding: Coding) -> u16 {
+    match coding {
+        Coding::Mh | Coding::Mr => 3,
+        Coding::Mmr => 4,
+    }
+}
+
+/// The number of a fill order in FillOrder.
+fn fill_order(order: FillOrder) -> u16 {
+    match order {
+        FillOrder::MsbFirst => 1,
+        FillOrder::LsbFirst => 2,
+    }
+}
+
+/// Where a page is written: its number of how many, the place of its directory, and its strips.
+#[derive(Clone, Copy)]
+pub(crate) struct Layout {
+    /// The number of pages.
+    pub total: u16,
+    /// The number of this page, from 0.
+    pub number: u16,
+    /// The place of the directory.
+    pub directory: u32,
+    /// The number of strips.
+    pub strips: u32,
+    /// The value of StripOffsets: the one offset, or the place of the first.
+    pub offsets: u32,
+    /// The value of StripByteCounts: the one byte count, or the place of the first.
+    pub byte_counts: u32,
+}
+
+/// Appends the entry of a field.
+fn put_field(out: &mut Vec<u8>, field: &Field) -> Result<(), AllocError> {
+    put_two(out, field.tag)?;
+    put_two(out, field.kind)?;
+    put_four(out, field.count)?;
+    out.extend_from_slice(&field.value)
+}
+
+/// Appends a fraction.
+fn put_rational(out: &mut Vec<u8>, value: (u32, u32)) -> Result<(), AllocError> {
+    put_four(out, value.0)?;
+    put_four(out, value.1)
+}
+
+/// The fields of a page.
+fn page_fields(form: &PageForm, at: &Layout) -> [Field; FIELDS] {
+    [
+        long_field(tags::NEW_SUBFILE_TYPE, 1, 2),
+        long_field(tags::IMAGE_WIDTH, 1, form.width),
+        long_field(tags::IMAGE_LENGTH, 1, form.rows),
+        short_field(tags::BITS_PER_SAMPLE, 1),
+        short_field(tags::COMPRESSION, compression(form.coding)),
+        short_field(tags::PHOTOMETRIC_INTERPRETATION, 0),
+        short_field(tags::FILL_ORDER, fill_order(form.order)),
+        long_field(tags::STRIP_OFFSETS, at.strips, at.offsets),
+        short_field(tags::SAMPLES_PER_PIXEL, 1),
+        long_field(tags::ROWS_PER_STRIP, 1, form.rows_per_strip),
+        long_field(tags::STRIP_BYTE_COUNTS, at.strips, at.byte_counts),
+        rational_field(tags::X_RESOLUTION, at.directory + TO_X),
+        rational_field(tags::Y_RESOLUTION, at.directory + TO_Y),
+        options_field(form.coding, form.aligned),
+        short_field(tags::RESOLUTION_UNIT, form.unit),
+        Field {
+            tag: tags::PAGE_NUMBER,
+            kind: tags::SHORT,
+            count: 2,
+            value: two_and_two(at.number, at.total),
+        },
+    ]
+}
+
+/// Appends a directory of these fields, with the next offset 0.
+fn put_directory(out: &mut Vec<u8>, fields: &[Field]) -> Result<(), AllocError> {
+    put_two(out, fields.len() as u16)?;
+    for field in fields {
+        put_field(out, field)?;
+    }
+    put_four(out, 0)
+}
+
+/// Appends the offsets of strips that begin at a place.
+fn put_offsets(out: &mut Vec<u8>, start: u32, strips: &[Vec<u8>]) -> Result<(), AllocError> {
+    let mut place = start;
+    for strip in strips {
+        put_four(out, place)?;
+        place += strip.len() as u32;
+    }
+    Ok(())
+}
+
+/// Appends the byte counts of strips.
+fn put_byte_counts(out: &mut Vec<u8>, strips: &[Vec<u8>]) -> Result<(), AllocError> {
+    for strip in strips {
+        put_four(out, strip.len() as u32)?;
+    }
+    Ok(())
+}
+
+/// Appends the bytes of strips. Where a growth is refused, what stood there stays in front.
+fn put_strips(out: &mut Vec<u8>, strips: &[Vec<u8>]) -> Result<(), AllocError> {
+    for strip in strips {
+        out.extend_from_slice(strip)?;
+    }
+    Ok(())
+}
+
+/// The strips of a page that is written, which begin and end at these places of the file.
+#[derive(Clone, Copy)]
+pub(crate) struct StripsAt<'a> {
+    pub strips: &'a [Vec<u8>],
+    pub start: u32,
+    pub end: u32,
+}
+
+/// The bytes of a page that stand after its strips: a zero byte to an even place, the directory,
+/// and the values that do not fit it.
+pub(crate) fn page_tail(
+    alloc: Global,
+    form: &PageForm,
+    placed: StripsAt,
+    at: &Layout,
+) -> Result<Vec<u8>, AllocError> {
+    let StripsAt { strips, start, end } = placed;
+    let mut tail = Vec::new(alloc);
+    if end % 2 == 1 {
+        tail.extend_from_slice(&[0])?;
+    }
+    put_directory(&mut tail, &page_fields(form, at))?;
+    put_rational(&mut tail, form.x)?;
+    put_rational(&mut tail, form.y)?;
+    if at.strips != 1 {
+        put_offsets(&mut tail, start, strips)?;
+        put_byte_counts(&mut tail, strips)?;
+    }
+    Ok(tail)
+}
+
+/// How many bytes a file has whose last page has its directory at this place, and so many strips.
+pub(crate) fn page_end(directory: u32, strips: u32) -> u64 {
+    let arrays = if strips == 1 {
+        0
+    } else {
+        8 * u64::from(strips)
+    };
+    u64::from(directory) + u64::from(TO_OFFSETS) + arrays
+}
+
+/// How a page is laid out whose strips begin at `start` and end at `end`.
+pub(crate) fn laid_out(strips: u32, start: u32, end: u32, number: u16, total: u16) -> Layout {
+    let directory = end + end % 2;
+    let (offsets, byte_counts) = if strips == 1 {
+        (start, end - start)
+    } else {
+        let offsets = directory + TO_OFFSETS;
+        (offsets, offsets + 4 * strips)
+    };
+    Layout {
+        total,
+        number,
+        directory,
+        strips,
+        offsets,
+        byte_counts,
+    }
+}
+
+/// Appends strips and what stands after them, for which memory is reserved at once. Where it is
+/// refused, what stood there stays in front.
+pub(crate) fn append(bytes: &mut Vec<u8>, strips: &[Vec<u8>], tail: &[u8]) -> Result<(), AllocError> {
+    put_strips(bytes, strips)?;
+    bytes.extend_from_slice(tail)
+}
+
+/// Sets the four bytes at a place.
+fn set_four(bytes: &mut [u8], place: usize, n: u32) {
+    bytes[place..place + 4].copy_from_slice(&four_bytes(n));
+}
+
+/// The place after strips that begin at a place, if it is within the limit of a file.
+pub(crate) fn strips_end(start: u32, strips: &[Vec<u8>]) -> Option<u32> {
+    let mut end = start;
+    for strip in strips {
+        if strip.len() > (MAX_FILE - end) as usize {
+            return None;
+        }
+        end += strip.len() as u32;
+    }
+    Some(end)
+}
+
+/// Sets the four bytes at a place of a file.
+pub(crate) fn set_link(bytes: &mut Vec<u8>, place: usize, n: u32) {
+    set_four(bytes, place, n);
+}

@@ -1,0 +1,107 @@
+//! Laws of strips. The functions compute nothing: each has a law as its contract.
+
+/// Bits are read in one way as a row of a strip, in any coding: they begin with one row and one
+/// rest follows it, or one fault is in its way, never both. The rest is the end of the bits, and
+/// the row is as wide as its reference.
+pub fn lines_are_read_in_one_way() {
+    fax_rows::laws::rows_are_read_in_one_way();
+    fax_rows::laws::rows_over_a_reference_are_read_in_one_way();
+    fax_rows::laws::rows_have_their_width();
+}
+
+/// Bits are read in one way as a strip, in any coding: they have one list of rows and one end.
+pub fn strips_are_read_in_one_way() {
+    lines_are_read_in_one_way();
+}
+
+/// A strip is noted in one way: of any bits that have all its rows there is one set of notes.
+pub fn strips_are_noted_in_one_way() {
+    lines_are_read_in_one_way();
+}
+
+/// An aligned EOL ends on a byte boundary of its strip, after as little fill as does so (T.4,
+/// section 4.1.3; TIFF 6.0, T4Options).
+pub fn aligned_eols_end_on_bytes() {}
+
+/// The bits of a written strip are read as its rows and no fault, in any coding, whatever bits
+/// follow them.
+pub fn coded_bits_are_read_back() {
+    fax_rows::laws::one_dimensional_rows_are_read_back();
+    fax_rows::laws::two_dimensional_rows_are_read_back();
+}
+
+/// A written strip is read back: its bytes are a strip with its rows and no fault, in any coding,
+/// for any k and either fill order.
+pub fn coded_strips_are_read_back() {
+    coded_bits_are_read_back();
+    fax_bits::laws::bits_are_packed_in_one_way();
+}
+
+/// A written strip is read as no other rows and with no other end.
+pub fn coded_strips_are_read_as_nothing_else() {
+    coded_strips_are_read_back();
+    strips_are_read_in_one_way();
+}
+
+/// A strip is read row by row: where `StripReader::advance` reads rows one after another, from a
+/// strip's beginning on, they are the rows of the strip, up to its end.
+pub fn strips_are_read_row_by_row() {}
+
+/// A strip is read on from any place, as from where `StripReader::restart_at` goes: the rows that
+/// `StripReader::advance` reads from there are the lines of the strip from that row on, up to their
+/// end, and a fault leaves the reader where it was before that call.
+pub fn strips_are_read_on() {}
+
+/// A strip is written row by row: where `StripWriter::put_row` puts rows one after another, the
+/// bytes that `finish` gives are the strip of these rows.
+pub fn strips_are_written_row_by_row() {}
+
+/// Any bits are read in one way as rows that nobody counted, in any coding: they have one list of
+/// rows, of at most 1,000,000, and one end.
+pub fn uncounted_rows_are_read_in_one_way() {
+    lines_are_read_in_one_way();
+}
+
+/// Rows that nobody counted, however they end, are all rows of a strip of as many, and no fault.
+pub fn uncounted_rows_are_a_strip() {}
+
+/// The bytes of a written strip are its rows, though nobody counts them: in MMR up to its end mark,
+/// in MH and MR up to the end of the data.
+pub fn coded_strips_are_read_uncounted() {
+    fax_rows::laws::one_dimensional_rows_are_read_back();
+    fax_rows::laws::two_dimensional_rows_are_read_back();
+    fax_bits::laws::bits_are_packed_in_one_way();
+}
+
+/// A row of a strip is the same row, whatever bits follow those that it is read from, and so is a
+/// fault in its way, but where it is that the data end.
+pub fn rows_stay_whatever_follows() {}
+
+/// A strip is read in pieces: the rows of its first bits, and then those of what is left of them and
+/// of the bits that follow, are the rows of all of them.
+pub fn strips_are_read_in_pieces() {}
+
+/// How rows end that nobody counted stays, whatever bits follow: with an end mark, or with a fault
+/// that is neither the end of the data nor an end marker.
+pub fn ends_stay_whatever_follows() {
+    lines_are_read_in_one_way();
+}
+
+/// What is left of a damaged strip is found and lost in one way, from any row on, in any coding:
+/// there is one list of what becomes of its rows, of as many as it has.
+pub fn strips_are_salvaged_in_one_way() {
+    lines_are_read_in_one_way();
+}
+
+/// The rows that are read before a fault are found: all of them, or where an EOL is missing after
+/// the last, all but that one.
+pub fn rows_before_a_fault_are_found() {
+    lines_are_read_in_one_way();
+}
+
+/// In MH and MR the row after a lost one is due at the next EOL, whatever bits that hold no EOL stand
+/// before it: so what is found after a lost row is the same whatever its bits were.
+pub fn lost_bits_do_not_matter() {}
+
+/// A strip that is read wholly loses nothing: its rows are those that are found where all are.
+pub fn whole_strips_are_found() {}

@@ -1,0 +1,174 @@
+//! A row of a strip: what stands before its codes, and its codes.
+
+use kit_std::prelude::prove;
+
+use crate::{Coding, Dimension, StripFault, StripForm};
+use fax_rows::{BitSource, Row, RowFault, read_1d, read_2d, take_white_1d, take_white_2d};
+
+/// How many zeros an EOL has before its 1 (T.4, section 4.1.2). More are fill.
+const EOL_ZEROS: u64 = 11;
+
+/// Reads fill and an EOL (T.4, sections 4.1.2 and 4.1.3), which some rows may lack.
+#[inline(always)]
+pub(crate) fn read_eol(source: &mut BitSource, may_lack: bool) -> Result<(), StripFault> {
+    if source.past_zeros_and_one(EOL_ZEROS as u32) {
+        return Ok(());
+    }
+    match source.zeros() {
+        None => Err(StripFault::DataEnds),
+        Some(zeros) if zeros >= EOL_ZEROS => {
+            let left = source.remaining();
+            prove!(zeros < left);
+            source.skip(zeros + 1);
+            Ok(())
+        }
+        Some(_) if may_lack => Ok(()),
+        Some(_) => Err(StripFault::MissingEol),
+    }
+}
+
+/// Reads the tag bit after an EOL of MR, which says how the row is coded (T.4, section 4.2.2).
+#[inline(always)]
+fn read_tag(source: &mut BitSource) -> Result<Dimension, StripFault> {
+    if source.remaining() == 0 {
+        return Err(StripFault::DataEnds);
+    }
+    let tag = source.peek(1);
+    source.skip(1);
+    if tag == 1 {
+        Ok(Dimension::OneDimensional)
+    } else {
+        Ok(Dimension::TwoDimensional)
+    }
+}
+
+/// Reads what stands before the first code of row `i`, and answers how the row is coded: an EOL in
+/// MH, an EOL and a tag bit in MR, nothing in MMR (T.4, sections 4.1.2 and 4.2.2; T.6, section
+/// 2.2.1).
+#[inline(always)]
+pub(crate) fn read_start(
+    source: &mut BitSource,
+    coding: Coding,
+    i: u32,
+) -> Result<Dimension, StripFault> {
+    match coding {
+        Coding::Mh => {
+            // The first row of a strip may lack its EOL.
+            read_eol(source, i == 0)?;
+            Ok(Dimension::OneDimensional)
+        }
+        Coding::Mr => {
+            read_eol(source, false)?;
+            read_tag(source)
+        }
+        Coding::Mmr => Ok(Dimension::TwoDimensional),
+    }
+}
+
+/// Whether a row's first code may be read: an EOL in its place is the end of the page (T.4,
+/// section 4.1.4), or of the facsimile block (T.6).
+fn check_first_code(source: &BitSource) -> Result<(), StripFault> {
+    // Eleven zeros settle it, and what follows them is not looked at.
+    if source.again().take(0, EOL_ZEROS as u32) {
+        return Err(StripFault::EndMarker);
+    }
+    match source.zeros() {
+        Some(_) => Ok(()),
+        None => Err(StripFault::DataEnds),
+    }
+}
+
+/// Why there is no row whose codes are due here, where their reader stopped for this cause. Codes
+/// that it takes begin with a first code, so that one is looked for only then.
+pub(crate) fn stop(codes: &BitSource, cause: RowFault) -> StripFault {
+    match check_first_code(codes) {
+        Ok(()) => cause.into(),
+        Err(fault) => fault,
+    }
+}
+
+/// Goes past the codes of a row that is white as its reference row is, where they are seen to be next
+/// and T.4's choice, and answers whether they are. Else the source stays.
+#[inline(always)]
+pub(crate) fn take_white(source: &mut BitSource, dimension: Dimension, reference: &Row) -> bool {
+    match dimension {
+        Dimension::OneDimensional => take_white_1d(source, reference),
+        Dimension::TwoDimensional => take_white_2d(source, reference),
+    }
+}
+
+/// Reads the codes of a row that is coded so into `row`, of which nothing is said after a fault.
+#[inline(always)]
+pub(crate) fn read_codes(
+    source: &mut BitSource,
+    dimension: Dimension,
+    reference: &Row,
+    row: &mut Row,
+) -> Result<(), RowFault> {
+    match dimension {
+        Dimension::OneDimensional => read_1d(source, row),
+        Dimension::TwoDimensional => read_2d(source, reference, row),
+    }
+}
+
+/// Why a row could not be read: before its codes, or in them.
+#[derive(Clone, Copy)]
+pub(crate) enum LineStop {
+    Start(StripFault),
+    Codes(RowFault),
+}
+
+/// The fault of row `i`, which begins at this source and could not be read. What stands before its
+/// codes is read once more here, so that no row keeps the place of its codes for a fault.
+#[cold]
+#[inline(never)]
+pub(crate) fn line_fault(mut start: BitSource, form: StripForm, i: u32, why: LineStop) -> StripFault {
+    match why {
+        LineStop::Start(fault) => fault,
+        LineStop::Codes(cause) => match read_start(&mut start, form.coding, i) {
+            Ok(_dimension) => stop(&start, cause),
+            Err(fault) => fault,
+        },
+    }
+}
+
+/// Whether fewer than eleven zeros stand before the next 1: no EOL begins there (T.4, section 4.1.2).
+#[inline(always)]
+pub(crate) fn begins_below_eleven(source: &BitSource) -> bool {
+    match source.zeros() {
+        Some(zeros) => zeros < EOL_ZEROS,
+        None => false,
+    }
+}
+
+/// Where the first EOL begins: its eleven zeros and its 1 (T.4, section 4.1.2).
+fn first_eol(source: &mut BitSource) -> Option<u64> {
+    while let Some(zeros) = source.zeros() {
+        let left = source.remaining();
+        prove!(zeros < left);
+        source.skip(zeros + 1);
+        if zeros >= EOL_ZEROS {
+            return Some(source.place() - (EOL_ZEROS + 1));
+        }
+    }
+    None
+}
+
+/// Where the next EOL begins after row `i`, which begins at this source and is lost: after its own EOL
+/// and tag bit, if it has them. In MMR there is none.
+pub(crate) fn next_eol(start: BitSource, coding: Coding, i: u32) -> Option<u64> {
+    if let Coding::Mmr = coding {
+        return None;
+    }
+    let mut from = start.again();
+    match read_start(&mut from, coding, i) {
+        Ok(_dimension) => first_eol(&mut from),
+        Err(fault) => match fault {
+            StripFault::MissingEol => {
+                let mut from = start;
+                first_eol(&mut from)
+            }
+            _ => None,
+        },
+    }
+}

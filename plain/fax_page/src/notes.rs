@@ -1,0 +1,341 @@
+//! What is worth a note in a strip that has all its rows.
+
+use crate::lines::{read_codes, read_eol, read_start, stop, take_white};
+use crate::uncounted::end_of_rows;
+use crate::writer::put_codes;
+use crate::{Coding, Dimension, FillOrder, MOST_ROWS, RowsEnd, StripFault, StripForm};
+use fax_rows::{BitSink, BitSource, Memory, Row, RowFault, read_1d_choice, read_2d_choice};
+use kit_std::alloc::Global;
+use kit_std::marker::Model;
+use kit_std::mem::swap;
+use thiserror::Error;
+
+/// How many EOLs a return to control has (T.4, section 4.1.4).
+const RETURN_EOLS: u32 = 6;
+
+/// The end of a facsimile block as a number: two EOLs (T.6, End-of-facsimile block).
+const END_OF_BLOCK: u32 = 0x1001;
+
+/// How many bits the end of a facsimile block has.
+const END_OF_BLOCK_BITS: u32 = 24;
+
+/// What is worth a note in a strip of which all rows can be read.
+#[derive(Clone, Copy, Debug, PartialEq, Eq)]
+pub struct StripNotes {
+    /// The strip is MMR, and no end of a facsimile block stands after its last row (T.6,
+    /// End-of-facsimile block).
+    pub no_end_of_block: bool,
+    /// The strip is MH or MR, and a return to control stands after its last row: six EOLs, each
+    /// with any fill, in MR each with a tag bit of 1 (T.4, section 4.1.4).
+    pub return_to_control: bool,
+    /// A 1 stands after the last row, and after the end of the facsimile block or the return to
+    /// control where there is one.
+    pub data_after_end: bool,
+    /// The codes of some row are others than T.4 chooses (T.4, sections 4.1.1 and 4.2.1.3.3).
+    pub not_t4_choice: bool,
+}
+
+/// What was found in rows that nobody counted.
+#[derive(Clone, Copy, Debug, PartialEq, Eq)]
+pub struct UncountedNotes {
+    /// How many rows there are, at most 1,000,000.
+    pub rows: u32,
+    /// How they end.
+    pub end: RowsEnd,
+    /// What is worth a note in a strip of so many rows.
+    pub notes: StripNotes,
+}
+
+/// Why a strip has no notes.
+#[derive(Clone, Copy, Debug, PartialEq, Eq, Error)]
+pub enum NotesFault {
+    /// A growth was refused.
+    #[error("out of memory")]
+    Memory,
+    /// This row of the strip, from 0, could not be read.
+    #[error("row {row}: {fault}")]
+    Strip { row: u32, fault: StripFault },
+}
+
+impl From<Memory> for NotesFault {
+    fn from(_refused: Memory) -> Self {
+        NotesFault::Memory
+    }
+}
+
+/// Reads the codes of a row that is coded so into `row`, of which nothing is said after a fault,
+/// and answers whether they are seen to be those that T.4 chooses.
+fn read_seen(
+    source: &mut BitSource,
+    dimension: Dimension,
+    reference: &Row,
+    row: &mut Row,
+) -> Result<bool, RowFault> {
+    match dimension {
+        Dimension::OneDimensional => read_1d_choice(source, row),
+        Dimension::TwoDimensional => read_2d_choice(source, reference, row),
+    }
+}
+
+/// What is kept from strip to strip.
+struct NotedRows {
+    /// The row before the one that is due, white before the first one of a strip.
+    reference: Row,
+    /// Where the row that is due is read to.
+    row: Row,
+    /// Where a row is written that is to be compared.
+    sink: BitSink,
+}
+
+/// A strip that is read for its notes, row by row.
+struct NotedStrip<'a> {
+    source: BitSource<'a>,
+    form: StripForm,
+    /// Whether the codes of some row up to here are others than T.4 chooses.
+    not_t4_choice: bool,
+}
+
+impl<'a> NotedStrip<'a> {
+    /// Reads the codes of row `i`, which are due, into `row`, of which nothing is said after a fault,
+    /// and answers whether they are those that T.4 chooses. Only where that is not seen while they
+    /// are read, the row is written and compared.
+    fn read_choice(
+        &mut self,
+        rows: &mut NotedRows,
+        dimension: Dimension,
+        i: u32,
+    ) -> Result<bool, NotesFault> {
+        fax_rows::laws::one_dimensional_rows_are_read_as_nothing_else();
+        fax_rows::laws::two_dimensional_rows_are_read_as_nothing_else();
+        let codes = self.source.again();
+        match read_seen(&mut self.source, dimension, &rows.reference, &mut rows.row) {
+            Ok(true) => return Ok(true),
+            Ok(false) => {}
+            Err(cause) => {
+                let fault = stop(&codes, cause);
+                return Err(NotesFault::Strip { row: i, fault });
+            }
+        }
+        rows.sink.clear();
+        put_codes(&mut rows.sink, dimension, &rows.reference, &rows.row)?;
+        Ok(rows.sink.begins(&codes))
+    }
+
+    /// Reads the codes of row `i`, which are due, into `row`, of which nothing is said after a fault,
+    /// and asks nothing of them.
+    fn read_unasked(
+        &mut self,
+        rows: &mut NotedRows,
+        dimension: Dimension,
+        i: u32,
+    ) -> Result<(), NotesFault> {
+        let codes = self.source.again();
+        match read_codes(&mut self.source, dimension, &rows.reference, &mut rows.row) {
+            Ok(()) => Ok(()),
+            Err(cause) => {
+                let fault = stop(&codes, cause);
+                Err(NotesFault::Strip { row: i, fault })
+            }
+        }
+    }
+
+    /// Reads the codes of row `i`, which are due. Once the codes of a row are others than T.4
+    /// chooses, rows are only read.
+    fn note_codes(
+        &mut self,
+        rows: &mut NotedRows,
+        dimension: Dimension,
+        i: u32,
+    ) -> Result<(), NotesFault> {
+        if self.not_t4_choice {
+            self.read_unasked(rows, dimension, i)?;
+        } else {
+            self.not_t4_choice = !self.read_choice(rows, dimension, i)?;
+        }
+        swap(&mut rows.reference, &mut rows.row);
+        Ok(())
+    }
+
+    /// Reads row `i`, the one that is due. A white row after a white one is gone past.
+    fn read_row(&mut self, rows: &mut NotedRows, i: u32) -> Result<(), NotesFault> {
+        let dimension = match read_start(&mut self.source, self.form.coding, i) {
+            Ok(dimension) => dimension,
+            Err(fault) => return Err(NotesFault::Strip { row: i, fault }),
+        };
+        if take_white(&mut self.source, dimension, &rows.reference) {
+            return Ok(());
+        }
+        self.note_codes(rows, dimension, i)
+    }
+}
+
+/// Goes after an EOL of a return to control, and answers whether there is one (T.4, sections 4.1.4
+/// and 4.2.4).
+fn take_return_eol(source: &mut BitSource, coding: Coding) -> bool {
+    if let Err(_none) = read_eol(source, false) {
+        return false;
+    }
+    match coding {
+        Coding::Mh => true,
+        Coding::Mr => source.take(1, 1),
+        Coding::Mmr => false,
+    }
+}
+
+/// What stands after a return to control, where there is one (T.4, section 4.1.4).
+fn after_return_to_control<'a>(source: &BitSource<'a>, coding: Coding) -> Option<BitSource<'a>> {
+    let mut ahead = source.again();
+    for _eol in 0..RETURN_EOLS {
+        if !take_return_eol(&mut ahead, coding) {
+            return None;
+        }
+    }
+    Some(ahead)
+}
+
+/// What stands after the end mark of a strip, where there is one (T.4, section 4.1.4; T.6,
+/// End-of-facsimile block).
+pub(crate) fn after_end<'a>(source: &BitSource<'a>, coding: Coding) -> Option<BitSource<'a>> {
+    match coding {
+        Coding::Mh | Coding::Mr => after_return_to_control(source, coding),
+        Coding::Mmr => {
+            let mut ahead = source.again();
+            if ahead.take(END_OF_BLOCK, END_OF_BLOCK_BITS) {
+                Some(ahead)
+            } else {
+                None
+            }
+        }
+    }
+}
+
+/// The notes on a strip whose rows end at a source.
+fn notes_after(source: &BitSource, coding: Coding, not_t4_choice: bool) -> StripNotes {
+    let (ended, data_after_end) = match after_end(source, coding) {
+        Some(after) => (true, after.zeros().is_some()),
+        None => (false, source.zeros().is_some()),
+    };
+    let (no_end_of_block, return_to_control) = match coding {
+        Coding::Mh | Coding::Mr => (false, ended),
+        Coding::Mmr => (!ended, false),
+    };
+    StripNotes {
+        no_end_of_block,
+        return_to_control,
+        data_after_end,
+        not_t4_choice,
+    }
+}
+
+/// What was found in so many rows whose data go on at a source, where this fault is in the way of
+/// the next row, or none is.
+fn found_in_rows(
+    due: &BitSource,
+    coding: Coding,
+    rows: u32,
+    fault: Option<StripFault>,
+    not_t4_choice: bool,
+) -> UncountedNotes {
+    UncountedNotes {
+        rows,
+        end: end_of_rows(due, coding, rows, fault),
+        notes: notes_after(due, coding, not_t4_choice),
+    }
+}
+
+/// Reads strips of one width for their notes, one after another. Contracts see how many pels their
+/// rows have.
+pub struct NotesReader {
+    rows: NotedRows,
+}
+
+impl Model for NotesReader {}
+
+impl NotesReader {
+    /// A reader of strips of this width. It takes the memory of two rows.
+    ///
+    /// # Errors
+    ///
+    /// `Memory` where a growth was refused.
+    pub fn new(alloc: Global, width: u32) -> Result<Self, Memory> {
+        let reference = Row::white(alloc, width)?;
+        let row = Row::white(alloc, width)?;
+        // Its bits alone are looked at, and no bytes of them.
+        let sink = BitSink::new(alloc, FillOrder::MsbFirst);
+        Ok(NotesReader {
+            rows: NotedRows {
+                reference,
+                row,
+                sink,
+            },
+        })
+    }
+
+    /// The notes on a strip in at most 4,294,967,295 bytes. It takes memory only where a row is
+    /// written, at most for that row: no strip is written whole.
+    ///
+    /// # Errors
+    ///
+    /// `Strip` where a row cannot be read, and `Memory` where a growth was refused.
+    pub fn notes(&mut self, bytes: &[u8], form: StripForm) -> Result<StripNotes, NotesFault> {
+        crate::laws::lines_are_read_in_one_way();
+        self.rows.reference.whiten();
+        let mut strip = NotedStrip {
+            source: BitSource::new(bytes, form.order),
+            form,
+            not_t4_choice: false,
+        };
+        for i in 0..form.rows {
+            strip.read_row(&mut self.rows, i)?;
+        }
+        Ok(notes_after(&strip.source, form.coding, strip.not_t4_choice))
+    }
+
+    /// How many rows that nobody counted stand in at most 4,294,967,295 bytes, how they end, and the
+    /// notes on them. How many rows the form says is not looked at. It takes memory only where a row
+    /// is written, at most for that row.
+    ///
+    /// # Errors
+    ///
+    /// `Memory` where a growth was refused.
+    pub fn uncounted_notes(
+        &mut self,
+        bytes: &[u8],
+        form: StripForm,
+    ) -> Result<UncountedNotes, Memory> {
+        crate::laws::lines_are_read_in_one_way();
+        self.rows.reference.whiten();
+        let mut strip = NotedStrip {
+            source: BitSource::new(bytes, form.order),
+            form: StripForm {
+                rows: MOST_ROWS,
+                ..form
+            },
+            not_t4_choice: false,
+        };
+        for i in 0..MOST_ROWS {
+            let due = strip.source.again();
+            let other = strip.not_t4_choice;
+            match strip.read_row(&mut self.rows, i) {
+                Ok(()) => {}
+                Err(NotesFault::Strip { row: _, fault }) => {
+                    return Ok(found_in_rows(&due, form.coding, i, Some(fault), other));
+                }
+                Err(NotesFault::Memory) => return Err(Memory),
+            }
+        }
+        let other = strip.not_t4_choice;
+        Ok(found_in_rows(&strip.source, form.coding, MOST_ROWS, None, other))
+    }
+}
+
+/// The notes on a strip in at most 4,294,967,295 bytes. It takes memory for what a row needs: no
+/// strip is written whole.
+///
+/// # Errors
+///
+/// `Strip` where a row cannot be read, and `Memory` where a growth was refused.
+pub fn strip_notes(alloc: Global, bytes: &[u8], form: StripForm) -> Result<StripNotes, NotesFault> {
+    let mut reader = NotesReader::new(alloc, form.width)?;
+    reader.notes(bytes, form)
+}

@@ -1,0 +1,269 @@
+//! A reader of strips.
+
+use crate::lines::{begins_below_eleven, line_fault, next_eol, read_start};
+use crate::turns::RowsInTurn;
+use crate::uncounted::end_of_rows;
+use crate::{Coding, Dimension, PlaceFault, RowBefore, RowsEnd, StripFault, StripForm};
+use fax_bits::laws::bits_stand_by_place;
+use fax_rows::{BitSource, Memory, Row};
+use kit_std::alloc::Global;
+use kit_std::marker::Model;
+
+/// Reads strips row by row, one strip after another. Contracts see how far a strip is read: its
+/// form, its bytes, the place in bits and the number of the row that is due, how many rows the
+/// reader answered, the row before the one that is due, and the fault that was answered.
+pub struct StripReader<'a> {
+    bytes: &'a [u8],
+    /// Where the row that is due begins; after a fault, anywhere.
+    source: BitSource<'a>,
+    form: StripForm,
+    place: u64,
+    row: u32,
+    /// How many rows were read before the strip was begun, and at which of its rows that was.
+    read_before: u64,
+    begun: u32,
+    /// The row before the one that is due, and the one that it is read to.
+    rows: RowsInTurn,
+    fault: Option<StripFault>,
+}
+
+impl<'a> Model for StripReader<'a> {}
+
+impl<'a> StripReader<'a> {
+    /// Before the first row of a strip in at most 4,294,967,295 bytes. It takes all the memory that
+    /// the reading of strips of this width needs.
+    ///
+    /// # Errors
+    ///
+    /// `Memory` where a growth was refused.
+    pub fn new(alloc: Global, bytes: &'a [u8], form: StripForm) -> Result<Self, Memory> {
+        let rows = RowsInTurn::new(alloc, form.width)?;
+        Ok(StripReader {
+            bytes,
+            source: BitSource::new(bytes, form.order),
+            form,
+            place: 0,
+            row: 0,
+            read_before: 0,
+            begun: 0,
+            rows,
+            fault: None,
+        })
+    }
+
+    /// Before row `row` of a strip in at most 4,294,967,295 bytes, after so many of its bits, with
+    /// this row before it. It takes all the memory that the reading of strips of this width needs.
+    ///
+    /// # Errors
+    ///
+    /// `Outside` where the strip has fewer bits, or no row of its width has the runs of the row
+    /// before. `Memory` where a growth was refused.
+    pub fn inside(
+        alloc: Global,
+        bytes: &'a [u8],
+        form: StripForm,
+        row: u32,
+        bits: u32,
+        before: RowBefore,
+    ) -> Result<Self, PlaceFault> {
+        bits_stand_by_place();
+        let place = u64::from(bits);
+        if place > 8 * bytes.len() as u64 {
+            return Err(PlaceFault::Outside);
+        }
+        let mut rows = RowsInTurn::new(alloc, form.width)?;
+        if !rows.begin_after(before) {
+            return Err(PlaceFault::Outside);
+        }
+        let mut source = BitSource::new(bytes, form.order);
+        source.skip(place);
+        Ok(StripReader {
+            bytes,
+            source,
+            form,
+            place,
+            row,
+            read_before: 0,
+            begun: row,
+            rows,
+            fault: None,
+        })
+    }
+
+    /// Goes before the first row of another strip of the same coding, order and width, with 1 to
+    /// 1,000,000 rows in at most 4,294,967,295 bytes. A fault is forgotten, and the first row's
+    /// reference is white (T.4, section 4.2.1.1; T.6, section 2.2.1). It takes no memory.
+    pub fn restart(&mut self, bytes: &'a [u8], rows: u32) {
+        self.read_before = self.rows_read();
+        self.bytes = bytes;
+        self.source = BitSource::new(bytes, self.form.order);
+        self.form.rows = rows;
+        self.place = 0;
+        self.begun = 0;
+        self.row = 0;
+        self.rows.whiten();
+        self.fault = None;
+    }
+
+    /// Goes before row `row` of another strip of the same coding, order and width, with up to
+    /// 1,000,000 rows in at most 4,294,967,295 bytes, after so many of its bits: the row that is
+    /// read next begins there, over this reference, which has the same width. A fault is forgotten.
+    /// It takes no memory.
+    pub fn restart_at(&mut self, bytes: &'a [u8], rows: u32, row: u32, bits: u64, reference: &Row) {
+        bits_stand_by_place();
+        let mut source = BitSource::new(bytes, self.form.order);
+        source.skip(bits);
+        self.read_before = self.rows_read();
+        self.bytes = bytes;
+        self.source = source;
+        self.form.rows = rows;
+        self.place = bits;
+        self.begun = row;
+        self.row = row;
+        self.rows.set_reference(reference);
+        self.fault = None;
+    }
+
+    /// Reads the next row, and answers whether there was one. It takes no memory.
+    ///
+    /// # Errors
+    ///
+    /// Why the row that is due could not be read. Every later call answers the same, until
+    /// `restart` or `restart_at`.
+    #[inline(always)]
+    pub fn advance(&mut self) -> Result<bool, StripFault> {
+        bits_stand_by_place();
+        if let Some(fault) = self.fault {
+            return Err(fault);
+        }
+        if self.row == self.form.rows {
+            return Ok(false);
+        }
+        match self.rows.read(&mut self.source, self.form, self.row) {
+            Ok(()) => {
+                self.place = self.source.place();
+                self.row += 1;
+                Ok(true)
+            }
+            Err(why) => {
+                let mut start = BitSource::new(self.bytes, self.form.order);
+                start.skip(self.place);
+                let fault = line_fault(start, self.form, self.row, why);
+                self.fault = Some(fault);
+                Err(fault)
+            }
+        }
+    }
+
+    /// The reference of the row that is due: the row before it, white at a strip's beginning. After
+    /// a fault it is what it was before that call.
+    pub fn reference(&self) -> &Row {
+        self.rows.reference()
+    }
+
+    /// Lends the next row, or answers `None` once all rows are read. It takes no memory. It is for
+    /// other callers: a walk calls `advance`, and `reference` where it lends the row.
+    ///
+    /// # Errors
+    ///
+    /// Why the row that is due could not be read. Every later call answers the same, until
+    /// `restart` or `restart_at`.
+    pub fn next_row(&mut self) -> Result<Option<&Row>, StripFault> {
+        if self.advance()? {
+            Ok(Some(self.rows.reference()))
+        } else {
+            Ok(None)
+        }
+    }
+
+    /// The number of the row that is due in its strip, from 0, or how many rows the strip has, once
+    /// all are read. After a fault it is what it was before that call.
+    pub fn row(&self) -> u32 {
+        self.row
+    }
+
+    /// Whether a row is due that is coded over the row before it. It is for readers of damaged strips.
+    #[cold]
+    pub(crate) fn begins_two_dimensional(&self) -> bool {
+        if self.row == self.form.rows {
+            return false;
+        }
+        let mut ahead = self.source.again();
+        match read_start(&mut ahead, self.form.coding, self.row) {
+            Ok(Dimension::TwoDimensional) => true,
+            Ok(Dimension::OneDimensional) => false,
+            Err(_fault) => false,
+        }
+    }
+
+    /// Whether an EOL is due after the row that was read last, and something else follows it: in MH
+    /// and MR each row but a strip's last has an EOL after it, or nothing but zeros.
+    #[inline(always)]
+    pub(crate) fn lacks_eol(&self) -> bool {
+        if self.form.coding == Coding::Mmr || self.row == self.form.rows {
+            return false;
+        }
+        begins_below_eleven(&self.source)
+    }
+
+    /// Goes before row `row` of the same strip, or after its last one, after so many bits, over a white
+    /// reference. A fault is forgotten. It takes no memory.
+    fn go_to(&mut self, row: u32, bits: u64) {
+        bits_stand_by_place();
+        let mut source = BitSource::new(self.bytes, self.form.order);
+        source.skip(bits);
+        self.read_before = self.rows_read();
+        self.source = source;
+        self.place = bits;
+        self.begun = row;
+        self.row = row;
+        RowsInTurn::whiten(&mut self.rows);
+        self.fault = None;
+    }
+
+    /// Goes on after row `row`, which is lost and begins after so many bits: before the next row, at the
+    /// next EOL, over a white reference; or after the strip's last row, where no EOL is left. How many
+    /// rows are lost so is answered. It takes no memory.
+    #[cold]
+    #[inline(never)]
+    pub(crate) fn pass_lost(&mut self, row: u32, bits: u64) -> u32 {
+        bits_stand_by_place();
+        let rows = self.form.rows;
+        let mut start = BitSource::new(self.bytes, self.form.order);
+        start.skip(bits);
+        match next_eol(start, self.form.coding, row) {
+            Some(eol) => {
+                self.go_to(row + 1, eol);
+                1
+            }
+            None => {
+                self.go_to(rows, bits);
+                rows - row
+            }
+        }
+    }
+
+    /// How rows end that nobody counted, where the reader is past the last of them: its form has
+    /// the most rows that a strip has, `MOST_ROWS`, and `advance` answered a fault, or that there is
+    /// no more row.
+    #[cold]
+    pub fn uncounted_end(&self) -> RowsEnd {
+        bits_stand_by_place();
+        let mut source = BitSource::new(self.bytes, self.form.order);
+        source.skip(self.place);
+        end_of_rows(&source, self.form.coding, self.row, self.fault)
+    }
+
+    /// How many bits of the strip stand before the row that is due. After a fault they are what
+    /// they were before that call.
+    pub fn bit_place(&self) -> u64 {
+        self.place
+    }
+
+    /// How many rows were read since `new`, over all restarts, up to the greatest number of 64
+    /// bits.
+    pub fn rows_read(&self) -> u64 {
+        self.read_before
+            .saturating_add(u64::from(self.row - self.begun))
+    }
+}

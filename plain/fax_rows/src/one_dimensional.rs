@@ -1,0 +1,121 @@
+//! Rows in one-dimensional coding (ITU-T T.4, section 4.1.1).
+
+use crate::RowFault;
+use crate::pels::Row;
+use crate::runs::last_run;
+use crate::turns::{close, put_turn, turn_after};
+use fax_bits::{BitSource, Colour};
+
+/// The runs of a row that are read so far, as places of change.
+#[derive(Clone, Copy)]
+struct Runs {
+    /// The index after the last place that is put.
+    end: usize,
+    /// How many pels they have.
+    total: u32,
+    /// Whether their codes are seen to be those that T.4 chooses.
+    is_chosen: bool,
+}
+
+impl Runs {
+    /// Sees that a run after them may be one of the longest: it has pels, or is the first of its row.
+    /// Else the codes are not those that T.4 chooses (T.4, section 4.1.1).
+    #[inline(always)]
+    fn see(&mut self, colour: Colour, run: u32) {
+        if run == 0 && (self.total > 0 || colour == Colour::Black) {
+            self.is_chosen = false;
+        }
+    }
+}
+
+/// Reads a run of the colour after others, mostly by one look-up, and answers how many pels it has.
+#[inline(always)]
+fn next_run(
+    ahead: &mut BitSource,
+    colour: Colour,
+    width: u32,
+    runs: &mut Runs,
+) -> Result<u32, RowFault> {
+    if let Some(pels) = ahead.run_within(colour, width - runs.total) {
+        return Ok(pels);
+    }
+    let run = last_run(ahead, colour, width, runs.total)?;
+    runs.is_chosen = runs.is_chosen && run.is_chosen;
+    Ok(run.pels)
+}
+
+/// Reads a run of the colour after others, and puts the place where it ends.
+#[inline(always)]
+fn read_on(
+    ahead: &mut BitSource,
+    places: &mut [u32],
+    width: u32,
+    colour: Colour,
+    runs: &mut Runs,
+) -> Result<(), RowFault> {
+    let run = next_run(ahead, colour, width, runs)?;
+    runs.see(colour, run);
+    runs.total += run;
+    runs.end = turn_after(places, runs.end, runs.total, run);
+    Ok(())
+}
+
+/// Reads the runs of a row: a white run and the black one after it mostly by one look-up.
+#[inline(always)]
+fn read_runs(source: &mut BitSource, places: &mut [u32], width: u32) -> Result<Runs, RowFault> {
+    crate::laws::one_dimensional_rows_are_read_as_nothing_else();
+    let mut ahead = source.again();
+    let mut runs = Runs {
+        end: 1,
+        total: 0,
+        is_chosen: true,
+    };
+    while runs.total < width {
+        if let Some(pair) = ahead.pair_within(runs.total, width) {
+            let middle = runs.total + pair.white;
+            let next = put_turn(places, runs.end, middle);
+            runs.total = middle + pair.black;
+            runs.end = put_turn(places, next, runs.total);
+            continue;
+        }
+        read_on(&mut ahead, places, width, Colour::White, &mut runs)?;
+        if runs.total < width {
+            read_on(&mut ahead, places, width, Colour::Black, &mut runs)?;
+        }
+    }
+    source.go_to(&ahead);
+    Ok(runs)
+}
+
+/// Reads a row in one-dimensional coding: runs of white and black pels in turn, white first, up to
+/// the row's width (T.4, section 4.1.1). It takes no memory.
+///
+/// # Errors
+///
+/// The fault of the first code that is no part of the row. Nothing else is said of the row then.
+pub fn read_1d(source: &mut BitSource, row: &mut Row) -> Result<(), RowFault> {
+    read_1d_choice(source, row)?;
+    Ok(())
+}
+
+/// Reads a row as `read_1d` does, and answers whether its codes are seen to be those that T.4
+/// chooses (T.4, section 4.1.1). Where they are not seen to be so, nothing is said of them.
+///
+/// # Errors
+///
+/// As for `read_1d`.
+#[inline(never)]
+pub fn read_1d_choice(source: &mut BitSource, row: &mut Row) -> Result<bool, RowFault> {
+    let width = row.width;
+    let places = row.places.as_mut_slice();
+    match read_runs(source, places, width) {
+        Ok(runs) => {
+            row.end = close(places, runs.end, width);
+            Ok(runs.is_chosen)
+        }
+        Err(fault) => {
+            row.end = close(places, 1, width);
+            Err(fault)
+        }
+    }
+}

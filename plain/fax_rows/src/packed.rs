@@ -1,0 +1,116 @@
+//! Rows as packed bytes, as in a raw PBM (the netpbm format, P4): eight pels in a byte, the
+//! leftmost in its highest bit, where 1 is black.
+
+use crate::lanes::plain_byte;
+use crate::pels::Row;
+use crate::rows::PlacedRow;
+use crate::turns::{close, colour_after};
+use crate::unpacked::places_of_bits;
+use fax_bits::laws::{bits_are_packed_in_one_way, bits_stand_by_place};
+use fax_bits::{Colour, Memory};
+use kit_std::alloc::Global;
+
+/// How many pels a word has.
+pub(crate) const WORD: u32 = 64;
+
+impl Row {
+    /// The row of `width` pels, 1 to 65,535, that these bytes hold: pel `i` is black where bit `i`
+    /// is 1, the highest bit of each byte first. The bits after the last pel are ignored. The row
+    /// has all the memory that one of this width can need. It is for other callers: a row that is
+    /// kept takes its pels by `set_packed`.
+    ///
+    /// # Errors
+    ///
+    /// `Memory` where a growth was refused.
+    pub fn from_packed(alloc: Global, bytes: &[u8], width: u32) -> Result<Row, Memory> {
+        let mut row = Row::white(alloc, width)?;
+        row.set_packed(bytes);
+        Ok(row)
+    }
+
+    /// Takes the pels that these bytes hold: pel `i` is black where bit `i` is 1, the highest bit
+    /// of each byte first. The bits after the last pel are ignored. It takes no memory.
+    pub fn set_packed(&mut self, bytes: &[u8]) {
+        let places = self.places.as_mut_slice();
+        let end = places_of_bits(bytes, places, self.width);
+        self.end = close(places, end, self.width);
+    }
+
+    /// Writes the row's pels as bytes, the highest bit of each first, where 1 is black and the bits
+    /// after the last pel are 0. `out` has just as many bytes as that takes.
+    pub fn to_packed(&self, out: &mut [u8]) {
+        pack_row(self.placed(), out);
+    }
+}
+
+/// Writes the pels of a row as bytes, the highest bit of each first.
+fn pack_row(row: PlacedRow, out: &mut [u8]) {
+    bits_stand_by_place();
+    bits_are_packed_in_one_way();
+    let words = row.width / WORD;
+    let passed = pack_words(row, words, out);
+    if row.width % WORD > 0 {
+        let from = 8 * words as usize;
+        let left = out.len() - from;
+        let bytes = last_word(row, words, passed).to_be_bytes();
+        out[from..].copy_from_slice(&bytes[..left]);
+    }
+}
+
+/// Writes so many words of 64 pels, and answers how many places of change are passed after them.
+fn pack_words(row: PlacedRow, words: u32, out: &mut [u8]) -> usize {
+    let mut passed = 1;
+    let mut k = 0;
+    while k < words {
+        let at = 8 * k as usize;
+        let change = row.places[passed] / WORD;
+        if k < change {
+            // No colour changes in the words before that of the next change.
+            fill(
+                out,
+                at,
+                8 * change as usize,
+                plain_byte(colour_after(passed)),
+            );
+            k = change;
+        } else {
+            let (word, after) = word_up_to(row, k, WORD * k + WORD, passed);
+            out[at..at + 8].copy_from_slice(&word.to_be_bytes());
+            passed = after;
+            k += 1;
+        }
+    }
+    passed
+}
+
+/// Writes this byte from a place on up to another.
+fn fill(out: &mut [u8], from: usize, to: usize, byte: u8) {
+    for at in from..to {
+        out[at] = byte;
+    }
+}
+
+/// Word `k` of 64 pels, before which so many places of change are passed, with no change from the
+/// pel `to` on; and how many are passed before that pel.
+#[inline(always)]
+fn word_up_to(row: PlacedRow, k: u32, to: u32, passed: usize) -> (u64, usize) {
+    let mut word = match colour_after(passed) {
+        Colour::White => 0,
+        Colour::Black => u64::MAX,
+    };
+    let mut after = passed;
+    while row.places[after] < to {
+        word ^= u64::MAX >> (row.places[after] % WORD);
+        after += 1;
+    }
+    (word, after)
+}
+
+/// Word `k` of 64 pels, in which the row ends, with zeros after the last pel.
+fn last_word(row: PlacedRow, k: u32, passed: usize) -> u64 {
+    let (word, after) = word_up_to(row, k, row.width, passed);
+    match colour_after(after) {
+        Colour::White => word,
+        Colour::Black => word ^ (u64::MAX >> (row.width % WORD)),
+    }
+}

@@ -1,0 +1,119 @@
+//! A row of pels.
+
+use kit_std::prelude::{Vec, vec};
+
+use crate::longest_runs::{LongestRuns, are_longest, put_runs};
+use crate::rows::PlacedRow;
+use crate::turns::{close, colour_after, copy_places, places_up_to, turn_first};
+use fax_bits::{Colour, Memory};
+use kit_std::alloc::Global;
+use kit_std::marker::Model;
+
+/// A row of 1 to 65,535 pels. Contracts see the list of its pels, from left to right.
+pub struct Row {
+    /// A 0, the places of change in ascending order, and at least three times the width.
+    pub(crate) places: Vec<u32>,
+    /// The index after the last change.
+    pub(crate) end: usize,
+    pub(crate) width: u32,
+}
+
+impl Model for Row {}
+
+impl Row {
+    /// The row, lent as its places of change.
+    #[inline(always)]
+    pub(crate) fn placed(&self) -> PlacedRow<'_> {
+        PlacedRow {
+            places: &self.places,
+            end: self.end,
+            width: self.width,
+        }
+    }
+
+    /// A row of white pels, with all the memory that a row of this width can need.
+    ///
+    /// # Errors
+    ///
+    /// `Memory` where a growth was refused.
+    pub fn white(alloc: Global, width: u32) -> Result<Row, Memory> {
+        let mut places = vec![in alloc; width; width as usize + 4].map_err(|_| Memory)?;
+        places[0] = 0;
+        Ok(Row {
+            places,
+            end: 1,
+            width,
+        })
+    }
+
+    /// How many pels the row has.
+    pub fn width(&self) -> u32 {
+        self.width
+    }
+
+    /// The pel at place `i`, where 0 is the leftmost.
+    pub fn pel(&self, i: u32) -> Colour {
+        colour_after(places_up_to(&self.places, self.end, i))
+    }
+
+    /// The changing elements, from left to right (T.4, section 4.2.1.3.1).
+    pub fn changes(&self) -> &[u32] {
+        &self.places[1..self.end]
+    }
+
+    /// The lengths in pels of the longest runs, white first: 0 where the row begins black
+    /// (T.4, section 4.1.1).
+    ///
+    /// # Errors
+    ///
+    /// `Memory` where a growth was refused.
+    pub fn runs(&self, alloc: Global) -> Result<Vec<u32>, Memory> {
+        let mut runs = Vec::new(alloc);
+        let mut ahead = LongestRuns::of_row(self);
+        while let Some(n) = ahead.next_run() {
+            runs.push(n).map_err(|_| Memory)?;
+        }
+        Ok(runs)
+    }
+
+    /// Turns white pels black, and black ones white.
+    pub fn exchange(&mut self) {
+        let places = self.places.as_mut_slice();
+        self.end = turn_first(places, self.end, self.width);
+    }
+
+    /// Takes the pels of a row of the same width. Mostly that row is white.
+    pub fn set_from(&mut self, row: &Row) {
+        if row.end == 1 {
+            return self.whiten();
+        }
+        let places = self.places.as_mut_slice();
+        copy_places(places, &row.places, row.end, self.width);
+        self.end = row.end;
+    }
+
+    /// Takes the pels of the row of this width that has these longest runs, white first, and
+    /// answers whether there is one. Where there is none, the row stays as it is. It takes no
+    /// memory.
+    pub fn set_runs(&mut self, runs: &[u32]) -> bool {
+        if !are_longest(runs, self.width) {
+            return false;
+        }
+        let places = self.places.as_mut_slice();
+        let end = put_runs(places, runs, self.width);
+        self.end = close(places, end, self.width);
+        true
+    }
+
+    /// Whether all pels are white. Then its packed bytes are zeros.
+    #[inline(always)]
+    pub fn is_white(&self) -> bool {
+        self.end == 1
+    }
+
+    /// Turns all pels white. It takes no memory.
+    pub fn whiten(&mut self) {
+        let places = self.places.as_mut_slice();
+        self.end = close(places, 1, self.width);
+    }
+}

@@ -1,0 +1,81 @@
+//! Rows that are lent as their places of change, and b1 on a reference row (ITU-T T.4, section
+//! 4.2.1.3.1).
+
+use crate::turns::{colour_after, places_up_to};
+use fax_bits::Colour;
+
+/// A row: a 0, the changing elements in ascending order, and at least three times the width.
+#[derive(Clone, Copy)]
+pub(crate) struct PlacedRow<'a> {
+    pub places: &'a [u32],
+    /// The index after the last change.
+    pub end: usize,
+    pub width: u32,
+}
+
+impl PlacedRow<'_> {
+    /// The index of the next changing element right of a place, where `None` is just before the
+    /// first pel.
+    pub fn change_after(self, from: Option<u32>) -> usize {
+        match from {
+            None => 1,
+            Some(place) => places_up_to(self.places, self.end, place),
+        }
+    }
+
+    /// The index of b1 as seen from a0 of this colour, where `None` is just before the first pel.
+    pub fn b1_from(self, a0: Option<u32>, colour: Colour) -> usize {
+        let next = self.change_after(a0);
+        if colour_after(next) == colour {
+            next
+        } else {
+            next + 1
+        }
+    }
+
+    /// The index of b1 as seen from the pel `place`, from an index on that is not after it.
+    pub fn find_b1(self, from: usize, place: u32) -> usize {
+        let mut b1 = from;
+        while self.places[b1] <= place {
+            b1 += 2;
+        }
+        b1
+    }
+
+    /// What `find_b1` answers from the index before that of a b1 right of the pel: the changing
+    /// element there, or the one right of that b1.
+    #[inline(always)]
+    pub fn b1_before(self, b1: usize, place: u32) -> usize {
+        if self.places[b1 - 1] > place {
+            b1 - 1
+        } else {
+            b1 + 1
+        }
+    }
+
+    /// What `find_b1` answers where the pel is in the row; there is no b1 at the row's end.
+    #[inline(always)]
+    pub fn b1_after(self, from: usize, place: u32) -> usize {
+        if place < self.width {
+            self.find_b1(from, place)
+        } else {
+            0
+        }
+    }
+
+    /// The index of b1 as seen from the pel `place`, where the colour turned, from that of the b1
+    /// before.
+    pub fn turned_b1_after(self, b1: usize, place: u32) -> usize {
+        if self.places[b1] > place {
+            return self.b1_before(b1, place);
+        }
+        self.b1_after(b1 + 1, place)
+    }
+}
+
+/// The row that is written, and its reference row.
+#[derive(Clone, Copy)]
+pub(crate) struct RowPair<'a> {
+    pub reference: PlacedRow<'a>,
+    pub row: PlacedRow<'a>,
+}

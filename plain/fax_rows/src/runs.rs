@@ -1,0 +1,82 @@
+//! Runs of pels of one colour, code by code (ITU-T T.4, section 4.1.1).
+
+use crate::RowFault;
+use fax_bits::{
+    BitSource, BlackRuns, CodeFault, Colour, LONGEST_MAKE_UP, RunCode, WhiteRuns, read_code,
+};
+
+/// The opposite colour.
+pub(crate) fn other(colour: Colour) -> Colour {
+    match colour {
+        Colour::White => Colour::Black,
+        Colour::Black => Colour::White,
+    }
+}
+
+/// Reads a code for a run of the colour.
+#[inline(always)]
+fn read_run_code(source: &mut BitSource, colour: Colour) -> Result<RunCode, CodeFault> {
+    match colour {
+        Colour::White => read_code::<WhiteRuns>(source),
+        Colour::Black => read_code::<BlackRuns>(source),
+    }
+}
+
+/// A run that is read.
+#[derive(Clone, Copy)]
+pub(crate) struct ReadRun {
+    pub pels: u32,
+    /// Whether its codes are seen to be those that T.4 chooses.
+    pub is_chosen: bool,
+}
+
+/// Reads a run of the colour whose first pel is `from`, code by code, and names its fault where it
+/// has one. Its codes are T.4's choice where each make-up code but the last is the longest.
+#[cold]
+#[inline(never)]
+fn read_run(
+    source: &mut BitSource,
+    colour: Colour,
+    width: u32,
+    from: u32,
+) -> Result<ReadRun, RowFault> {
+    fax_bits::laws::chosen_codes_are_written();
+    let mut pels = 0;
+    // Whether T.4 chooses the codes so far where the next one ends the run, and where it does not.
+    let mut is_chosen = true;
+    let mut are_longest = true;
+    loop {
+        match read_run_code(source, colour)? {
+            RunCode::Terminating(more) => {
+                let pels = pels + u32::from(more);
+                if from + pels > width {
+                    return Err(RowFault::RunTooLong);
+                }
+                return Ok(ReadRun { pels, is_chosen });
+            }
+            RunCode::MakeUp(more) => {
+                pels += u32::from(more);
+                if from + pels > width {
+                    return Err(RowFault::RunTooLong);
+                }
+                is_chosen = are_longest;
+                are_longest &= u32::from(more) == LONGEST_MAKE_UP;
+            }
+            RunCode::Extension => return Err(RowFault::Extension),
+        }
+    }
+}
+
+/// What `read_run` does for a source that stands in a value: only a copy of it is lent.
+#[inline(always)]
+pub(crate) fn last_run(
+    source: &mut BitSource,
+    colour: Colour,
+    width: u32,
+    from: u32,
+) -> Result<ReadRun, RowFault> {
+    let mut copy = source.again();
+    let run = read_run(&mut copy, colour, width, from)?;
+    source.skip_to(copy.place());
+    Ok(run)
+}

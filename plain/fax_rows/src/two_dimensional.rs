@@ -1,0 +1,135 @@
+//! Rows in two-dimensional coding (ITU-T T.4, section 4.2.1.3, and T.6, section 2.2), read into
+//! places of change over a reference row's places.
+
+use crate::RowFault;
+use crate::pels::Row;
+use crate::rows::PlacedRow;
+use crate::turns::close;
+use codes::{Due, Stop};
+use due::read_on;
+use fax_bits::BitSource;
+use modes::read_by_look_ups;
+use over_white::read_over_white;
+
+mod choices;
+mod codes;
+mod copied;
+mod due;
+mod modes;
+mod over_white;
+mod several;
+mod steps;
+
+/// Over a reference row of fewer changes than one for so many pels, several vertical modes are read
+/// by one look-up.
+const FEW_CHANGES: usize = 6;
+
+/// A row that is read into places of change.
+#[derive(Clone, Copy)]
+struct ReadRow {
+    /// The index after the last place.
+    end: usize,
+    /// Whether its codes are seen to be those that T.4 chooses.
+    is_chosen: bool,
+}
+
+/// Reads the modes of a row over the reference row, and answers where its places end: by look-ups,
+/// and from a code on that none of them finds, by the tables. With `CHOICE` it stops at the first
+/// step that is not seen to be T.4's choice; the source is then as it was.
+#[inline(always)]
+fn read_modes<const CHOICE: bool>(
+    source: &mut BitSource,
+    reference: PlacedRow,
+    places: &mut [u32],
+) -> Result<usize, Stop<Due>> {
+    let read = if reference.end == 1 {
+        read_over_white::<CHOICE>(source, reference, places)
+    } else if reference.end < reference.width as usize / FEW_CHANGES {
+        read_by_look_ups::<CHOICE, true>(source, reference, places)
+    } else {
+        read_by_look_ups::<CHOICE, false>(source, reference, places)
+    };
+    match read {
+        Ok(end) => Ok(end),
+        Err(Stop::Due(pause)) => read_on::<CHOICE>(source, reference, places, pause),
+        Err(Stop::Other) => Err(Stop::Other),
+        Err(Stop::Fault(fault)) => Err(Stop::Fault(fault)),
+    }
+}
+
+/// Reads the modes of a row over the reference row; where they are not T.4's choice, once more, for
+/// their pels alone.
+#[inline(always)]
+fn read_places<const CHOICE: bool>(
+    source: &mut BitSource,
+    reference: PlacedRow,
+    places: &mut [u32],
+) -> Result<ReadRow, RowFault> {
+    match read_modes::<CHOICE>(source, reference, places) {
+        Ok(end) => return Ok(ReadRow {
+            end,
+            is_chosen: CHOICE,
+        }),
+        Err(Stop::Fault(fault)) => return Err(fault),
+        Err(Stop::Other) => {}
+        Err(Stop::Due(_)) => unreachable!(),
+    }
+    match read_modes::<false>(source, reference, places) {
+        Ok(end) => Ok(ReadRow {
+            end,
+            is_chosen: false,
+        }),
+        Err(Stop::Fault(fault)) => Err(fault),
+        Err(Stop::Other | Stop::Due(_)) => unreachable!(),
+    }
+}
+
+/// Reads a row, and answers whether its codes are seen to be those that T.4 chooses.
+#[inline(always)]
+fn read_row<const CHOICE: bool>(
+    source: &mut BitSource,
+    reference: &Row,
+    row: &mut Row,
+) -> Result<bool, RowFault> {
+    let reference = reference.placed();
+    let width = row.width;
+    let places = row.places.as_mut_slice();
+    match read_places::<CHOICE>(source, reference, places) {
+        Ok(read) => {
+            row.end = close(places, read.end, width);
+            Ok(read.is_chosen)
+        }
+        Err(fault) => {
+            row.end = close(places, 1, width);
+            Err(fault)
+        }
+    }
+}
+
+/// Reads a row in two-dimensional coding over the reference row: modes from just before the first
+/// pel on, up to the row's width (T.4, sections 4.2.1.3.1 to 4.2.1.3.4; T.6, sections 2.2.2 to
+/// 2.2.5). It takes no memory.
+///
+/// # Errors
+///
+/// The fault of the first mode or run that is no part of the row. Nothing else is said of the row
+/// then.
+pub fn read_2d(source: &mut BitSource, reference: &Row, row: &mut Row) -> Result<(), RowFault> {
+    read_row::<false>(source, reference, row)?;
+    Ok(())
+}
+
+/// Reads a row as `read_2d` does, and answers whether its codes are seen to be those that T.4
+/// chooses (T.4, section 4.2.1.3.3; T.6, section 2.2.4). Where they are not seen to be so, nothing
+/// is said of them.
+///
+/// # Errors
+///
+/// As for `read_2d`.
+pub fn read_2d_choice(
+    source: &mut BitSource,
+    reference: &Row,
+    row: &mut Row,
+) -> Result<bool, RowFault> {
+    read_row::<true>(source, reference, row)
+}

@@ -1,0 +1,49 @@
+//! Steps of two-dimensional coding with a1 under b1, of which several are read at once: their
+//! places are copied from the reference row (ITU-T T.4, section 4.2.1.3.2).
+
+use super::steps::{PlacedReached, Reached, under_b1};
+use crate::rows::PlacedRow;
+use crate::turns::colour_after;
+use fax_bits::BitSource;
+
+/// How many places are copied at once, and so how many steps are read at most.
+const COPIED: usize = 8;
+
+/// How many of these steps come after the first.
+const MOST_MORE: u32 = COPIED as u32 - 1;
+
+/// Fewer steps than this after the first are read one by one.
+const LEAST_MORE: u32 = 3;
+
+/// Copies eight places of another row to the index `end`.
+#[inline(always)]
+fn copy_eight(places: &mut [u32], end: usize, other: &[u32], from: usize) {
+    places[end..end + COPIED].copy_from_slice(&other[from..from + COPIED]);
+}
+
+/// Reads a step with a1 under b1, after its code, and up to seven more of them, whose codes are 1s
+/// that are next, where the row does not end among the next eight changes.
+#[inline(always)]
+pub(super) fn under_several(
+    source: &mut BitSource,
+    reference: PlacedRow,
+    places: &mut [u32],
+    at: PlacedReached,
+) -> PlacedReached {
+    fax_bits::laws::modes_are_read_back();
+    if source.ones() < LEAST_MORE
+        || at.b1 + COPIED > reference.end
+        || at.end + COPIED > places.len()
+    {
+        return under_b1(reference, places, at);
+    }
+    let count = source.past_ones(MOST_MORE) as usize + 1;
+    copy_eight(places, at.end, reference.places, at.b1);
+    let b1 = at.b1 + count;
+    let reached = Reached {
+        a0: Some(reference.places[b1 - 1]),
+        colour: colour_after(b1),
+    };
+    let end = at.end + count;
+    PlacedReached { reached, end, b1 }
+}

@@ -1,0 +1,119 @@
+//! A row in two-dimensional coding, read on from where no look-up finds the next code (ITU-T T.4,
+//! section 4.2.1.3.2).
+
+use super::codes::{Due, Stop, last_two_runs};
+use super::modes::{pass, past_runs, vertical};
+use super::steps::{PlacedReached, Reached};
+use crate::RowFault;
+use crate::rows::PlacedRow;
+use crate::turns::colour_after;
+use fax_bits::{BitSource, CodeFault, ModeCode, Modes, read_code};
+
+/// Where a row is to be read on, by the numbers that the loop over its modes keeps.
+#[derive(Clone, Copy)]
+pub(super) struct Pause {
+    /// What no look-up finds.
+    pub due: Due,
+    /// Its place in the bits of the source.
+    pub place: u64,
+    /// a0 as a number: -1 just before the first pel.
+    pub a0: i32,
+    /// The index after the last place that is put.
+    pub end: usize,
+    /// The index of b1 among the reference row's places, which tells a0's colour.
+    pub b1: usize,
+}
+
+impl Pause {
+    /// How far the row is read.
+    fn reached(self) -> PlacedReached {
+        let a0 = if self.a0 < 0 {
+            None
+        } else {
+            Some(self.a0 as u32)
+        };
+        PlacedReached {
+            reached: Reached {
+                a0,
+                colour: colour_after(self.b1),
+            },
+            end: self.end,
+            b1: self.b1,
+        }
+    }
+}
+
+/// Reads a mode by a look-up, or else by its table.
+fn last_mode(source: &mut BitSource) -> Result<ModeCode, CodeFault> {
+    if let Some(mode) = source.mode() {
+        return Ok(mode);
+    }
+    read_code::<Modes>(source)
+}
+
+/// Horizontal mode with runs by their tables: the first of them where it is not read, and the second.
+fn last_horizontal<const CHOICE: bool>(
+    source: &mut BitSource,
+    reference: PlacedRow,
+    places: &mut [u32],
+    at: PlacedReached,
+    first: Option<u32>,
+) -> Result<PlacedReached, Stop<Due>> {
+    let from = at.reached.first_pel();
+    let colour = colour_after(at.b1);
+    let runs = last_two_runs::<CHOICE>(source, colour, reference.width, from, first)?;
+    past_runs::<CHOICE>(reference, places, at, runs)
+}
+
+/// Goes on by a mode, after its code, with runs by their tables.
+fn last_step<const CHOICE: bool>(
+    source: &mut BitSource,
+    reference: PlacedRow,
+    places: &mut [u32],
+    at: PlacedReached,
+    mode: ModeCode,
+) -> Result<PlacedReached, Stop<Due>> {
+    match mode {
+        ModeCode::Vertical(d) => vertical::<CHOICE>(reference, places, at, d),
+        ModeCode::Pass => pass::<CHOICE>(reference, places, at),
+        ModeCode::Horizontal => last_horizontal::<CHOICE>(source, reference, places, at, None),
+        ModeCode::Extension => Err(Stop::Fault(RowFault::Extension)),
+    }
+}
+
+/// Reads what is due, and goes on by it.
+fn read_due<const CHOICE: bool>(
+    source: &mut BitSource,
+    reference: PlacedRow,
+    places: &mut [u32],
+    at: PlacedReached,
+    due: Due,
+) -> Result<PlacedReached, Stop<Due>> {
+    match due {
+        Due::Mode => match last_mode(source) {
+            Ok(mode) => last_step::<CHOICE>(source, reference, places, at, mode),
+            Err(fault) => Err(Stop::Fault(RowFault::from(fault))),
+        },
+        Due::Runs(first) => last_horizontal::<CHOICE>(source, reference, places, at, first),
+    }
+}
+
+/// Reads a row on from what is due, and answers where its places end. Where it stops the source is
+/// as it was.
+#[cold]
+#[inline(never)]
+pub(super) fn read_on<const CHOICE: bool>(
+    source: &mut BitSource,
+    reference: PlacedRow,
+    places: &mut [u32],
+    pause: Pause,
+) -> Result<usize, Stop<Due>> {
+    let mut ahead = source.again();
+    ahead.skip_to(pause.place);
+    let mut at = read_due::<CHOICE>(&mut ahead, reference, places, pause.reached(), pause.due)?;
+    while at.reached.first_pel() < reference.width {
+        at = read_due::<CHOICE>(&mut ahead, reference, places, at, Due::Mode)?;
+    }
+    source.go_to(&ahead);
+    Ok(at.end)
+}

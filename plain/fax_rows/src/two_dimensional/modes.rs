@@ -1,0 +1,157 @@
+//! The modes of a row in two-dimensional coding, read over its reference row (ITU-T T.4, section
+//! 4.2.1.3.3). The bits ahead stand in a value.
+
+use super::choices::{chooses_a1, chooses_b2, chooses_runs, is_taken};
+use super::codes::{Due, Stop, TwoRuns, two_runs};
+use super::copied::under_several;
+use super::due::Pause;
+use super::several::several;
+use super::steps::{PlacedReached, after_runs, left_of_b1, right_of_b1, under_b1, under_b2};
+use crate::RowFault;
+use crate::rows::PlacedRow;
+use crate::turns::colour_after;
+use fax_bits::{BitSource, ModeCode};
+
+/// Horizontal mode, after its two runs, where that is T.4's choice or this is not asked for (T.4,
+/// sections 4.2.1.3.2 and 4.2.1.3.3).
+#[inline(always)]
+pub(super) fn past_runs<const CHOICE: bool>(
+    reference: PlacedRow,
+    places: &mut [u32],
+    at: PlacedReached,
+    runs: TwoRuns,
+) -> Result<PlacedReached, Stop<Due>> {
+    let chosen = chooses_runs::<CHOICE>(reference, at, runs);
+    if !is_taken::<CHOICE>(chosen) {
+        return Err(Stop::Other);
+    }
+    Ok(after_runs(reference, places, at, runs.first, runs.second))
+}
+
+/// Horizontal mode: two runs from a0 on, the first of a0's colour, which stays (T.4, section
+/// 4.2.1.3.2). The index of b1 tells that colour.
+#[inline(always)]
+fn horizontal<const CHOICE: bool, const SEVERAL: bool>(
+    source: &mut BitSource,
+    reference: PlacedRow,
+    places: &mut [u32],
+    at: PlacedReached,
+) -> Result<PlacedReached, Stop<Due>> {
+    let from = at.reached.first_pel();
+    let colour = colour_after(at.b1);
+    match two_runs::<CHOICE, SEVERAL>(source, colour, reference.width, from) {
+        Ok(runs) => past_runs::<CHOICE>(reference, places, at, runs),
+        Err(first) => Err(Stop::Due(Due::Runs(first))),
+    }
+}
+
+/// Vertical mode: goes on to a1, which is `d` pels right of b1, where the colour changes (T.4,
+/// section 4.2.1.3.2). Vertical mode always is T.4's choice where a1 is not right of b1 (T.4,
+/// section 4.2.1.3.3).
+#[inline(always)]
+pub(super) fn vertical<const CHOICE: bool>(
+    reference: PlacedRow,
+    places: &mut [u32],
+    at: PlacedReached,
+    d: i8,
+) -> Result<PlacedReached, Stop<Due>> {
+    let out = Stop::Fault(RowFault::OutOfRow);
+    if d < 0 {
+        return left_of_b1(reference, places, at, d).ok_or(out);
+    }
+    if d == 0 {
+        return Ok(under_b1(reference, places, at));
+    }
+    let next = right_of_b1(reference, places, at, d).ok_or(out)?;
+    let chosen = chooses_a1::<CHOICE>(reference, at, next);
+    if is_taken::<CHOICE>(chosen) {
+        Ok(next)
+    } else {
+        Err(Stop::Other)
+    }
+}
+
+/// Pass mode, where that is T.4's choice or this is not asked for (T.4, section 4.2.1.3.3).
+#[inline(always)]
+pub(super) fn pass<const CHOICE: bool>(
+    reference: PlacedRow,
+    places: &[u32],
+    at: PlacedReached,
+) -> Result<PlacedReached, Stop<Due>> {
+    let next = under_b2(reference, places, at);
+    let chosen = chooses_b2::<CHOICE>(reference, next);
+    if is_taken::<CHOICE>(chosen) {
+        Ok(next)
+    } else {
+        Err(Stop::Other)
+    }
+}
+
+/// Goes on by a mode, after its code; where a1 is under b1 it reads more such modes too (T.4,
+/// section 4.2.1.3.3).
+#[inline(always)]
+fn by_mode<const CHOICE: bool, const SEVERAL: bool>(
+    source: &mut BitSource,
+    reference: PlacedRow,
+    places: &mut [u32],
+    at: PlacedReached,
+    mode: ModeCode,
+) -> Result<PlacedReached, Stop<Due>> {
+    match mode {
+        ModeCode::Vertical(0) => Ok(under_several(source, reference, places, at)),
+        ModeCode::Vertical(d) => vertical::<CHOICE>(reference, places, at, d),
+        ModeCode::Pass => pass::<CHOICE>(reference, places, at),
+        ModeCode::Horizontal => horizontal::<CHOICE, SEVERAL>(source, reference, places, at),
+        ModeCode::Extension => Err(Stop::Fault(RowFault::Extension)),
+    }
+}
+
+/// Reads one mode by a look-up, and goes on by what it says; where a1 is under b1 it reads more such
+/// modes too (T.4, section 4.2.1.3.3). With `SEVERAL` it reads several vertical modes by one look-up
+/// where it can.
+#[inline(always)]
+fn next_steps<const CHOICE: bool, const SEVERAL: bool>(
+    source: &mut BitSource,
+    reference: PlacedRow,
+    places: &mut [u32],
+    at: PlacedReached,
+) -> Result<PlacedReached, Stop<Due>> {
+    if let Some(next) = several::<SEVERAL>(source, reference, places, at) {
+        return Ok(next);
+    }
+    let Some(mode) = source.mode() else {
+        return Err(Stop::Due(Due::Mode));
+    };
+    by_mode::<CHOICE, SEVERAL>(source, reference, places, at, mode)
+}
+
+/// Reads the modes of a row over the reference row by look-ups, and answers where its places end.
+/// It stops where no look-up finds the next code, and with `CHOICE` at the first step that is not
+/// seen to be T.4's choice. Where it stops the source is as it was.
+#[inline(never)]
+pub(super) fn read_by_look_ups<const CHOICE: bool, const SEVERAL: bool>(
+    source: &mut BitSource,
+    reference: PlacedRow,
+    places: &mut [u32],
+) -> Result<usize, Stop<Pause>> {
+    let mut ahead = source.again();
+    let mut at = PlacedReached::BEGINNING;
+    while at.reached.first_pel() < reference.width {
+        match next_steps::<CHOICE, SEVERAL>(&mut ahead, reference, places, at) {
+            Ok(next) => at = next,
+            Err(Stop::Due(due)) => {
+                return Err(Stop::Due(Pause {
+                    due,
+                    place: ahead.place(),
+                    a0: at.reached.number(),
+                    end: at.end,
+                    b1: at.b1,
+                }));
+            }
+            Err(Stop::Other) => return Err(Stop::Other),
+            Err(Stop::Fault(fault)) => return Err(Stop::Fault(fault)),
+        }
+    }
+    source.go_to(&ahead);
+    Ok(at.end)
+}

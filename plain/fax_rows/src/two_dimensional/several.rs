@@ -1,0 +1,107 @@
+//! Steps in vertical mode, of which up to four are read at once: their a1s are computed in lanes
+//! (ITU-T T.4, section 4.2.1.3.2).
+
+use super::steps::{PlacedReached, Reached};
+use crate::rows::PlacedRow;
+use crate::turns::colour_after;
+use fax_bits::{BitSource, Verticals};
+use kit_std::simd::prelude::*;
+
+/// How many steps are read at most.
+const LANES: usize = 4;
+
+/// Where so many ones are next, `under_several` reads more steps at once.
+const ONES: u32 = LANES as u32;
+
+/// How far left of b1 an a1 may be at most.
+const LEFT: u32 = 3;
+
+/// Which lanes are less than the others, the first in the lowest bit.
+#[inline(always)]
+fn less_lanes(lanes: u32x4, others: u32x4) -> u64 {
+    // With a sign, which takes fewer instructions.
+    lanes
+        .cast::<i32>()
+        .simd_lt(others.cast::<i32>())
+        .to_bitmask()
+}
+
+/// Whether the lowest `count` bits are set in each of the three.
+#[inline(always)]
+fn are_set(first: u64, second: u64, third: u64, count: u32) -> bool {
+    let wanted = (1 << count) - 1;
+    first & second & third & wanted == wanted
+}
+
+/// Three pels right of a0, or 2 just before the first pel.
+#[inline(always)]
+fn raised_a0(a0: Option<u32>) -> u32 {
+    match a0 {
+        None => 2,
+        Some(place) => place + LEFT,
+    }
+}
+
+/// The a1s of these vertical modes over the changes of the reference row from an index on, where
+/// each is right of the one before, not left of the change before its b1, and left of the one after
+/// it.
+#[inline(always)]
+fn in_lanes(others: &[u32], b: usize, a0: Option<u32>, found: Verticals) -> Option<[u32; LANES]> {
+    // Each three pels too far right, as the looked-up numbers are.
+    let raises = u8x4::from_array(found.raises);
+    let raised = u32x4::from_slice(&others[b..]) + raises.cast::<u32>();
+    let left = u32x4::from_slice(&others[b - 1..]) + u32x4::splat(LEFT - 1);
+    let right = u32x4::from_slice(&others[b + 1..]) + u32x4::splat(LEFT);
+    let before = raised.shuffle(u32x4::splat(raised_a0(a0)), [4, 0, 1, 2]);
+    let fine = are_set(
+        less_lanes(left, raised),
+        less_lanes(raised, right),
+        less_lanes(before, raised),
+        found.count,
+    );
+    if !fine {
+        return None;
+    }
+    Some((raised - u32x4::splat(LEFT)).to_array())
+}
+
+/// Puts four places from the index `end` on.
+#[inline(always)]
+fn put_four(places: &mut [u32], end: usize, four: [u32; LANES]) {
+    places[end..end + LANES].copy_from_slice(&four);
+}
+
+/// Reads two to four steps of vertical modes by one look-up, where it is asked for and the row does
+/// not end among the next four changes, and where each a1 is right of the one before, not left of
+/// the change before its b1, and left of the one after it. Else it reads nothing.
+#[inline(always)]
+pub(super) fn several<const ASKED: bool>(
+    source: &mut BitSource,
+    reference: PlacedRow,
+    places: &mut [u32],
+    at: PlacedReached,
+) -> Option<PlacedReached> {
+    if !ASKED
+        || source.ones() >= ONES
+        || at.b1 + LANES > reference.end
+        || at.end + LANES > places.len()
+    {
+        return None;
+    }
+    let mut ahead = source.again();
+    let Some(found) = ahead.verticals() else {
+        source.go_to(&ahead);
+        return None;
+    };
+    let lanes = in_lanes(reference.places, at.b1, at.reached.a0, found)?;
+    put_four(places, at.end, lanes);
+    source.go_to(&ahead);
+    let count = found.count as usize;
+    let b1 = at.b1 + count;
+    let end = at.end + count;
+    let reached = Reached {
+        a0: Some(places[end - 1]),
+        colour: colour_after(b1),
+    };
+    Some(PlacedReached { reached, end, b1 })
+}

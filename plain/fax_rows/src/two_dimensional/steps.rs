@@ -1,0 +1,168 @@
+//! Steps of two-dimensional coding over a reference row, after their codes (ITU-T T.4, section
+//! 4.2.1.3.2).
+
+use crate::rows::PlacedRow;
+use crate::runs::other;
+use crate::turns::{put_turn, turn_after};
+use fax_bits::Colour;
+
+/// How far a row is read (T.4, section 4.2.1.3.1).
+#[derive(Clone, Copy)]
+pub(crate) struct Reached {
+    /// The place of a0, where `None` is just before the first pel.
+    pub a0: Option<u32>,
+    /// The colour of a0.
+    pub colour: Colour,
+}
+
+impl Reached {
+    /// The first pel that is not read.
+    pub fn first_pel(self) -> u32 {
+        self.a0.unwrap_or(0)
+    }
+
+    /// a0 as a number: -1 just before the first pel.
+    #[inline(always)]
+    pub fn number(self) -> i32 {
+        match self.a0 {
+            None => -1,
+            Some(place) => place as i32,
+        }
+    }
+
+    /// Whether the pel `a1` is right of a0.
+    #[inline(always)]
+    pub fn is_left_of(self, a1: u32) -> bool {
+        a1 as i32 > self.number()
+    }
+
+    /// The pel `d` pels right of the pel `b1`, where it is right of a0.
+    #[inline(always)]
+    fn left_of(self, b1: u32, d: i8) -> Option<u32> {
+        let place = b1 as i32 + i32::from(d);
+        if place > self.number() {
+            Some(place as u32)
+        } else {
+            None
+        }
+    }
+}
+
+/// How far a row is read into places of change.
+#[derive(Clone, Copy)]
+pub(crate) struct PlacedReached {
+    /// a0 and its colour.
+    pub reached: Reached,
+    /// The index after the last place that is put.
+    pub end: usize,
+    /// The index of b1 among the reference row's places.
+    pub b1: usize,
+}
+
+impl PlacedReached {
+    /// Just before the first pel.
+    pub const BEGINNING: PlacedReached = PlacedReached {
+        reached: Reached {
+            a0: None,
+            colour: Colour::White,
+        },
+        end: 1,
+        b1: 1,
+    };
+}
+
+/// Pass mode: goes on to the pel below b2 (T.4, section 4.2.1.3.2).
+#[inline(always)]
+pub(crate) fn under_b2(reference: PlacedRow, places: &[u32], at: PlacedReached) -> PlacedReached {
+    PlacedReached {
+        reached: Reached {
+            a0: Some(reference.places[at.b1 + 1]),
+            ..at.reached
+        },
+        b1: at.b1 + 2,
+        ..at
+    }
+}
+
+/// Goes on to the pel `a1`, which is right of a0 and in the row, where the colour changes (T.4,
+/// section 4.2.1.3.2). `b1` is the index of the next b1.
+#[inline(always)]
+fn turned_at(
+    reference: PlacedRow,
+    places: &mut [u32],
+    at: PlacedReached,
+    a1: u32,
+    b1: usize,
+) -> PlacedReached {
+    let end = put_turn(places, at.end, a1);
+    PlacedReached {
+        reached: Reached {
+            a0: Some(a1),
+            colour: other(at.reached.colour),
+        },
+        end,
+        b1,
+    }
+}
+
+/// Vertical mode with a1 just under b1, which is always right of a0 and in the row (T.4,
+/// section 4.2.1.3.2). The next b1 is the reference row's next changing element.
+#[inline(always)]
+pub(crate) fn under_b1(reference: PlacedRow, places: &mut [u32], at: PlacedReached) -> PlacedReached {
+    turned_at(reference, places, at, reference.places[at.b1], at.b1 + 1)
+}
+
+/// Vertical mode with a1 right of b1, by `d` pels (T.4, section 4.2.1.3.2). `None` where a1 is not
+/// in the row.
+#[inline(always)]
+pub(crate) fn right_of_b1(
+    reference: PlacedRow,
+    places: &mut [u32],
+    at: PlacedReached,
+    d: i8,
+) -> Option<PlacedReached> {
+    let place = reference.places[at.b1] + u32::from(d.unsigned_abs());
+    if place > reference.width {
+        return None;
+    }
+    let b1 = reference.b1_after(at.b1 + 1, place);
+    Some(turned_at(reference, places, at, place, b1))
+}
+
+/// Vertical mode with a1 left of b1, by `-d` pels (T.4, section 4.2.1.3.2). `None` where a1 is not
+/// right of a0.
+#[inline(always)]
+pub(crate) fn left_of_b1(
+    reference: PlacedRow,
+    places: &mut [u32],
+    at: PlacedReached,
+    d: i8,
+) -> Option<PlacedReached> {
+    let place = at.reached.left_of(reference.places[at.b1], d)?;
+    let b1 = reference.b1_before(at.b1, place);
+    Some(turned_at(reference, places, at, place, b1))
+}
+
+/// Horizontal mode, after its two runs, the first of a0's colour, which stays (T.4, section
+/// 4.2.1.3.2).
+#[inline(always)]
+pub(crate) fn after_runs(
+    reference: PlacedRow,
+    places: &mut [u32],
+    at: PlacedReached,
+    first: u32,
+    second: u32,
+) -> PlacedReached {
+    let middle = at.reached.first_pel() + first;
+    let to = middle + second;
+    let between = turn_after(places, at.end, middle, first);
+    let end = turn_after(places, between, to, second);
+    PlacedReached {
+        reached: Reached {
+            a0: Some(to),
+            ..at.reached
+        },
+        end,
+        b1: reference.b1_after(at.b1, to),
+    }
+}

@@ -1,0 +1,85 @@
+//! The places of change of a row of packed bytes: eight pels in a byte, the leftmost in its highest
+//! bit, where 1 is black.
+
+use crate::lanes::first_other;
+use crate::ones::put_ones;
+use crate::packed::WORD;
+use crate::runs::other;
+use crate::turns::turn;
+use fax_bits::Colour;
+use fax_bits::laws::bits_stand_by_place;
+
+/// The word of eight bytes from a place on, the highest first.
+#[inline(always)]
+fn word_at(bytes: &[u8], at: usize) -> u64 {
+    bits_stand_by_place();
+    let mut word = [0; 8];
+    word.copy_from_slice(&bytes[at..at + 8]);
+    u64::from_be_bytes(word)
+}
+
+/// The colour of the last pel of a word.
+fn last_colour(word: u64) -> Colour {
+    if word % 2 == 1 {
+        Colour::Black
+    } else {
+        Colour::White
+    }
+}
+
+/// Puts the places of change of a word of 64 pels, the first of them at place `from`, after
+/// another word, and answers where they end.
+#[inline(always)]
+fn put_word(places: &mut [u32], end: usize, from: u32, before: u64, word: u64) -> usize {
+    // A bit is 1 where a pel has another colour than the one before it.
+    let changes = word ^ (word >> 1) ^ (before << 63);
+    put_ones(places, end, from, changes)
+}
+
+/// Whether the four words from a place on are white.
+#[inline(always)]
+fn are_white(bytes: &[u8], at: usize) -> bool {
+    let first = (word_at(bytes, at) == 0) & (word_at(bytes, at + 8) == 0);
+    let last = (word_at(bytes, at + 16) == 0) & (word_at(bytes, at + 24) == 0);
+    first & last
+}
+
+/// Goes past white words, by fours, after a word that is white.
+#[inline(always)]
+fn past_white(bytes: &[u8], word: u64, from: u32, words: u32) -> u32 {
+    let mut k = from;
+    while word == 0 && words - k >= 4 && are_white(bytes, 8 * k as usize) {
+        k += 4;
+    }
+    k
+}
+
+/// Puts the places of change of so many words of 64 pels, and answers where they end, and the
+/// colour of the last pel: white where there is no word.
+fn places_of_words(bytes: &[u8], places: &mut [u32], words: u32) -> (usize, Colour) {
+    let mut end = 1;
+    let mut before = 0;
+    let mut k = 0;
+    while k < words {
+        let word = word_at(bytes, 8 * k as usize);
+        end = put_word(places, end, WORD * k, before, word);
+        before = word;
+        k = past_white(bytes, word, k + 1, words);
+    }
+    (end, last_colour(before))
+}
+
+/// Puts the places of change of the row of `width` pels that these bytes hold, and answers where
+/// they end.
+pub(crate) fn places_of_bits(bytes: &[u8], places: &mut [u32], width: u32) -> usize {
+    bits_stand_by_place();
+    let words = width / WORD;
+    let (mut end, mut colour) = places_of_words(bytes, places, words);
+    let mut at = first_other(bytes, u64::from(WORD * words), colour);
+    while at < u64::from(width) {
+        end = turn(places, end, at as u32);
+        colour = other(colour);
+        at = first_other(bytes, at + 1, colour);
+    }
+    end
+}

@@ -1,0 +1,35 @@
+//! White rows after white ones, which are gone past by their few bits (ITU-T T.4, sections 4.1.1 and
+//! 4.2.1.3.3).
+
+use kit_std::prelude::prove;
+
+use crate::pels::Row;
+use fax_bits::{BitSource, Colour};
+
+/// How many pels the least run has that takes two make-up codes (T.4, section 4.1.1).
+const LONG_RUN: u32 = 2560;
+
+/// Goes past a row in one-dimensional coding that is white as this one is, where its codes are next
+/// and T.4's choice, and answers whether they are seen to be (T.4, section 4.1.1). Else the source
+/// stays. It takes no memory.
+#[inline(always)]
+pub fn take_white_1d(source: &mut BitSource, white: &Row) -> bool {
+    crate::laws::one_dimensional_rows_are_read_back();
+    if !white.is_white() || white.width >= LONG_RUN {
+        return false;
+    }
+    source.take_run(Colour::White, white.width)
+}
+
+/// Goes past a row in two-dimensional coding that is white as its reference row is, where its code is
+/// next, and answers whether that is seen (T.4, section 4.2.1.3.3; T.6, section 2.2.4). Else the
+/// source stays. It takes no memory.
+#[inline(always)]
+pub fn take_white_2d(source: &mut BitSource, reference: &Row) -> bool {
+    crate::laws::two_dimensional_rows_are_read_back();
+    if !reference.is_white() {
+        return false;
+    }
+    prove!(0 < reference.width);
+    source.past_ones(1) == 1
+}

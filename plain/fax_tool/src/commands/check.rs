@@ -1,0 +1,82 @@
+//! `check`: what is worth a note in a file.
+
+use crate::refusal::Refusal;
+use crate::streams::transfer::{Interruptions, give_all, read_whole};
+use crate::streams::{Sink, Source};
+use crate::text::collected::Collected;
+use crate::text::fault::{ErrorLine, row_fault_line};
+use crate::text::push_number;
+use arrayvec::ArrayString;
+use fax_bits::Memory;
+use fax_walk::{Note, Report};
+use itoa::Buffer;
+use kit_std::alloc::Global;
+
+/// A line of the report, which is made without memory.
+type ReportLine = ArrayString<64>;
+
+/// Appends the number of a strip, where there is one.
+fn push_strip(line: &mut ReportLine, strip: Option<u32>) {
+    if let Some(strip) = strip {
+        line.push_str(" strip");
+        push_number(line, strip);
+    }
+}
+
+/// The line of a note: `note page P strip S`, or without a strip where it is on the page's
+/// directory, and the note's number and name.
+fn note_line(note: Note) -> ReportLine {
+    let mut digits = Buffer::new();
+    let mut line = ReportLine::new();
+    line.push_str("note page");
+    push_number(&mut line, note.page);
+    push_strip(&mut line, note.strip);
+    line.push_str(": N");
+    line.push_str(digits.format(note.kind.number()));
+    line.push_str(" ");
+    line.push_str(note.kind.name());
+    line.push_str("\n");
+    line
+}
+
+/// The last line: how many pages were read wholly, and how many rows.
+fn counts_line(pages: u64, rows: u64) -> ReportLine {
+    let mut line = ReportLine::new();
+    line.push_str("pages");
+    push_number(&mut line, pages);
+    line.push_str(" rows");
+    push_number(&mut line, rows);
+    line.push_str("\n");
+    line
+}
+
+/// The text of a report: its notes, line by line, and its counts.
+fn report_text(alloc: Global, report: &Report) -> Result<Collected, Memory> {
+    let mut text = Collected::new(alloc);
+    for note in &report.notes {
+        text.put(note_line(*note).as_str())?;
+    }
+    text.put(counts_line(report.pages, report.rows).as_str())?;
+    Ok(text)
+}
+
+/// The line of a report's fault, if there is one.
+fn fault_line(report: &Report) -> Option<ErrorLine> {
+    let (place, cause) = report.fault?;
+    Some(row_fault_line(place.page, place.row, cause))
+}
+
+/// Reads the input whole and writes what is worth a note in it, how many pages were read wholly,
+/// and how many rows.
+pub fn check<R: Source, W: Sink>(
+    alloc: Global,
+    input: &mut R,
+    out: &mut W,
+) -> Result<Option<ErrorLine>, Refusal> {
+    let file = read_whole(alloc, input)?;
+    let report = fax_walk::check(alloc, &file)?;
+    let text = report_text(alloc, &report)?;
+    let mut interruptions = Interruptions::NONE;
+    give_all(out, &mut interruptions, text.as_bytes())?;
+    Ok(fault_line(&report))
+}

@@ -1,0 +1,68 @@
+//! `convert`: the pages in another form.
+
+use crate::refusal::Refusal;
+use crate::streams::transfer::{Interruptions, give_all, read_whole, zero_bytes};
+use crate::streams::{Sink, Source};
+use crate::text::fault::{ErrorLine, conversion_line};
+use fax_walk::{Options, Part, Parts};
+use kit_std::alloc::Global;
+
+/// How many zeros are written at once.
+const BLOCK: usize = 65_536;
+
+/// Writes so many zeros, from a block of them.
+fn give_zeros<W: Sink>(
+    out: &mut W,
+    interruptions: &mut Interruptions,
+    block: &[u8],
+    zeros: usize,
+) -> Result<(), Refusal> {
+    let mut left = zeros;
+    while left > 0 {
+        let count = left.min(block.len());
+        give_all(out, interruptions, &block[..count])?;
+        left -= count;
+    }
+    Ok(())
+}
+
+/// Writes a part of an output, with its zeros from a block.
+fn give_part<W: Sink>(
+    out: &mut W,
+    interruptions: &mut Interruptions,
+    block: &[u8],
+    part: Part,
+) -> Result<(), Refusal> {
+    give_all(out, interruptions, part.held)?;
+    give_zeros(out, interruptions, block, part.zeros)
+}
+
+/// Writes an output part by part, with zeros from a block.
+fn give_parts<W: Sink>(out: &mut W, block: &[u8], output: &Parts) -> Result<(), Refusal> {
+    let mut interruptions = Interruptions::NONE;
+    let mut left = output.parts();
+    while let Some(part) = left.next_part() {
+        give_part(out, &mut interruptions, block, part)?;
+    }
+    interruptions.are_few();
+    Ok(())
+}
+
+/// Reads the input whole and writes its pages as the options say. Where it is refused nothing is
+/// written.
+pub fn convert<R: Source, W: Sink>(
+    alloc: Global,
+    options: Options,
+    input: &mut R,
+    out: &mut W,
+) -> Result<Option<ErrorLine>, Refusal> {
+    let file = read_whole(alloc, input)?;
+    match fax_walk::convert_parts(alloc, &file, &options) {
+        Ok(output) => {
+            let block = zero_bytes(alloc, BLOCK)?;
+            give_parts(out, &block, &output)?;
+            Ok(None)
+        }
+        Err(fault) => Ok(Some(conversion_line(fault)?)),
+    }
+}

@@ -1,0 +1,250 @@
+//! `rows` and `list`: the runs of each row, or the form of each page, line by line.
+
+use kit_std::prelude::{String, Vec};
+
+use crate::commands::lines::Lines;
+use crate::refusal::Refusal;
+use crate::streams::transfer::{Interruptions, give_all, read_whole};
+use crate::streams::{Sink, Source};
+use crate::text::collected::Collected;
+use crate::text::fault::{ErrorLine, end_line};
+use crate::words::Part;
+use arrayvec::ArrayString;
+use fax_bits::Memory;
+use fax_walk::{Begun, Cursor, End, Pages, Walk};
+use kit_std::alloc::Global;
+
+/// How many bytes of text are collected, and a line more, before they are written.
+const ENOUGH_TEXT: usize = 65_536;
+
+/// The line that a run ends with where rows are left, made without memory: `next` and the cursor.
+fn next_line(cursor: Cursor) -> ArrayString<29> {
+    let mut line = ArrayString::new();
+    line.push_str("next ");
+    line.push_str(cursor.text().as_str());
+    line.push_str("\n");
+    line
+}
+
+/// Writes a text in two parts.
+fn give_two<W: Sink>(
+    out: &mut W,
+    interruptions: &mut Interruptions,
+    first: &[u8],
+    second: &[u8],
+) -> Result<(), Refusal> {
+    match give_all(out, interruptions, first) {
+        Ok(()) => give_all(out, interruptions, second),
+        Err(refusal) => Err(refusal),
+    }
+}
+
+/// Writes the lines that are whole, and the line that says where to go on, when memory was refused.
+fn stop_for_memory<W: Sink>(
+    out: &mut W,
+    interruptions: &mut Interruptions,
+    lines: &[u8],
+    next: &str,
+) -> Refusal {
+    match give_two(out, interruptions, lines, next.as_bytes()) {
+        Ok(()) => Refusal::Memory,
+        Err(refusal) => refusal,
+    }
+}
+
+/// Writes the text that is collected, and empties it; its room stays.
+pub fn write_out<W: Sink>(
+    out: &mut W,
+    interruptions: &mut Interruptions,
+    text: &mut Collected,
+) -> Result<(), Refusal> {
+    give_all(out, interruptions, text.as_bytes())?;
+    text.clear();
+    Ok(())
+}
+
+/// Writes the text that is collected where it is long, and empties it then.
+pub fn write_where_long<W: Sink>(
+    out: &mut W,
+    interruptions: &mut Interruptions,
+    text: &mut Collected,
+) -> Result<(), Refusal> {
+    if text.len() < ENOUGH_TEXT {
+        return Ok(());
+    }
+    write_out(out, interruptions, text)
+}
+
+/// What is left of a limit after one more line.
+fn after_one(left: Option<u32>) -> Option<u32> {
+    match left {
+        Some(n) => Some(n - 1),
+        None => None,
+    }
+}
+
+/// Prints the lines, up to the limit, and answers how they ended, or `None` at the limit.
+fn print_lines<L: Lines, W: Sink>(
+    alloc: Global,
+    lines: &mut L,
+    max: Option<u32>,
+    out: &mut W,
+    interruptions: &mut Interruptions,
+) -> Result<Option<End>, Refusal> {
+    lines.are_one();
+    let mut text = Collected::new(alloc);
+    let mut left = max;
+    loop {
+        if left == Some(0) {
+            write_out(out, interruptions, &mut text)?;
+            return Ok(None);
+        }
+        write_where_long(out, interruptions, &mut text)?;
+        let cursor = lines.cursor();
+        match lines.put_next(&mut text) {
+            Ok(None) => left = after_one(left),
+            Ok(Some(end)) => {
+                write_out(out, interruptions, &mut text)?;
+                return Ok(Some(end));
+            }
+            Err(Memory) => {
+                let next = next_line(cursor);
+                return Err(stop_for_memory(out, interruptions, text.as_bytes(), &next));
+            }
+        }
+    }
+}
+
+/// The line that says where to go on, with the long cursor, where there is one.
+fn long_next_line<L: Lines>(alloc: Global, lines: &L) -> Result<String, Memory> {
+    lines.are_one();
+    let mut line = String::from_str(alloc, "next ").map_err(|_| Memory)?;
+    match lines.long_cursor(alloc)? {
+        Some(place) => place.put_text(&mut line)?,
+        None => lines.cursor().put_text(&mut line)?,
+    }
+    line.push_str("\n").map_err(|_| Memory)?;
+    Ok(line)
+}
+
+/// Writes where to go on, with a long cursor where it is asked for and there is one.
+fn give_next<L: Lines, W: Sink>(
+    alloc: Global,
+    lines: &L,
+    long: bool,
+    out: &mut W,
+    interruptions: &mut Interruptions,
+) -> Result<(), Refusal> {
+    let next = next_line(lines.cursor());
+    if long {
+        return match long_next_line(alloc, lines) {
+            Ok(line) => give_all(out, interruptions, line.as_bytes()),
+            Err(Memory) => Err(stop_for_memory(out, interruptions, b"", &next)),
+        };
+    }
+    give_all(out, interruptions, next.as_bytes())
+}
+
+/// What the last line says: how the printing ended, `None` at its limit, and whether it tells where
+/// to go on by a long cursor.
+#[derive(Clone, Copy)]
+struct LastLine {
+    ending: Option<End>,
+    long: bool,
+}
+
+/// Writes the last line of the output: `end`, or where to go on, or none for a cursor outside of
+/// the file. Where printing ended at its limit there is no end.
+fn give_last_line<L: Lines, W: Sink>(
+    alloc: Global,
+    lines: &L,
+    last: LastLine,
+    out: &mut W,
+    interruptions: &mut Interruptions,
+) -> Result<(), Refusal> {
+    match last.ending {
+        Some(End::Proper) => give_all(out, interruptions, b"end\n"),
+        Some(End::Outside) => give_all(out, interruptions, b""),
+        Some(End::Fault { .. }) => give_next(alloc, lines, last.long, out, interruptions),
+        None => give_next(alloc, lines, last.long, out, interruptions),
+    }
+}
+
+/// Prints the lines, up to the limit, and the last line, and answers the line of their fault, if
+/// there is one.
+fn print_all<L: Lines, W: Sink>(
+    alloc: Global,
+    lines: &mut L,
+    max: Option<u32>,
+    long: bool,
+    out: &mut W,
+) -> Result<Option<ErrorLine>, Refusal> {
+    lines.are_one();
+    let mut interruptions = Interruptions::NONE;
+    let ending = print_lines(alloc, lines, max, out, &mut interruptions)?;
+    let last = LastLine { ending, long };
+    give_last_line(alloc, lines, last, out, &mut interruptions)?;
+    Ok(end_line(ending))
+}
+
+/// Reads the input whole. Where memory is refused it writes where to go on: at this cursor.
+fn read_or_stop<R: Source, W: Sink>(
+    alloc: Global,
+    cursor: Cursor,
+    input: &mut R,
+    out: &mut W,
+) -> Result<Vec<u8>, Refusal> {
+    match read_whole(alloc, input) {
+        Ok(file) => Ok(file),
+        Err(refusal) => match refusal {
+            Refusal::Memory => {
+                let mut interruptions = Interruptions::NONE;
+                let next = next_line(cursor);
+                Err(stop_for_memory(out, &mut interruptions, b"", &next))
+            }
+            _ => Err(refusal),
+        },
+    }
+}
+
+/// What the rows of a part begin with. Where memory is refused it writes where to go on: there.
+fn begin_or_stop<W: Sink>(part: &Part, out: &mut W) -> Result<Begun, Refusal> {
+    match part.begun() {
+        Ok(begun) => Ok(begun),
+        Err(Memory) => {
+            let mut interruptions = Interruptions::NONE;
+            let next = next_line(part.begin());
+            Err(stop_for_memory(out, &mut interruptions, b"", &next))
+        }
+    }
+}
+
+/// Reads the input whole and prints the rows of its pages from the cursor on, up to the limit, and
+/// then `end`, or `next` with the place of the row that was due: a long cursor where the part asks
+/// for it and there is one.
+pub fn rows<R: Source, W: Sink>(
+    alloc: Global,
+    part: &Part,
+    input: &mut R,
+    out: &mut W,
+) -> Result<Option<ErrorLine>, Refusal> {
+    fax_walk::laws::beginnings_have_one_tail();
+    let begun = begin_or_stop(part, out)?;
+    let file = read_or_stop(alloc, part.begin(), input, out)?;
+    let mut walk = Walk::begin(alloc, &file, begun);
+    print_all(alloc, &mut walk, part.max, part.long, out)
+}
+
+/// Reads the input whole and prints the forms of its pages from the cursor on, up to the limit, and
+/// then `end`, or `next` with the place of the page that was due.
+pub fn list<R: Source, W: Sink>(
+    alloc: Global,
+    part: &Part,
+    input: &mut R,
+    out: &mut W,
+) -> Result<Option<ErrorLine>, Refusal> {
+    fax_walk::laws::form_tails_are_one();
+    let file = read_or_stop(alloc, part.cursor, input, out)?;
+    let mut pages = Pages::resume(&file, part.cursor);
+    print_all(alloc, &mut pages, part.max, false, out)
+}

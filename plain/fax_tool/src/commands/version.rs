@@ -1,0 +1,14 @@
+//! `--version`: which version the program is.
+
+use crate::refusal::Refusal;
+use crate::streams::Sink;
+use crate::streams::transfer::{Interruptions, give_all};
+
+/// The program's name and the version, which is that of the file `VERSION`.
+const VERSION_TEXT: &str = "faxpages 1.6.0\n";
+
+/// Writes the version.
+pub fn version<W: Sink>(out: &mut W) -> Result<(), Refusal> {
+    let mut interruptions = Interruptions::NONE;
+    give_all(out, &mut interruptions, VERSION_TEXT.as_bytes())
+}

@@ -1,0 +1,108 @@
+//! `faxpages`: reads black-and-white fax pages in TIFF-F files.
+//!
+//! The program is `run_words`: `main` only gathers the words, and hands it the system's files and
+//! streams.
+#![deny(unsafe_code)]
+#![no_main]
+
+use kit_std::prelude::{CollectIn, HostRuntime, String, Vec};
+
+mod commands;
+mod input;
+pub mod laws;
+mod program;
+mod refusal;
+mod run;
+mod streams;
+mod text;
+mod words;
+
+pub use fax_bits::{FillOrder, Memory};
+pub use fax_walk::{
+    Begun, Cause, Cursor, End, FileFault, LongCursor, NotACursor, Options, StripFault, Target,
+};
+pub use input::{Input, NotOpened};
+pub use program::run_words;
+pub use refusal::Refusal;
+pub use run::run;
+use kit_std::fs::File;
+use kit_std::io::Stdin;
+use kit_std::process::ExitCode;
+use kit_std::{env, io};
+pub use streams::{FromRead, Sink, Source, StreamFault, ToWrite};
+pub use words::{Command, Job, Part, WordsFault, parse_words};
+
+/// The words of the command line, the program's name first. Words that are no text are refused.
+fn given_words(rt: &HostRuntime) -> Result<Vec<String>, WordsFault> {
+    match env::args(rt) {
+        Ok(words) => Ok(words.collect_in(rt.alloc())?),
+        Err(error) => match error.kind() {
+            io::ErrorKind::OutOfMemory => Err(WordsFault::Memory),
+            _ => Err(WordsFault::Usage),
+        },
+    }
+}
+
+/// What the system's standard input, or a file that was opened, gives.
+enum SystemReader {
+    Standard(Stdin),
+    File(File),
+}
+
+impl io::Read for SystemReader {
+    fn read(&mut self, buf: &mut [u8]) -> io::Result<usize> {
+        match self {
+            SystemReader::Standard(standard) => standard.read(buf),
+            SystemReader::File(file) => file.read(buf),
+        }
+    }
+}
+
+/// The system's standard input, or the file that was opened. Of their bytes nothing is known.
+struct SystemInput<'a> {
+    rt: &'a HostRuntime,
+    reader: FromRead<SystemReader>,
+}
+
+impl Source for SystemInput<'_> {
+    fn take(&mut self, buffer: &mut [u8]) -> Result<usize, StreamFault> {
+        self.reader.take(buffer)
+    }
+}
+
+impl Input for SystemInput<'_> {
+    fn open(&mut self, name: &str) -> Result<(), NotOpened> {
+        match File::open(self.rt, name) {
+            Ok(file) => {
+                self.reader = FromRead::new(SystemReader::File(file));
+                Ok(())
+            }
+            Err(_) => {
+                self.reader.count_unopened();
+                Err(NotOpened)
+            }
+        }
+    }
+}
+
+/// The program's status.
+fn status_of(rt: &HostRuntime) -> Result<u8, WordsFault> {
+    let words = given_words(rt)?;
+    let texts: Vec<&str> = words.iter().map(|word| word.as_str()).collect_in(rt.alloc())?;
+    let mut input = SystemInput {
+        rt,
+        reader: FromRead::new(SystemReader::Standard(rt.stdin())),
+    };
+    let mut out = ToWrite::new(rt.stdout());
+    let mut err = ToWrite::new(rt.stderr());
+    Ok(run_words(rt.alloc(), texts.as_slice(), &mut input, &mut out, &mut err))
+}
+
+fn main(rt: HostRuntime) -> ExitCode {
+    match status_of(&rt) {
+        Ok(status) => ExitCode::from(status),
+        Err(fault) => ExitCode::from(fault.say(&[], &mut ToWrite::new(rt.stderr()))),
+    }
+}
+
+kit_std::entry!(crate::main);

@@ -1,0 +1,76 @@
+//! A run of the program over its streams.
+
+use crate::commands::check::check;
+use crate::commands::convert::convert;
+use crate::commands::print::{list, rows};
+use crate::commands::salvage::salvage;
+use crate::commands::version::version;
+use crate::refusal::Refusal;
+use crate::streams::transfer::{Interruptions, give_all};
+use crate::streams::{Sink, Source};
+use crate::text::fault::ErrorLine;
+use crate::words::{Command, Job};
+use kit_std::alloc::Global;
+
+/// Nothing was refused: all that was asked for was written.
+const DONE: u8 = 0;
+
+/// The input has a fault.
+const INPUT_FAULT: u8 = 1;
+
+/// Memory, a read or a write was refused.
+const REFUSED: u8 = 3;
+
+/// Says a line on the error stream, and answers this status, or 3 where the stream fails.
+fn say<E: Sink>(err: &mut E, line: &[u8], status: u8) -> u8 {
+    let mut interruptions = Interruptions::NONE;
+    match give_all(err, &mut interruptions, line) {
+        Ok(()) => status,
+        Err(_) => REFUSED,
+    }
+}
+
+/// Says on the error stream what fault the input has, or why the run was refused, and answers the
+/// program's status.
+fn report<E: Sink>(outcome: Result<Option<ErrorLine>, Refusal>, err: &mut E) -> u8 {
+    match outcome {
+        Ok(None) => DONE,
+        Ok(Some(line)) => say(err, line.as_bytes(), INPUT_FAULT),
+        Err(refusal) => say(err, refusal.line().as_bytes(), REFUSED),
+    }
+}
+
+/// Carries out a command: reads the input whole and writes the output; for the version nothing is
+/// read. It answers the line of the input's fault, if there is one.
+fn carry_out<R: Source, W: Sink>(
+    alloc: Global,
+    command: &Command,
+    input: &mut R,
+    out: &mut W,
+) -> Result<Option<ErrorLine>, Refusal> {
+    match command {
+        Command::List(part) => list(alloc, part, input, out),
+        Command::Rows(part) => rows(alloc, part, input, out),
+        Command::Convert(options) => convert(alloc, *options, input, out),
+        Command::Check => check(alloc, input, out),
+        Command::Salvage => salvage(alloc, input, out),
+        Command::Version => {
+            version(out)?;
+            Ok(None)
+        }
+    }
+}
+
+/// Carries out a job: reads the input whole, but for the version, writes the output, and says on
+/// the error stream why that is not all. It answers the program's status: 0 where all is done; 1 at a fault of the
+/// input; 3 where memory, a read or a write was refused, or the error stream failed.
+pub fn run<R: Source, W: Sink, E: Sink>(
+    alloc: Global,
+    job: &Job,
+    input: &mut R,
+    out: &mut W,
+    err: &mut E,
+) -> u8 {
+    let outcome = carry_out(alloc, &job.command, input, out);
+    report(outcome, err)
+}

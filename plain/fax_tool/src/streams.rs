@@ -1,0 +1,141 @@
+//! The streams that a run reads and writes.
+
+pub mod transfer;
+
+use kit_std::io;
+use thiserror::Error;
+
+/// Why a call on a stream moved nothing.
+#[derive(Clone, Copy, Debug, PartialEq, Eq, Error)]
+pub enum StreamFault {
+    /// A signal came in between, and the call may be made again.
+    #[error("the call was interrupted")]
+    Interrupted,
+    #[error("the call failed")]
+    Failed,
+}
+
+/// A stream that bytes are taken from. Contracts see its bytes left, where they are known, how many
+/// bytes were taken, and how many calls were interrupted or failed; counts stay at `u64::MAX`.
+pub trait Source {
+    /// Moves the next bytes to the front of the buffer, and answers how many: 0 only where the
+    /// buffer is empty or no byte is left.
+    fn take(&mut self, buffer: &mut [u8]) -> Result<usize, StreamFault>;
+}
+
+/// A stream that bytes are given to. Contracts see its bytes written, where they are known, and how
+/// many calls were interrupted or failed; counts stay at `u64::MAX`.
+pub trait Sink {
+    /// Writes bytes from the front of the slice, and answers how many: 0 only where the slice is
+    /// empty.
+    fn give(&mut self, bytes: &[u8]) -> Result<usize, StreamFault>;
+}
+
+/// How many calls on a stream were interrupted, how many failed, and how many files were not opened.
+/// All stay at `u64::MAX`.
+#[derive(Clone, Copy)]
+struct FaultCounts {
+    interrupted: u64,
+    failed: u64,
+    unopened: u64,
+}
+
+impl FaultCounts {
+    /// No call was interrupted, none failed, and no file was not opened.
+    const NONE: FaultCounts = FaultCounts {
+        interrupted: 0,
+        failed: 0,
+        unopened: 0,
+    };
+
+    /// Counts one more call with this fault, and answers the fault.
+    fn count(&mut self, fault: StreamFault) -> StreamFault {
+        match fault {
+            StreamFault::Interrupted => self.interrupted = self.interrupted.saturating_add(1),
+            StreamFault::Failed => self.failed = self.failed.saturating_add(1),
+        }
+        fault
+    }
+}
+
+/// The fault of a call on a stream of std.
+fn fault_of(error: &io::Error) -> StreamFault {
+    match error.kind() {
+        io::ErrorKind::Interrupted => StreamFault::Interrupted,
+        _ => StreamFault::Failed,
+    }
+}
+
+/// A reader of std as a source.
+pub struct FromRead<R> {
+    reader: R,
+    taken: u64,
+    faults: FaultCounts,
+}
+
+impl<R: io::Read> FromRead<R> {
+    /// The reader's bytes from here on, with counts of 0.
+    pub fn new(reader: R) -> Self {
+        FromRead {
+            reader,
+            taken: 0,
+            faults: FaultCounts::NONE,
+        }
+    }
+
+    /// Counts a file that was not opened, apart from calls that failed. The reader stays.
+    pub fn count_unopened(&mut self) {
+        self.faults.unopened = self.faults.unopened.saturating_add(1);
+    }
+
+    /// The reader, after the bytes that were taken.
+    pub fn into_inner(self) -> R {
+        let FromRead { reader, .. } = self;
+        reader
+    }
+}
+
+impl<R: io::Read> Source for FromRead<R> {
+    fn take(&mut self, buffer: &mut [u8]) -> Result<usize, StreamFault> {
+        match self.reader.read(buffer) {
+            Ok(count) => {
+                self.taken = self.taken.saturating_add(count as u64);
+                Ok(count)
+            }
+            Err(error) => Err(self.faults.count(fault_of(&error))),
+        }
+    }
+}
+
+/// A writer of std as a sink.
+pub struct ToWrite<W> {
+    writer: W,
+    faults: FaultCounts,
+}
+
+impl<W: io::Write> ToWrite<W> {
+    /// The writer, with counts of 0.
+    pub fn new(writer: W) -> Self {
+        ToWrite {
+            writer,
+            faults: FaultCounts::NONE,
+        }
+    }
+
+    /// The writer, with what was given.
+    pub fn into_inner(self) -> W {
+        let ToWrite { writer, .. } = self;
+        writer
+    }
+}
+
+impl<W: io::Write> Sink for ToWrite<W> {
+    /// A write that takes 0 bytes of a slice that is not empty has failed.
+    fn give(&mut self, bytes: &[u8]) -> Result<usize, StreamFault> {
+        match self.writer.write(bytes) {
+            Ok(0) if !bytes.is_empty() => Err(self.faults.count(StreamFault::Failed)),
+            Ok(count) => Ok(count),
+            Err(error) => Err(self.faults.count(fault_of(&error))),
+        }
+    }
+}

@@ -1,0 +1,114 @@
+//! Whole transfers: a source to its end, and all of some bytes to a sink.
+
+use kit_std::prelude::{Vec, vec};
+
+use crate::refusal::Refusal;
+use crate::streams::{Sink, Source, StreamFault};
+use fax_files::MAX_FILE;
+use kit_std::alloc::Global;
+use kit_std::marker::Model;
+
+/// The most bytes of an input: 256 MiB.
+const MOST_INPUT: usize = MAX_FILE as usize;
+
+/// How many bytes are read at a time.
+const CHUNK: usize = 65_536;
+
+/// For how many bytes of an input there is room before the first of them is read: where it has no
+/// more, none is copied as its room grows.
+const FIRST_ROOM: usize = 4 * CHUNK;
+
+/// How many interrupted calls of a stream are made again.
+const MOST_INTERRUPTED: u32 = 1_023;
+
+/// How many calls on a stream were interrupted, and made again. Contracts see the number.
+pub struct Interruptions {
+    count: u32,
+}
+
+impl Model for Interruptions {}
+
+impl Interruptions {
+    /// No call was interrupted.
+    pub const NONE: Interruptions = Interruptions { count: 0 };
+
+    /// They are not too many. It computes nothing.
+    pub(crate) fn are_few(&self) {
+        let _ = &self.count;
+    }
+
+    /// Whether a call with this fault is made again: an interrupted one, up to 1,023 times on a
+    /// stream.
+    fn allow(&mut self, fault: StreamFault) -> bool {
+        match fault {
+            StreamFault::Interrupted if self.count < MOST_INTERRUPTED => {
+                self.count += 1;
+                true
+            }
+            StreamFault::Interrupted | StreamFault::Failed => false,
+        }
+    }
+}
+
+/// So many zero bytes.
+pub(crate) fn zero_bytes(alloc: Global, len: usize) -> Result<Vec<u8>, Refusal> {
+    vec![in alloc; 0u8; len].map_err(|_| Refusal::Memory)
+}
+
+/// Reads a source whole, of at most 268,435,456 bytes.
+///
+/// # Errors
+///
+/// `Memory` where a growth was refused; `Read` where a read failed, 1,024 were interrupted, or the
+/// source has more bytes.
+pub fn read_whole<R: Source>(alloc: Global, input: &mut R) -> Result<Vec<u8>, Refusal> {
+    let mut interruptions = Interruptions::NONE;
+    let mut file = Vec::new(alloc);
+    file.reserve(FIRST_ROOM).map_err(|_| Refusal::Memory)?;
+    let mut chunk = zero_bytes(alloc, CHUNK)?;
+    loop {
+        interruptions.are_few();
+        match input.take(&mut chunk) {
+            Ok(0) => return Ok(file),
+            Ok(count) => {
+                if count > MOST_INPUT - file.len() {
+                    return Err(Refusal::Read);
+                }
+                if file.extend_from_slice(&chunk[..count]).is_err() {
+                    return Err(Refusal::Memory);
+                }
+            }
+            Err(fault) => {
+                if !interruptions.allow(fault) {
+                    return Err(Refusal::Read);
+                }
+            }
+        }
+    }
+}
+
+/// Gives a sink all of the bytes, in order.
+///
+/// # Errors
+///
+/// `Write` where a write failed or 1,024 on this sink were interrupted; a front of the bytes was
+/// then written.
+pub fn give_all<W: Sink>(
+    out: &mut W,
+    interruptions: &mut Interruptions,
+    bytes: &[u8],
+) -> Result<(), Refusal> {
+    let mut rest = bytes;
+    while !rest.is_empty() {
+        match out.give(rest) {
+            Ok(count) => rest = &rest[count..],
+            Err(fault) => {
+                if !interruptions.allow(fault) {
+                    return Err(Refusal::Write);
+                }
+            }
+        }
+    }
+    interruptions.are_few();
+    Ok(())
+}

@@ -1,0 +1,18 @@
+//! The text that is written: lines of rows, of pages and of faults, and numbers in them.
+
+pub mod collected;
+pub mod fault;
+pub mod lost_line;
+pub mod page_line;
+pub mod remembered;
+pub mod row_line;
+
+use arrayvec::ArrayString;
+use itoa::{Buffer, Integer};
+
+/// Appends a blank and a number in decimals. There must be room for the longest such number.
+pub fn push_number<N: Integer, const CAP: usize>(line: &mut ArrayString<CAP>, number: N) {
+    let mut digits = Buffer::new();
+    line.push_str(" ");
+    line.push_str(digits.format(number));
+}

@@ -1,0 +1,74 @@
+//! The text that is collected before it is written.
+
+use kit_std::prelude::Vec;
+
+use crate::text::remembered::Texts;
+use fax_bits::Memory;
+use kit_std::alloc::Global;
+use kit_std::marker::Model;
+
+/// The text that is collected. Contracts see its bytes.
+pub struct Collected {
+    /// The text, and room after it.
+    pub(crate) bytes: Vec<u8>,
+    /// Where the text ends.
+    pub(crate) end: usize,
+    /// Texts of numbers that were made.
+    pub(crate) texts: Texts,
+}
+
+impl Model for Collected {}
+
+/// How many bytes of room are made at least, so that few lines have to make some.
+const LEAST_ROOM: usize = 1024;
+
+/// Makes room for so many bytes after a text that ends here.
+pub(crate) fn make_room(bytes: &mut Vec<u8>, end: usize, more: usize) -> Result<(), Memory> {
+    if bytes.len() - end >= more {
+        return Ok(());
+    }
+    let len = end.checked_add(more.max(LEAST_ROOM)).ok_or(Memory)?;
+    bytes.resize(len, 0).map_err(|_| Memory)
+}
+
+/// Writes these bytes at a place, and answers where they end.
+pub(crate) fn write_bytes(bytes: &mut [u8], at: usize, more: &[u8]) -> usize {
+    for (i, byte) in more.iter().enumerate() {
+        bytes[at + i] = *byte;
+    }
+    at + more.len()
+}
+
+impl Collected {
+    /// No text.
+    pub fn new(alloc: Global) -> Self {
+        Collected {
+            bytes: Vec::new(alloc),
+            end: 0,
+            texts: Texts::new(),
+        }
+    }
+
+    /// How many bytes are collected.
+    pub fn len(&self) -> usize {
+        self.end
+    }
+
+    /// The text.
+    pub fn as_bytes(&self) -> &[u8] {
+        &self.bytes[..self.end]
+    }
+
+    /// Empties it; its room stays.
+    pub fn clear(&mut self) {
+        self.end = 0;
+    }
+
+    /// Appends a text.
+    pub fn put(&mut self, more: &str) -> Result<(), Memory> {
+        let end = self.end;
+        make_room(&mut self.bytes, end, more.len())?;
+        self.end = write_bytes(self.bytes.as_mut_slice(), end, more.as_bytes());
+        Ok(())
+    }
+}

@@ -1,0 +1,78 @@
+//! The error lines of faults of the input.
+
+use crate::text::push_number;
+use arrayvec::ArrayString;
+use fax_bits::Memory;
+use fax_files::PbmFault;
+use fax_walk::{Cause, ConvertFault, End};
+use kit_std::marker::Model;
+
+/// A line of the error stream, which is made without memory. Contracts see its bytes.
+pub struct ErrorLine {
+    text: ArrayString<72>,
+}
+
+impl Model for ErrorLine {}
+
+/// The line of a fault where a row was due: `fault page P row R`, the fault's name, and the tag of
+/// the field at fault.
+pub fn row_fault_line(page: u32, row: u32, cause: Cause) -> ErrorLine {
+    let (name, tag) = cause.name();
+    let mut text = ArrayString::new();
+    text.push_str("fault page");
+    push_number(&mut text, page);
+    text.push_str(" row");
+    push_number(&mut text, row);
+    text.push_str(": ");
+    text.push_str(name);
+    if let Some(tag) = tag {
+        push_number(&mut text, u32::from(tag));
+    }
+    text.push_str("\n");
+    ErrorLine { text }
+}
+
+/// The line of a fault of an image: `fault image I` and the fault's name.
+fn image_line(image: u64, fault: PbmFault) -> ErrorLine {
+    let mut text = ArrayString::new();
+    text.push_str("fault image");
+    push_number(&mut text, image);
+    text.push_str(": ");
+    text.push_str(fault.name());
+    text.push_str("\n");
+    ErrorLine { text }
+}
+
+/// A line that is always the same.
+fn fixed_line(line: &'static str) -> ErrorLine {
+    let mut text = ArrayString::new();
+    text.push_str(line);
+    ErrorLine { text }
+}
+
+impl ErrorLine {
+    /// The bytes.
+    pub fn as_bytes(&self) -> &[u8] {
+        self.text.as_bytes()
+    }
+}
+
+/// The line of the end that lines had, if it has one; at a limit there is none.
+pub fn end_line(ending: Option<End>) -> Option<ErrorLine> {
+    match ending {
+        None | Some(End::Proper) => None,
+        Some(End::Outside) => Some(fixed_line("fault cursor: CursorOutside\n")),
+        Some(End::Fault { page, row, cause }) => Some(row_fault_line(page, row, cause)),
+    }
+}
+
+/// The line of the fault for which a file is not converted, unless memory was refused.
+pub fn conversion_line(fault: ConvertFault) -> Result<ErrorLine, Memory> {
+    match fault {
+        ConvertFault::UnknownInput => Ok(fixed_line("fault: UnknownInput\n")),
+        ConvertFault::Pbm { image, fault } => Ok(image_line(image, fault)),
+        ConvertFault::Source { page, row, cause } => Ok(row_fault_line(page, row, cause)),
+        ConvertFault::OutputTooLarge => Ok(fixed_line("fault: OutputTooLarge\n")),
+        ConvertFault::Memory => Err(Memory),
+    }
+}

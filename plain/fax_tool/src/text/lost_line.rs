@@ -1,0 +1,52 @@
+//! The lines of what is lost: of rows, and of a page whose form is refused.
+
+use crate::text::collected::Collected;
+use crate::text::push_number;
+use arrayvec::ArrayString;
+use fax_bits::Memory;
+use fax_walk::{Cause, FileFault, Stretch};
+
+/// A line of what is lost, which is made without memory.
+type LostLine = ArrayString<80>;
+
+/// Appends a fault after a blank, the tag of the field at fault after it, and the line's end.
+fn push_fault(line: &mut LostLine, cause: Cause) {
+    let (name, tag) = cause.name();
+    line.push_str(" ");
+    line.push_str(name);
+    if let Some(tag) = tag {
+        push_number(line, u32::from(tag));
+    }
+    line.push_str("\n");
+}
+
+/// The line of rows that are lost: `lost P R N`, the first of them, how many, and the first one's
+/// fault.
+fn lost_line(lost: Stretch) -> LostLine {
+    let mut line = LostLine::new();
+    line.push_str("lost");
+    push_number(&mut line, lost.page);
+    push_number(&mut line, lost.row);
+    push_number(&mut line, lost.rows);
+    push_fault(&mut line, lost.cause);
+    line
+}
+
+/// The line of a page whose form is refused: `lost P` and the fault.
+fn refused_line(page: u32, fault: FileFault) -> LostLine {
+    let mut line = LostLine::new();
+    line.push_str("lost");
+    push_number(&mut line, page);
+    push_fault(&mut line, Cause::File(fault));
+    line
+}
+
+/// Appends the line of rows that are lost.
+pub fn put_lost_line(text: &mut Collected, lost: Stretch) -> Result<(), Memory> {
+    text.put(lost_line(lost).as_str())
+}
+
+/// Appends the line of a page whose form is refused.
+pub fn put_refused_line(text: &mut Collected, page: u32, fault: FileFault) -> Result<(), Memory> {
+    text.put(refused_line(page, fault).as_str())
+}

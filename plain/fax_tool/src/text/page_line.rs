@@ -1,0 +1,60 @@
+//! The line of a page.
+
+use crate::text::collected::Collected;
+use crate::text::push_number;
+use arrayvec::ArrayString;
+use fax_bits::Memory;
+use fax_files::{Coding, FillOrder, PageForm};
+use itoa::Buffer;
+
+/// The line of a page, which is made without memory.
+type PageLine = ArrayString<136>;
+
+/// A coding's name, after a blank.
+fn coding_text(coding: Coding) -> &'static str {
+    match coding {
+        Coding::Mh => " mh",
+        Coding::Mr => " mr",
+        Coding::Mmr => " mmr",
+    }
+}
+
+/// A fill order's number.
+fn order_number(order: FillOrder) -> u32 {
+    match order {
+        FillOrder::MsbFirst => 1,
+        FillOrder::LsbFirst => 2,
+    }
+}
+
+/// Appends a blank and a fraction: two numbers in decimals with a stroke between them.
+fn push_fraction(line: &mut PageLine, value: (u32, u32)) {
+    let (over, under) = value;
+    let mut digits = Buffer::new();
+    push_number(line, over);
+    line.push_str("/");
+    line.push_str(digits.format(under));
+}
+
+/// The line of a page: `page P`, the numbers of its form, and its resolution.
+fn page_line(page: u32, form: &PageForm) -> PageLine {
+    let mut line = PageLine::new();
+    line.push_str("page");
+    push_number(&mut line, page);
+    push_number(&mut line, form.width);
+    push_number(&mut line, form.rows);
+    line.push_str(coding_text(form.coding));
+    push_number(&mut line, order_number(form.order));
+    push_number(&mut line, u32::from(form.exchanged));
+    push_number(&mut line, form.strips);
+    push_fraction(&mut line, form.x);
+    push_fraction(&mut line, form.y);
+    push_number(&mut line, u32::from(form.unit));
+    line.push_str("\n");
+    line
+}
+
+/// Appends the line of a page.
+pub fn put_page_line(text: &mut Collected, page: u32, form: &PageForm) -> Result<(), Memory> {
+    text.put(page_line(page, form).as_str())
+}

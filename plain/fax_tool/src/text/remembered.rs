@@ -1,0 +1,128 @@
+//! Texts of numbers, each after a blank, which `itoa` makes once and which are then remembered.
+
+use crate::text::collected::write_bytes;
+use itoa::Buffer;
+use kit_std::marker::Model;
+
+/// How many bytes a text that is remembered has room for.
+const ROOM: usize = 8;
+
+/// The texts of the numbers below this one are remembered.
+const NUMBERS: usize = 2_048;
+
+/// The texts of two numbers below this one, one after the other, are remembered together.
+const PAIRED: u32 = 64;
+
+/// How many texts of two numbers there are.
+const PAIRS: usize = 4_096;
+
+/// A text of few bytes, which are the first `len` of these: none, where it is not made yet.
+#[derive(Clone, Copy)]
+pub(crate) struct ShortText {
+    pub(crate) bytes: [u8; ROOM],
+    pub(crate) len: usize,
+}
+
+/// A text that is not made yet.
+const NOT_MADE: ShortText = ShortText {
+    bytes: [0; ROOM],
+    len: 0,
+};
+
+/// The texts of numbers, and of two numbers, as far as they were asked for.
+pub struct Texts {
+    /// By the number.
+    ones: [ShortText; NUMBERS],
+    /// By `PAIRED` times the first number and the second.
+    pairs: [ShortText; PAIRS],
+}
+
+impl Model for Texts {}
+
+/// The text at a place, if it is made.
+#[inline(always)]
+fn made_at(texts: &[ShortText], place: usize) -> Option<ShortText> {
+    match texts.get(place) {
+        Some(text) if text.len > 0 => Some(*text),
+        _ => None,
+    }
+}
+
+/// Writes a blank and a number at a place, and answers where they end.
+#[inline(never)]
+fn write_any(bytes: &mut [u8], at: usize, number: u32) -> usize {
+    let mut digits = Buffer::new();
+    let end = write_bytes(bytes, at, b" ");
+    write_bytes(bytes, end, digits.format(number).as_bytes())
+}
+
+/// The text of a number.
+#[cold]
+#[inline(never)]
+fn number_text(number: u32) -> ShortText {
+    let mut bytes = [0; ROOM];
+    let len = write_any(&mut bytes, 0, number);
+    ShortText { bytes, len }
+}
+
+/// The text of two numbers, one after the other.
+#[cold]
+#[inline(never)]
+fn pair_text(first: u32, second: u32) -> ShortText {
+    let mut bytes = [0; ROOM];
+    let end = write_any(&mut bytes, 0, first);
+    let len = write_any(&mut bytes, end, second);
+    ShortText { bytes, len }
+}
+
+/// Writes a text at a place, and answers where it ends. The bytes after it, up to eight from its
+/// beginning on, are written over.
+#[inline(always)]
+fn put_short(bytes: &mut [u8], at: usize, text: ShortText) -> usize {
+    bytes[at..at + ROOM].copy_from_slice(&text.bytes);
+    at + text.len
+}
+
+impl Texts {
+    /// None is made yet.
+    pub fn new() -> Self {
+        Texts {
+            ones: [NOT_MADE; NUMBERS],
+            pairs: [NOT_MADE; PAIRS],
+        }
+    }
+
+    /// Writes a blank and a number at a place, and answers where they end. Eleven bytes from there on
+    /// may be written over.
+    #[inline(always)]
+    pub fn write_number(&mut self, bytes: &mut [u8], at: usize, number: u32) -> usize {
+        let place = number as usize;
+        if place >= NUMBERS {
+            return write_any(bytes, at, number);
+        }
+        if let Some(text) = made_at(&self.ones, place) {
+            return put_short(bytes, at, text);
+        }
+        let text = number_text(number);
+        self.ones[place] = text;
+        put_short(bytes, at, text)
+    }
+
+    /// Writes two short numbers at a place, each after a blank, and answers where they end.
+    /// Twenty-two bytes from there on may be written over.
+    #[inline(always)]
+    pub fn write_pair(&mut self, bytes: &mut [u8], at: usize, first: u16, second: u16) -> usize {
+        let (first, second) = (u32::from(first), u32::from(second));
+        if first >= PAIRED || second >= PAIRED {
+            let end = self.write_number(bytes, at, first);
+            return self.write_number(bytes, end, second);
+        }
+        let place = (PAIRED * first + second) as usize;
+        if let Some(text) = made_at(&self.pairs, place) {
+            return put_short(bytes, at, text);
+        }
+        let text = pair_text(first, second);
+        self.pairs[place] = text;
+        put_short(bytes, at, text)
+    }
+}

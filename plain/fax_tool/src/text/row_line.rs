@@ -1,0 +1,64 @@
+//! The line of a row.
+
+use crate::text::collected::{Collected, make_room};
+use crate::text::remembered::Texts;
+use fax_bits::Memory;
+use fax_rows::{LongestRuns, Row};
+use fax_walk::Place;
+
+/// The most bytes of a line but for its runs: a word, two numbers after a blank each, and the line
+/// end; and those after it that may be written over.
+const LINE_BYTES: usize = 42;
+
+/// The most bytes of a run after a blank.
+const RUN_BYTES: usize = 6;
+
+/// Writes the runs that are still to come, each after a blank, and answers where they end.
+fn write_rest(bytes: &mut [u8], at: usize, texts: &mut Texts, mut runs: LongestRuns<'_>) -> usize {
+    let mut end = at;
+    while let Some(run) = runs.next_run() {
+        end = texts.write_number(bytes, end, run);
+    }
+    end
+}
+
+/// Writes eight numbers at a place, each after a blank, and answers where they end.
+#[inline(always)]
+fn write_eight(bytes: &mut [u8], at: usize, texts: &mut Texts, numbers: [u16; 8]) -> usize {
+    let two = texts.write_pair(bytes, at, numbers[0], numbers[1]);
+    let four = texts.write_pair(bytes, two, numbers[2], numbers[3]);
+    let six = texts.write_pair(bytes, four, numbers[4], numbers[5]);
+    texts.write_pair(bytes, six, numbers[6], numbers[7])
+}
+
+/// Writes the runs of a row at a place, each after a blank, and answers where they end.
+fn write_runs(bytes: &mut [u8], at: usize, texts: &mut Texts, row: &Row) -> usize {
+    let mut end = at;
+    let mut runs = LongestRuns::of_row(row);
+    while let Some(eight) = runs.eight_ahead() {
+        end = write_eight(bytes, end, texts, eight);
+        runs.skip(8);
+    }
+    write_rest(bytes, end, texts, runs)
+}
+
+/// Writes the line of a row at a place, and answers where it ends.
+fn write_line(bytes: &mut [u8], at: usize, texts: &mut Texts, place: Place, row: &Row) -> usize {
+    bytes[at] = b'r';
+    bytes[at + 1] = b'o';
+    bytes[at + 2] = b'w';
+    let page_end = texts.write_number(bytes, at + 3, place.page);
+    let row_end = texts.write_number(bytes, page_end, place.row);
+    let end = write_runs(bytes, row_end, texts, row);
+    bytes[end] = b'\n';
+    end + 1
+}
+
+/// Appends the line of a row: `row P R` and the row's runs.
+pub fn put_row_line(text: &mut Collected, place: Place, row: &Row) -> Result<(), Memory> {
+    let runs = LongestRuns::of_row(row).len();
+    let end = text.end;
+    make_room(&mut text.bytes, end, LINE_BYTES + RUN_BYTES * runs)?;
+    text.end = write_line(text.bytes.as_mut_slice(), end, &mut text.texts, place, row);
+    Ok(())
+}

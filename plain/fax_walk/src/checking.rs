@@ -1,0 +1,244 @@
+//! A file that is read wholly for what is worth a note in it.
+
+use kit_std::prelude::Vec;
+
+use crate::Place;
+use fax_bits::Memory;
+use fax_files::{Cause, Chain, Directory, PageForm, Strips, Tiff};
+use fax_page::{NotesFault, NotesReader, StripNotes};
+use kit_std::alloc::Global;
+
+/// What is noted.
+#[derive(Clone, Copy, Debug, PartialEq, Eq)]
+pub enum NoteKind {
+    /// A strip of MMR without the end of a facsimile block after its last row (T.6,
+    /// End-of-facsimile block).
+    NoEndOfBlock,
+    /// A strip of MH or MR with a return to control after its last row (T.4, section 4.1.4).
+    ReturnToControl,
+    /// A strip with a 1 after its last row, and after the end of the facsimile block or the
+    /// return to control where there is one.
+    DataAfterEnd,
+    /// A strip with a row whose codes are others than T.4 chooses (T.4, sections 4.1.1 and
+    /// 4.2.1.3.3).
+    NotT4Choice,
+    /// A directory whose entries do not ascend by their tags (TIFF 6.0, section 2).
+    EntriesOutOfOrder,
+}
+
+impl NoteKind {
+    /// The note's name.
+    pub fn name(self) -> &'static str {
+        match self {
+            NoteKind::NoEndOfBlock => "NoEndOfBlock",
+            NoteKind::ReturnToControl => "ReturnToControl",
+            NoteKind::DataAfterEnd => "DataAfterEnd",
+            NoteKind::NotT4Choice => "NotT4Choice",
+            NoteKind::EntriesOutOfOrder => "EntriesOutOfOrder",
+        }
+    }
+
+    /// The note's number, 1 to 5.
+    pub fn number(self) -> u8 {
+        match self {
+            NoteKind::NoEndOfBlock => 1,
+            NoteKind::ReturnToControl => 2,
+            NoteKind::DataAfterEnd => 3,
+            NoteKind::NotT4Choice => 4,
+            NoteKind::EntriesOutOfOrder => 5,
+        }
+    }
+}
+
+/// A note on a page, or on a strip of it.
+#[derive(Clone, Copy, Debug, PartialEq, Eq)]
+pub struct Note {
+    /// The page, from 0.
+    pub page: u32,
+    /// The strip of the page, from 0, or none where the note is on the page's directory.
+    pub strip: Option<u32>,
+    /// What is noted.
+    pub kind: NoteKind,
+}
+
+/// What was found in a file up to its first fault.
+pub struct Report {
+    /// The notes by page: first the one on its directory, then those on its strips in their order.
+    /// A page that is refused and a strip that is not whole have none, and nothing after a fault
+    /// has.
+    pub notes: Vec<Note>,
+    /// How many pages were read wholly.
+    pub pages: u64,
+    /// How many rows were read.
+    pub rows: u64,
+    /// The first fault, with the place of the row that was due there: row 0 for a fault of the
+    /// header, of a directory or of a field.
+    pub fault: Option<(Place, Cause)>,
+}
+
+/// How far a page was read: how many rows, and the fault after them where it was not read wholly.
+#[derive(Clone, Copy)]
+struct PageRead {
+    rows: u32,
+    fault: Option<Cause>,
+}
+
+/// Adds a note where its test holds.
+fn note_if(
+    notes: &mut Vec<Note>,
+    test: bool,
+    page: u32,
+    strip: Option<u32>,
+    kind: NoteKind,
+) -> Result<(), Memory> {
+    if test {
+        notes.push(Note { page, strip, kind }).map_err(|_| Memory)?;
+    }
+    Ok(())
+}
+
+/// Adds the notes on a strip.
+fn note_strip(notes: &mut Vec<Note>, page: u32, strip: u32, found: StripNotes) -> Result<(), Memory> {
+    let strip = Some(strip);
+    note_if(
+        notes,
+        found.no_end_of_block,
+        page,
+        strip,
+        NoteKind::NoEndOfBlock,
+    )?;
+    note_if(
+        notes,
+        found.return_to_control,
+        page,
+        strip,
+        NoteKind::ReturnToControl,
+    )?;
+    note_if(
+        notes,
+        found.data_after_end,
+        page,
+        strip,
+        NoteKind::DataAfterEnd,
+    )?;
+    note_if(
+        notes,
+        found.not_t4_choice,
+        page,
+        strip,
+        NoteKind::NotT4Choice,
+    )
+}
+
+/// How far a page was read where a strip that begins after so many rows has no notes.
+fn read_to(before: u32, fault: NotesFault) -> Result<PageRead, Memory> {
+    match fault {
+        NotesFault::Memory => Err(Memory),
+        NotesFault::Strip { row, fault } => Ok(PageRead {
+            rows: before + row,
+            fault: Some(Cause::Strip(fault)),
+        }),
+    }
+}
+
+/// Reads the strips of a page and adds the notes on each, up to the first that is not whole.
+fn check_strips(
+    alloc: Global,
+    page: u32,
+    form: &PageForm,
+    strips: &Strips,
+    notes: &mut Vec<Note>,
+) -> Result<PageRead, Memory> {
+    fax_bits::laws::bits_stand_by_place();
+    fax_page::laws::lines_are_read_in_one_way();
+    let mut reader = NotesReader::new(alloc, form.width)?;
+    for s in 0..form.strips {
+        let before = s * form.rows_per_strip;
+        let bytes = match strips.bytes(s) {
+            Ok(bytes) => bytes,
+            Err(fault) => {
+                return Ok(PageRead {
+                    rows: before,
+                    fault: Some(Cause::File(fault)),
+                });
+            }
+        };
+        match reader.notes(bytes, form.strip_form(s)) {
+            Ok(found) => note_strip(notes, page, s, found)?,
+            Err(fault) => return read_to(before, fault),
+        }
+    }
+    Ok(PageRead {
+        rows: form.rows,
+        fault: None,
+    })
+}
+
+/// Reads a page and adds the notes on it, up to its first fault. A page that is refused has none.
+fn check_page(
+    alloc: Global,
+    page: u32,
+    directory: &Directory,
+    notes: &mut Vec<Note>,
+) -> Result<PageRead, Memory> {
+    let (form, strips) = match directory.page_and_strips() {
+        Ok(page) => page,
+        Err(fault) => {
+            return Ok(PageRead {
+                rows: 0,
+                fault: Some(Cause::File(fault)),
+            });
+        }
+    };
+    let out_of_order = !directory.in_order();
+    note_if(notes, out_of_order, page, None, NoteKind::EntriesOutOfOrder)?;
+    check_strips(alloc, page, &form, &strips, notes)
+}
+
+/// The report on a file with a good header.
+fn check_pages(alloc: Global, tiff: Tiff) -> Result<Report, Memory> {
+    fax_files::laws::files_have_one_chain();
+    let mut chain = Chain::new(tiff);
+    let mut report = Report {
+        notes: Vec::new(alloc),
+        pages: 0,
+        rows: 0,
+        fault: None,
+    };
+    loop {
+        let page = chain.given();
+        report.pages = u64::from(page);
+        let directory = match chain.next() {
+            Ok(Some(directory)) => directory,
+            Ok(None) => return Ok(report),
+            Err(fault) => {
+                report.fault = Some((Place { page, row: 0 }, Cause::File(fault)));
+                return Ok(report);
+            }
+        };
+        let read = check_page(alloc, page, &directory, &mut report.notes)?;
+        report.rows += u64::from(read.rows);
+        if let Some(cause) = read.fault {
+            let row = read.rows;
+            report.fault = Some((Place { page, row }, cause));
+            return Ok(report);
+        }
+    }
+}
+
+/// Reads a file from any bytes up to its first fault, and reports on it.
+///
+/// # Errors
+///
+/// `Memory` where a growth was refused.
+pub fn check(alloc: Global, file: &[u8]) -> Result<Report, Memory> {
+    match Tiff::read_header(file) {
+        Ok(tiff) => check_pages(alloc, tiff),
+        Err(fault) => Ok(Report {
+            notes: Vec::new(alloc),
+            pages: 0,
+            rows: 0,
+            fault: Some((Place { page: 0, row: 0 }, Cause::File(fault))),
+        }),
+    }
+}

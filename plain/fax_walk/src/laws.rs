@@ -1,0 +1,134 @@
+//! Laws of a file's rows and of its forms. The functions compute nothing: each has a law as its
+//! contract.
+
+use crate::{Pages, Walk};
+
+/// A written file has the rows and the forms of its pages, in their order, and a proper end
+/// (TIFF 6.0).
+pub fn written_files_are_walked() {
+    fax_bits::laws::bits_stand_by_place();
+    fax_page::laws::lines_are_read_in_one_way();
+    fax_files::laws::forms_are_whole();
+    fax_files::laws::written_files_are_read();
+    fax_files::laws::written_rows_are_read();
+}
+
+/// A file of coded strips has the rows and the forms of the pages that it was written of, in any
+/// coding and either fill order, for any k and strip height (TIFF 6.0).
+pub fn coded_files_are_walked() {
+    fax_page::laws::coded_strips_are_read_back();
+    written_files_are_walked();
+}
+
+/// The items of a file are the rows of its pages (TIFF 6.0, section 2).
+pub(crate) fn files_are_paged() {
+    fax_bits::laws::bits_stand_by_place();
+    fax_page::laws::lines_are_read_in_one_way();
+    fax_files::laws::files_have_one_chain();
+    fax_files::laws::forms_are_whole();
+}
+
+/// What bytes are converted to is read back as their pages: a PBM has their images, and a TIFF file
+/// their rows and the forms that were asked for, and ends properly (the netpbm format, P4; TIFF
+/// 6.0). A TIFF file that is converted to another has the same rows at the same places.
+pub fn conversions_are_read_back() {
+    fax_rows::laws::packing_undoes_unpacking();
+    files_are_paged();
+    fax_files::laws::forms_are_within_limits();
+    fax_files::laws::written_images_are_read();
+    coded_files_are_walked();
+    tails_go_on();
+}
+
+/// Bytes are converted to one output, or refused for one fault, and never both; and a file has one
+/// report.
+pub fn answers_are_one() {
+    fax_page::laws::strips_are_read_in_one_way();
+    fax_page::laws::strips_are_noted_in_one_way();
+    fax_files::laws::files_have_one_chain();
+    fax_files::laws::images_are_read_in_one_way();
+    form_tails_are_one();
+    tails_go_on();
+}
+
+/// Each walk has rows that are due, and an end, also where it has handed out some.
+pub fn walks_have_items(walk: &Walk) {
+    walk.items_are_left();
+}
+
+/// Each reader of pages has pages that are left, and an end, also where it has handed out some.
+pub fn pages_have_forms(pages: &Pages) {
+    pages.forms_are_left();
+}
+
+/// Whatever a walk begins with has a tail and an end, and one only.
+pub fn beginnings_have_one_tail() {
+    fax_bits::laws::bits_stand_by_place();
+    fax_page::laws::lines_are_read_in_one_way();
+    fax_files::laws::files_have_one_chain();
+    fax_files::laws::forms_are_whole();
+}
+
+/// A cursor names one page of a file at most, and an item has the form of the page that its place
+/// names.
+pub fn cursors_name_one_page() {
+    fax_files::laws::files_have_one_chain();
+}
+
+/// Each file and each cursor has forms and an end, and one list of them only. From a page's first
+/// row it is the forms from that page on. What follows a form is the tail from the cursor after it.
+/// Page number n of a file has the number n.
+pub fn form_tails_are_one() {
+    fax_files::laws::files_have_one_chain();
+}
+
+/// Each page that a reader hands out is the first of what was left of it, and then the rest is
+/// left.
+pub fn pages_go_on() {
+    form_tails_are_one();
+}
+
+/// What follows item number n is the tail from the cursor after it, and from the place inside a
+/// strip after it, if there is one. Rows of its strip lead to that place. The tail from the first
+/// cursor is all items of the file, and each file has one list of them. Two items of one page and
+/// row are the same. Rows that end after an item do not end before the cursor after it.
+pub fn tails_go_on() {
+    fax_bits::laws::bits_stand_by_place();
+    fax_page::laws::lines_are_read_in_one_way();
+    fax_files::laws::files_have_one_chain();
+    fax_files::laws::forms_are_whole();
+}
+
+/// A walk from what was printed hands out just the rest of a file's items, each once. Each file has
+/// items and an end, and one list of them only, and they ascend. A walk that begins with the first
+/// cursor, or with the cursor or the place inside a strip that was printed after item number n,
+/// hands out what follows that item and the same end, and prints what such a walk prints. Before
+/// its first row it reads again only the rows before its beginning in its strip.
+pub fn walks_hand_out_the_rest() {
+    fax_files::laws::files_have_one_chain();
+    beginnings_have_one_tail();
+    tails_go_on();
+}
+
+/// The cursor after an item of a file of at most 4,294,967,296 bytes has numbers of 32 bits, and so
+/// has the place inside a strip after it, if there is one. Each text is that of one cursor at most.
+pub fn cursors_are_named() {
+    fax_page::laws::lines_are_read_in_one_way();
+    fax_files::laws::files_have_one_chain();
+    fax_files::laws::forms_are_whole();
+}
+
+/// What a walk still hands out is one list with one end. Its first is item number `given` of what
+/// the walk hands out in all. Each item that it hands out is the first of it, and what is left is
+/// the tail from the walk's cursor, and from its place inside a strip.
+pub fn walks_go_on() {
+    beginnings_have_one_tail();
+    tails_go_on();
+}
+
+/// What is left of a file is handed out in one way: there is one list of rows that are found, of
+/// stretches that are lost and of pages that are refused.
+pub fn files_are_salvaged_in_one_way() {
+    fax_page::laws::strips_are_salvaged_in_one_way();
+    fax_files::laws::files_have_one_chain();
+}

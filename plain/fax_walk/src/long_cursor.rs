@@ -1,0 +1,144 @@
+//! Places inside strips.
+
+use kit_std::prelude::{String, Vec};
+
+use crate::cursor::{Cursor, number};
+use fax_bits::Memory;
+use itoa::Buffer;
+use kit_std::alloc::Global;
+use kit_std::marker::Model;
+use thiserror::Error;
+
+/// What a long cursor's text begins with, before the first colon.
+const VERSION: u32 = 2;
+
+/// Where to go on inside a strip: a cursor, how many bits of the strip stand before its row, and
+/// the runs of the row before it, before any exchange of colours.
+#[derive(Debug)]
+pub struct LongCursor {
+    pub at: Cursor,
+    pub bits: u32,
+    pub runs: Vec<u32>,
+}
+
+impl Model for LongCursor {}
+
+/// Why a text was not read as a long cursor.
+#[derive(Clone, Copy, Debug, PartialEq, Eq, Error)]
+pub enum LongFault {
+    /// The text is no long cursor's.
+    #[error("not a long cursor")]
+    NotACursor,
+    /// A growth was refused.
+    #[error("memory was refused")]
+    Memory,
+}
+
+/// The number before the first colon, and what stands after it.
+fn cut_number(text: &str) -> Option<(u32, &str)> {
+    let (digits, rest) = text.split_once(':')?;
+    match number(digits) {
+        Ok(number) => Some((number, rest)),
+        Err(_) => None,
+    }
+}
+
+/// Appends the run of these digits.
+fn push_run(runs: &mut Vec<u32>, digits: &str) -> Result<(), LongFault> {
+    match number(digits) {
+        Ok(run) => runs.push(run).map_err(|_| LongFault::Memory),
+        Err(_) => Err(LongFault::NotACursor),
+    }
+}
+
+/// The runs of a text, with commas between them.
+fn parse_runs(alloc: Global, text: &str) -> Result<Vec<u32>, LongFault> {
+    let mut runs = Vec::new(alloc);
+    let mut rest = text;
+    while let Some((run, after)) = rest.split_once(',') {
+        push_run(&mut runs, run)?;
+        rest = after;
+    }
+    push_run(&mut runs, rest)?;
+    Ok(runs)
+}
+
+/// Appends a text.
+fn put(text: &mut String, more: &str) -> Result<(), Memory> {
+    text.push_str(more).map_err(|_| Memory)
+}
+
+/// Appends a number in decimals.
+fn put_number(text: &mut String, number: u32) -> Result<(), Memory> {
+    let mut digits = Buffer::new();
+    put(text, digits.format(number))
+}
+
+/// Appends runs, with commas between them.
+fn put_runs(text: &mut String, runs: &[u32]) -> Result<(), Memory> {
+    let Some((first, others)) = runs.split_first() else {
+        return Ok(());
+    };
+    put_number(text, *first)?;
+    for run in others {
+        put(text, ",")?;
+        put_number(text, *run)?;
+    }
+    Ok(())
+}
+
+impl LongCursor {
+    /// The long cursor of a text `2:P:R:B:n,n,..`, in decimals without leading zeros up to
+    /// 4,294,967,295, with at least one run.
+    ///
+    /// # Errors
+    ///
+    /// `NotACursor` where the text is no long cursor's, `Memory` where a growth was refused.
+    pub fn parse(alloc: Global, text: &str) -> Result<LongCursor, LongFault> {
+        let Some((version, place)) = cut_number(text) else {
+            return Err(LongFault::NotACursor);
+        };
+        let Some((page, place)) = cut_number(place) else {
+            return Err(LongFault::NotACursor);
+        };
+        let Some((row, place)) = cut_number(place) else {
+            return Err(LongFault::NotACursor);
+        };
+        let Some((bits, runs)) = cut_number(place) else {
+            return Err(LongFault::NotACursor);
+        };
+        if version != VERSION {
+            return Err(LongFault::NotACursor);
+        }
+        Ok(LongCursor {
+            at: Cursor { page, row },
+            bits,
+            runs: parse_runs(alloc, runs)?,
+        })
+    }
+
+    /// Appends the text to an empty one; where a growth was refused, some of it.
+    fn put_parts(&self, text: &mut String) -> Result<(), Memory> {
+        put_number(text, VERSION)?;
+        put(text, ":")?;
+        put_number(text, self.at.page)?;
+        put(text, ":")?;
+        put_number(text, self.at.row)?;
+        put(text, ":")?;
+        put_number(text, self.bits)?;
+        put(text, ":")?;
+        put_runs(text, &self.runs)
+    }
+
+    /// Appends the long cursor's text. It is made apart, so that no part of it is appended where
+    /// memory is refused.
+    ///
+    /// # Errors
+    ///
+    /// `Memory` where a growth was refused; the text is then as it was.
+    pub fn put_text(&self, text: &mut String) -> Result<(), Memory> {
+        let mut own = String::new(*text.allocator());
+        self.put_parts(&mut own)?;
+        text.push_str(own.as_str()).map_err(|_| Memory)
+    }
+}

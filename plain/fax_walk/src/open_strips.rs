@@ -1,0 +1,79 @@
+//! The strips of a page that is being written.
+
+use kit_std::prelude::Vec;
+
+use fax_bits::Memory;
+use fax_files::PageForm;
+use fax_page::{StripForm, StripWriter};
+use fax_rows::Row;
+use kit_std::alloc::Global;
+
+/// A page of a TIFF file that is being written: the strips that are whole, and the one that is not.
+pub(crate) struct OpenStrips {
+    alloc: Global,
+    pub(crate) form: PageForm,
+    k: u32,
+    pub(crate) done: Vec<Vec<u8>>,
+    writer: Option<StripWriter>,
+    rows: u32,
+}
+
+impl OpenStrips {
+    /// Before the first row.
+    pub(crate) fn new(alloc: Global, form: PageForm, k: u32) -> Self {
+        OpenStrips {
+            alloc,
+            form,
+            k,
+            done: Vec::new(alloc),
+            writer: None,
+            rows: 0,
+        }
+    }
+
+    /// Begins the strip of this form, which is the next one.
+    #[inline(never)]
+    fn begin_strip(&mut self, form: StripForm) -> Result<(), Memory> {
+        self.writer = Some(StripWriter::new(self.alloc, form, self.k)?);
+        Ok(())
+    }
+
+    /// Begins the next strip, which has this number, where none is open.
+    #[inline(always)]
+    fn open_strip(&mut self, strip: u32) -> Result<(), Memory> {
+        fax_page::laws::strips_are_written_row_by_row();
+        if let Some(_) = self.writer {
+            return Ok(());
+        }
+        let form = self.form.strip_form(strip);
+        self.begin_strip(form)
+    }
+
+    /// Writes the strip that is open, all rows of which were put.
+    #[inline(never)]
+    fn end_strip(&mut self) -> Result<(), Memory> {
+        let Some(writer) = self.writer.take() else {
+            unreachable!();
+        };
+        self.done.push(writer.finish()?).map_err(|_| Memory)?;
+        Ok(())
+    }
+
+    /// Writes the next row, and its strip where that is whole then. The strip's writer stays where
+    /// it is between the strip's rows.
+    pub(crate) fn put_row(&mut self, row: &Row) -> Result<(), Memory> {
+        fax_page::laws::strips_are_written_row_by_row();
+        let strip = self.done.len() as u32;
+        self.open_strip(strip)?;
+        let Some(writer) = &mut self.writer else {
+            unreachable!();
+        };
+        writer.put_row(row)?;
+        self.rows += 1;
+        let end = ((strip + 1) * self.form.rows_per_strip).min(self.form.rows);
+        if self.rows == end {
+            self.end_strip()?;
+        }
+        Ok(())
+    }
+}

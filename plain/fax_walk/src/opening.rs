@@ -1,0 +1,108 @@
+//! The pages of a file, from its header and its chain of directories on.
+
+use crate::{Cursor, End};
+use fax_bits::Memory;
+use fax_files::{Chain, FileFault, PageForm, Strips, Tiff};
+use fax_page::PlaceFault;
+use kit_std::marker::Model;
+
+/// Why a page could not be opened.
+#[derive(Clone, Copy)]
+pub(crate) enum OpenFault {
+    /// A growth was refused.
+    Memory,
+    /// There is no such page: the rows end so.
+    Ended(End),
+}
+
+impl From<Memory> for OpenFault {
+    fn from(_refused: Memory) -> Self {
+        OpenFault::Memory
+    }
+}
+
+impl From<PlaceFault> for OpenFault {
+    fn from(fault: PlaceFault) -> Self {
+        match fault {
+            PlaceFault::Memory => OpenFault::Memory,
+            PlaceFault::Outside => OpenFault::Ended(End::Outside),
+        }
+    }
+}
+
+impl From<End> for OpenFault {
+    fn from(end: End) -> Self {
+        OpenFault::Ended(end)
+    }
+}
+
+/// A page that is due, and none of whose strips is read yet.
+pub(crate) struct DuePage<'a> {
+    pub(crate) page: u32,
+    /// The chain after the page's directory.
+    pub(crate) chain: Chain<'a>,
+    pub(crate) form: PageForm,
+    pub(crate) strips: Strips<'a>,
+}
+
+impl<'a> Model for DuePage<'a> {}
+
+/// The chain of a file's directories, before the one of this number, or how the rows end where
+/// there are fewer before it.
+pub(crate) fn chain_before<'a>(file: &'a [u8], page: u32) -> Result<Chain<'a>, End> {
+    let tiff = match Tiff::read_header(file) {
+        Ok(tiff) => tiff,
+        Err(fault) => return Err(End::of_file(0, 0, fault)),
+    };
+    fax_files::laws::files_have_one_chain();
+    let mut chain = Chain::new(tiff);
+    for number in 0..page {
+        match chain.next() {
+            Ok(Some(_)) => {}
+            Ok(None) => return Err(End::Outside),
+            Err(fault) => return Err(End::of_file(number, 0, fault)),
+        }
+    }
+    Ok(chain)
+}
+
+impl<'a> DuePage<'a> {
+    /// The page that is due after the directories that a chain has handed out, or none after the
+    /// last one, or the fault in its place.
+    pub(crate) fn after(mut chain: Chain<'a>) -> Result<Option<Self>, End> {
+        fax_files::laws::files_have_one_chain();
+        let page = chain.given();
+        let directory = match chain.next() {
+            Ok(Some(directory)) => directory,
+            Ok(None) => return Ok(None),
+            Err(fault) => return Err(End::of_file(page, 0, fault)),
+        };
+        match directory.page_and_strips() {
+            Ok((form, strips)) => Ok(Some(DuePage {
+                page,
+                chain,
+                form,
+                strips,
+            })),
+            Err(fault) => Err(End::of_file(page, 0, fault)),
+        }
+    }
+
+    /// The page that a cursor names, or none after the last page, or how the rows end where the
+    /// cursor names no place of the file.
+    pub(crate) fn at(file: &'a [u8], cursor: Cursor) -> Result<Option<Self>, End> {
+        let chain = chain_before(file, cursor.page)?;
+        fax_files::laws::files_have_one_chain();
+        let Some(page) = DuePage::after(chain)? else {
+            return if cursor.row == 0 {
+                Ok(None)
+            } else {
+                Err(End::Outside)
+            };
+        };
+        if cursor.row > page.form.rows {
+            return Err(End::Outside);
+        }
+        Ok(Some(page))
+    }
+}

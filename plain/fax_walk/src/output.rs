@@ -1,0 +1,105 @@
+//! What a conversion writes, page by page.
+
+use crate::open_strips::OpenStrips;
+use crate::options::{ConvertFault, Options};
+use crate::parts::Parts;
+use crate::sheet::Sheet;
+use fax_bits::Memory;
+use fax_files::{Coding, MAX_FILE, TiffWriter, WriteFault};
+use fax_rows::Row;
+use kit_std::alloc::Global;
+
+/// The most bytes of what is written.
+const MAX_OUTPUT: usize = MAX_FILE as usize;
+
+/// The most pages of a TIFF file.
+const MAX_PAGES: u64 = 65_535;
+
+/// What is written, page by page.
+pub(crate) enum Output {
+    /// Images.
+    Images(Parts),
+    /// A TIFF file, and the page of it that is being written, in this coding.
+    File(Coding, TiffWriter, Option<OpenStrips>),
+    /// It is too large, and its bytes were given back.
+    TooLarge,
+}
+
+impl Output {
+    /// The output of so many pages, before the first.
+    pub(crate) fn new(alloc: Global, options: &Options, pages: u64) -> Result<Self, Memory> {
+        let Some(coding) = options.target.coding() else {
+            return Ok(Output::Images(Parts::new(alloc)));
+        };
+        if pages > MAX_PAGES {
+            return Ok(Output::TooLarge);
+        }
+        let writer = TiffWriter::new(alloc, pages as u16)?;
+        Ok(Output::File(coding, writer, None))
+    }
+
+    /// Begins a page.
+    pub(crate) fn begin(
+        &mut self,
+        alloc: Global,
+        options: &Options,
+        sheet: &Sheet,
+    ) -> Result<(), Memory> {
+        fax_rows::laws::packing_undoes_unpacking();
+        match self {
+            Output::Images(parts) => {
+                parts.put_head(sheet.width, sheet.rows)?;
+                let row_len = (sheet.width as usize).div_ceil(8);
+                let raster = (sheet.rows as usize).saturating_mul(row_len);
+                if parts.len().saturating_add(raster) > MAX_OUTPUT {
+                    *self = Output::TooLarge;
+                }
+            }
+            Output::File(coding, _, open) => {
+                let form = sheet.form(options, *coding);
+                *open = Some(OpenStrips::new(alloc, form, options.k));
+            }
+            Output::TooLarge => {}
+        }
+        Ok(())
+    }
+
+    /// Writes the next row of the page.
+    #[inline(always)]
+    pub(crate) fn put_row(&mut self, row: &Row) -> Result<(), Memory> {
+        fax_rows::laws::packing_undoes_unpacking();
+        match self {
+            Output::Images(parts) => parts.put_row(row),
+            Output::File(_, _, Some(page)) => page.put_row(row),
+            Output::File(_, _, None) => Ok(()),
+            Output::TooLarge => Ok(()),
+        }
+    }
+
+    /// Ends the page, of which all rows were written.
+    pub(crate) fn end(&mut self) -> Result<(), Memory> {
+        let Output::File(_, writer, open) = self else {
+            return Ok(());
+        };
+        let Some(page) = open.take() else {
+            return Ok(());
+        };
+        match writer.add_page(&page.form, &page.done) {
+            Ok(()) => Ok(()),
+            Err(WriteFault::Memory) => Err(Memory),
+            Err(WriteFault::OutputTooLarge) => {
+                *self = Output::TooLarge;
+                Ok(())
+            }
+        }
+    }
+
+    /// The bytes of all pages.
+    pub(crate) fn finish(self, alloc: Global) -> Result<Parts, ConvertFault> {
+        match self {
+            Output::Images(parts) => Ok(parts),
+            Output::File(_, writer, _) => Ok(Parts::of_bytes(alloc, writer.finish())),
+            Output::TooLarge => Err(ConvertFault::OutputTooLarge),
+        }
+    }
+}

@@ -1,0 +1,148 @@
+//! The bytes of an output, of which white rows are not held.
+
+use kit_std::prelude::Vec;
+
+use fax_bits::Memory;
+use fax_files::{put_pbm_head, put_pbm_row};
+use fax_rows::Row;
+use kit_std::alloc::Global;
+use kit_std::marker::Model;
+
+/// White rows of fewer bytes are held like others: a gap takes memory too.
+const LEAST_GAP: usize = 64;
+
+/// Zeros that are not held, after so many bytes that are.
+#[derive(Clone, Copy)]
+struct Gap {
+    held: usize,
+    zeros: usize,
+}
+
+/// The bytes of an output. White rows of an image are counted, and not held. Contracts see all of
+/// the bytes.
+pub struct Parts {
+    held: Vec<u8>,
+    gaps: Vec<Gap>,
+    /// How many of the held bytes stand before the last gap.
+    placed: usize,
+    /// How many zeros the gaps have.
+    zeros: usize,
+}
+
+impl Model for Parts {}
+
+impl Parts {
+    /// No bytes.
+    pub(crate) fn new(alloc: Global) -> Self {
+        Parts::of_bytes(alloc, Vec::new(alloc))
+    }
+
+    /// These bytes, all of them held.
+    pub(crate) fn of_bytes(alloc: Global, bytes: Vec<u8>) -> Self {
+        Parts {
+            held: bytes,
+            gaps: Vec::new(alloc),
+            placed: 0,
+            zeros: 0,
+        }
+    }
+
+    /// How many bytes there are.
+    pub fn len(&self) -> usize {
+        self.held.len() + self.zeros
+    }
+
+    /// All parts, in order.
+    pub fn parts(&self) -> PartsLeft<'_> {
+        PartsLeft {
+            held: &self.held,
+            gaps: &self.gaps,
+        }
+    }
+
+    /// Appends an image's header.
+    pub(crate) fn put_head(&mut self, width: u32, rows: u32) -> Result<(), Memory> {
+        put_pbm_head(&mut self.held, width, rows)
+    }
+
+    /// Appends zeros, which are not held, to bytes that are some already.
+    fn put_zeros(&mut self, zeros: usize) -> Result<(), Memory> {
+        let held = self.held.len() - self.placed;
+        if held == 0 {
+            let last = self.gaps.len() - 1;
+            self.gaps[last].zeros += zeros;
+            self.zeros += zeros;
+            return Ok(());
+        }
+        self.gaps.push(Gap { held, zeros }).map_err(|_| Memory)?;
+        self.placed += held;
+        self.zeros += zeros;
+        Ok(())
+    }
+
+    /// Appends a row of an image, eight pels in a byte.
+    #[inline(always)]
+    pub(crate) fn put_row(&mut self, row: &Row) -> Result<(), Memory> {
+        fax_rows::laws::packing_undoes_unpacking();
+        let len = (row.width() as usize).div_ceil(8);
+        if len >= LEAST_GAP && !self.held.is_empty() && row.is_white() {
+            return self.put_zeros(len);
+        }
+        put_pbm_row(&mut self.held, row)
+    }
+
+    /// All bytes.
+    pub(crate) fn into_bytes(self, alloc: Global) -> Result<Vec<u8>, Memory> {
+        if self.gaps.is_empty() {
+            return Ok(self.held);
+        }
+        let mut bytes = Vec::new(alloc);
+        bytes.reserve(self.len()).map_err(|_| Memory)?;
+        let mut left = self.parts();
+        while let Some(part) = left.next_part() {
+            bytes.extend_from_slice(part.held).map_err(|_| Memory)?;
+            bytes
+                .resize(bytes.len() + part.zeros, 0)
+                .map_err(|_| Memory)?;
+        }
+        Ok(bytes)
+    }
+}
+
+/// A part of an output: some bytes, and zeros after them.
+#[derive(Clone, Copy)]
+pub struct Part<'a> {
+    /// Bytes, one or more.
+    pub held: &'a [u8],
+    /// How many zeros stand after the bytes.
+    pub zeros: usize,
+}
+
+/// The parts of an output that are left. Contracts see their bytes.
+pub struct PartsLeft<'a> {
+    held: &'a [u8],
+    gaps: &'a [Gap],
+}
+
+impl<'a> Model for PartsLeft<'a> {}
+
+impl<'a> PartsLeft<'a> {
+    /// The next part, or none where all parts were handed out.
+    pub fn next_part(&mut self) -> Option<Part<'a>> {
+        let Some((gap, others)) = self.gaps.split_first() else {
+            if self.held.is_empty() {
+                return None;
+            }
+            let held = self.held;
+            self.held = &held[held.len()..];
+            return Some(Part { held, zeros: 0 });
+        };
+        let held = &self.held[..gap.held];
+        self.held = &self.held[gap.held..];
+        self.gaps = others;
+        Some(Part {
+            held,
+            zeros: gap.zeros,
+        })
+    }
+}

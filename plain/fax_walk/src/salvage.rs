@@ -1,0 +1,197 @@
+//! What is left of a damaged file: the rows that are found, and the stretches that are lost.
+
+use crate::Place;
+use crate::salvage_page::SalvagePage;
+use fax_bits::Memory;
+use fax_files::{Cause, Chain, FileFault, Tiff};
+use fax_rows::Row;
+use kit_std::alloc::Global;
+use kit_std::marker::Model;
+
+/// Rows of a page that are lost, one after another.
+#[derive(Clone, Copy, Debug, PartialEq, Eq)]
+pub struct Stretch {
+    /// The page, from 0.
+    pub page: u32,
+    /// The first of them, from 0.
+    pub row: u32,
+    /// How many they are.
+    pub rows: u32,
+    /// Why the first of them is lost.
+    pub cause: Cause,
+}
+
+/// What is handed out of a damaged file.
+#[derive(Clone, Copy, Debug, PartialEq, Eq)]
+pub enum SalvageItem {
+    /// A row that is found; `Salvage::row` lends it.
+    Row(Place),
+    /// Rows that are lost. A stretch ends where a row is found or the page ends.
+    Lost(Stretch),
+    /// A page whose form is refused, so that nothing of it is read.
+    Refused { page: u32, fault: FileFault },
+}
+
+/// What a chain of directories has next.
+enum NextPage<'a> {
+    /// Nothing more: the last page was the one before.
+    Ends,
+    /// Nothing more: no directory stands where the next one is due.
+    Broken,
+    /// A page that is refused, and the chain after it.
+    Refused {
+        fault: FileFault,
+        chain: Chain<'a>,
+    },
+    /// A page that is entered, and the chain after it.
+    Entered {
+        page: SalvagePage<'a>,
+        chain: Chain<'a>,
+    },
+}
+
+/// The page that is due after the directories that a chain has handed out.
+#[cold]
+#[inline(never)]
+fn next_page<'a>(alloc: Global, chain: &Chain<'a>) -> Result<NextPage<'a>, Memory> {
+    fax_files::laws::files_have_one_chain();
+    let number = chain.given();
+    let mut chain = chain.again();
+    let directory = match chain.next() {
+        Ok(Some(directory)) => directory,
+        Ok(None) => return Ok(NextPage::Ends),
+        Err(_fault) => return Ok(NextPage::Broken),
+    };
+    match directory.page_and_strips() {
+        Err(fault) => Ok(NextPage::Refused { fault, chain }),
+        Ok((form, strips)) => {
+            let page = SalvagePage::open(alloc, number, form, strips)?;
+            Ok(NextPage::Entered { page, chain })
+        }
+    }
+}
+
+/// Leaves the page that is gone through, if one is, and answers whether it lies wholly in the file, and
+/// no row of it is lost.
+fn leave(page: &mut Option<SalvagePage>) -> bool {
+    let clean = match page {
+        None => true,
+        Some(page) => page.is_clean(),
+    };
+    *page = None;
+    clean
+}
+
+/// Hands out what is next on the page that is gone through, or `None` where nothing is left of it, or
+/// no page was entered.
+#[inline(always)]
+fn item_of_page(page: &mut Option<SalvagePage>) -> Option<SalvageItem> {
+    match page {
+        None => None,
+        Some(page) => {
+            let item = page.next_item();
+            page.items_are_left();
+            item
+        }
+    }
+}
+
+/// Goes through a file page after page, also after one that is refused, and hands out each row that
+/// is found, each stretch of rows that are lost, and each page that is refused. Contracts see its
+/// file, how many items it handed out, and the row that was found last.
+pub struct Salvage<'a> {
+    alloc: Global,
+    file: &'a [u8],
+    /// The directories that are due, or none where the file has no good header.
+    chain: Option<Chain<'a>>,
+    /// The page that is gone through, if one was entered.
+    page: Option<SalvagePage<'a>>,
+    /// How many items were handed out.
+    given: u64,
+    /// Whether the pages that were left lie wholly in the file, and nothing of them is lost.
+    whole: bool,
+}
+
+impl<'a> Model for Salvage<'a> {}
+
+impl<'a> Salvage<'a> {
+    /// Before the first page of a file, from any bytes. It takes no memory.
+    pub fn begin(alloc: Global, file: &'a [u8]) -> Self {
+        fax_files::laws::files_have_one_chain();
+        match Tiff::read_header(file) {
+            Ok(tiff) => Salvage {
+                alloc,
+                file,
+                chain: Some(Chain::new(tiff)),
+                page: None,
+                given: 0,
+                whole: true,
+            },
+            Err(_fault) => Salvage {
+                alloc,
+                file,
+                chain: None,
+                page: None,
+                given: 0,
+                whole: false,
+            },
+        }
+    }
+
+    /// Hands out what is next, or `None` after all. It takes memory only where a page is entered.
+    ///
+    /// # Errors
+    ///
+    /// `Memory` where a growth was refused. Then nothing was handed out, and it may be called again.
+    #[inline(always)]
+    pub fn next_item(&mut self) -> Result<Option<SalvageItem>, Memory> {
+        fax_bits::laws::bits_stand_by_place();
+        fax_page::laws::lines_are_read_in_one_way();
+        fax_page::laws::strips_are_salvaged_in_one_way();
+        fax_files::laws::files_have_one_chain();
+        crate::laws::files_are_salvaged_in_one_way();
+        'pages: loop {
+            if let Some(item) = item_of_page(&mut self.page) {
+                self.given += 1;
+                return Ok(Some(item));
+            }
+            let clean = leave(&mut self.page);
+            self.whole = self.whole && clean;
+            let Some(chain) = &self.chain else {
+                return Ok(None);
+            };
+            let page = chain.given();
+            match next_page(self.alloc, chain)? {
+                NextPage::Ends => return Ok(None),
+                NextPage::Broken => {
+                    self.whole = false;
+                    return Ok(None);
+                }
+                NextPage::Refused { fault, chain } => {
+                    self.chain = Some(chain);
+                    self.given += 1;
+                    self.whole = false;
+                    return Ok(Some(SalvageItem::Refused { page, fault }));
+                }
+                NextPage::Entered { page, chain } => {
+                    self.page = Some(page);
+                    self.chain = Some(chain);
+                }
+            }
+        }
+    }
+
+    /// Whether nothing of the file is lost, once all was handed out: then its rows end properly. Before
+    /// that, whether nothing of the pages that were left is lost.
+    pub fn is_whole(&self) -> bool {
+        self.whole
+    }
+
+    /// The row that was found last, if a row of the page that is gone through was found.
+    pub fn row(&self) -> Option<&Row> {
+        match &self.page {
+            Some(page) => Some(page.row()),
+            None => None,
+        }
+    }
+}

@@ -1,0 +1,134 @@
+//! What is left of a page: rows, and stretches of rows that are lost.
+
+use crate::Place;
+use crate::page::{row_for_exchange, set_exchanged};
+use crate::salvage::{SalvageItem, Stretch};
+use crate::salvage_rows::{PagePart, SalvageRows};
+use fax_bits::Memory;
+use fax_files::{Cause, PageForm, Strips};
+use fax_rows::Row;
+use kit_std::alloc::Global;
+use kit_std::marker::Model;
+
+/// The stretch of lost rows that ends before a row of a page, with so many rows more, which are lost
+/// for this cause.
+fn longer(lost: Option<Stretch>, page: u32, row: u32, rows: u32, cause: Cause) -> Stretch {
+    match lost {
+        Some(stretch) => Stretch {
+            rows: stretch.rows + rows,
+            ..stretch
+        },
+        None => Stretch {
+            page,
+            row,
+            rows,
+            cause,
+        },
+    }
+}
+
+/// A page that is gone through. Contracts see its number, how far its rows are gone through, the rows
+/// that are lost before the one that is due, whether a row that is found waits to be handed out, and
+/// the row that was found last, as it is handed out.
+pub(crate) struct SalvagePage<'a> {
+    page: u32,
+    form: PageForm,
+    rows: SalvageRows<'a>,
+    /// The row of the page that is due.
+    row: u32,
+    /// The rows that are lost before that one, and not handed out yet.
+    lost: Option<Stretch>,
+    /// Whether the row before that one is found, and not handed out yet.
+    waits: bool,
+    /// Where colours are exchanged, if they are: the row that was found last, as it is handed out.
+    exchanged: Option<Row>,
+}
+
+impl<'a> Model for SalvagePage<'a> {}
+
+impl<'a> SalvagePage<'a> {
+    /// Before the first row of a page. It takes all the memory that the page needs.
+    pub fn open(
+        alloc: Global,
+        page: u32,
+        form: PageForm,
+        strips: Strips<'a>,
+    ) -> Result<Self, Memory> {
+        let exchanged = row_for_exchange(alloc, &form)?;
+        let rows = SalvageRows::begin(alloc, form, strips)?;
+        Ok(SalvagePage {
+            page,
+            form,
+            rows,
+            row: 0,
+            lost: None,
+            waits: false,
+            exchanged,
+        })
+    }
+
+    /// Shows the row that was found last as it is handed out.
+    fn show(&mut self) {
+        if let Some(row) = &mut self.exchanged {
+            set_exchanged(row, self.rows.reference());
+        }
+    }
+
+    /// The row before the one that is due, as it is handed out.
+    fn item(&self) -> SalvageItem {
+        SalvageItem::Row(Place {
+            page: self.page,
+            row: self.row - 1,
+        })
+    }
+
+    /// Hands out what is next on the page, or `None` where nothing is left of it.
+    pub fn next_item(&mut self) -> Option<SalvageItem> {
+        if self.waits {
+            self.waits = false;
+            return Some(self.item());
+        }
+        while let Some(part) = self.rows.next_part() {
+            match part {
+                PagePart::Found => {
+                    self.row += 1;
+                    self.show();
+                    let Some(stretch) = self.lost else {
+                        return Some(self.item());
+                    };
+                    self.lost = None;
+                    self.waits = true;
+                    return Some(SalvageItem::Lost(stretch));
+                }
+                PagePart::Lost { rows, cause } => {
+                    self.lost = Some(longer(self.lost, self.page, self.row, rows, cause));
+                    self.row += rows;
+                }
+            }
+        }
+        let Some(stretch) = self.lost else {
+            return None;
+        };
+        self.lost = None;
+        Some(SalvageItem::Lost(stretch))
+    }
+
+    /// Whether all strips up to the one that is gone through lie wholly in the file, and no row of them
+    /// is lost so far.
+    pub fn is_clean(&self) -> bool {
+        self.rows.is_clean()
+    }
+
+    /// Something is left of the page, or nothing: it computes nothing.
+    pub fn items_are_left(&self) {
+        self.rows.rows_are_left();
+    }
+
+    /// The row that was found last, as it is handed out.
+    pub fn row(&self) -> &Row {
+        match &self.exchanged {
+            Some(row) => row,
+            None => self.rows.reference(),
+        }
+    }
+}

@@ -1,0 +1,135 @@
+//! The rows of a page that are left, strip after strip.
+
+use fax_bits::Memory;
+use fax_files::{Cause, FileFault, PageForm, Strips};
+use fax_page::{SalvageReader, Salvaged, StripFault};
+use fax_rows::Row;
+use kit_std::alloc::Global;
+use kit_std::marker::Model;
+
+/// What became of the next row of a page, and of those that are lost with it.
+#[derive(Clone, Copy)]
+pub(crate) enum PagePart {
+    Found,
+    Lost { rows: u32, cause: Cause },
+}
+
+/// The bytes of strip `s` that lie in the file, and whether these are all of them.
+fn bytes_left<'a>(strips: &Strips<'a>, s: u32) -> (&'a [u8], bool) {
+    match strips.bytes(s) {
+        Ok(bytes) => (bytes, true),
+        Err(_outside) => (strips.bytes_inside(s), false),
+    }
+}
+
+/// The cause for which a row of a strip is lost, which lies wholly in the file or does not.
+fn cause_of(fault: StripFault, whole: bool) -> Cause {
+    if whole {
+        Cause::Strip(fault)
+    } else {
+        Cause::File(FileFault::StripOutside)
+    }
+}
+
+/// What became of the next row of a page, by what became of it in its strip, which lies wholly in the
+/// file or does not.
+fn part_of(salvaged: Salvaged, whole: bool) -> PagePart {
+    match salvaged {
+        Salvaged::Found => PagePart::Found,
+        Salvaged::Lost { fault, rows } => PagePart::Lost {
+            rows,
+            cause: cause_of(fault, whole),
+        },
+        Salvaged::Unended { rows } => PagePart::Lost {
+            rows,
+            cause: cause_of(StripFault::MissingEol, whole),
+        },
+    }
+}
+
+/// Whether the row is found.
+fn is_found(salvaged: Salvaged) -> bool {
+    match salvaged {
+        Salvaged::Found => true,
+        Salvaged::Lost { .. } => false,
+        Salvaged::Unended { .. } => false,
+    }
+}
+
+/// The rows of a page that are gone through. Contracts see the page's directory and form, the strip
+/// that is gone through, whether it lies wholly in the file, and how far it is gone through.
+pub(crate) struct SalvageRows<'a> {
+    form: PageForm,
+    strips: Strips<'a>,
+    /// The strip that is gone through, from 0.
+    strip: u32,
+    /// Whether it lies wholly in the file.
+    whole: bool,
+    /// Whether all strips up to it lie wholly in the file, and no row of them is lost so far.
+    clean: bool,
+    reader: SalvageReader<'a>,
+}
+
+impl<'a> Model for SalvageRows<'a> {}
+
+impl<'a> SalvageRows<'a> {
+    /// Before the first row of a page.
+    pub fn begin(alloc: Global, form: PageForm, strips: Strips<'a>) -> Result<Self, Memory> {
+        let (bytes, whole) = bytes_left(&strips, 0);
+        let reader = SalvageReader::new(alloc, bytes, form.strip_form(0))?;
+        Ok(SalvageRows {
+            form,
+            strips,
+            strip: 0,
+            whole,
+            clean: whole,
+            reader,
+        })
+    }
+
+    /// Goes before the first row of the next strip, if there is one, where the one before it is gone
+    /// through.
+    fn enter_strip(&mut self) {
+        fax_page::laws::whole_strips_are_found();
+        if self.reader.row() < self.form.strip_form(self.strip).rows
+            || self.strip + 1 == self.form.strips
+        {
+            return;
+        }
+        let next = self.strip + 1;
+        let (bytes, whole) = bytes_left(&self.strips, next);
+        let rows = self.form.strip_form(next).rows;
+        self.strip = next;
+        self.whole = whole;
+        self.clean = self.clean && whole;
+        self.reader.restart(bytes, rows);
+    }
+
+    /// What becomes of the row that is due, or `None` after the page's last one.
+    pub fn next_part(&mut self) -> Option<PagePart> {
+        fax_page::laws::whole_strips_are_found();
+        self.enter_strip();
+        let Some(salvaged) = self.reader.advance() else {
+            return None;
+        };
+        self.clean = self.clean && is_found(salvaged);
+        Some(part_of(salvaged, self.whole))
+    }
+
+    /// Whether all strips up to the one that is gone through lie wholly in the file, and no row of them
+    /// is lost so far.
+    pub fn is_clean(&self) -> bool {
+        self.clean
+    }
+
+    /// Rows are left of the page, or none: it computes nothing.
+    pub fn rows_are_left(&self) {
+        fax_page::laws::strips_are_salvaged_in_one_way();
+        let _row = self.reader.row();
+    }
+
+    /// The row that was found last, as it is coded.
+    pub fn reference(&self) -> &Row {
+        self.reader.reference()
+    }
+}

@@ -1,0 +1,56 @@
+//! The size and the resolution of a page that is converted.
+
+use crate::options::Options;
+use fax_files::{Coding, PageForm, PbmImage};
+
+/// What a page is, but for how it is written: its size and its resolution.
+#[derive(Clone, Copy)]
+pub(crate) struct Sheet {
+    pub(crate) width: u32,
+    pub(crate) rows: u32,
+    pub(crate) x: (u32, u32),
+    pub(crate) y: (u32, u32),
+    pub(crate) unit: u16,
+}
+
+impl Sheet {
+    /// The sheet of an image, which has no resolution of its own.
+    pub(crate) fn of_image(image: &PbmImage) -> Self {
+        Sheet {
+            width: image.width,
+            rows: image.rows,
+            x: (204, 1),
+            y: (196, 1),
+            unit: 2,
+        }
+    }
+
+    /// The sheet of a page, which keeps its resolution.
+    pub(crate) fn of_form(form: &PageForm) -> Self {
+        Sheet {
+            width: form.width,
+            rows: form.rows,
+            x: form.x,
+            y: form.y,
+            unit: form.unit,
+        }
+    }
+
+    /// The form of the page as it is written.
+    pub(crate) fn form(&self, options: &Options, coding: Coding) -> PageForm {
+        let rows_per_strip = options.strip.unwrap_or(self.rows).min(self.rows);
+        PageForm {
+            width: self.width,
+            rows: self.rows,
+            coding,
+            order: options.order,
+            aligned: options.aligned,
+            exchanged: false,
+            rows_per_strip,
+            strips: self.rows.div_ceil(rows_per_strip),
+            x: self.x,
+            y: self.y,
+            unit: self.unit,
+        }
+    }
+}

@@ -1,0 +1,260 @@
+//! The walk over a file's rows, in order of page and then of row.
+
+use crate::opening::{DuePage, OpenFault};
+use crate::page::{OpenPage, open, open_after, open_inside};
+use crate::{Begun, Cursor, End, LongCursor, WalkFault};
+use fax_bits::Memory;
+use fax_files::PageForm;
+use fax_rows::Row;
+use kit_std::alloc::Global;
+use kit_std::marker::Model;
+
+/// The place of a row: its page and its number there, both from 0.
+#[derive(Clone, Copy, Debug, PartialEq, Eq)]
+pub struct Place {
+    pub page: u32,
+    pub row: u32,
+}
+
+/// A place inside a strip, which a walk lends: a cursor, how many bits of the strip stand before its
+/// row, and the row before it as it was coded, before any exchange of colours.
+#[derive(Clone, Copy)]
+pub struct PlaceInside<'a> {
+    pub at: Cursor,
+    pub bits: u32,
+    pub reference: &'a Row,
+}
+
+/// The row that a walk handed out last, which it lends: its place, its page's form, and its pels.
+#[derive(Clone, Copy)]
+pub(crate) struct LastRow<'a> {
+    pub(crate) place: Place,
+    pub(crate) form: &'a PageForm,
+    pub(crate) row: &'a Row,
+}
+
+/// A walk over the rows of a file. Contracts see its file, what it began with, how many rows it
+/// handed out, and how the rows ended, once it told that.
+pub struct Walk<'a> {
+    alloc: Global,
+    file: &'a [u8],
+    begun: Begun,
+    /// How many rows were handed out.
+    given: u64,
+    /// The place after the last of them, or the one that it began with.
+    cursor: Cursor,
+    /// The page whose rows are read, or were read last, if one was opened.
+    page: Option<OpenPage<'a>>,
+    told: Option<End>,
+}
+
+impl<'a> Model for Walk<'a> {}
+
+/// Opens the page of a cursor's row, or the next one where it stands after a page's last row.
+fn open_at<'a>(alloc: Global, file: &'a [u8], cursor: Cursor) -> Result<OpenPage<'a>, OpenFault> {
+    let Some(due) = DuePage::at(file, cursor)? else {
+        return Err(OpenFault::Ended(End::Proper));
+    };
+    if cursor.row < due.form.rows {
+        open(alloc, due, cursor.row, 0)
+    } else {
+        open_after(alloc, &due.chain, 0)
+    }
+}
+
+/// Opens the page of a long cursor's row, at its place.
+fn open_at_place<'a>(
+    alloc: Global,
+    file: &'a [u8],
+    place: &LongCursor,
+) -> Result<OpenPage<'a>, OpenFault> {
+    let Some(due) = DuePage::at(file, place.at)? else {
+        return Err(OpenFault::Ended(End::Proper));
+    };
+    open_inside(alloc, due, place)
+}
+
+/// Opens the page of the row that is due, after the one that is open, if one is. This is no part of
+/// the step from row to row: there what it puts on the stack would be cleared at each row.
+#[cold]
+#[inline(never)]
+fn open_due<'a>(
+    alloc: Global,
+    file: &'a [u8],
+    begun: &Begun,
+    page: &mut Option<OpenPage<'a>>,
+) -> Result<(), OpenFault> {
+    let opened = match (&*page, begun) {
+        (None, Begun::At(cursor)) => open_at(alloc, file, *cursor)?,
+        (None, Begun::Inside(place)) => open_at_place(alloc, file, place)?,
+        (Some(page), _) => page.open_next(alloc)?,
+    };
+    *page = Some(opened);
+    Ok(())
+}
+
+/// Reads the next row that is handed out. Where the page that is open has no more, the next one is
+/// opened.
+#[inline(always)]
+fn go_on<'a>(
+    alloc: Global,
+    file: &'a [u8],
+    begun: &Begun,
+    page: &mut Option<OpenPage<'a>>,
+) -> Result<(), OpenFault> {
+    fax_bits::laws::bits_stand_by_place();
+    fax_page::laws::lines_are_read_in_one_way();
+    fax_files::laws::files_have_one_chain();
+    fax_files::laws::forms_are_whole();
+    'pages: loop {
+        if let Some(open) = page {
+            if open.next()? {
+                return Ok(());
+            }
+        }
+        open_due(alloc, file, begun, page)?;
+    }
+}
+
+impl<'a> Walk<'a> {
+    /// A walk over all rows of a file, from any bytes. Nothing is read yet.
+    pub fn start(alloc: Global, file: &'a [u8]) -> Self {
+        Walk::resume(alloc, file, Cursor { page: 0, row: 0 })
+    }
+
+    /// A walk over the rows of a file from what it begins with on. Nothing is read yet. Then the
+    /// page that it names is read: after a cursor from the strip on that holds its row, after a
+    /// long cursor from its place inside the strip on, and no row before that.
+    pub fn begin(alloc: Global, file: &'a [u8], begun: Begun) -> Self {
+        let cursor = begun.cursor();
+        Walk {
+            alloc,
+            file,
+            begun,
+            given: 0,
+            cursor,
+            page: None,
+            told: None,
+        }
+    }
+
+    /// A walk that begins with a cursor.
+    pub fn resume(alloc: Global, file: &'a [u8], cursor: Cursor) -> Self {
+        Walk::begin(alloc, file, Begun::At(cursor))
+    }
+
+    /// A walk that begins with a long cursor.
+    pub fn resume_long(alloc: Global, file: &'a [u8], cursor: LongCursor) -> Self {
+        Walk::begin(alloc, file, Begun::Inside(cursor))
+    }
+
+    /// The cursor after the last row that was handed out, or the one that the walk began with.
+    pub fn cursor(&self) -> Cursor {
+        self.cursor
+    }
+
+    /// The place inside a strip after the last row that was handed out, or the one that the walk
+    /// began with: `None` where it has none, after a strip's last row, and where the bits before
+    /// it are more than 4,294,967,295. A fault changes nothing.
+    ///
+    /// # Errors
+    ///
+    /// `Memory` where a growth was refused.
+    pub fn long_cursor(&self, alloc: Global) -> Result<Option<LongCursor>, Memory> {
+        match &self.page {
+            Some(page) if self.given > 0 => page.long_cursor(alloc),
+            _ => self.begun.long_cursor(),
+        }
+    }
+
+    /// The place inside a strip after the last row that was handed out, as `long_cursor` has it
+    /// once a row was handed out, and `None` before that. It takes no memory.
+    pub fn lend_place(&self) -> Option<PlaceInside<'_>> {
+        match &self.page {
+            Some(page) if self.given > 0 => page.lend_place(),
+            _ => None,
+        }
+    }
+
+    /// The row that was handed out last, if one was.
+    #[inline(always)]
+    pub(crate) fn last_row(&self) -> Option<LastRow<'_>> {
+        match &self.page {
+            Some(page) => Some(LastRow {
+                place: Place {
+                    page: self.cursor.page,
+                    row: self.cursor.row - 1,
+                },
+                form: page.form(),
+                row: page.row(),
+            }),
+            None => None,
+        }
+    }
+
+    /// How many rows this walk has read: those that it handed out, and those that stand before the
+    /// first of them in its strip.
+    pub fn rows_read(&self) -> u64 {
+        crate::laws::beginnings_have_one_tail();
+        match &self.page {
+            Some(page) => page.read(),
+            None => 0,
+        }
+    }
+
+    /// Rows are left, and an end. It computes nothing.
+    pub(crate) fn items_are_left(&self) {
+        crate::laws::beginnings_have_one_tail();
+        let _ = &self.page;
+    }
+
+    /// Goes to the next row, and answers whether there was one. It takes memory only where it
+    /// enters a page.
+    ///
+    /// # Errors
+    ///
+    /// As `next_row`.
+    #[inline(always)]
+    fn advance(&mut self) -> Result<bool, WalkFault> {
+        if let Some(end) = self.told {
+            return end.answer();
+        }
+        match go_on(self.alloc, self.file, &self.begun, &mut self.page) {
+            Ok(()) => {
+                let Some(page) = &self.page else {
+                    unreachable!();
+                };
+                self.cursor = page.cursor();
+                self.given += 1;
+                Ok(true)
+            }
+            Err(OpenFault::Memory) => Err(WalkFault::Memory),
+            Err(OpenFault::Ended(end)) => {
+                self.told = Some(end);
+                end.answer()
+            }
+        }
+    }
+
+    /// Hands out the next row with its place, or `None` once all rows were handed out. It takes
+    /// memory only where it enters a page.
+    ///
+    /// # Errors
+    ///
+    /// `Memory` where a growth was refused: the walk is as it was. `AtRow` at the fault that ends
+    /// the rows, `CursorOutside` where the walk began at no place of the file, from then on.
+    #[inline(always)]
+    pub fn next_row(&mut self) -> Result<Option<(Place, &Row)>, WalkFault> {
+        if !self.advance()? {
+            return Ok(None);
+        }
+        let place = Place {
+            page: self.cursor.page,
+            row: self.cursor.row - 1,
+        };
+        match &self.page {
+            Some(page) => Ok(Some((place, page.row()))),
+            None => unreachable!(),
+        }
+    }
+}

@@ -1,0 +1,7 @@
+//! Reading and writing.
+
+pub use crate::streams::Stream;
+pub use std::io::{Error, ErrorKind, Read, Result, Write};
+
+/// The standard input.
+pub type Stdin = Stream;

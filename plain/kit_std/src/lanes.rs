@@ -1,0 +1,299 @@
+//! Lanes of numbers as arrays, of which the compiler makes vectors where the target has some. On
+//! x86-64 tests, sums, differences and wider numbers are SSE2's own: of the arrays it makes many
+//! more instructions.
+
+use std::array;
+use std::ops::{Add, BitAnd, BitOr, Shl, Shr, Sub};
+
+/// So many numbers, on which one operation works at a time. Sums and differences wrap.
+#[derive(Clone, Copy)]
+pub struct Simd<T, const N: usize>([T; N]);
+
+#[allow(non_camel_case_types)]
+pub type u8x4 = Simd<u8, 4>;
+#[allow(non_camel_case_types)]
+pub type u8x8 = Simd<u8, 8>;
+#[allow(non_camel_case_types)]
+pub type u8x16 = Simd<u8, 16>;
+#[allow(non_camel_case_types)]
+pub type u32x4 = Simd<u32, 4>;
+#[allow(non_camel_case_types)]
+pub type u32x8 = Simd<u32, 8>;
+
+/// What a test says of each lane.
+#[derive(Clone, Copy)]
+pub struct Mask(u64);
+
+impl Mask {
+    /// The answers as bits, that of lane 0 in the lowest.
+    #[inline(always)]
+    pub fn to_bitmask(self) -> u64 {
+        self.0
+    }
+}
+
+impl Simd<u8, 16> {
+    /// Which lanes differ from those of another.
+    #[inline(always)]
+    pub fn simd_ne(self, other: Self) -> Mask {
+        Mask(differing(&self.0, &other.0))
+    }
+}
+
+impl Simd<i32, 4> {
+    /// Which lanes are less than those of another.
+    #[inline(always)]
+    pub fn simd_lt(self, other: Self) -> Mask {
+        Mask(less(&self.0, &other.0))
+    }
+}
+
+#[cfg(target_arch = "x86_64")]
+#[inline(always)]
+fn differing(one: &[u8; 16], other: &[u8; 16]) -> u64 {
+    use std::arch::x86_64::{_mm_cmpeq_epi8, _mm_loadu_si128, _mm_movemask_epi8};
+    // SAFETY: each array has the 16 bytes that are loaded, and each x86-64 has SSE2.
+    let same = unsafe {
+        let one = _mm_loadu_si128(one.as_ptr().cast());
+        _mm_movemask_epi8(_mm_cmpeq_epi8(one, _mm_loadu_si128(other.as_ptr().cast())))
+    };
+    u64::from(!same as u16)
+}
+
+#[cfg(target_arch = "x86_64")]
+#[inline(always)]
+fn less(one: &[i32; 4], other: &[i32; 4]) -> u64 {
+    use std::arch::x86_64::{_mm_castsi128_ps, _mm_cmplt_epi32, _mm_loadu_si128, _mm_movemask_ps};
+    // SAFETY: as in `differing`.
+    let less = unsafe {
+        let one = _mm_loadu_si128(one.as_ptr().cast());
+        let other = _mm_loadu_si128(other.as_ptr().cast());
+        _mm_movemask_ps(_mm_castsi128_ps(_mm_cmplt_epi32(one, other)))
+    };
+    less as u64
+}
+
+#[cfg(not(target_arch = "x86_64"))]
+#[inline(always)]
+fn differing(one: &[u8; 16], other: &[u8; 16]) -> u64 {
+    (0..16).fold(0, |bits, lane| {
+        bits | u64::from(one[lane] != other[lane]) << lane
+    })
+}
+
+#[cfg(not(target_arch = "x86_64"))]
+#[inline(always)]
+fn less(one: &[i32; 4], other: &[i32; 4]) -> u64 {
+    (0..4).fold(0, |bits, lane| {
+        bits | u64::from(one[lane] < other[lane]) << lane
+    })
+}
+
+#[cfg(target_arch = "x86_64")]
+#[inline(always)]
+fn sums(one: &[u32; 4], other: &[u32; 4]) -> [u32; 4] {
+    use std::arch::x86_64::{_mm_add_epi32, _mm_loadu_si128, _mm_storeu_si128};
+    let mut sums = [0; 4];
+    // SAFETY: each array has the 16 bytes that are loaded or stored, and each x86-64 has SSE2.
+    unsafe {
+        let one = _mm_loadu_si128(one.as_ptr().cast());
+        let sum = _mm_add_epi32(one, _mm_loadu_si128(other.as_ptr().cast()));
+        _mm_storeu_si128(sums.as_mut_ptr().cast(), sum);
+    }
+    sums
+}
+
+#[cfg(target_arch = "x86_64")]
+#[inline(always)]
+fn differences(one: &[u32; 4], other: &[u32; 4]) -> [u32; 4] {
+    use std::arch::x86_64::{_mm_loadu_si128, _mm_storeu_si128, _mm_sub_epi32};
+    let mut differences = [0; 4];
+    // SAFETY: as in `sums`.
+    unsafe {
+        let one = _mm_loadu_si128(one.as_ptr().cast());
+        let difference = _mm_sub_epi32(one, _mm_loadu_si128(other.as_ptr().cast()));
+        _mm_storeu_si128(differences.as_mut_ptr().cast(), difference);
+    }
+    differences
+}
+
+#[cfg(target_arch = "x86_64")]
+#[inline(always)]
+fn widened(bytes: [u8; 4]) -> [u32; 4] {
+    use std::arch::x86_64::{_mm_cvtsi32_si128, _mm_setzero_si128, _mm_storeu_si128};
+    use std::arch::x86_64::{_mm_unpacklo_epi16, _mm_unpacklo_epi8};
+    let mut wide = [0; 4];
+    // SAFETY: as in `sums`.
+    unsafe {
+        let zero = _mm_setzero_si128();
+        let four = _mm_cvtsi32_si128(i32::from_le_bytes(bytes));
+        let four = _mm_unpacklo_epi16(_mm_unpacklo_epi8(four, zero), zero);
+        _mm_storeu_si128(wide.as_mut_ptr().cast(), four);
+    }
+    wide
+}
+
+#[cfg(not(target_arch = "x86_64"))]
+#[inline(always)]
+fn sums(one: &[u32; 4], other: &[u32; 4]) -> [u32; 4] {
+    array::from_fn(|lane| one[lane].wrapping_add(other[lane]))
+}
+
+#[cfg(not(target_arch = "x86_64"))]
+#[inline(always)]
+fn differences(one: &[u32; 4], other: &[u32; 4]) -> [u32; 4] {
+    array::from_fn(|lane| one[lane].wrapping_sub(other[lane]))
+}
+
+#[cfg(not(target_arch = "x86_64"))]
+#[inline(always)]
+fn widened(bytes: [u8; 4]) -> [u32; 4] {
+    bytes.map(u32::from)
+}
+
+/// Numbers as ones of another type, as `as` makes them.
+pub trait CastTo<U>: Sized {
+    fn cast_all<const N: usize>(lanes: [Self; N]) -> [U; N];
+}
+
+impl CastTo<u32> for u8 {
+    #[inline(always)]
+    fn cast_all<const N: usize>(lanes: [u8; N]) -> [u32; N] {
+        let mut wide = lanes.map(u32::from);
+        for (bytes, wide) in lanes.chunks_exact(4).zip(wide.chunks_exact_mut(4)) {
+            wide.copy_from_slice(&widened([bytes[0], bytes[1], bytes[2], bytes[3]]));
+        }
+        wide
+    }
+}
+
+macro_rules! casts {
+    ($($from:ty => $to:ty),*) => {
+        $(impl CastTo<$to> for $from {
+            #[inline(always)]
+            fn cast_all<const N: usize>(lanes: [$from; N]) -> [$to; N] {
+                lanes.map(|number| number as $to)
+            }
+        })*
+    };
+}
+
+casts!(u32 => i32, u32 => u16);
+
+impl<T: Copy, const N: usize> Simd<T, N> {
+    /// The same number in each lane.
+    #[inline(always)]
+    pub fn splat(item: T) -> Self {
+        Simd([item; N])
+    }
+
+    #[inline(always)]
+    pub fn from_array(items: [T; N]) -> Self {
+        Simd(items)
+    }
+
+    /// The first items of a slice, which has as many.
+    #[inline(always)]
+    pub fn from_slice(items: &[T]) -> Self {
+        match items[..N].try_into() {
+            Ok(lanes) => Simd(lanes),
+            Err(_) => unreachable!(),
+        }
+    }
+
+    #[inline(always)]
+    pub fn to_array(self) -> [T; N] {
+        self.0
+    }
+
+    /// Writes the lanes to the first items of a slice, which has as many.
+    #[inline(always)]
+    pub fn copy_to_slice(self, items: &mut [T]) {
+        items[..N].copy_from_slice(&self.0);
+    }
+
+    /// Each number as one of another type.
+    #[inline(always)]
+    pub fn cast<U: Copy>(self) -> Simd<U, N>
+    where
+        T: CastTo<U>,
+    {
+        Simd(T::cast_all(self.0))
+    }
+
+    /// The lanes at these places, where those of `other` come after these.
+    #[inline(always)]
+    pub fn shuffle(self, other: Self, places: [usize; N]) -> Self {
+        Simd(array::from_fn(|lane| match places[lane] {
+            at if at < N => self.0[at],
+            at => other.0[at - N],
+        }))
+    }
+
+    #[inline(always)]
+    fn with(self, other: Self, operation: impl Fn(T, T) -> T) -> Self {
+        Simd(array::from_fn(|lane| {
+            operation(self.0[lane], other.0[lane])
+        }))
+    }
+}
+
+macro_rules! operators {
+    ($($name:ident $method:ident $kind:ty: $operation:expr),*) => {
+        $(impl<const N: usize> $name for Simd<$kind, N> {
+            type Output = Self;
+
+            #[inline(always)]
+            fn $method(self, other: Self) -> Self {
+                self.with(other, $operation)
+            }
+        })*
+    };
+}
+
+operators!(
+    BitAnd bitand u8: |a, b| a & b,
+    BitOr bitor u8: |a, b| a | b,
+    Shl shl u8: |a, b| a << b,
+    Shr shr u8: |a, b| a >> b
+);
+
+/// Eight lanes, of which an operation makes four at a time.
+#[inline(always)]
+fn by_fours<F>(one: &[u32; 8], other: &[u32; 8], operation: F) -> [u32; 8]
+where
+    F: Fn(&[u32; 4], &[u32; 4]) -> [u32; 4],
+{
+    let mut lanes = [0; 8];
+    for from in [0, 4] {
+        let four = |lanes: &[u32; 8]| array::from_fn(|lane| lanes[from + lane]);
+        lanes[from..from + 4].copy_from_slice(&operation(&four(one), &four(other)));
+    }
+    lanes
+}
+
+macro_rules! operators_of_four {
+    ($($name:ident $method:ident: $operation:ident),*) => {
+        $(
+            impl $name for Simd<u32, 4> {
+                type Output = Self;
+
+                #[inline(always)]
+                fn $method(self, other: Self) -> Self {
+                    Simd($operation(&self.0, &other.0))
+                }
+            }
+
+            impl $name for Simd<u32, 8> {
+                type Output = Self;
+
+                #[inline(always)]
+                fn $method(self, other: Self) -> Self {
+                    Simd(by_fours(&self.0, &other.0, $operation))
+                }
+            }
+        )*
+    };
+}
+
+operators_of_four!(Add add: sums, Sub sub: differences);
