@@ -57,6 +57,8 @@ class View {
     /** So many pels are in sight at most, which bounds how long a picture takes. */
     static MOST_PELS = 64e6;
     static MOST_MARKS = 200;
+    /** Of more marks each says what it is only under the mouse, so that the page can be read. */
+    static MOST_SAID = 2;
     static STEP = 1.25;
 
     /** @param {HTMLElement} view @param {HTMLElement} sheet @param {HTMLElement} paper */
@@ -260,6 +262,7 @@ class View {
         if (fax && form) {
             const high = this.size()[1];
             const found = fax.findingsOf(this.page, View.MOST_MARKS).slice(0, View.MOST_MARKS);
+            this.paper.classList.toggle("many", found.length > View.MOST_SAID);
             this.paper.append(...found.map(({ row, head, name, kind }) => {
                 const mark = document.createElement("div");
                 mark.className = `mark ${kind}`;
