@@ -390,16 +390,14 @@ class Fax extends Known {
             return texts.nothing;
         }
         const parts = damaged ? [say(texts.damaged, this.pages - damaged, pages)] : [];
+        if (this.lost.size) {
+            parts.push(texts.unseen);
+        }
         if (this.end) {
             parts.push(say(texts.chain, String(this.end.fault.page - 1)));
         }
         return parts.length > 0 ? parts.join(" ")
             : say(this.notes.size ? texts.noted : texts.whole, pages, sayCount(this.rows, "row", "rows"));
-    }
-
-    /** What is to be known of a damaged fax beside its faults. */
-    remark() {
-        return this.lost.size ? TEXTS.verdicts.unseen : "";
     }
 
     /** The report as text: the lines of `faxpages list` and `faxpages check`, with what was lost, and what it means. */
@@ -425,7 +423,6 @@ class Fax extends Known {
                 lines.push(`page ${page} rows ${from} to ${to}: ${name}`);
             }
         }
-        const told = [this.file.name, this.verdict(), this.remark()].filter(Boolean);
-        return `${told.join("\n")}\n\n${lines.join("\n")}\n`;
+        return `${this.file.name}\n${this.verdict()}\n\n${lines.join("\n")}\n`;
     }
 }

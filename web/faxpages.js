@@ -222,7 +222,6 @@ class App {
         };
         put("name", fax.file.name);
         put("verdict", fax.verdict());
-        put("unseen", fax.remark());
         const isReading = fax.isBusy() && fax.state !== "waits";
         const state = fax.state !== "done" ? "left" : fax.isWhole() ? "whole" : "damaged";
         the("verdict").className = isReading ? "busy" : state;
