@@ -369,9 +369,6 @@ class Fax extends Known {
             return texts.nothing;
         }
         const parts = damaged ? [say(texts.damaged, this.pages - damaged, pages)] : [];
-        if (this.lost.size) {
-            parts.push(texts.unseen);
-        }
         if (this.end) {
             parts.push(say(texts.chain, String(this.end.fault.page - 1)));
         }
@@ -400,6 +397,7 @@ class Fax extends Known {
         for (const [page, lost] of [...this.lost].sort(([one], [other]) => one - other)) {
             lines.push(...lost.map(({ from, to, name }) => `page ${page} rows ${from} to ${to}: ${name}`));
         }
-        return `${this.file.name}\n${this.verdict()}\n\n${lines.join("\n")}\n`;
+        const unseen = this.lost.size ? `\n${TEXTS.findings.unseen}` : "";
+        return `${this.file.name}\n${this.verdict()}${unseen}\n\n${lines.join("\n")}\n`;
     }
 }
