@@ -390,9 +390,6 @@ class Fax extends Known {
             return texts.nothing;
         }
         const parts = damaged ? [say(texts.damaged, this.pages - damaged, pages)] : [];
-        if (this.lost.size) {
-            parts.push(texts.unseen);
-        }
         if (this.end) {
             parts.push(say(texts.chain, String(this.end.fault.page - 1)));
         }
@@ -423,6 +420,7 @@ class Fax extends Known {
                 lines.push(`page ${page} rows ${from} to ${to}: ${name}`);
             }
         }
-        return `${this.file.name}\n${this.verdict()}\n\n${lines.join("\n")}\n`;
+        const unseen = this.lost.size ? `\n${TEXTS.findings.unseen}` : "";
+        return `${this.file.name}\n${this.verdict()}${unseen}\n\n${lines.join("\n")}\n`;
     }
 }

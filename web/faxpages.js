@@ -251,7 +251,7 @@ class App {
         the("findings-part").hidden = found.length === 0 && !fax.isLong;
         the("findings").replaceChildren(...found.map((finding) => this.findingItem(finding)));
         the("findings-more").textContent = [all > found.length ? say(TEXTS.findings.more, all - found.length) : "",
-            fax.isLong ? TEXTS.findings.unchecked : ""].join(" ").trim();
+            fax.lost.size ? TEXTS.findings.unseen : "", fax.isLong ? TEXTS.findings.unchecked : ""].join(" ").trim();
         this.view.mark();
         this.renderReport();
     }

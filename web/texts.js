@@ -78,8 +78,6 @@ const TEXTS = {
         noted: "All rows can be read: {0}, {1}. Some readers may have trouble with it.",
         damaged: "This fax is damaged: {0} of {1} can be read wholly.",
         chain: "The fax is damaged after page {0}: whatever followed is not found.",
-        unseen: "A row above those that cannot be read may be wrong too: of 1,000 pages in MMR with one bit turned 343 had " +
-            "such a row, and 126 had no fault. No reader sees damage that makes other codes.",
         nothing: "This file cannot be read as a fax.",
         bareWhole: "The data were read to their end: {0} rows.",
         bareMissing: "{0} rows were read, and {1} are missing.",
@@ -99,6 +97,8 @@ const TEXTS = {
         image: "Image {0}",
         more: "{0} more are not shown.",
         reportGoesOn: "The report goes on: save it as text.",
+        unseen: "A row above those that cannot be read may be wrong too: of 1,000 pages in MMR with one bit turned 343 had " +
+            "such a row, and 126 had no fault. No reader sees damage that makes other codes.",
         unchecked: "Notes were not looked for, since this file takes long.",
         lookFor: "Look for notes",
     },
