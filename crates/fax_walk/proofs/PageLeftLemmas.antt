@@ -1,6 +1,6 @@
 -- What is handed out of a page stands together in what is handed out of its file.
-use Rattle.std.proofs.Common.{◌≡◌, ℕ, zero, suc, ◌+◌, List, [], ◌∷◌, ◌++◌, Option, Some, None, Result, Ok, Err, refl, sym, ap}
-use Rattle.std.proofs.Common.{◌∙◌, arith, append_assoc}
+use Rattle.std.proofs.Common.{◌≡◌, ℕ, zero, suc, ◌+◌, List, [], ◌∷◌, ◌++◌, Option, Some, None, Result, Ok, Err}
+use Rattle.std.proofs.Common.{refl, sym, ap, ◌∙◌, arith, append_assoc}
 use Rattle.std.specs.Prelude.{flat_map, slice_get}
 use Rattle.fax_page.specs.laws.Salvage.{SalvagesStripsOneWay}
 use Rattle.fax_files.specs.declared.Endian.{Endian}
@@ -12,7 +12,8 @@ use Rattle.fax_files.specs.laws.Files.{FilesHaveOneChain}
 use Rattle.fax_walk.specs.declared.cursor.Cursor.{Cursor}
 use Rattle.fax_walk.specs.declared.end.End.{End}
 use Rattle.fax_walk.specs.Pages.{FilePage}
-use Rattle.fax_walk.specs.Salvaged.{AreRowsOfPage, IsPageLeftAs, ArePagesLeft, IsSalvagedUnder, LeftItem, PageRow, page_items}
+use Rattle.fax_walk.specs.Salvaged.{AreRowsOfPage, IsPageLeftAs, ArePagesLeft, IsSalvagedUnder, LeftItem, PageRow}
+use Rattle.fax_walk.specs.Salvaged.{page_items}
 use Rattle.fax_walk.specs.laws.RowsLeft.{PagesAreLeft}
 use Rattle.fax_walk.specs.code.Opening.{IsPageUnder, page_or_end, page_over}
 use Rattle.fax_walk.proofs.SalvageLawLemmas.{one_strips}

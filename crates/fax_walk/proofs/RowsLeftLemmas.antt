@@ -80,7 +80,8 @@ module _ (old new : Left) (sound : IsGoneOver old) where
         → AreRowsOf (its_of old) all → drop (row_of old) all ≡ over ++ drop (row_of new) all
     rows_at one rest is all are =
         let before = sound.passed (over ++ rest) (goes.followed rest is) in
-        let first : all ≡ before.0 ++ (over ++ rest) = one.one all are ∙ sym (one.one (before.0 ++ (over ++ rest)) before.2)
+        let first : all ≡ before.0 ++ (over ++ rest) =
+        one.one all are ∙ sym (one.one (before.0 ++ (over ++ rest)) before.2)
         in
         let second : all ≡ (before.0 ++ over) ++ rest = first ∙ sym (append_assoc before.0 over rest) in
         let len : length (before.0 ++ over) ≡ row_of new =
