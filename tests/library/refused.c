@@ -84,6 +84,7 @@ static int one_page(const uint8_t *file, size_t len, long n) {
     struct faxpages_strip strip;
     struct faxpages_strip_report report = {7, 7, 7, 7, 7, {7, 7, 7, 7}};
     struct faxpages_place place = {0, 0, 0, 0};
+    struct faxpages_lost lost[1];
     size_t stride, coded_len, again_len;
     uint32_t result;
     if (faxpages_page(file, len, 0, &form, raster, 0, 0, &told) != FAXPAGES_NO_ROOM) return 0;
@@ -121,6 +122,17 @@ static int one_page(const uint8_t *file, size_t len, long n) {
             ? told.count || place.runs || again[0] != 0xA5
             : memcmp(raster, again, stride * form.rows) || place.row != form.rows)
         return 5;
+    again[0] = 0xA5;
+    if (REFUSING(n, faxpages_salvage(file, len, 0, &form, again, ROOM, stride, lost, 1, &told)) == FAXPAGES_MEMORY
+            ? told.count || told.used || again[0] != 0xA5
+            : result != FAXPAGES_DONE || told.count != form.rows || memcmp(raster, again, stride * form.rows))
+        return 8;
+    again[0] = 0xA5;
+    if (REFUSING(n, faxpages_salvage_strip(coded, coded_len, &strip, again, ROOM, stride, lost, 1, &told)) ==
+                FAXPAGES_MEMORY
+            ? told.count || told.used || again[0] != 0xA5
+            : result != FAXPAGES_DONE || told.count != form.rows || memcmp(raster, again, stride * form.rows))
+        return 9;
     memset(&written, 0, sizeof written);
     written.total = 1;
     form.coding = 1;

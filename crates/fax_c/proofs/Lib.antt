@@ -15,3 +15,4 @@ pub mod WritingLemmas
 pub mod EndingLemmas
 pub mod RunRowLemmas
 pub mod PartLemmas
+pub mod SalvagedLemmas

@@ -9,3 +9,4 @@ pub mod Checked
 pub mod Converted
 pub mod views
 pub mod code
+pub mod Salvaged

@@ -5,3 +5,4 @@ pub mod StripRuns
 pub mod Writing
 pub mod Conversion
 pub mod StripParts
+pub mod Salvaged

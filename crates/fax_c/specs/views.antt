@@ -8,3 +8,4 @@ pub mod StripRuns
 pub mod Written
 pub mod Ended
 pub mod StripParts
+pub mod Salvaged

@@ -1,4 +1,11 @@
 //! What is left of a damaged page or strip, in a raster, and the rows that are lost.
+ghost use Rattle.std.specs.Prelude.{◌≡◌, ◌<◌, ◌≤◌, ◌+◌, ◌*◌, false, length, replicate, Some, true};
+ghost use Rattle.fax_rows.specs.Coded as Coded;
+ghost use Rattle.fax_walk.specs.code.SalvagePage as Walk;
+ghost use Rattle.fax_c.specs.Raster.{padded_row};
+ghost use Rattle.fax_c.specs.code.Put.{IsPutAt};
+ghost use Rattle.fax_c.specs.code.Salvaged as Code;
+ghost use Rattle.fax_c.specs.views.Salvaged as Spec;
 
 use crate::faults::fault_number;
 use crate::filled::{Filled, Stop};
@@ -10,7 +17,7 @@ use crate::strips::readable_form;
 use crate::told::FaxTold;
 use fax_files::Cause;
 use fax_rows::Row;
-use fax_walk::{Cursor, Memory, PageLeft, PagePart, RowsLeft, Stretch};
+use fax_walk::{Cursor, PageLeft, PagePart, RowsLeft, Stretch};
 use std::alloc::Global;
 
 /// Rows of a page or a strip that are lost, one after another.
@@ -26,8 +33,12 @@ pub struct FaxLost {
 }
 
 impl FaxLost {
+    ghost use Rattle.fax_c.specs.code.Salvaged.{stretch_lost};
+
     /// A stretch as it stands in memory of the caller.
-    fn of(stretch: &Stretch) -> Self {
+    fn of(stretch: &Stretch) -> Self
+        ensures { result ≡ stretch_lost stretch.now }
+    {
         FaxLost {
             row: stretch.row,
             rows: stretch.rows,
@@ -37,7 +48,10 @@ impl FaxLost {
 }
 
 /// The stretch that ends before a row of a page, with so many rows more, which are lost for this cause.
-fn longer(lost: Option<Stretch>, page: u32, row: u32, rows: u32, cause: Cause) -> Stretch {
+fn longer(lost: Option<Stretch>, page: u32, row: u32, rows: u32, cause: Cause) -> Stretch
+    requires { Walk.HasRoom lost rows }
+    ensures { result ≡ Walk.longer lost page row rows cause }
+{
     match lost {
         Some(stretch) => Stretch {
             rows: stretch.rows + rows,
@@ -54,7 +68,10 @@ fn longer(lost: Option<Stretch>, page: u32, row: u32, rows: u32, cause: Cause) -
 
 /// Writes a stretch that has ended, if one has, after so many others, where it has room, and answers
 /// how many there are now.
-fn put_stretch(ended: Option<Stretch>, lost: &mut [FaxLost], count: usize) -> usize {
+fn put_stretch(ended: Option<Stretch>, lost: &mut [FaxLost], count: usize) -> usize
+    requires { count ≤ 1000000 }
+    ensures { Code.IsStretchPut ended lost.old count result lost.new }
+{
     let Some(stretch) = ended else {
         return count;
     };
@@ -64,23 +81,51 @@ fn put_stretch(ended: Option<Stretch>, lost: &mut [FaxLost], count: usize) -> us
     count + 1
 }
 
-/// Whether so many bytes hold so many rows, each in so many bytes.
-fn holds_rows(len: usize, width: u32, rows: u32, stride: usize) -> bool {
+/// Whether so many bytes hold so many rows of a raster, each in so many bytes.
+fn holds_rows(len: usize, width: u32, rows: u32, stride: usize) -> bool
+    ensures some { result ≡ true → Spec.HoldsRows len width rows stride }
+    ensures none { result ≡ false → Spec.HoldsRows len width rows stride → ⊥ }
+{
     if stride < packed_len(width) {
         return false;
     }
-    match stride.checked_mul(rows as usize) {
+    match (rows as usize).checked_mul(stride) {
         Some(all) => all <= len,
         None => false,
     }
 }
 
 /// Writes a row that is found into a raster that has room for it, and answers where it ends.
-fn put_found(row: &Row, stride: usize, out: &mut [u8], at: usize) -> usize {
+fn put_found(row: &Row, stride: usize, out: &mut [u8], at: usize) -> usize
+    requires short { Coded.packed_len (length row.now) ≤ stride }
+    requires room { at + stride ≤ length out.old }
+    ensures { IsPutAt (padded_row stride row.now) out.old at (Some result) out.new }
+{
     let Some(to) = put_padded(row, stride, out, at) else {
         unreachable!();
     };
     to
+}
+
+/// Writes so many rows that are lost into a raster that has room for them, and answers where they end.
+fn put_lost(rows: u32, stride: usize, out: &mut [u8], at: usize) -> usize
+    requires room { at + rows * stride ≤ length out.old }
+    ensures { IsPutAt (replicate (rows * stride) 0) out.old at (Some result) out.new }
+{
+    let to = at + rows as usize * stride;
+    put_zeros(out, at, to);
+    to
+}
+
+/// Why no more is written, where so many stretches have room.
+fn stop_after(stretches: usize, room: usize) -> Stop
+    ensures { Spec.StopsAfterLost stretches room result }
+{
+    if stretches <= room {
+        Stop::Done
+    } else {
+        Stop::NoRoom
+    }
 }
 
 /// Writes all rows that are left into a raster that has room for them, and the first stretches that
@@ -91,7 +136,14 @@ fn fill_left(
     stride: usize,
     out: &mut [u8],
     lost: &mut [FaxLost],
-) -> Filled {
+) -> Filled
+    requires begun { left.old.row ≡ 0 }
+    requires few { left.old.rows ≤ 1000000 }
+    requires short { Coded.packed_len left.old.width ≤ stride }
+    requires room { left.old.rows * stride ≤ length out.old }
+    ensures { Code.AreAllWritten left.old page stride out.old lost.old result out.new lost.new }
+{
+    fax_walk::laws::rows_are_left_in_one_way();
     let mut row = 0;
     let mut at = 0;
     let mut count = 0;
@@ -105,9 +157,7 @@ fn fill_left(
                 row += 1;
             }
             PagePart::Lost { rows, cause } => {
-                let to = at + rows as usize * stride;
-                put_zeros(out, at, to);
-                at = to;
+                at = put_lost(rows, stride, out, at);
                 ended = Some(longer(ended, page, row, rows, cause));
                 row += rows;
             }
@@ -118,30 +168,7 @@ fn fill_left(
         cursor: Cursor { page, row },
         count: row as usize,
         used,
-        stop: stop_of(used, lost.len()),
-    }
-}
-
-/// Why no more is written, where so many stretches have room.
-fn stop_of(stretches: usize, room: usize) -> Stop {
-    if stretches <= room {
-        Stop::Done
-    } else {
-        Stop::NoRoom
-    }
-}
-
-/// Writes what is left of a page or a strip, or nothing, where memory is refused.
-fn salvage(
-    left: Result<RowsLeft, Memory>,
-    page: u32,
-    stride: usize,
-    out: &mut [u8],
-    lost: &mut [FaxLost],
-) -> Filled {
-    match left {
-        Ok(mut left) => fill_left(&mut left, page, stride, out, lost),
-        Err(_memory) => Filled::nothing(Cursor { page, row: 0 }, Stop::Memory),
+        stop: stop_after(used, lost.len()),
     }
 }
 
@@ -157,7 +184,10 @@ pub extern "C" fn faxpages_salvage(
     stride: usize,
     lost: &mut [FaxLost],
     told: &mut FaxTold,
-) -> u32 {
+) -> u32
+    ensures { Spec.TellsSalvaged file.now page stride form.old form.new out.old out.new lost.old
+        lost.new told.new result }
+{
     let cursor = Cursor { page, row: 0 };
     let found = match PageLeft::at(file, page) {
         Ok(found) => found,
@@ -168,7 +198,10 @@ pub extern "C" fn faxpages_salvage(
     if !holds_rows(out.len(), its.width, its.rows, stride) {
         return Filled::nothing(cursor, Stop::NoRoom).tell(told);
     }
-    salvage(found.rows(alloc), page, stride, out, lost).tell(told)
+    match found.rows(alloc) {
+        Ok(mut left) => fill_left(&mut left, page, stride, out, lost).tell(told),
+        Err(_memory) => Filled::nothing(cursor, Stop::Memory).tell(told),
+    }
 }
 
 /// Writes what is left of a strip into a raster, and the rows that are lost.
@@ -181,12 +214,19 @@ pub extern "C" fn faxpages_salvage_strip(
     stride: usize,
     lost: &mut [FaxLost],
     told: &mut FaxTold,
-) -> u32 {
+) -> u32
+    ensures { Spec.TellsStripSalvaged strip.now form.now stride out.old out.new lost.old lost.new
+        told.old told.new result }
+{
     let Some(form) = readable_form(strip, form) else {
         return status::NO_OPTIONS;
     };
+    let cursor = Cursor { page: 0, row: 0 };
     if !holds_rows(out.len(), form.width, form.rows, stride) {
-        return Filled::nothing(Cursor { page: 0, row: 0 }, Stop::NoRoom).tell(told);
+        return Filled::nothing(cursor, Stop::NoRoom).tell(told);
     }
-    salvage(RowsLeft::of_strip(alloc, strip, form), 0, stride, out, lost).tell(told)
+    match RowsLeft::of_strip(alloc, strip, form) {
+        Ok(mut left) => fill_left(&mut left, 0, stride, out, lost).tell(told),
+        Err(_memory) => Filled::nothing(cursor, Stop::Memory).tell(told),
+    }
 }

@@ -39,7 +39,7 @@ module _ (salvages : SalvagesStripsOneWay) where
       (omega arith) in
       rows_are ∙ ap (map (on_page here.form left.1)) (one.one own is ∙ sym (one.one own' is')) ∙ sym others_are
 
-  one_strips : (file : List ℕ) (here : FilePage) (s : ℕ) (strips others : List (List PageRow))
+  pub one_strips : (file : List ℕ) (here : FilePage) (s : ℕ) (strips others : List (List PageRow))
       → AreStripsLeft file here s strips → AreStripsLeft file here s others → strips ≡ others
   one_strips file here s [] [] are are' = refl
   one_strips file here s [] (rows ∷ others) are are' = absurd (omega (arith, are, are'.0))

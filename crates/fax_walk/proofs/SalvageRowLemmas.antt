@@ -35,7 +35,7 @@ use Rattle.std.proofs.Common.{zero}
 use Rattle.fax_walk.proofs.OpenPageLemmas.{whole_of}
 
 -- after the last row of a strip there is none
-none_after : (form : StripForm) (i : ℕ) (before : Option StripFault) (reference : List Colour) (b : List Bool)
+pub none_after : (form : StripForm) (i : ℕ) (before : Option StripFault) (reference : List Colour) (b : List Bool)
     (rows : List SalvagedRow)
     → i ≡ form.rows → AreSalvaged form i before reference b rows → rows ≡ []
 none_after form i before reference b [] all is = refl
@@ -44,7 +44,7 @@ none_after form i before reference b (lost fault ∷ rows) all is = absurd (omeg
 none_after form i before reference b (unended row ∷ rows) all is = absurd (omega (arith, all, is.2.1))
 
 -- so many rows of one kind
-map_same : (f : SalvagedRow → PageRow) (n : ℕ) (row : SalvagedRow) → map f (replicate n row) ≡ replicate n (f row)
+pub map_same : (f : SalvagedRow → PageRow) (n : ℕ) (row : SalvagedRow) → map f (replicate n row) ≡ replicate n (f row)
 map_same f zero row = refl
 map_same f (suc n) row = ap (λ (l : List PageRow). f row ∷ l) (map_same f n row)
 
@@ -434,7 +434,7 @@ lost_form old new fault count due after = by_due (next_due old.form.coding after
         let row_is : new.row ≡ old.row + 1 = ap (λ (s : SalvageState). s.row) one.1 in
         (ap (λ (s : SalvageState). s.form) one.1, omega (arith, row_is, due))
 
-step_form : (old new : SalvageState) (salvaged : Salvaged) → IsSalvageStep old (Some salvaged) new
+pub step_form : (old new : SalvageState) (salvaged : Salvaged) → IsSalvageStep old (Some salvaged) new
     → (new.form ≡ old.form) × (new.row ≤ old.form.rows)
 step_form old new in_strip.Found finds =
     let row_is : new.row ≡ old.row + 1 = ap (λ (s : SalvageState). s.row) finds.new_is in

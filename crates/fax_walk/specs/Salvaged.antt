@@ -6,6 +6,7 @@ use Rattle.std.specs.Prelude.{flat_map, Option, Some, None, Result, Ok, Err}
 use Rattle.fax_bits.specs.Bits.{bits}
 use Rattle.fax_rows.specs.Rows.{Colour}
 use Rattle.fax_page.specs.declared.StripFault.TheVariants.{MissingEol}
+use Rattle.fax_page.specs.declared.StripForm.{StripForm}
 use Rattle.fax_page.specs.Salvage.{SalvagedRow, found, lost, unended, IsSalvagedStrip}
 use Rattle.fax_files.specs.declared.FileFault.{FileFault}
 use Rattle.fax_files.specs.declared.FileFault.TheVariants.{StripOutside}
@@ -49,6 +50,23 @@ abbrev pub AreStripsLeft : List ℕ → FilePage → ℕ → List (List PageRow)
 AreStripsLeft file here s [] = s ≡ here.form.strips
 AreStripsLeft file here s (rows ∷ strips) =
     (s < here.form.strips) × IsStripLeft file here s rows × AreStripsLeft file here (s + 1) strips
+
+-- the rows that are left of a page: those of all its strips
+abbrev pub AreRowsOfPage : List ℕ → FilePage → List PageRow → Type 0
+AreRowsOfPage file here rows =
+    (strips : List (List PageRow)) × AreStripsLeft file here 0 strips
+    × (rows ≡ flat_map (λ rows. rows) strips)
+
+-- what becomes of a row of a strip with no file around it
+abbrev pub strip_row : SalvagedRow → PageRow
+strip_row (found row) = Ok row
+strip_row (lost fault) = Err (Strip fault)
+strip_row (unended row) = Err (Strip MissingEol)
+
+-- the rows that are left of a strip with no file around it
+abbrev pub AreRowsOfStrip : StripForm → List Bool → List PageRow → Type 0
+AreRowsOfStrip form b rows =
+    (own : List SalvagedRow) × IsSalvagedStrip form b own × (rows ≡ map strip_row own)
 
 -- what is handed out of a file in order: row r of page p, which is found; so many rows of page p
 -- from row r on, which are lost, with the cause of the first; a page that is refused

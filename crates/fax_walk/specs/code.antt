@@ -14,3 +14,5 @@ pub mod Places
 pub mod Salvage
 pub mod SalvagePage
 pub mod SalvageFile
+pub mod ShownRows
+pub mod RowsLeft

@@ -8,3 +8,4 @@ pub mod Written
 pub mod ReadBack
 pub mod Answers
 pub mod Salvaged
+pub mod RowsLeft

@@ -4,3 +4,4 @@ pub mod Pages
 pub mod Parts
 pub mod Lent
 pub mod Salvage
+pub mod RowsLeft

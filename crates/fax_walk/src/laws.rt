@@ -9,11 +9,13 @@ ghost use Rattle.fax_walk.specs.laws.Forms.{AreFormsLeft};
 ghost use Rattle.fax_walk.specs.laws.Tails as PageLaws;
 ghost use Rattle.fax_walk.specs.laws.Left.{IsLeft};
 ghost use Rattle.fax_walk.specs.laws.Printed as PrintedLaws;
+ghost use Rattle.fax_walk.specs.laws.RowsLeft.{AreLeftOneWay, PagesAreLeft};
 ghost use Rattle.fax_walk.specs.laws.Salvaged.{IsSalvagedOneWay};
 ghost use Rattle.fax_walk.specs.laws.ReadBack as ReadBackLaws;
 ghost use Rattle.fax_walk.specs.Items.{RowItem};
 ghost use Rattle.fax_walk.specs.laws.Written as WrittenLaws;
 ghost use Rattle.fax_walk.specs.declared.end.End.{End};
+ghost use Rattle.fax_walk.specs.views.RowsLeft.{LeftOf};
 
 use crate::{Pages, Walk};
 
@@ -206,6 +208,16 @@ pub fn walks_go_on()
 /// stretches that are lost and of pages that are refused.
 pub fn files_are_salvaged_in_one_way()
     ensures { (file : List ℕ) → IsSalvagedOneWay file }
+{
+    fax_page::laws::strips_are_salvaged_in_one_way();
+    fax_files::laws::files_have_one_chain();
+}
+
+/// What is left of a page, or of a strip with no file around it, is one list of rows, found or lost;
+/// and what is left of a file has that of each page.
+pub fn rows_are_left_in_one_way()
+    ensures one { (its : LeftOf) → AreLeftOneWay its }
+    ensures pages { PagesAreLeft }
 {
     fax_page::laws::strips_are_salvaged_in_one_way();
     fax_files::laws::files_have_one_chain();

@@ -20,6 +20,7 @@ mod salvage;
 mod salvage_page;
 mod salvage_rows;
 mod sheet;
+mod shown_rows;
 mod walk;
 
 pub use begun::Begun;

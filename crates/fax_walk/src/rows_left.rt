@@ -1,49 +1,19 @@
 //! The rows that are left of a page, or of a strip with no file around it, one after another.
+ghost use Rattle.std.specs.Prelude.{◌≡◌, ◌≤◌, IfErr, IfOk, Err, Ok, length};
+ghost use Rattle.fax_files.specs.views.Page.{IsPageForm};
+ghost use Rattle.fax_walk.specs.Pages.{IsPageAt};
+ghost use Rattle.fax_walk.specs.code.RowsLeft as Spec;
 
 use crate::opening::DuePage;
-use crate::page::{row_for_exchange, set_exchanged};
-use crate::salvage_rows::{PagePart, SalvageRows, part_of};
+use crate::salvage_rows::{PagePart, part_of};
+use crate::shown_rows::ShownRows;
 use crate::{Cursor, End};
 use fax_bits::Memory;
-use fax_files::{PageForm, Strips};
+use fax_files::PageForm;
 use fax_page::{SalvageReader, StripForm};
 use fax_rows::Row;
 use std::alloc::Global;
 use std::marker::Model;
-
-/// The rows of a page that are gone through, with the row that was found last, as it is handed out.
-#[derive(Drop)]
-struct ShownRows<'a> {
-    rows: SalvageRows<'a>,
-    /// Where colours are exchanged, if they are: the row that was found last, as it is handed out.
-    exchanged: Option<Row>,
-}
-
-impl<'a> ShownRows<'a> {
-    /// Before the first row of a page. It takes all the memory that the page needs.
-    fn open(alloc: Global, form: PageForm, strips: Strips<'a>) -> Result<Self, Memory> {
-        let exchanged = row_for_exchange(alloc, &form)?;
-        let rows = SalvageRows::begin(alloc, form, strips)?;
-        Ok(ShownRows { rows, exchanged })
-    }
-
-    /// What becomes of the row that is due, or `None` after the page's last one.
-    fn next_part(&mut self) -> Option<PagePart> {
-        let part = self.rows.next_part();
-        if let Some(row) = &mut self.exchanged {
-            set_exchanged(row, self.rows.reference());
-        }
-        part
-    }
-
-    /// The row that was found last, as it is handed out.
-    fn row(&self) -> &Row {
-        match &self.exchanged {
-            Some(row) => row,
-            None => self.rows.reference(),
-        }
-    }
-}
 
 /// What rows are left of.
 #[derive(Drop)]
@@ -54,9 +24,17 @@ enum Left<'a> {
 }
 
 /// What becomes of the row that is due, or `None` after the last one.
-fn next_of(left: &mut Left) -> Option<PagePart> {
+fn next_of(left: &mut Left) -> Option<PagePart>
+    requires { Spec.IsGoneOver left.old }
+    ensures { Spec.IsNextOf left.old result left.new }
+{
+    fax_page::laws::strips_are_salvaged_in_one_way();
     match left {
-        Left::Page(rows) => rows.next_part(),
+        Left::Page(its) => {
+            let part = its.next_part();
+            its.rows_are_left();
+            part
+        }
         Left::Strip(reader, _) => match reader.advance() {
             Some(salvaged) => Some(part_of(salvaged, true)),
             None => None,
@@ -64,21 +42,38 @@ fn next_of(left: &mut Left) -> Option<PagePart> {
     }
 }
 
-/// A page of a file that may be damaged, found by its number. Contracts see its file, its number and
-/// what its fields say.
+/// A page of a file that may be damaged, found by its number. Contracts see its file, and where and
+/// what it is.
 #[derive(Drop)]
 pub struct PageLeft<'a> {
     due: DuePage<'a>,
 }
 
+impl<'a> Model for PageLeft<'a> {
+    ghost use Rattle.fax_walk.specs.code.Opening.{page_with};
+    ghost use Rattle.fax_walk.specs.views.RowsLeft.{FoundPage};
+
+    ghost Value = { FoundPage };
+
+    ghost view = { λ p. record {
+      file = p.due.directory.file;
+      here = page_with p.due.directory p.due.form;
+    } };
+}
+
 impl<'a> PageLeft<'a> {
+    ghost use Rattle.fax_walk.specs.views.RowsLeft.{IsFoundPage, IsRowsStart, of_page};
+
     /// The page of a file with this number, from 0, also after pages that are refused. It takes no
     /// memory.
     ///
     /// # Errors
     ///
     /// How the rows end there, where the file has no such page, or it is refused.
-    pub fn at(file: &'a [u8], page: u32) -> Result<Self, End> {
+    pub fn at(file: &'a [u8], page: u32) -> Result<Self, End>
+        ensures ok { IfOk result (IsFoundPage file.now page) }
+        ensures err { IfErr result (λ end. IsPageAt file.now (record { page = page; row = 0 }) (Err end)) }
+    {
         match DuePage::at(file, Cursor { page, row: 0 })? {
             Some(due) => Ok(PageLeft { due }),
             None => Err(End::Proper),
@@ -86,7 +81,10 @@ impl<'a> PageLeft<'a> {
     }
 
     /// Its form.
-    pub fn form(&self) -> PageForm {
+    pub fn form(&self) -> PageForm
+        ensures form { result ≡ self.now.here.form }
+        ensures limits { IsPageForm result }
+    {
         self.due.form
     }
 
@@ -95,7 +93,10 @@ impl<'a> PageLeft<'a> {
     /// # Errors
     ///
     /// `Memory` where a growth was refused.
-    pub fn rows(self, alloc: Global) -> Result<RowsLeft<'a>, Memory> {
+    pub fn rows(self, alloc: Global) -> Result<RowsLeft<'a>, Memory>
+        ensures { IfOk result (IsRowsStart (of_page self.entry.file self.entry.here)
+            self.entry.here.form.rows self.entry.here.form.width) }
+    {
         let rows = ShownRows::open(alloc, self.due.form, self.due.strips)?;
         Ok(RowsLeft {
             left: Left::Page(rows),
@@ -104,21 +105,41 @@ impl<'a> PageLeft<'a> {
 }
 
 /// Goes through the rows of a page, or of a strip with no file around it, and tells of each whether it
-/// is found or lost. Contracts see what the rows are left of, how many they are, how many were gone
-/// through, and the row that was found last.
+/// is found or lost. Contracts see what the rows are left of, how many were passed, how many they are,
+/// and the row that was found last.
 #[derive(Drop)]
 pub struct RowsLeft<'a> {
     left: Left<'a>,
 }
 
+impl<'a> Model for RowsLeft<'a> {
+    ghost use Rattle.fax_walk.specs.code.RowsLeft.{IsGoneOver, view_of};
+    ghost use Rattle.fax_walk.specs.views.RowsLeft.{RowsView};
+
+    ghost Value = { RowsView };
+
+    ghost view = { λ r. view_of r.left };
+
+    ghost invariant = { λ r. IsGoneOver r.left };
+}
+
 impl<'a> RowsLeft<'a> {
+    ghost use Rattle.fax_bits.specs.Bits.{bits};
+    ghost use Rattle.fax_page.specs.views.Strip.{IsStripForm};
+    ghost use Rattle.fax_walk.specs.views.RowsLeft.{IsNextPart, IsRowsStart, of_strip};
+
     /// Before the first row of a strip in at most 4,294,967,295 bytes. It takes all the memory that
     /// the strip needs.
     ///
     /// # Errors
     ///
     /// `Memory` where a growth was refused.
-    pub fn of_strip(alloc: Global, bytes: &'a [u8], form: StripForm) -> Result<Self, Memory> {
+    pub fn of_strip(alloc: Global, bytes: &'a [u8], form: StripForm) -> Result<Self, Memory>
+        requires count { length bytes.now ≤ 4294967295 }
+        requires limits { IsStripForm form }
+        ensures { IfOk result
+            (IsRowsStart (of_strip form (bits form.order bytes.now)) form.rows form.width) }
+    {
         let reader = SalvageReader::new(alloc, bytes, form)?;
         Ok(RowsLeft {
             left: Left::Strip(reader, bytes),
@@ -127,14 +148,20 @@ impl<'a> RowsLeft<'a> {
 
     /// What became of the row that is due, and of those that are lost with it, or `None` after the
     /// last one. It takes no memory.
-    pub fn next_part(&mut self) -> Option<PagePart> {
+    pub fn next_part(&mut self) -> Option<PagePart>
+        ensures { IsNextPart self.old result self.new }
+    {
+        crate::laws::rows_are_left_in_one_way();
         next_of(&mut self.left)
     }
 
-    /// The row that was found last, where the part that was handed out last is one that is found.
-    pub fn row(&self) -> &Row {
+    /// The row that was found last.
+    pub fn row(&self) -> &Row
+        ensures pels { result.now ≡ self.now.last }
+        ensures width { length result.now ≡ self.now.width }
+    {
         match &self.left {
-            Left::Page(rows) => rows.row(),
+            Left::Page(its) => its.row(),
             Left::Strip(reader, _) => reader.reference(),
         }
     }

@@ -1,0 +1,28 @@
+-- One step of the salvage of a page or a strip.
+use Rattle.std.specs.Prelude.{◌≡◌, ℕ, ◌+◌, ◌<◌, ◌≤◌, ◌⊎◌, List, length, set, Option, Some, None}
+use Rattle.fax_walk.specs.declared.salvage.Stretch.{Stretch}
+use Rattle.fax_walk.specs.Salvaged.{PageRow}
+use Rattle.fax_walk.specs.views.RowsLeft.{RowsView, AreRowsOf}
+use Rattle.fax_c.specs.declared.filled.Filled.{Filled}
+use Rattle.fax_c.specs.declared.salvage.FaxLost.{FaxLost}
+use Rattle.fax_c.specs.Salvaged.{lost_rows}
+use Rattle.fax_c.specs.views.Salvaged.{AreLeftWritten}
+
+-- a stretch as it stands in memory of the caller
+abbrev pub stretch_lost : Stretch → FaxLost
+stretch_lost stretch = lost_rows stretch.row stretch.rows stretch.cause
+
+-- a stretch that has ended, if one has, is written after so many others, where it has room
+abbrev pub IsStretchPut : Option Stretch → List FaxLost → ℕ → ℕ → List FaxLost → Type 0
+IsStretchPut None old count to new = (to ≡ count) × (new ≡ old)
+IsStretchPut (Some stretch) old count to new =
+    (to ≡ count + 1)
+    × (((count < length old) × (new ≡ set old count (stretch_lost stretch)))
+    ⊎ ((length old ≤ count) × (new ≡ old)))
+
+-- all rows that are left are written
+abbrev pub AreAllWritten : RowsView → ℕ → ℕ → List ℕ → List FaxLost → Filled → List ℕ
+    → List FaxLost → Type 0
+AreAllWritten left page stride old old_lost filled new lost =
+    (rows : List PageRow) × AreRowsOf left.its rows × (length rows ≡ left.rows)
+    × AreLeftWritten page stride rows old old_lost filled new lost

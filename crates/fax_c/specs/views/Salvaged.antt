@@ -1,0 +1,84 @@
+-- What is left of a damaged page or strip, told.
+use Rattle.std.specs.Prelude.{◌≡◌, ℕ, ◌*◌, ◌<◌, ◌≤◌, ◌⊎◌, List, ◌++◌, length, take, drop, flat_map}
+use Rattle.std.specs.Prelude.{Ok, Err}
+use Rattle.fax_bits.specs.Bits.{bits}
+use Rattle.fax_rows.specs.Coded.{packed_len}
+use Rattle.fax_page.specs.declared.StripForm.{StripForm}
+use Rattle.fax_walk.specs.declared.end.End.{End}
+use Rattle.fax_walk.specs.Pages.{FilePage, IsPageAt}
+use Rattle.fax_walk.specs.Salvaged.{PageRow}
+use Rattle.fax_walk.specs.views.RowsLeft.{LeftOf, of_page, of_strip, AreRowsOf}
+use Rattle.fax_c.specs.declared.filled.Filled.{Filled}
+use Rattle.fax_c.specs.declared.filled.Stop.{Stop}
+use Rattle.fax_c.specs.declared.filled.Stop.TheVariants.{Done, Ended, Memory, NoRoom}
+use Rattle.fax_c.specs.declared.forms.FaxForm.{FaxForm}
+use Rattle.fax_c.specs.declared.salvage.FaxLost.{FaxLost}
+use Rattle.fax_c.specs.declared.strip_form.FaxStrip.{FaxStrip}
+use Rattle.fax_c.specs.declared.told.FaxTold.{FaxTold}
+use Rattle.fax_c.specs.Forms.{form_numbers}
+use Rattle.fax_c.specs.Salvaged.{left_row, lost_among}
+use Rattle.fax_c.specs.Told.{IsTold}
+use Rattle.fax_c.specs.views.Pages.{none_filled}
+use Rattle.fax_c.specs.views.Strips.{IsReadable}
+
+-- so many bytes hold so many rows of a raster, each in so many bytes, which hold its pels
+abbrev pub HoldsRows : ℕ → ℕ → ℕ → ℕ → Type 0
+HoldsRows len width rows stride = (packed_len width ≤ stride) × (rows * stride ≤ len)
+
+-- the first stretches are written, as many as have room, and no other is changed
+abbrev pub AreLostPut : List FaxLost → List FaxLost → List FaxLost → Type 0
+AreLostPut found old new = new ≡ take (length old) found ++ drop (length found) old
+
+-- all is written where so many stretches have room, or these have not
+abbrev pub StopsAfterLost : ℕ → ℕ → Stop → Type 0
+StopsAfterLost stretches room stop =
+    ((stop ≡ Done) × (stretches ≤ room)) ⊎ ((stop ≡ NoRoom) × (room < stretches))
+
+-- all rows of a page are written, found or lost, each in so many bytes, and the stretches of those
+-- that are lost, and nothing else is changed
+pub record AreLeftWritten (page stride : ℕ) (rows : List PageRow) (old : List ℕ)
+    (old_lost : List FaxLost) (filled : Filled) (new : List ℕ) (lost : List FaxLost) : Type 0 where
+  pub count : filled.count ≡ length rows
+  pub used : filled.used ≡ length (lost_among page rows)
+  pub cursor : filled.cursor ≡ record { page = page; row = length rows }
+  pub written : new ≡ flat_map (left_row stride) rows ++ drop (length rows * stride) old
+  pub lost_are : AreLostPut (lost_among page rows) old_lost lost
+  pub stops : StopsAfterLost (length (lost_among page rows)) (length old_lost) filled.stop
+
+-- what is left of a page or a strip with so many rows is written; or they have no room, or memory
+-- was refused, and nothing is written
+abbrev pub WritesLeft : LeftOf → ℕ → ℕ → ℕ → ℕ → List ℕ → List FaxLost → Filled → List ℕ
+    → List FaxLost → Type 0
+WritesLeft its page width count stride old old_lost filled new lost =
+    (HoldsRows (length old) width count stride
+    × (rows : List PageRow) × AreRowsOf its rows × (length rows ≡ count)
+    × AreLeftWritten page stride rows old old_lost filled new lost)
+    ⊎ ((new ≡ old) × (lost ≡ old_lost)
+    × (((filled ≡ none_filled page NoRoom) × (HoldsRows (length old) width count stride → ⊥))
+    ⊎ ((filled ≡ none_filled page Memory) × HoldsRows (length old) width count stride)))
+
+-- a page's form is told, and what is left of the page; or there is no such page, and the end is
+-- told
+abbrev pub TellsSalvaged : List ℕ → ℕ → ℕ → FaxForm → FaxForm → List ℕ → List ℕ → List FaxLost
+    → List FaxLost → FaxTold → ℕ → Type 0
+TellsSalvaged file page stride old_form form old new old_lost lost told status =
+    (filled : Filled) × IsTold filled told status
+    × (((here : FilePage) × IsPageAt file (record { page = page; row = 0 }) (Ok here)
+    × (form ≡ form_numbers here.form)
+    × WritesLeft (of_page file here) page here.form.width here.form.rows stride old old_lost filled
+    new lost)
+    ⊎ ((end : End) × IsPageAt file (record { page = page; row = 0 }) (Err end)
+    × (filled ≡ none_filled page (Ended end)) × (form ≡ old_form) × (new ≡ old)
+    × (lost ≡ old_lost)))
+
+-- what is left of a strip is told; or it can be read in no form of these numbers, and nothing is
+-- changed
+abbrev pub TellsStripSalvaged : List ℕ → FaxStrip → ℕ → List ℕ → List ℕ → List FaxLost
+    → List FaxLost → FaxTold → FaxTold → ℕ → Type 0
+TellsStripSalvaged strip given stride old new old_lost lost old_told told status =
+    ((form : StripForm) × IsReadable strip given form
+    × (filled : Filled) × IsTold filled told status
+    × WritesLeft (of_strip form (bits form.order strip)) 0 form.width form.rows stride old old_lost
+    filled new lost)
+    ⊎ ((status ≡ 7) × ((form : StripForm) → IsReadable strip given form → ⊥)
+    × (new ≡ old) × (lost ≡ old_lost) × (told ≡ old_told))

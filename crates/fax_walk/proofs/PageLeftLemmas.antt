@@ -1,0 +1,88 @@
+-- What is handed out of a page stands together in what is handed out of its file.
+use Rattle.std.proofs.Common.{◌≡◌, ℕ, zero, suc, ◌+◌, List, [], ◌∷◌, ◌++◌, Option, Some, None, Result, Ok, Err}
+use Rattle.std.proofs.Common.{refl, sym, ap, ◌∙◌, arith, append_assoc}
+use Rattle.std.specs.Prelude.{flat_map, slice_get}
+use Rattle.fax_page.specs.laws.Salvage.{SalvagesStripsOneWay}
+use Rattle.fax_files.specs.declared.Endian.{Endian}
+use Rattle.fax_files.specs.declared.FileFault.{FileFault}
+use Rattle.fax_files.specs.declared.PageForm.{PageForm}
+use Rattle.fax_files.specs.Directory.{Header, header}
+use Rattle.fax_files.specs.Page.{page}
+use Rattle.fax_files.specs.laws.Files.{FilesHaveOneChain}
+use Rattle.fax_walk.specs.declared.cursor.Cursor.{Cursor}
+use Rattle.fax_walk.specs.declared.end.End.{End}
+use Rattle.fax_walk.specs.Pages.{FilePage}
+use Rattle.fax_walk.specs.Salvaged.{AreRowsOfPage, IsPageLeftAs, ArePagesLeft, IsSalvagedUnder, LeftItem, PageRow}
+use Rattle.fax_walk.specs.Salvaged.{page_items}
+use Rattle.fax_walk.specs.laws.RowsLeft.{PagesAreLeft}
+use Rattle.fax_walk.specs.code.Opening.{IsPageUnder, page_or_end, page_over}
+use Rattle.fax_walk.proofs.SalvageLawLemmas.{one_strips}
+
+abbrev StandsIn : List LeftItem → List LeftItem → Type 0
+StandsIn own items = (before later : List LeftItem) × (items ≡ before ++ own ++ later)
+
+-- what is left of a page stands in what is left of the pages from one on
+page_stands : (endian : Endian) (file : List ℕ) (first n q : ℕ) (offsets : List ℕ) (items : List LeftItem)
+    → slice_get offsets n ≡ Some q → ArePagesLeft endian file first offsets items
+    → (own : List LeftItem) × IsPageLeftAs endian file (first + n) q (page endian file q) own × StandsIn own items
+page_stands endian file first zero q [] items at are = absurd cc
+page_stands endian file first (suc n) q [] items at are = absurd cc
+page_stands endian file first zero q (x ∷ offsets) items at (own, others, is, are, items_are) =
+    let same : x ≡ q = cc in
+    let none : first + 0 ≡ first = omega arith in
+    (own, rw none (rw same at is), ([], others, items_are))
+page_stands endian file first (suc n) q (x ∷ offsets) items at (own, others, is, are, items_are) =
+    let later = page_stands endian file (first + 1) n q offsets others at are in
+    let number : first + 1 + n ≡ first + suc n = omega arith in (
+      later.0,
+      rw number at later.1,
+      (
+        own ++ later.2.0,
+        later.2.1,
+        items_are ∙ ap (λ (l : List LeftItem). own ++ l) later.2.2
+            ∙ sym (append_assoc own (later.2.0 ++ later.0) later.2.1)
+            ∙ ap (λ (l : List LeftItem). l ++ later.2.1) (sym (append_assoc own later.2.0 later.0)),
+      ),
+    )
+
+module _ (salvages : SalvagesStripsOneWay) (chains : FilesHaveOneChain) (file : List ℕ) (p : ℕ) (here : FilePage)
+    (rows : List PageRow) (are : AreRowsOfPage file here rows) (items : List LeftItem) where
+  abbrev at : Cursor
+  at = record { page = p; row = 0 }
+
+  -- it is what its rows are handed out as
+  its_items : (endian : Endian) (q : ℕ) (answer : Result PageForm FileFault) (own : List LeftItem)
+      → ◌≡◌ {A = Result FilePage End} (Ok here) (page_or_end endian q p answer)
+      → IsPageLeftAs endian file p q answer own → own ≡ page_items p 0 rows
+  its_items endian q (Err fault) own is left = absurd cc
+  its_items endian q (Ok form) own is left =
+      let its : FilePage = record { endian = endian; offset = q; form = form } in
+      let same : here ≡ its = cc in
+      let there : AreRowsOfPage file its rows = rw same at are in
+      left.2
+      ∙ ap (λ (l : List (List PageRow)). page_items p 0 (flat_map (λ rows. rows) l))
+      (one_strips salvages file its 0 left.0 there.0 left.1 there.1)
+      ∙ ap (page_items p 0) (sym there.2)
+
+  in_chain : (head : Header) (offsets : List ℕ) (fault : Option FileFault) (found : Option ℕ)
+      → slice_get offsets p ≡ found → ArePagesLeft head.endian file 0 offsets items
+      → ◌≡◌ {A = Result FilePage End} (Ok here) (page_over head.endian file offsets fault at found)
+      → StandsIn (page_items p 0 rows) items
+  in_chain head offsets fault None there left is = absurd cc
+  in_chain head offsets fault (Some q) there left is =
+      let stands = page_stands head.endian file 0 p q offsets items there left in
+      let number : 0 + p ≡ p = omega arith in
+      let own = its_items head.endian q (page head.endian file q) stands.0 is (rw number at stands.1) in
+      rw own at stands.2
+
+  in_file : (answer : Result Header FileFault) → IsPageUnder file at answer (Ok here)
+      → IsSalvagedUnder file answer items → StandsIn (page_items p 0 rows) items
+  in_file (Err fault) is left = absurd cc
+  in_file (Ok head) (offsets, fault, chain, is) (offsets', fault', chain', left) =
+      let one = chains head file in
+      let same : offsets ≡ offsets' = (one.one offsets fault chain).0 ∙ sym (one.one offsets' fault' chain').0 in
+      in_chain head offsets fault (slice_get offsets p) refl (rw same left) is
+
+pub pages_left_in_file : SalvagesStripsOneWay → FilesHaveOneChain → PagesAreLeft
+pages_left_in_file salvages chains file p here rows items there are left =
+    in_file salvages chains file p here rows are items (header file) there left

@@ -1,0 +1,84 @@
+-- How the rows that are left of a page or a strip are gone through.
+use Rattle.std.specs.Prelude.{◌≡◌, ℕ, ◌+◌, ◌<◌, ◌≤◌, List, [], ◌∷◌, ◌++◌, length, map, replicate}
+use Rattle.std.specs.Prelude.{Option, Some, None, Ok, Err}
+use Rattle.fax_bits.specs.Bits.{bits}
+use Rattle.fax_rows.specs.Rows.{Colour}
+use Rattle.fax_page.specs.Salvage.{SalvagedRow, AreSalvaged}
+use Rattle.fax_walk.specs.declared.rows_left.Left.{Left}
+use Rattle.fax_walk.specs.declared.rows_left.Left.TheVariants.{Page, Strip}
+use Rattle.fax_walk.specs.declared.salvage_rows.PagePart.{PagePart}
+use Rattle.fax_walk.specs.declared.salvage_rows.PagePart.TheVariants.{Found, Lost}
+use Rattle.fax_walk.specs.Salvaged.{PageRow, strip_row}
+use Rattle.fax_walk.specs.code.Opening.{page_with}
+use Rattle.fax_walk.specs.code.Salvage.{AreRowsLeft, row_due}
+use Rattle.fax_walk.specs.views.RowsLeft.{LeftOf, of_page, of_strip, AreRowsOf, RowsView}
+
+-- what is gone through
+abbrev pub its_of : Left → LeftOf
+its_of (Page its) =
+    of_page its.rows.directory.file (page_with its.rows.directory its.rows.form)
+its_of (Strip reader bytes) = of_strip reader.form (bits reader.form.order bytes.now)
+
+-- how many rows of it were passed, of how many, with how many pels
+abbrev pub row_of : Left → ℕ
+row_of (Page its) = row_due its.rows
+row_of (Strip reader bytes) = reader.row
+
+abbrev pub rows_of : Left → ℕ
+rows_of (Page its) = its.rows.form.rows
+rows_of (Strip reader bytes) = reader.form.rows
+
+abbrev pub width_of : Left → ℕ
+width_of (Page its) = its.rows.form.width
+width_of (Strip reader bytes) = reader.form.width
+
+-- the row that was found last
+abbrev pub last_of : Left → List Colour
+last_of (Page its) = its.shown
+last_of (Strip reader bytes) = reader.reference
+
+-- as contracts see it
+abbrev pub view_of : Left → RowsView
+view_of left = record {
+  its = its_of left;
+  row = row_of left;
+  rows = rows_of left;
+  width = width_of left;
+  last = last_of left;
+}
+
+-- what is left from the row that is due on
+abbrev pub AreLeftNow : Left → List PageRow → Type 0
+AreLeftNow (Page its) rows = AreRowsLeft its.rows rows
+AreLeftNow (Strip reader bytes) rows =
+    (own : List SalvagedRow)
+    × AreSalvaged reader.form reader.row reader.before reader.reference reader.due own
+    × (rows ≡ map strip_row own)
+
+-- what is left follows the rows that were passed
+pub record IsGoneOver (left : Left) : Type 0 where
+  pub within : row_of left ≤ rows_of left
+  pub passed : (rows : List PageRow) → AreLeftNow left rows
+      → (done : List PageRow) × (length done ≡ row_of left) × AreRowsOf (its_of left) (done ++ rows)
+
+-- these rows are passed
+pub record GoesOver (old : Left) (over : List PageRow) (new : Left) : Type 0 where
+  pub next : row_of new ≡ row_of old + length over
+  pub within : row_of new ≤ rows_of new
+  pub followed : (rows : List PageRow) → AreLeftNow new rows → AreLeftNow old (over ++ rows)
+
+-- what became of the next rows
+abbrev pub GoesOverPart : Left → Option PagePart → Left → Type 0
+GoesOverPart old None new =
+    GoesOver old [] new × (row_of new ≡ rows_of new) × AreLeftNow new []
+GoesOverPart old (Some Found) new = GoesOver old (Ok (last_of new) ∷ []) new
+GoesOverPart old (Some (Lost rows cause)) new =
+    (0 < rows) × GoesOver old (replicate rows (Err cause)) new
+
+-- what a call for the next rows answers, and rows are left, or none
+pub record IsNextOf (old : Left) (part : Option PagePart) (new : Left) : Type 0 where
+  pub same_its : its_of new ≡ its_of old
+  pub same_rows : rows_of new ≡ rows_of old
+  pub same_width : width_of new ≡ width_of old
+  pub over : GoesOverPart old part new
+  pub rest : (rows : List PageRow) × AreLeftNow new rows

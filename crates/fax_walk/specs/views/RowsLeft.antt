@@ -1,0 +1,67 @@
+-- The rows that are left of a page or a strip, gone through one after another.
+use Rattle.std.specs.Prelude.{◌≡◌, ℕ, ◌+◌, ◌<◌, ◌≤◌, Bool, List, [], ◌∷◌, ◌++◌, length, drop}
+use Rattle.std.specs.Prelude.{replicate, Option, Some, None, Ok, Err}
+use Rattle.fax_rows.specs.Rows.{Colour}
+use Rattle.fax_page.specs.declared.StripForm.{StripForm}
+use Rattle.fax_walk.specs.declared.salvage_rows.PagePart.{PagePart}
+use Rattle.fax_walk.specs.declared.salvage_rows.PagePart.TheVariants.{Found, Lost}
+use Rattle.fax_walk.specs.Pages.{FilePage, IsPageAt}
+use Rattle.fax_walk.specs.Salvaged.{PageRow, AreRowsOfPage, AreRowsOfStrip}
+
+-- what rows are left of: a page of a file, or a strip of these bits with no file around it
+pub data LeftOf : Type 0 where
+  of_page : List ℕ → FilePage → LeftOf
+  of_strip : StripForm → List Bool → LeftOf
+
+-- the rows that are left of it, found or lost
+abbrev pub AreRowsOf : LeftOf → List PageRow → Type 0
+AreRowsOf (of_page file here) rows = AreRowsOfPage file here rows
+AreRowsOf (of_strip form b) rows = AreRowsOfStrip form b rows
+
+-- a page that was found in a file
+pub record FoundPage : Type 0 where
+  pub file : List ℕ
+  pub here : FilePage
+
+-- page p of a file
+pub record IsFoundPage (file : List ℕ) (p : ℕ) (found : FoundPage) : Type 0 where
+  pub file_is : found.file ≡ file
+  pub there : IsPageAt file (record { page = p; row = 0 }) (Ok found.here)
+
+-- how far they are gone through: what they are left of, how many rows of it were passed, of how
+-- many, how many pels each has, and the row that was found last
+pub record RowsView : Type 0 where
+  pub its : LeftOf
+  pub row : ℕ
+  pub rows : ℕ
+  pub width : ℕ
+  pub last : List Colour
+
+-- before the first row
+pub record IsRowsStart (its : LeftOf) (rows width : ℕ) (view : RowsView) : Type 0 where
+  pub its_is : view.its ≡ its
+  pub none_passed : view.row ≡ 0
+  pub rows_are : view.rows ≡ rows
+  pub width_is : view.width ≡ width
+
+-- these rows are passed, and no others
+pub record PassesRows (old : RowsView) (over : List PageRow) (new : RowsView) : Type 0 where
+  pub next : new.row ≡ old.row + length over
+  pub within : new.row ≤ old.rows
+  pub rows_are : (all : List PageRow) → AreRowsOf old.its all
+      → drop old.row all ≡ over ++ drop new.row all
+
+-- what became of the next rows; or all were passed
+abbrev pub PassesPart : RowsView → Option PagePart → RowsView → Type 0
+PassesPart old None new =
+    (old.row ≡ old.rows) × ((all : List PageRow) → AreRowsOf old.its all → length all ≡ old.row)
+PassesPart old (Some Found) new = PassesRows old (Ok new.last ∷ []) new
+PassesPart old (Some (Lost rows cause)) new =
+    (0 < rows) × PassesRows old (replicate rows (Err cause)) new
+
+-- what a call for the next rows answers
+pub record IsNextPart (old : RowsView) (part : Option PagePart) (new : RowsView) : Type 0 where
+  pub same_its : new.its ≡ old.its
+  pub same_rows : new.rows ≡ old.rows
+  pub same_width : new.width ≡ old.width
+  pub passes : PassesPart old part new

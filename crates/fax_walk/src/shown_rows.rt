@@ -1,0 +1,77 @@
+//! The rows of a page that are left, as they are handed out.
+ghost use Rattle.std.specs.Prelude.{◌≡◌, IfOk, List, Ok, length};
+ghost use Rattle.fax_files.specs.views.Page.{IsPageForm};
+ghost use Rattle.fax_files.specs.views.Tiff.{form_of};
+ghost use Rattle.fax_walk.specs.Salvaged.{PageRow};
+ghost use Rattle.fax_walk.specs.code.Salvage as Left;
+ghost use Rattle.fax_walk.specs.code.ShownRows as Spec;
+
+use crate::page::{row_for_exchange, set_exchanged};
+use crate::salvage_rows::{PagePart, SalvageRows};
+use fax_bits::Memory;
+use fax_files::{PageForm, Strips};
+use fax_rows::Row;
+use std::alloc::Global;
+use std::marker::Model;
+
+/// The rows of a page that are gone through, with the row that was found last, as it is handed out.
+#[derive(Drop)]
+pub(crate) struct ShownRows<'a> {
+    rows: SalvageRows<'a>,
+    /// Where colours are exchanged, if they are: the row that was found last, as it is handed out.
+    exchanged: Option<Row>,
+}
+
+impl<'a> Model for ShownRows<'a> {
+    ghost use Rattle.fax_walk.specs.code.ShownRows.{ShownState, IsShown};
+    ghost use Rattle.fax_walk.specs.code.SalvagePage.{shown_of};
+
+    ghost Value = { ShownState };
+
+    ghost view = { λ s. record { rows = s.rows; shown = shown_of s.rows s.exchanged } };
+
+    ghost invariant = { λ s. IsShown s.rows s.exchanged };
+}
+
+impl<'a> ShownRows<'a> {
+    /// Before the first row of a page. It takes all the memory that the page needs.
+    pub fn open(alloc: Global, form: PageForm, strips: Strips<'a>) -> Result<Self, Memory>
+        requires form { form_of strips.directory ≡ Ok form }
+        requires limits { IsPageForm form }
+        requires count { strips.count ≡ form.strips }
+        ensures { IfOk result (λ s. Left.IsBeforeRows strips.entry.directory form s.rows) }
+    {
+        let exchanged = row_for_exchange(alloc, &form)?;
+        let rows = SalvageRows::begin(alloc, form, strips)?;
+        Ok(ShownRows { rows, exchanged })
+    }
+
+    /// What becomes of the row that is due, or `None` after the page's last one.
+    pub fn next_part(&mut self) -> Option<PagePart>
+        ensures { Spec.IsShownPart self.old result self.new }
+    {
+        let part = self.rows.next_part();
+        if let Some(row) = &mut self.exchanged {
+            set_exchanged(row, self.rows.reference());
+        }
+        part
+    }
+
+    /// The row that was found last, as it is handed out.
+    pub fn row(&self) -> &Row
+        ensures pels { result.now ≡ self.now.shown }
+        ensures width { length result.now ≡ self.now.rows.form.width }
+    {
+        match &self.exchanged {
+            Some(row) => row,
+            None => self.rows.reference(),
+        }
+    }
+
+    /// Rows are left of the page, or none: it computes nothing.
+    pub fn rows_are_left(&self)
+        ensures { (rows : List PageRow) × Left.AreRowsLeft self.now.rows rows }
+    {
+        self.rows.rows_are_left();
+    }
+}
