@@ -95,6 +95,28 @@ class Salvage:
         return f"`faxpages salvage`: {told[-1]}"
 
 
+def rows_left(data: bytes) -> Tuple[int, int]:
+    """How many rows of all pages of a file are found, and how many are lost. Of a page that is refused nobody knows how
+    many it has."""
+    found = lost = 0
+    with tempfile.TemporaryFile() as given:
+        given.write(data)
+        given.seek(0)
+        try:
+            with subprocess.Popen(_WORDS, stdin=given, stdout=subprocess.PIPE, stderr=subprocess.DEVNULL) as process:
+                assert process.stdout
+                for line in process.stdout:
+                    if line.startswith(b"row "):
+                        found += 1
+                    elif line.count(b" ") == 4:
+                        lost += int(line.split()[3])
+        except OSError as error:
+            raise NotSalvaged(f"{_WORDS[0]}: {error.strerror}") from error
+    if process.returncode not in _READ:
+        raise NotSalvaged(f"`faxpages salvage` ended with status {process.returncode}")
+    return found, lost
+
+
 def _left(page: Page, lines: Iterator[List[bytes]]) -> Tuple[Left, int]:
     """What the lines of a page say is left of it, and of how many rows they speak."""
     stride, told = (page.width + 7) // 8, 0
