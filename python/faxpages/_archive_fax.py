@@ -2,6 +2,7 @@
 
 from __future__ import annotations
 
+import contextlib
 import ctypes
 import hashlib
 import itertools
@@ -10,7 +11,7 @@ import stat
 import subprocess
 import time
 from fractions import Fraction
-from typing import Dict, Iterator, NamedTuple, Optional, Tuple
+from typing import Any, Dict, Iterator, List, NamedTuple, Optional, Tuple
 
 import faxpages
 
@@ -19,10 +20,13 @@ from . import _library as _c
 from ._archive_files import Seen, Stood
 from ._archive_lacks import PRINTED, lacks
 from ._archive_marks import Owner, Place
+from ._directory import kind_of
+from ._rows_left import NotSalvaged, rows_left
 
 # The largest fax, as of the program faxpages; a copy may have as much again, and what stands before its rows.
 _MOST = 268435456
-GOOD, FAULTY, NOT_READ = 0, 1, 3
+# What comes of a fax: it is good, it has a fault, it is no fax that is read here, or it cannot be read or written.
+GOOD, FAULTY, OTHER, NOT_READ = 0, 1, 2, 3
 # What the name of a copy's fields ends with.
 FIELDS = b".fields"
 
@@ -60,6 +64,8 @@ class Found(NamedTuple):
     fault_tag: Optional[int] = None
     why: Optional[str] = None
     lacks: Optional[str] = None
+    found: Optional[int] = None
+    lost: Optional[int] = None
     seconds: Optional[float] = None
 
 
@@ -77,7 +83,8 @@ class Done(NamedTuple):
 
 class Job(NamedTuple):
     """What is done with each fax below a tree: a check; or, where a target is named, a conversion; or a comparison
-    with the copy that is there. owner is whose copies are ours; adopt takes over copies that have the right bytes."""
+    with the copy that is there. owner is whose copies are ours; adopt takes over copies that have the right bytes; lost
+    counts the rows of faulty faxes."""
 
     tree: bytes
     target: Optional[bytes] = None
@@ -91,6 +98,7 @@ class Job(NamedTuple):
     compare: bool = False
     owner: Owner = Owner("")
     adopt: bool = False
+    lost: bool = False
 
     def copy_of(self, path: bytes) -> bytes:
         """The file below the target that a fax is converted into."""
@@ -116,6 +124,8 @@ class Job(NamedTuple):
             if self.compare:
                 return self._compared(data, fax, now, told)
             found = _checked(data, now)
+            if self.lost and found.status == FAULTY:
+                found = _counted(data, found)
             good = self.target is not None and found.status == GOOD
             return self._converted(data, now, told, found) if good else Done(found)
         except _NotRead as error:
@@ -259,9 +269,19 @@ def _checked(data: bytes, fax: Waiting) -> Found:
     found = _described(data, Found(
         *fax[:3], status, report.pages, report.rows, notes=" ".join(name for _, name in notes)))
     if report.fault:
-        return found._replace(fault=report.fault.name, fault_page=report.fault.page, fault_row=report.fault.row,
-                              fault_tag=report.fault.tag)
+        kind = kind_of(data, report.fault)
+        return found._replace(status=OTHER if kind else FAULTY, fault=report.fault.name, fault_page=report.fault.page,
+                              fault_row=report.fault.row, fault_tag=report.fault.tag, why=kind)
     return found
+
+
+def _counted(data: bytes, found: Found) -> Found:
+    """The row of a faulty fax, with how many of its rows are left, and lost; or why that is not known."""
+    try:
+        left, lost = rows_left(data)
+        return found._replace(found=left, lost=lost)
+    except NotSalvaged as error:
+        return found._replace(why=str(error))
 
 
 def _described(data: bytes, found: Found) -> Found:
@@ -317,14 +337,38 @@ def same_rows(one: bytes, other: bytes) -> bool:
     return all(mine == its for mine, its in itertools.zip_longest(_batches(one), _batches(other)))
 
 
+class _Rooms:
+    """Room for the rows of a call, which takes longer to make than a small fax to read: it is made once, and lent."""
+
+    ROWS, BYTES = 8192, 1 << 20
+
+    def __init__(self) -> None:
+        self._free: List[Tuple[Any, Any]] = []
+
+    @contextlib.contextmanager
+    def lent(self) -> Iterator[Tuple[Any, Any]]:
+        """Room for the lines of so many rows, and for so many of their bytes, which nobody else has meanwhile."""
+        try:
+            room = self._free.pop()
+        except IndexError:
+            room = (_c.Row * self.ROWS)(), ctypes.create_string_buffer(self.BYTES)
+        try:
+            yield room
+        finally:
+            self._free.append(room)
+
+
+_rooms = _Rooms()
+
+
 def _batches(data: bytes) -> Iterator[Tuple[int, bytes, bytes]]:
     """The rows of a file, some thousands at a time: how the call ended, a line for each row, and their bytes."""
     place, runs, told = _c.Place(), (_c.U32 * _c.RUNS)(), _c.Told()
-    most, room = 8192, 1 << 20
-    rows, out = (_c.Row * most)(), ctypes.create_string_buffer(room)
     status = _c.DONE
-    while status in (_c.DONE, _c.NO_ROOM):
-        status = _c.library.faxpages_rows_from(data, len(data), place, runs, _c.RUNS, rows, most, out, room, told)
-        if status == _c.MEMORY:
-            raise MemoryError("libfaxpages was refused memory")
-        yield status, ctypes.string_at(rows, told.count * ctypes.sizeof(_c.Row)), ctypes.string_at(out, told.used)
+    with _rooms.lent() as (rows, out):
+        while status in (_c.DONE, _c.NO_ROOM):
+            status = _c.library.faxpages_rows_from(data, len(data), place, runs, _c.RUNS, rows, _Rooms.ROWS, out,
+                                                   _Rooms.BYTES, told)
+            if status == _c.MEMORY:
+                raise MemoryError("libfaxpages was refused memory")
+            yield status, ctypes.string_at(rows, told.count * ctypes.sizeof(_c.Row)), ctypes.string_at(out, told.used)

@@ -9,8 +9,8 @@ import os
 from typing import Any, Dict, List, Optional, Set, Tuple
 
 from . import _archive_walk as walk
-from ._archive_fax import FAULTY, GOOD, NOT_READ, Found
-from ._archive_run import say, shown, state_of
+from ._archive_fax import FAULTY, GOOD, NOT_READ, OTHER, Found
+from ._archive_run import counted, say, shown, state_of
 from ._archive_table import Look, Table, TableError
 
 # How many rows are taken over at a time.
@@ -34,14 +34,13 @@ def merge(words: argparse.Namespace) -> int:
             table.forget([row.path for row in table.rows() if row.path not in there])
             table.end_run(number, 0)
         counts = table.counts()
-        print(f"faxes {sum(counts.values())}: {counts[GOOD]} good, {counts[FAULTY]} faulty, "
-              f"{counts[NOT_READ]} not read")
+        print(counted(counts))
         table.commit_all()
         if lacking:
             print(state_of(table))
     for line in lacking:
         say(line)
-    return NOT_READ if counts[NOT_READ] or lacking else FAULTY if counts[FAULTY] else GOOD
+    return NOT_READ if counts[NOT_READ] or lacking else FAULTY if counts[FAULTY] + counts[OTHER] else GOOD
 
 
 def _refuse_others(parts: List[Table]) -> None:
@@ -118,14 +117,16 @@ def _is_newer(row: Found, look: Look, mine: Optional[Tuple[float, int, Look]], f
 def summary(table: Table) -> Dict[str, Any]:
     """What a table comes to."""
     counts, last, where = table.counts(), table.last_run(), table.where()
+    found, lost = table.rows_left()
     job = table.job() or {}
     return {
         "tree": where.get("tree"), "target": where.get("target"), "job": job.get("job"), "share": job.get("share"),
         "run": last.number if last else None, "began": last.began if last else None,
         "ended": last.ended if last else None, "finished": bool(last and last.finished()),
         "unread_folders": last.unread if last else None, "faxes": sum(counts.values()), "good": counts[GOOD],
-        "faulty": counts[FAULTY], "not_read": counts[NOT_READ], "deleted": table.count_deleted(),
-        "faults": table.faults(), "lacks": table.lacks()}
+        "faulty": counts[FAULTY], "other": counts[OTHER], "not_read": counts[NOT_READ],
+        "deleted": table.count_deleted(), "faults": table.faults(), "kinds": table.kinds(), "lacks": table.lacks(),
+        "found": found, "lost": lost}
 
 
 def _label(text: str) -> str:
@@ -141,7 +142,7 @@ def prometheus(told: Dict[str, Any]) -> str:
     labels = f'tree="{_label(str(told["tree"]))}"'
     if told["share"] and told["share"][1] > 1:
         labels += f',share="{told["share"][0]}/{told["share"][1]}"'
-    for name in ("good", "faulty", "not_read"):
+    for name in ("good", "faulty", "other", "not_read"):
         lines.append(f'faxpages_archive_faxes{{{labels},status="{name}"}} {told[name]}')
     lines += ["# HELP faxpages_archive_faults Faxes that are not good, by their fault.",
               "# TYPE faxpages_archive_faults gauge"]
@@ -149,7 +150,9 @@ def prometheus(told: Dict[str, Any]) -> str:
     for name, help_text in (("began", "When the last run began, in seconds since 1970."),
                             ("ended", "When the last run ended, in seconds since 1970."),
                             ("finished", "Whether the last run went to its end."),
-                            ("deleted", "Faxes that were deleted after they had been copied.")):
+                            ("deleted", "Faxes that were deleted after they had been copied."),
+                            ("found", "Rows of faulty faxes that are left."),
+                            ("lost", "Rows of faulty faxes that are lost.")):
         if told[name] is not None:
             lines += [f"# HELP faxpages_archive_{name} {help_text}", f"# TYPE faxpages_archive_{name} gauge",
                       f"faxpages_archive_{name}{{{labels}}} {told[name] + 0}"]

@@ -9,12 +9,12 @@ import os
 import signal
 import sys
 import time
-from typing import Any, Iterator, List, Optional, Set, Tuple
+from typing import Any, Dict, Iterator, List, Optional, Set, Tuple
 
 from . import _archive_engine as engine
 from . import _archive_files as files
 from . import _archive_walk as walk
-from ._archive_fax import FAULTY, FIELDS, GOOD, NOT_READ, Done, Found, Job, Waiting
+from ._archive_fax import FAULTY, FIELDS, GOOD, NOT_READ, OTHER, Done, Found, Job, Waiting
 from ._archive_files import Seen, Stood
 from ._archive_lacks import NAMES
 from ._archive_progress import Gathering, Progress
@@ -76,9 +76,11 @@ def shown(path: Any) -> str:
 
 def told(row: Found) -> str:
     """What a row says of a fax that is not good."""
-    if row.status == FAULTY and row.fault_page is not None:
+    if row.status in (FAULTY, OTHER) and row.fault_page is not None:
         tag = f" {row.fault_tag}" if row.fault_tag is not None else ""
-        return f"fault page {row.fault_page} row {row.fault_row}: {row.fault}{tag}"
+        kind = f"no fax that is read here, but {row.why or 'something else'}: " if row.status == OTHER else ""
+        left = f"; {row.found} rows are left, {row.lost} are lost" if row.lost is not None else ""
+        return f"{kind}fault page {row.fault_page} row {row.fault_row}: {row.fault}{tag}{left}"
     why = f": {shown(row.why)}" if row.why else ""
     return f"not read: {row.fault}{why}" if row.status == NOT_READ else f"fault: {row.fault}{why}"
 
@@ -93,14 +95,14 @@ class Run:
 
     def __init__(self, words: argparse.Namespace, job: Job, table: Table) -> None:
         self._words, self._job, self._table = words, job, table
-        self._counts = {GOOD: 0, FAULTY: 0, NOT_READ: 0}
+        self._counts = {GOOD: 0, FAULTY: 0, OTHER: 0, NOT_READ: 0}
         self._kept = self._due = self._gone = self._failed = self._changed = 0
         self._began = time.monotonic()
         self._target = job.target_root() if job.target is not None else None
         # When hard links of a fax that is deleted changed, and to which faxes a link leads that stays.
         self._links = files.Links()
         self._linked: Set[Tuple[int, int]] = set()
-        self._run_words = json.dumps([words.again, bool(job.fields)])
+        self._run_words = json.dumps([words.again, bool(job.fields)] + (["lost"] if job.lost else []))
         self._number = table.next_run(words.command, self._run_words)
 
     def do(self) -> int:
@@ -202,7 +204,9 @@ class Run:
         """Whether a fax that is as it was is to be done again: one that could not be read, but for one that took too
         long and may take no longer now; or one that the words ask for. What this very run has done is not."""
         words = self._words
-        if known.status < _LEAST[words.again] or (words.again == "copies" and known.status == FAULTY):
+        if self._job.lost and known.status == FAULTY and not self._table.is_counted(path):
+            return self._table.why(path)[2] != self._number
+        if known.status < _LEAST[words.again] or (words.again == "copies" and known.status in (FAULTY, OTHER)):
             return False
         fault, seconds, run = self._table.why(path)
         if run == self._number:
@@ -280,16 +284,14 @@ class Run:
 
     def _sum_up(self) -> None:
         seconds = time.monotonic() - self._began
-        counts = self._counts
-        print(f"faxes {sum(counts.values())}: {counts[GOOD]} good, {counts[FAULTY]} faulty, "
-              f"{counts[NOT_READ]} not read; {self._due} done now, {self._kept} before, {self._gone} gone; "
+        print(f"{counted(self._counts)}; {self._due} done now, {self._kept} before, {self._gone} gone; "
               f"{seconds:.1f} s, {self._due / max(seconds, 1e-9):.0f} faxes a second")
         print(state_of(self._table))
 
     def _status(self) -> int:
         if self._failed or self._counts[NOT_READ]:
             return NOT_READ
-        return FAULTY if self._counts[FAULTY] else GOOD
+        return FAULTY if self._counts[FAULTY] + self._counts[OTHER] else GOOD
 
     def _delete(self, status: int) -> int:
         """Deletes the faxes of the table, if all are copied, each is compared with its copy once more, and all copies
@@ -402,6 +404,13 @@ class Run:
         """The copy of a fax, and its fields, by their names below TARGET."""
         name = self._job.copy_of(it.path)
         return [(name, it.copy)] + ([(name + FIELDS, it.fields)] if it.fields is not None else [])
+
+
+def counted(counts: Dict[int, int]) -> str:
+    """How many faxes there are, by their statuses."""
+    others = f", {counts[OTHER]} of other kinds" if counts[OTHER] else ""
+    return (f"faxes {sum(counts.values())}: {counts[GOOD]} good, {counts[FAULTY]} faulty, "
+            f"{counts[NOT_READ]} not read{others}")
 
 
 def state_of(table: Table) -> str:

@@ -12,7 +12,7 @@ import urllib.parse
 from typing import Any, Callable, Dict, Iterator, List, NamedTuple, Optional, Tuple, Union
 
 from . import _archive_files as files
-from ._archive_fax import Done, Found, Job, Waiting
+from ._archive_fax import FAULTY, GOOD, NOT_READ, OTHER, Done, Found, Job, Waiting
 from ._archive_files import Seen, Stood
 from ._archive_marks import Owner
 
@@ -25,12 +25,13 @@ _WAIT, _LONG = 0.25, 60.0
 _READ = 1000
 # How many faxes are deleted at a time, with one commit before.
 _DELETED = 512
-_FORMAT = 2
+# Of versions before 1.6, whose tables are read as they stand, and brought up to date where they are written.
+_BEFORE, _FORMAT = 2, 3
 _SCHEMA = """
 CREATE TABLE IF NOT EXISTS faxes (
     path PRIMARY KEY NOT NULL, size INTEGER, mtime REAL, status INTEGER NOT NULL, pages INTEGER, rows INTEGER,
     width INTEGER, x REAL, y REAL, codings TEXT, notes TEXT, fault TEXT, fault_page INTEGER, fault_row INTEGER,
-    fault_tag INTEGER, why TEXT, lacks TEXT, seconds REAL);
+    fault_tag INTEGER, why TEXT, lacks TEXT, found INTEGER, lost INTEGER, seconds REAL);
 CREATE TABLE IF NOT EXISTS times (
     path PRIMARY KEY NOT NULL, since REAL NOT NULL, checked REAL NOT NULL, run INTEGER NOT NULL, origin TEXT NOT NULL);
 CREATE TABLE IF NOT EXISTS copies (
@@ -64,6 +65,11 @@ INSERT INTO times VALUES (?1, ?2, ?3, ?4, ?5) ON CONFLICT (path) DO UPDATE SET
 """
 _PUT = (f"INSERT INTO faxes VALUES ({', '.join('?' * len(COLUMNS))}) ON CONFLICT (path) DO UPDATE SET "
         + ", ".join(f"{name} = excluded.{name}" for name in COLUMNS[1:]))
+# The rows of a table of before: what was no fax that is read here was called faulty.
+_OF_OTHERS = f"status = {FAULTY} AND fault IN ('Unsupported', 'Magic', 'ByteOrder')"
+_OLD_ROWS = ", ".join({
+    "status": f"CASE WHEN {_OF_OTHERS} THEN {OTHER} ELSE status END AS status", "found": "NULL AS found",
+    "lost": "NULL AS lost"}.get(name, name) for name in COLUMNS)
 _PUT_COPY = "INSERT OR REPLACE INTO copies VALUES (?, ?, ?, ?, ?, ?, ?, ?, ?)"
 
 Path = Union[str, bytes]
@@ -172,6 +178,8 @@ class Table:
             self._base.execute("PRAGMA cache_spill = 0")
             if new:
                 self._make()
+            elif self._format() == _BEFORE:
+                self._base.execute(f"CREATE TEMP VIEW faxes AS SELECT {_OLD_ROWS} FROM main.faxes")
             elif self._format() != _FORMAT:
                 raise TableError(f"{name} is none of this version's tables; a run of check or convert makes it one")
         except BaseException:
@@ -204,7 +212,7 @@ class Table:
     def _is_foreign(self) -> bool:
         """Whether there are tables already, and these are not those of an archive."""
         tables = {str(name) for (name,) in self._base.execute("SELECT name FROM sqlite_master")}
-        return self._format() not in (0, _FORMAT) or bool(tables) and not {"faxes", "times", "job"} <= tables
+        return self._format() not in (0, _BEFORE, _FORMAT) or bool(tables) and not {"faxes", "times", "job"} <= tables
 
     def _make(self) -> None:
         """Makes the tables, and brings those of an earlier version up to date."""
@@ -214,6 +222,9 @@ class Table:
         if self._format() == _FORMAT:
             return
         self.begin()
+        if self._format() == _BEFORE:
+            self._renew()
+            return
         old = [row[1] for row in self._base.execute("PRAGMA table_info(faxes)")]
         if old:
             for name in ("faxes", "times"):
@@ -225,6 +236,15 @@ class Table:
         number = os.urandom(8).hex()
         self._base.execute("INSERT OR REPLACE INTO job VALUES ('table', ?)", (number,))
         self._base.execute("UPDATE times SET origin = ?", (number,))
+        self._base.execute(f"PRAGMA user_version = {_FORMAT}")
+        self.commit_all()
+
+    def _renew(self) -> None:
+        """Brings the rows of the version before up to date."""
+        self._base.execute("ALTER TABLE faxes RENAME TO old_faxes")
+        self._base.execute(_SCHEMA.split(";")[0])
+        self._base.execute(f"INSERT INTO faxes SELECT {_OLD_ROWS} FROM old_faxes")
+        self._base.execute("DROP TABLE old_faxes")
         self._base.execute(f"PRAGMA user_version = {_FORMAT}")
         self.commit_all()
 
@@ -245,6 +265,7 @@ class Table:
             if told.get("job") == "convert" and rest[columns.index("status") - 1] == 0:
                 unknown = (None, None, files.NOT_KEPT, 1)
                 self._base.execute(_PUT_COPY, (below, *unknown, *unknown))
+        self._base.execute(f"UPDATE faxes SET status = {OTHER} WHERE {_OF_OTHERS}")
         for name in ("old_faxes", "old_times"):
             self._base.execute(f"DROP TABLE {name}")
         where = {name: told.pop(name) for name in ("tree", "target") if name in told}
@@ -366,6 +387,16 @@ class Table:
         for fault, seconds, run in found:
             return fault, seconds, run
         return None, None, 0
+
+    def is_counted(self, path: bytes) -> bool:
+        """Whether it is known how many rows of a fax are lost."""
+        found = self._base.execute("SELECT lost FROM faxes WHERE path = ?", (kept_path(path),)).fetchone()
+        return found is not None and found[0] is not None
+
+    def rows_left(self) -> Tuple[Optional[int], Optional[int]]:
+        """How many rows of all faulty faxes are left, and lost; of none nothing is known."""
+        found, lost = self._base.execute("SELECT sum(found), sum(lost) FROM faxes").fetchone()
+        return found, lost
 
     def copied(self, path: bytes) -> Optional[Copied]:
         """What the table knows of the copy of a fax."""
@@ -537,7 +568,7 @@ class Table:
 
     def counts(self) -> Dict[int, int]:
         """How many rows have each status."""
-        found = {0: 0, 1: 0, 3: 0}
+        found = {GOOD: 0, FAULTY: 0, OTHER: 0, NOT_READ: 0}
         found.update(self._base.execute("SELECT status, count(*) FROM faxes GROUP BY status"))
         return found
 
@@ -550,9 +581,15 @@ class Table:
         return dict(sorted(found.items()))
 
     def faults(self) -> Dict[str, int]:
-        """How many rows have each fault."""
+        """How many rows have each fault, but for those of what is no fax that is read here."""
         return dict(self._base.execute(
-            "SELECT fault, count(*) FROM faxes WHERE fault IS NOT NULL GROUP BY fault ORDER BY fault"))
+            "SELECT fault, count(*) FROM faxes WHERE fault IS NOT NULL AND status != ? GROUP BY fault ORDER BY fault",
+            (OTHER,)))
+
+    def kinds(self) -> Dict[str, int]:
+        """How many rows are of what is no fax that is read here, by what it is."""
+        return dict(self._base.execute(
+            "SELECT ifnull(why, 'something else'), count(*) FROM faxes WHERE status = ? GROUP BY 1 ORDER BY 1", (OTHER,)))
 
 
 def _compared(row: Tuple[Any, ...]) -> Compared:

@@ -69,6 +69,7 @@ def _parser() -> argparse.ArgumentParser:
     commands = parser.add_subparsers(dest="command", required=True, metavar="COMMAND")
     check = commands.add_parser("check", help="check the faxes below TREE", allow_abbrev=False)
     check.add_argument("tree", metavar="TREE")
+    check.add_argument("--lost", action="store_true", help="count how many rows of faulty faxes are left, and lost")
     _tree_words(check, ["unread", "faulty", "all"])
     convert = commands.add_parser("convert", help="convert them, into the same names below TARGET", allow_abbrev=False)
     _convert_words(convert)

@@ -5,30 +5,35 @@ from __future__ import annotations
 import contextlib
 import os
 import signal
-from typing import Iterator, Optional, Set, Tuple
+from typing import Iterator, List, Optional, Set, Tuple
 
 Pipe = Tuple[int, int]
 
 
 def end_filters() -> None:
-    """Ends those processes of this user that write what this one would read, and those that write what they would. CUPS
-    would wait for them, for hours, with the queue."""
+    """Ends those processes of this user that write what this one would read, those that write what they would, and what
+    these have started, since a filter may be a script, which waits for the program that never ends. CUPS would wait for
+    them, for hours, with the queue."""
     mine = _above(os.getpid())
-    found: Set[int] = set()
+    found: List[int] = []
     pipes = {it for it in [_pipe(os.getpid(), 0)] if it}
-    more = True
-    while more:
-        more = False
-        for process, written in _writers():
-            if process not in found | mine and written & pipes:
-                found.add(process)
-                pipes |= {it for it in [_pipe(process, 0)] if it}
-                more = True
-    # A filter may be a script, which waits for the program that never ends.
-    below = {process for process, _ in _writers() if process not in mine and found & _above(process)}
-    for process in found | below:
-        with contextlib.suppress(ProcessLookupError):
-            os.kill(process, signal.SIGKILL)
+    while True:
+        new = [process for process, written in _writers() if process not in mine and process not in found
+               and (written & pipes or _above(process) & set(found))]
+        if not new:
+            break
+        # One that is stopped starts no more, and does not see the others end, as by the end of what it reads.
+        for process in new:
+            _send(process, signal.SIGSTOP)
+        pipes |= {it for it in (_pipe(process, 0) for process in new) if it}
+        found += new
+    for process in found:
+        _send(process, signal.SIGKILL)
+
+
+def _send(process: int, number: int) -> None:
+    with contextlib.suppress(ProcessLookupError):
+        os.kill(process, number)
 
 
 def _above(process: int) -> Set[int]:

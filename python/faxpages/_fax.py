@@ -14,6 +14,7 @@ from . import _library as _c
 from ._array import Array
 from ._convert import convert
 from ._cursor import Cursor, a_cursor
+from ._directory import Directories
 from ._image import Image
 from ._raster import Raster, dpi_of
 from ._report import Report, check
@@ -87,8 +88,9 @@ class Page:
     """A page: its form, and its rows by iteration.
 
     coding is "mh", "mr" or "mmr"; order is 1 where the highest bit of a byte is first, and 2 where the lowest is;
-    x and y are the resolution, in pels of a row and rows in a unit: 1 none, 2 inch, 3 centimetre. Threads may share a
-    page, each with an iterator of its own.
+    x and y are the resolution, in pels of a row and rows in a unit: 1 none, 2 inch, 3 centimetre. Where the file gives
+    none they are 204, 196 and 2, and resolution_given is False. Threads may share a page, each with an iterator of its
+    own.
 
     A page that is asked for whole, as packed(), raster(), array() or image(), raises the fault where it is damaged.
     With partial=True it is what stands before the fault, which may be no row.
@@ -129,6 +131,16 @@ class Page:
         (204.0, 196.0)
         """
         return dpi_of(self.x, self.y, self.unit)
+
+    @property
+    def resolution_given(self) -> bool:
+        """Whether the file gives the page's resolution, in fields that can be read; else x, y and unit are the usual
+        ones, and the page may have been meant for others.
+
+        >>> faxpages.open("samples/three-pages.tif").page(0).resolution_given
+        True
+        """
+        return self.fax._gives_resolution(self.number)
 
     def packed(self, partial: bool = False) -> bytes:
         """The bytes of all rows, one after another, each (width + 7) // 8 long.
@@ -224,6 +236,7 @@ class Fax(Sequence[Page]):
         self._data = own(data)
         self._by_number = _ByNumber(self._data)
         self._length: Optional[int] = None
+        self._directories = threading.local()
 
     def __enter__(self) -> "Fax":
         return self
@@ -251,6 +264,13 @@ class Fax(Sequence[Page]):
         if self._length is None:
             self._length = _count(self._data)
         return self._length
+
+    def _gives_resolution(self, page: int) -> bool:
+        """Whether the directory of a page gives a resolution."""
+        kept = self._directories
+        if not hasattr(kept, "all"):
+            kept.all = Directories(self._data)
+        return bool(kept.all.gives_resolution(kept.all.entries(page)))
 
     def __iter__(self) -> Iterator[Page]:
         return self.pages

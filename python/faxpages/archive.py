@@ -2,6 +2,7 @@
 
     faxpages-archive check TREE --table TABLE.sqlite [--processes N | --dask | --scheduler ADDRESS]
         [--timeout SECONDS] [--again unread | faulty | all] [--share I/N] [--follow] [--gone] [--names] [--faults-ok]
+        [--lost]
     faxpages-archive convert TREE TARGET --to pbm | mh | mr | mmr --table TABLE.sqlite [..] [--again copies]
         [--order 1 | 2] [--k K] [--strip ROWS] [--align] [--fields] [--adopt] [--delete [--give-up WHAT]]
     faxpages-archive table TABLE.sqlite --csv | --json | --summary | --prometheus | --faulty
@@ -39,7 +40,9 @@ WORDS = 2
 def _do_tree(words: argparse.Namespace) -> int:
     """check and convert."""
     tree = os.path.abspath(os.fsencode(words.tree))
-    job = Job(tree, follow=words.follow)
+    job = Job(tree, follow=words.follow, lost=words.command == "check" and words.lost)
+    if job.lost and not shutil.which("faxpages"):
+        raise TableError("the program faxpages is not on the PATH, and counts the rows for --lost")
     if not os.path.isdir(tree):
         raise TableError(f"there is no folder {shown(tree)}")
     if words.command == "convert":

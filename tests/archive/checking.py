@@ -70,7 +70,7 @@ def resumed(room, *_):
     times = since_in(room)
     room.claim("times go too", set(times), set(rows))
     room.claim("since when", [times[path] == since[path] for path in paths[20:22]], [True, True])
-    faulty = sum(row["status"] == "1" for row in rows.values())
+    faulty = sum(row["status"] in ("1", "2") for row in rows.values())
     for again, count in (("unread", 0), ("faulty", faulty), ("all", FEW)):
         got = room.summary(*words, "--again", again)[1].partition("; ")[2]
         room.claim(f"again: {again}", got, f"{count} done now, {FEW - count} before, 0 gone")
@@ -89,7 +89,7 @@ def names(room, paths, reference):
     room.claim("JSON has each name", (status, [
         os.path.join(tree, line["path"].encode("utf-8", "surrogateescape")) for line in lines]), (0, sorted(paths)))
     wanted = ("path size mtime status pages rows width x y codings notes fault fault_page fault_row fault_tag why "
-              "lacks seconds")
+              "lacks found lost seconds")
     room.claim("JSON has the columns", {tuple(line) for line in lines}, {tuple(wanted.split())})
     room.claim("CSV has the columns", room.run("table", "one.sqlite", "--csv")[1].split(b"\n")[0].decode().split(","),
                wanted.split())
@@ -130,7 +130,7 @@ def broken(room, *_):
         table = f"broken-{len(words)}.sqlite"
         words = ["check", "broken", "--table", table, "--timeout", "6", *words]
         status, out, _ = room.run(*words, broken="dies raises hangs memory", python=python)
-        room.claim(f"{name}: broken faxes are rows", (status, b" 5 not read; " in out), (3, True))
+        room.claim(f"{name}: broken faxes are rows", (status, b" 5 not read, " in out), (3, True))
         rows = room.rows(table)
         differ = {path: rows.get(path) for path in wanted if rows.get(path) != wanted[path]}
         room.claim(f"{name}: all others are as before", differ, {})

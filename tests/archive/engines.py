@@ -8,6 +8,7 @@ import re
 import signal
 import subprocess
 
+from keeping import contents
 from room import PATIENCE, TOP, started, wait_for
 from waiting import there_in
 
@@ -17,8 +18,8 @@ ASKED = 200
 
 def told(rows):
     """The summary's counts of these rows."""
-    counts = [sum(row["status"] == str(status) for row in rows.values()) for status in (0, 1, 3)]
-    return "{} good, {} faulty, {} not read".format(*counts)
+    counts = [sum(row["status"] == str(status) for row in rows.values()) for status in (0, 1, 3, 2)]
+    return "{} good, {} faulty, {} not read".format(*counts) + (f", {counts[3]} of other kinds" if counts[3] else "")
 
 
 def one(room, paths):
@@ -56,7 +57,8 @@ def by_program(room, path):
     if listed:
         inch = 2.54 if listed[0][4] == "3" else 1
         form = listed[0][0], *(round(float(fractions.Fraction(text)) * inch, 6) for text in listed[0][2:4])
-    return (str(said[0]), pages, rows, " ".join(fault.groups()) if fault else None,
+    status = contents.OTHER if fault and fault.group(3) in contents.OTHER_KINDS else said[0]
+    return (str(status), pages, rows, " ".join(fault.groups()) if fault else None,
             set(re.findall(r"N\d (\w+)$", said[1], re.M)), form, {it[1] for it in listed})
 
 

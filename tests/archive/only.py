@@ -15,6 +15,8 @@ from converting import files_below
 from keeping import CALLS, drawn, put
 from keeping import playing
 
+import going
+
 # At two calls for each of three faxes, TARGET gone and renamed, a fax may go with its copy.
 LEAST = 12
 MARKS = ("setxattr", "getxattr", "removexattr")
@@ -82,11 +84,16 @@ def gone_by_hand(room, one, other):
     shutil.copy(f"{place}/t.sqlite", f"{place}/backup.sqlite")
     os.unlink(f"{place}/tree/a.tif")
     playing.run(words_of(place), place, playing.Trouble())
-    before = files_below(f"{place}/copies")
     shutil.copy(f"{place}/backup.sqlite", f"{place}/t.sqlite")
+    copy_stays(room, "a fax that somebody deleted", place, other)
+
+
+def copy_stays(room, name, place, other):
+    """Where a fax with other rows comes under an old name the copy that is there is not replaced, and that is told."""
+    before = files_below(f"{place}/copies")
     put(f"{place}/tree/a.tif", other)
     ran = playing.run(words_of(place), place, playing.Trouble())
-    room.claim("a fax that somebody deleted", (ran.status, files_below(f"{place}/copies") == before), (3, True))
+    room.claim(name, (ran.status, files_below(f"{place}/copies") == before), (3, True))
 
 
 def adopted(room, *_):
@@ -98,16 +105,11 @@ def adopted(room, *_):
     second[second.index(f"{place}/t.sqlite")] = f"{place}/second.sqlite"
     playing.run(words_of(place), place, playing.Trouble())
     playing.run([*second, "--adopt"], place, playing.Trouble())
-    before = files_below(f"{place}/copies")
-    put(f"{place}/tree/a.tif", other)
-    ran = playing.run(words_of(place), place, playing.Trouble())
-    room.claim("what another table has adopted", (ran.status, files_below(f"{place}/copies") == before), (3, True))
+    copy_stays(room, "what another table has adopted", place, other)
     put(f"{place}/tree/a.tif", one)
     ran = playing.run([*second, "--delete"], place, playing.Trouble())
     room.claim("and deleted the fax of", (ran.status, os.listdir(f"{place}/tree")), (0, []))
-    put(f"{place}/tree/a.tif", other)
-    ran = playing.run(words_of(place), place, playing.Trouble())
-    room.claim("is not replaced", (ran.status, files_below(f"{place}/copies") == before), (3, True))
+    copy_stays(room, "is not replaced", place, other)
 
 
 def merged(room, *_):
@@ -128,20 +130,6 @@ def merged(room, *_):
     room.claim("a merged table follows its faxes", (ran.status, len(set(files_below(f"{place}/copies").values()))), (0, 1))
 
 
-class Goes(playing.Event):
-    """TARGET that goes amid a run: it is deleted, or another folder has its name. What of TREE is left then is noted."""
-
-    def happen(self, room):
-        left = sorted(os.listdir(f"{room}/tree"))
-        if self.replaces:
-            shutil.rmtree(f"{room}/copies")
-        else:
-            os.rename(f"{room}/copies", f"{room}/moved")
-            os.mkdir(f"{room}/copies")
-        with open(f"{room}/amid", "w", encoding="utf-8") as file:
-            json.dump(left, file)
-
-
 def target_goes(room, *_):
     """TARGET goes at each call of a run that deletes: all faxes that are left then stay, but for one, whose copy went in
     the instant after the last look at it, which is two calls of the system."""
@@ -154,7 +142,7 @@ def target_goes(room, *_):
         for at in range(1, 2 * CALLS):
             shutil.rmtree(place, ignore_errors=True)
             shutil.copytree(f"{place}-before", place)
-            event = Goes(b"", b"", replaces)
+            event = going.Goes(*(os.fsencode(f"{place}/{name}") for name in ("copies", "tree")), replaces)
             playing.run(words_of(place, "--delete"), place, playing.Trouble(at, event=event))
             if not os.path.exists(f"{place}/amid"):
                 break

@@ -19,6 +19,8 @@ from faxed import told_of
 from strangers import by_hand, new_identity
 
 JOBS, PRINTED = int(os.environ.get("JOBS", "24")), 8
+# How often lp is asked where it reaches no cupsd.
+TRIES = 5
 
 
 def enumerated(room, folder):
@@ -52,8 +54,21 @@ class Operator:
             with contextlib.suppress(KeyError):
                 other = self.server.jobs()[self.rng.choice(list(self.numbers.values()))]
                 more = ["-o", f"job-uuid=urn:uuid:{other.uuid}"]
-        self.numbers[number] = self.server.print("Drawn", "-t", f"drawn fax:{number}", *more, *documents)
+        self.numbers[number] = self.printed("-t", f"drawn fax:{number}", *more, *documents)
         return self.numbers[number]
+
+    def printed(self, *words):
+        """Prints by lp. Where lp reaches no cupsd, as one that has just been started on a machine with much to do, it
+        says that there is no queue, and has made no job: then it is asked again, and that is said."""
+        for _ in range(TRIES):
+            try:
+                return self.server.print("Drawn", *words)
+            except OSError as error:
+                if "The printer or class does not exist" not in str(error):
+                    raise
+                print(f"operated: again: {error}; cupsd {self.server.state()}", flush=True)
+                time.sleep(1)
+        raise OSError("lp reaches no cupsd")
 
     def pause(self):
         time.sleep(self.rng.choice([0, 0.02, 0.1, 0.2, 0.3, 0.4, 0.5, 0.7]))

@@ -157,6 +157,12 @@ class Server:
         if self._daemon.poll() is not None:
             raise OSError(f"cupsd ended: {self.get('log/said')[-500:]!r}")
 
+    def state(self):
+        """Whether the daemon is there and answers, its queues, and what it said last."""
+        ended = self._daemon.poll() if self._daemon else "stopped"
+        said = self.get("log/error").decode(errors="replace").splitlines()[-5:]
+        return f"ended {ended}, answers {answers(self.port)}, {self.call('lpstat', '-e')[:2]}, {said}"
+
     def stop(self, number=signal.SIGTERM):
         if self._daemon:
             self._daemon.send_signal(number)

@@ -198,7 +198,8 @@ def endless(room):
     status, _, said = by_hand(room, True, option, None, {"FAXPAGES_SECONDS": "1"}, read=second.stdout)
     ended = (second.wait(server.PATIENCE), first.wait(server.PATIENCE))
     room.claim(f"filters that never end: {said}", (status, *ended), (3, -signal.SIGKILL, -signal.SIGKILL))
-    room.claim("and what they have started", list(processes_of(first.pid)), [])
+    # What is killed ends when the system has the time for it.
+    room.claim("and what they have started", server.wait_for(lambda: not list(processes_of(first.pid))), True)
     option, _ = new_identity(room)
     with open(room.made("hostile.pdf"), "wb") as file:
         file.write(pdf_of(40, b"0 0 595 842 re 0 0 m " + b"595 842 l 3 8 l 590 1 l 1 800 l " * 30000 + b"f*\n"))

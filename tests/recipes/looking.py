@@ -187,6 +187,16 @@ def drawn(image):
     return [[bit == "1" for bit in bits[at : at + width]] for at in range(0, len(bits), step)]
 
 
+def compare_without_the_program(room):
+    """Where there is no program two faxes are neither the same nor different."""
+    os.mkdir(room("alone"))
+    os.symlink(f"{SCRIPTS}/faxpages-compare", room("alone/faxpages-compare"))
+    for words in (["sent.tif", "sent.tif"], ["sent.tif", "received.tif"]):
+        ran = room.bash('PATH=$PWD/alone; "$@"', "faxpages-compare", *words)
+        yield f"no program: {words}", ran, (3, b"", "faxpages-compare: faxpages: it is not on the PATH\n")
+    shutil.rmtree(room("alone"))
+
+
 def compare(room, commands):
     room.others("sent.tif", 0)
     room.others("received.tif", 1)
@@ -253,6 +263,7 @@ def long_rows(room, commands):
         0
     ], 3
     yield "words", room.call("faxpages-compare", "a", "b", "c", "d")[0], 2
+    yield from compare_without_the_program(room)
 
 
 def pictures_that_are_there(room):

@@ -85,6 +85,9 @@ def sorted_faxes(room, commands):
     yield from received_of_other_kinds(room)
     yield from received_at_once(room)
     yield from received_from_elsewhere(room)
+    yield from received_without_links(room)
+    yield from received_into_exfat(room)
+    yield from left_is_swept(room)
     yield from received_again(room)
     yield from received_beside_others(room)
     yield from received_links(room)
@@ -95,18 +98,31 @@ def sorted_faxes(room, commands):
 SAMPLE = os.path.realpath(f"{os.path.dirname(__file__)}/../../samples/one-mh-page.tif")
 
 
+# Sound files that are no faxes read here, by how they are made, and what is said of them.
+KINDS = {
+    "pdf": ("printf '%%PDF-1.4\\n%%%%EOF\\n' >{}", "a PDF"),
+    "tiles": (f"tiffcp -s -t -w 16 -l 16 -c g4 {SAMPLE} {{}}", "a picture in tiles"),
+    "big": (f"tiffcp -8 {SAMPLE} {{}}", "a BigTIFF file, or none in TIFF"),
+    **{kind: (f"tiffcp -s -c {kind} {SAMPLE} {{}}", "a picture of another kind")
+       for kind in ("lzw", "packbits", "zip", "none")},
+}  # fmt: skip
+
+
+def other_kinds(room, folder):
+    """Makes a file of each kind: its name, and what is said of it."""
+    os.makedirs(room(folder), exist_ok=True)
+    for kind, (command, said) in KINDS.items():
+        yield f"{folder}/kind-{kind}.tif", said, room.bash(command.format(f"{folder}/kind-{kind}.tif"))[0]
+
+
 def received_of_other_kinds(room):
     """Sound files that are no faxes read here stay where they are, and nobody calls them faulty."""
-    made = [room.bash(f"tiffcp -s -c {kind} {SAMPLE} kind-{kind}.tif")[0]
-            for kind in ("lzw", "packbits", "zip", "none")]  # fmt: skip
-    made.append(room.bash(f"tiffcp -s -t -w 16 -l 16 -c g4 {SAMPLE} kind-tiles.tif")[0])
-    made.append(room.bash(f"tiffcp -8 {SAMPLE} kind-big.tif")[0])
-    yield "other kinds are made", made, [0] * 6
-    room.put("kind.pdf", b"%PDF-1.4\n%%EOF\n")
-    for name in ["kind.pdf", *(f"kind-{kind}.tif" for kind in ("lzw", "packbits", "zip", "none", "tiles", "big"))]:
+    for name, kind, status in other_kinds(room, "."):
+        name = os.path.basename(name)
+        yield f"{name} is made", status, 0
         before = room.get(name)
         status, _, said = room.call("faxpages-receive", name, "faxes")
-        told = f"faxpages-receive: ./{name} stays: it is no fax that is read here, but a" in said
+        told = f"faxpages-receive: ./{name} stays: it is no fax that is read here, but {kind}: fault " in said
         yield f"{name}: {said}", (status, told, room.get(name) == before), (3, True, True)
         there = [os.path.exists(room(f"faxes/{kind}/{name}")) for kind in ("good", "faulty")]
         yield f"{name}: it is in neither folder", there, [False, False]
@@ -146,6 +162,69 @@ def received_from_elsewhere(room):
     finally:
         if os.path.exists(place):
             os.remove(place)
+
+
+def received_into(room, folder, what):
+    """Faxes come into a folder where there are no links, by copies, which is said; nothing is written over there."""
+    for name in ("linkless.tif", "report-there.tif"):
+        room.others(name)
+    data, wanted = room.get("linkless.tif"), room.report("linkless.tif")
+    said = "".join(f"faxpages-receive: {folder}/good/linkless.tif{end} is a copy: there are no links\n" for end in ("", ".report"))
+    yield f"{what}: received", room.call("faxpages-receive", "linkless.tif", folder), (0, b"", said)
+    got = [room.get(f"{folder}/good/linkless.tif{end}") for end in ("", ".report")]
+    yield f"{what}: is there", (got, os.path.exists(room("linkless.tif"))), ([data, wanted], False)
+    room.fax("linkless.tif", "mh", "marks")
+    room.put(f"{folder}/good/report-there.tif.report", b"somebody else's")
+    for name in ("linkless.tif", "report-there.tif"):
+        yield f"{what}: {name} is in the way", room.call("faxpages-receive", name, folder)[0], 3
+        yield f"{what}: {name} stays", os.path.exists(room(name)), True
+        os.remove(room(name))
+    there = {name: room.get(f"{folder}/good/{name}") for name in sorted(os.listdir(room(f"{folder}/good")))}
+    yield f"{what}: nothing else is there", there, {
+        "linkless.tif": data, "linkless.tif.report": wanted, "report-there.tif.report": b"somebody else's"}
+
+
+def received_without_links(room):
+    """A file system that has no links, here by an `ln` that says so."""
+    room.tool("ln", "#!/bin/sh\necho 'ln: Operation not permitted' >&2\nexit 1\n")
+    yield from received_into(room, f"{room('')}linkless", "no links")
+    os.remove(f"{room.path}/bin/ln")
+    shutil.rmtree(room("linkless"))
+
+
+def received_into_exfat(room):
+    """The same over a real one, where one can be mounted."""
+    image = f"{room.path}/exfat"
+    with open(image, "wb") as file:
+        file.truncate(16 << 20)
+    os.mkdir(room("exfat"))
+    mount = "PATH=$PATH:/usr/sbin:/sbin; mkfs.exfat {0} && disk=$(losetup -f --show {0}) && mount.exfat-fuse $disk {1} && echo $disk"
+    status, shown, why = room.bash(mount.format(image, room("exfat")))
+    if status:
+        print(f"not run: faxes that come into exFAT: {why.splitlines()[-1:]} (exfat-fuse)")
+        return
+    disk = shown.decode().split()[-1]
+    try:
+        yield from received_into(room, f"{room('')}exfat/sorted", "exFAT")
+    finally:
+        room.bash(f"PATH=$PATH:/usr/sbin:/sbin; umount {room('exfat')}; losetup -d {disk}")
+    os.rmdir(room("exfat"))
+
+
+def left_is_swept(room):
+    """What a call has left that was killed goes by the next one; what may be at work stays, and all of other names."""
+    good = "faxes/good"
+    for name in (".faxpages-receive.AbCdEf", ".faxpages-receive.new000", ".faxpages-receive.longername", ".faxpages-mine"):
+        room.put(f"{good}/{name}/file", b"half of a fax")
+    room.put(f"{good}/.faxpages-receive.a_file", b"of somebody else")
+    os.symlink("..", room(f"{good}/.faxpages-receive.a_link"))
+    room.bash(f"find {good} -name '.faxpages*' ! -name '*new000' -exec touch -h -d '2 hours ago' {{}} +")
+    room.others("next.tif")
+    yield "swept: the next fax", room.call("faxpages-receive", "next.tif", "faxes"), (0, b"", "")
+    left = [name for name in room.names(good) if name.startswith(".faxpages")]
+    yield "swept: what is left", left, [".faxpages-mine", ".faxpages-receive.a_file", ".faxpages-receive.a_link",
+                                        ".faxpages-receive.longername", ".faxpages-receive.new000"]  # fmt: skip
+    room.bash(f"rm -rf {good}/.faxpages*")
 
 
 def received_again(room):
@@ -357,6 +436,7 @@ def mail_gateway(room, commands):
     parts = {it.get_filename(): it.get_content() for it in mail.iter_attachments()}
     yield "faulty: files", (sorted(parts), parts["fax.tif"]), (["fax.pdf", "fax.tif"], room.get("fax.tif"))
     yield "faulty: lost", "\nLost:\npage 3 rows " in text_of(mail), True
+    yield from mailed_of_other_kinds(room, commands, mailer)
     for name in [*HOSTILE, "\nBcc: all@example.org\n\n.tif"]:
         room.others(name)
         os.remove(room("mailed"))
@@ -370,6 +450,20 @@ def mail_gateway(room, commands):
     yield "no file", room.call("faxpages-mail", "none.tif", "a@b.c", **mailer)[0], 3
     yield "no mailer", room.call("faxpages-mail", "fax.tif", "a@b.c", SENDMAIL="/bin/false")[0], 3
     yield "nothing is left", room.left(), []
+
+
+def mailed_of_other_kinds(room, commands, mailer):
+    """Sound files that are no faxes read here are mailed as they are, and nobody calls them faulty."""
+    for name, kind, status in other_kinds(room, "kinds"):
+        shutil.copy(room(name), room("fax.tif"))
+        yield f"{name}: mailed", (status, room.bash(commands, **mailer)), (0, (1, b"", ""))
+        mail = message(room.get("mailed"))
+        (part,) = mail.iter_attachments()
+        yield f"{name}: subject", mail["Subject"].startswith("Fax, none that is read here: "), True
+        yield f"{name}: told", f"It is no fax that is read here, but {kind}.\n" in text_of(mail).replace("\r", ""), True
+        data = part.get_payload(decode=True)
+        wanted = ("application/pdf" if kind == "a PDF" else "image/tiff", room.get(name))
+        yield f"{name}: attached", (part.get_content_type(), data), wanted
 
 
 def old(room, folder):
@@ -389,6 +483,32 @@ WAITING = """#!/bin/sh
 while [ -n "$GATE" ] && [ "$({{ grep -c "^[0-9]" "$GATE"; }} 2>/dev/null)" -ge 3 ]; do sleep 0.05; done 2>/dev/null
 exec {program} "$@"
 """
+
+
+def swept_of_other_kinds(room):
+    """Sound files that are no faxes read here are named so, and count apart, also where an older version has seen them."""
+    made = list(other_kinds(room, "kinds"))
+    old(room, "kinds")
+    words = ["faxpages-sweep", "kinds", ".kinds", "kinds.prom"]
+    status, shown, said = room.call(*words)
+    lines = shown.decode().splitlines()
+    yield "other kinds", (status, said, [it[2] for it in made]), (1, "", [0] * len(made))
+    yield "other kinds: named", sorted(lines[:-1]), sorted(
+        f"no fax that is read here: ./{name}: {kind}: {room.report(name).decode().splitlines()[-1]}" for name, kind, _ in made)
+    count = len(made)
+    yield "other kinds: summary", lines[-1], (
+        f"new: {count} faxes, 0 good, 0 faulty, 0 not read, {count} of other kinds; in all: {count}")
+    counted = ['faxpages_faxes{result="good"} 0', 'faxpages_faxes{result="faulty"} 0',
+               f'faxpages_faxes{{result="other"}} {count}', 'faxpages_faxes{result="not_read"} 0']  # fmt: skip
+    for way in ("this version", "an older one"):
+        found = [line for line in room.get("kinds.prom").decode().splitlines() if line.startswith("faxpages_fa")]
+        least = found if way == "this version" else [it for it in found if "MissingField" not in it]
+        yield f"other kinds: figures of {way}", (set(counted) <= set(found), any("faults" in it for it in least)), (
+            way == "this version", False)
+        room.bash("sed -i 's/^\\([0-9:.]* \\)other /\\1faulty /' .kinds/seen")
+        room.call(*words)
+    yield "other kinds: nothing is new", room.call(*words), (0, b"", "")
+    shutil.rmtree(room(".kinds"))
 
 
 def sweep(room, commands):
@@ -419,6 +539,7 @@ def sweep(room, commands):
     if is_there("promtool", "the figures by Prometheus"):
         yield "promtool", room.bash("promtool check metrics <faxpages.prom")[0], 0
     yield "nothing is new", room.bash(commands), (0, b"", "")
+    yield from swept_of_other_kinds(room)
     yield "nothing is new: figures", figures(room)["faxpages_swept"], 0
     os.remove(room(f"faxes/in/{HOSTILE[0]}"))
     room.cut("faxes/later.tif")

@@ -40,10 +40,42 @@ def from_pdf(room, commands):
             yield f"{hostile!r}: page", [line[2:] for line in listed(room, hostile)], [form]
     before = room.get("fine.tif")
     yield from not_written_over(room, "letter.pdf", "fine.tif")
+    yield from bounded(room)
     room.put("letter.pdf", b"no PDF")
     status = room.call("faxpages-from-pdf", "--replace", "letter.pdf", "fine.tif")[0]
     yield "no PDF", (status, room.get("fine.tif") == before), (1, True)
     yield "nothing is left", (room.left(), temporary(room)), ([], [])
+
+
+# A program of poppler that asks for memory, or writes a file, of so many MiB before it does its work, and says nothing
+# where that fails; and notes its limits.
+GREEDY = """#!/bin/bash
+echo "${{0##*/}} $(ulimit -v) $(ulimit -f)" >>"$HOME/limits"
+{python} -c 'x = bytearray({memory} << 20)' 2>/dev/null &&
+    head -c {file}M /dev/zero >"$HOME/greedy" 2>/dev/null && exec {program} "$@"
+exit 1
+"""
+
+
+def bounded(room):
+    """Memory and files of each program of poppler are bounded: one that takes more fails, and nothing is written."""
+    programs = {name: shutil.which(name) for name in ("pdfinfo", "pdftoppm", "pdfimages")}
+    python = shutil.which("python3")
+    cases = {"little": (512, 1, 0), "much memory": (3072, 1, 1), "a large file": (512, 300, 1)}
+    for name, words in (("pdfinfo", []), ("pdftoppm", []), ("pdfimages", ["--as-is"])):
+        for case, (memory, size, wanted) in cases.items():
+            room.tool(name, GREEDY.format(python=python, program=programs[name], memory=memory, file=size))
+            pdf_of(room, "greedy.pdf", 1)
+            status, _, said = room.call("faxpages-from-pdf", *words, "greedy.pdf", "greedy.tif", **room.module)
+            there = os.path.exists(room("greedy.tif"))
+            yield f"{name}: {case}: {said}", (status, there, bool(said)), (wanted, not wanted, bool(wanted))
+            for made in {"greedy.tif", "greedy"} & set(room.names()):
+                os.remove(room(made))
+        os.remove(f"{room.path}/bin/{name}")
+    limits = set(room.get("limits").decode().splitlines())
+    yield "limits", limits, {f"{name} 2097152 262144" for name in programs}
+    for made in ("greedy.pdf", "limits"):
+        os.remove(room(made))
 
 
 def temporary(room):

@@ -15,6 +15,7 @@ sys.path[:0] = [os.path.join(HERE, ".."), os.path.join(HERE, "..", "..", "conver
 import pages  # noqa: E402
 
 ENTRY = 12
+OTHER, OTHER_KINDS = 2, ("Unsupported", "Magic", "ByteOrder")
 
 
 class Content(NamedTuple):
@@ -25,7 +26,7 @@ class Content(NamedTuple):
 
 
 class Verdict(NamedTuple):
-    """What the program says of a fax."""
+    """What the program says of a fax; of a fault that files of other kinds have, its status is 2."""
 
     status: int
     fault: Optional[str] = None
@@ -111,7 +112,8 @@ class Teller:
         if ran.returncode == 0:
             return Verdict(0)
         page, row, name, _, tag = re.match(r"fault page (\d+) row (\d+): (\w+)( (\d+))?", ran.stderr.decode()).groups()
-        return Verdict(ran.returncode, name, int(page), int(row), int(tag) if tag else None)
+        status = OTHER if name in OTHER_KINDS and ran.returncode == 1 else ran.returncode
+        return Verdict(status, name, int(page), int(row), int(tag) if tag else None)
 
     def _copy(self, data: bytes, words: Tuple[str, ...]) -> bytes:
         """The copy as the program writes it."""

@@ -11,13 +11,17 @@ import faxpages.archive  # noqa: F401  so that each run has it already
 
 import cluster
 import contents
-from operating import DASK, PLAIN, SECOND, WORKERS, Difference, Episode
+import folding
+from comparing import Difference
+from operating import DASK, FOLDED, PLAIN, SECOND, WORKERS, Episode
 
 STEPS = 25
 # The most differences that are told, and of each the most lines of what was done before it.
 MOST = 20
+# After how many steps it is told how many were right, for who ends a long run before its end.
+TELL = 500
 # How many of a hundred episodes are of each kind; the others are plain.
-SHARES = {WORKERS: 10, DASK: 3, SECOND: 3}
+SHARES = {WORKERS: 10, DASK: 3, SECOND: 3, FOLDED: 5}
 
 
 def draw(program: str, steps: int, seed: str, only: str, shares: Dict[str, int],
@@ -26,28 +30,37 @@ def draw(program: str, steps: int, seed: str, only: str, shares: Dict[str, int],
     print(f"operator: seed {seed}", flush=True)
     if shares[DASK]:
         cluster.python()
+    if shares[FOLDED]:
+        folding.why_not()
     faxes = contents.drawn(faxpages, 1)
     teller = contents.Teller(faxpages, program)
-    done = failed = 0
+    done, failed, differ = 0, 0, []
     number = int(only or 0)
     while done < steps and failed < MOST and not (stop and failed):
         count, why = _episode(teller, faxes, f"{seed}/{number}", shares, bool(only))
+        if (done + count) // TELL > done // TELL:
+            print(f"operator: {done + count} steps so far, {failed} differed", flush=True)
         done += count
         failed += why is not None
         if why is not None:
-            said = f"FAILED: {seed}/{number}, step {count}: {why}"
+            differ.append(f"{seed}/{number}")
+            said = f"FAILED: {differ[-1]}, step {count}: {why}"
             print(said.encode(errors="backslashreplace").decode(), flush=True)
         number += 1
         if only:
             break
+    if differ:
+        print(f"operator: these differed: {', '.join(differ)}", flush=True)
     return done, failed
 
 
 def _kind(number: int, shares: Dict[str, int]) -> str:
-    """The kind of an episode by a number below a hundred. Without Dask, what is to be by it is by workers."""
+    """The kind of an episode by a number below a hundred. Without Dask, what is to be by it is by workers, and what no
+    folder folds is plain."""
     for kind, share in shares.items():
         if number < share:
-            return WORKERS if kind == DASK and cluster.python() is None else kind
+            instead = {DASK: cluster.python() is None and WORKERS, FOLDED: folding.why_not() and PLAIN}
+            return instead.get(kind) or kind
         number -= share
     return PLAIN
 

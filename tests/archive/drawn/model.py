@@ -6,10 +6,10 @@ import json
 import os
 import sqlite3
 import stat
-from typing import Dict, List, NamedTuple, Optional, Set, Tuple
+from typing import Dict, Iterable, List, NamedTuple, Optional, Set, Tuple
 
-from contents import Teller, Verdict
-from world import Entry, World
+from contents import OTHER, Teller, Verdict
+from world import Entry, World, folded
 
 ENDINGS = (b".tif", b".tiff")
 GOOD, FAULTY, NOT_READ = 0, 1, 3
@@ -23,9 +23,15 @@ class Job(NamedTuple):
     follow: bool = False
     fields: bool = False
     share: Tuple[int, int] = (0, 1)
+    folds: bool = False
 
     def copy_of(self, path: bytes) -> bytes:
-        return path + (b".pbm" if self.to[0] == "pbm" else b"")
+        """The name of a copy; in a folder that folds case it is the copy of other names too."""
+        return (folded(path) if self.folds else path) + (b".pbm" if self.to[0] == "pbm" else b"")
+
+    def copies_of(self, path: bytes) -> Tuple[bytes, bytes]:
+        """The names of a copy and of its fields."""
+        return self.copy_of(path), self.copy_of(path) + b".fields"
 
 
 class Words(NamedTuple):
@@ -171,6 +177,12 @@ def where_in(table: str) -> Optional[bytes]:
     return json.loads(found[0])["tree"].encode("utf-8", "surrogateescape") if found else None
 
 
+def status_of(statuses: Iterable[int]) -> int:
+    """The status of a run over faxes with these."""
+    worst = max(statuses, default=GOOD)
+    return FAULTY if worst == OTHER else worst
+
+
 class Model:
     """What is known of one episode: what each table wrote and still owns, and the copies as its rows know them."""
 
@@ -181,6 +193,8 @@ class Model:
         self.stood: Dict[str, Dict[bytes, Stood]] = {}
         # The copies whose faxes are gone for sure: nothing replaces them, whatever a table says.
         self.only: Dict[bytes, bytes] = {}
+        # The fax whose copy stands in a place, which others have too whose names differ by case alone.
+        self.holder: Dict[bytes, bytes] = {}
         # All that was written into a place, or taken over, by any table.
         self.written: Dict[bytes, Set[bytes]] = {}
 
@@ -223,7 +237,7 @@ class Model:
         if row is None or (row.size, row.mtime) != (fax.size, fax.mtime):
             return True
         least = {None: 3, "unread": 3, "faulty": 1, "copies": 0, "all": 0}[words.again]
-        asked = row.verdict.status >= least and not (words.again == "copies" and row.verdict.status == FAULTY)
+        asked = row.verdict.status >= least and not (words.again == "copies" and row.verdict.status in (FAULTY, OTHER))
         if asked and row.run != number:
             return True
         if not job.to or row.verdict.status != GOOD:
@@ -239,7 +253,7 @@ class Model:
         verdict = self.teller.verdict(fax.data)
         if verdict.status or not job.to:
             return verdict
-        folder = os.path.dirname(path)
+        folder = os.path.dirname(job.copy_of(path))
         while folder:
             if folder in target and target[folder].kind != "folder":
                 return Verdict(NOT_READ, "Write")

@@ -10,6 +10,9 @@ NAMES = [b"a.tif", b"b.TIFF", b"caf\xe9.tif", b"a\nline.tif", b"c\rr.tif", b"-o.
          b"\xff.Tif",
          "p\u00e4ge.tif".encode(), b"x.tif.fields.tif", b"d.tif"]
 FOLDERS = [b"", b"one", b"one/two", b"thr\xe9e", b"one/f.tif"]
+# More of a tree whose copies are to stand in a folder that folds case.
+FOLDED_NAMES = [b"A.TIF", b"A.tif", b"B.tiff", b"D.TIF", b"CAF\xe9.TIF", b"-O.tif", b"x.TIF.fields.tif"]
+FOLDED_FOLDERS = [b"ONE", b"One/Two", b"ONE/F.tif"]
 MODES = [0o644, 0o600, 0o640, 0o444, 0o755, 0o660]
 FOLDER_MODES = [0o755, 0o700, 0o750, 0o711]
 
@@ -37,6 +40,11 @@ def entry_of(path: bytes) -> Entry:
     return Entry("pipe", mode, owner, told.st_mtime_ns, b"")
 
 
+def folded(name: bytes) -> bytes:
+    """A name as it is known in a folder that folds case."""
+    return name.lower()
+
+
 def snapshot(folder: bytes) -> Dict[bytes, Entry]:
     """All that stands below a folder, by the names there; no link is followed."""
     found: Dict[bytes, Entry] = {}
@@ -54,12 +62,14 @@ def snapshot(folder: bytes) -> Dict[bytes, Entry]:
 class World:
     """The folders of one episode: tree, target, outside, and where the tables are."""
 
-    def __init__(self, folder: str, rng: random.Random, contents: List[bytes]) -> None:
-        self.folder, self.rng, self.contents = os.fsencode(folder), rng, contents
+    def __init__(self, folder: str, rng: random.Random, contents: List[bytes], folds: bool = False) -> None:
+        self.folder, self.rng, self.contents, self.folds = os.fsencode(folder), rng, contents, folds
+        self.names = NAMES + FOLDED_NAMES if folds else NAMES
+        self.folders = FOLDERS + FOLDED_FOLDERS if folds else FOLDERS
         self.tree, self.target, self.outside, self.tables = (
             os.path.join(self.folder, name) for name in (b"tree", b"target", b"outside", b"tables"))
         for name in (self.tree, self.target, self.outside, self.tables):
-            os.makedirs(name)
+            os.makedirs(name, exist_ok=True)
         self.clock = 1_500_000_000_000_000_000
         for _ in range(rng.randint(4, 14)):
             self.new_fax(self.tree)
@@ -83,8 +93,8 @@ class World:
         os.utime(path, ns=(when, when))
 
     def new_fax(self, root: bytes) -> None:
-        folder = os.path.join(root, self.rng.choice(FOLDERS))
-        path = os.path.join(folder, self.rng.choice(NAMES))
+        folder = os.path.join(root, self.rng.choice(self.folders))
+        path = os.path.join(folder, self.rng.choice(self.names))
         fresh = not os.path.isdir(folder)
         if os.path.isdir(path) or self.blocked(folder):
             return
@@ -141,7 +151,7 @@ class World:
     def move(self) -> None:
         """A fax goes to another name."""
         fax = self.any_fax()
-        to = os.path.join(self.tree, self.rng.choice(FOLDERS[:2]), self.rng.choice(NAMES))
+        to = os.path.join(self.tree, self.rng.choice(self.folders[:2]), self.rng.choice(self.names))
         if fax is not None and not os.path.lexists(to) and not self.blocked(os.path.dirname(to)):
             os.makedirs(os.path.dirname(to), exist_ok=True)
             os.rename(os.path.join(self.tree, fax), to)
@@ -156,7 +166,7 @@ class World:
     def hard_link(self) -> None:
         """A fax gets a second name."""
         fax = self.any_fax()
-        to = os.path.join(self.tree, self.rng.choice(FOLDERS[:2]), self.rng.choice(NAMES))
+        to = os.path.join(self.tree, self.rng.choice(self.folders[:2]), self.rng.choice(self.names))
         if fax is not None and not os.path.lexists(to) and os.path.isdir(os.path.dirname(to)) and (
                 not self.blocked(os.path.dirname(to))):
             os.link(os.path.join(self.tree, fax), to)
@@ -193,7 +203,7 @@ class World:
 
     def foreign(self) -> None:
         """Something of somebody else comes into the place of a copy or of its fields, or of a folder on the way."""
-        name = self.rng.choice([os.path.join(folder, name) for folder in FOLDERS[:4] for name in NAMES])
+        name = self.rng.choice([os.path.join(folder, name) for folder in self.folders[:4] for name in self.names])
         name += self.rng.choice([b"", b"", b".fields", b".pbm"])
         path = os.path.join(self.target, name)
         if os.path.lexists(path) or self.blocked(os.path.dirname(path)):
@@ -211,7 +221,7 @@ class World:
 
     def link_in_target(self) -> None:
         """A folder on the way to a copy is a link back into the tree, or elsewhere."""
-        path = os.path.join(self.target, self.rng.choice([b"one", b"thr\xe9e", b"one/two"]))
+        path = os.path.join(self.target, self.rng.choice([b"one", self.folders[3], b"one/two"]))
         if not os.path.lexists(path) and os.path.isdir(os.path.dirname(path)
                                                        ) and not self.blocked(os.path.dirname(path)):
             os.symlink(self.rng.choice([os.path.join(self.tree, b"one"), self.outside, self.tree]), path)

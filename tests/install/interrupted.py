@@ -1,0 +1,65 @@
+"""Interrupts that come to faxpages-archive while it starts: it ends by them, and prints no traceback.
+
+    interrupted.py starts|loads COMMAND
+
+starts: at times from its first instant on, also while Python itself starts. loads: while it loads modules, as pip's own
+commands can have it. Ends with status 0 where each run has ended so, and an interrupt has met each kind of time."""
+
+import os
+import signal
+import subprocess
+import sys
+import time
+
+RUNS = 60
+PATIENCE = 900
+
+
+def maps(process):
+    """What the process has loaded; nothing where it has ended."""
+    try:
+        with open(f"/proc/{process.pid}/maps", encoding="utf-8", errors="replace") as file:
+            return file.read()
+    except OSError:
+        return ""
+
+
+def interrupted(command, when):
+    """The status of a run that is interrupted at some time, and what it says."""
+    process = subprocess.Popen([command, "--help"], stdin=subprocess.DEVNULL, stdout=subprocess.DEVNULL,
+                               stderr=subprocess.PIPE, text=True)
+    when(process)
+    process.send_signal(signal.SIGINT)
+    return process.wait(PATIENCE), process.stderr.read()
+
+
+def loading(process):
+    """Waits until a module is loaded, before which the command's first line has run."""
+    while process.poll() is None and "/_ctypes." not in maps(process):
+        pass
+
+
+def seconds_of(command):
+    """How long a whole run takes, the least of three."""
+    found = []
+    for _ in range(3):
+        began = time.monotonic()
+        subprocess.run([command, "--help"], stdout=subprocess.DEVNULL, stderr=subprocess.DEVNULL, check=False)
+        found.append(time.monotonic() - began)
+    return min(found)
+
+
+def main():
+    way, command = sys.argv[1], os.path.abspath(sys.argv[2])
+    whole = seconds_of(command)
+    got = [interrupted(command, loading if way == "loads" else lambda _, at=at: time.sleep(whole * at / RUNS))
+           for at in range(RUNS)]  # fmt: skip
+    # One that comes after its end finds it ended; so does one that has nothing to be printed any more.
+    wrong = [it for it in got if it not in ((-signal.SIGINT, ""), (0, ""))]
+    ended = sum(status == -signal.SIGINT for status, _ in got)
+    print(f"{way}: {ended} of {RUNS} runs were ended; wrong: {wrong[:2]}")
+    return 1 if wrong or ended < RUNS // 4 else 0
+
+
+if __name__ == "__main__":
+    sys.exit(main())
