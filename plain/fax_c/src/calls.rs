@@ -8,6 +8,7 @@ pub use crate::faults::FaxFault;
 pub use crate::forms::FaxForm;
 pub use crate::places::FaxPlace;
 pub use crate::rows::FaxRow;
+pub use crate::salvage::FaxLost;
 pub use crate::strip_form::FaxStrip;
 pub use crate::strip_report::FaxStripReport;
 pub use crate::told::FaxTold;
@@ -175,6 +176,31 @@ pub fn faxpages_changes_from(
     told: &mut FaxTold,
 ) -> u32 {
     crate::runs::faxpages_changes_from(Global, file, place, runs, rows, out, told)
+}
+
+/// As the header says.
+pub fn faxpages_salvage(
+    file: &[u8],
+    page: u32,
+    form: &mut FaxForm,
+    out: &mut [u8],
+    stride: usize,
+    lost: &mut [FaxLost],
+    told: &mut FaxTold,
+) -> u32 {
+    crate::salvage::faxpages_salvage(Global, file, page, form, out, stride, lost, told)
+}
+
+/// As the header says.
+pub fn faxpages_salvage_strip(
+    strip: &[u8],
+    form: &FaxStrip,
+    out: &mut [u8],
+    stride: usize,
+    lost: &mut [FaxLost],
+    told: &mut FaxTold,
+) -> u32 {
+    crate::salvage::faxpages_salvage_strip(Global, strip, form, out, stride, lost, told)
 }
 
 /// As the header says.

@@ -61,7 +61,7 @@ pub(crate) fn pbm_fault_number(fault: PbmFault) -> u32 {
 }
 
 /// The number of a cause.
-fn fault_number(cause: Cause) -> u32 {
+pub(crate) fn fault_number(cause: Cause) -> u32 {
     match cause {
         Cause::File(fault) => file_fault_number(fault),
         Cause::Strip(fault) => strip_fault_number(fault),

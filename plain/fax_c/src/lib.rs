@@ -21,6 +21,7 @@ mod places;
 mod raster;
 mod rows;
 mod runs;
+mod salvage;
 mod status;
 mod strip_form;
 mod strip_part;

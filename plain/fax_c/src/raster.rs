@@ -16,7 +16,7 @@ fn clear(bytes: &mut [u8]) {
 }
 
 /// Writes zeros from a place to another.
-fn put_zeros(out: &mut [u8], at: usize, to: usize) {
+pub(crate) fn put_zeros(out: &mut [u8], at: usize, to: usize) {
     clear(&mut out[at..to]);
 }
 

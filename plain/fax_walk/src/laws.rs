@@ -132,3 +132,10 @@ pub fn files_are_salvaged_in_one_way() {
     fax_page::laws::strips_are_salvaged_in_one_way();
     fax_files::laws::files_have_one_chain();
 }
+
+/// What is left of a page, or of a strip with no file around it, is one list of rows, found or lost;
+/// and what is left of a file has that of each page.
+pub fn rows_are_left_in_one_way() {
+    fax_page::laws::strips_are_salvaged_in_one_way();
+    fax_files::laws::files_have_one_chain();
+}

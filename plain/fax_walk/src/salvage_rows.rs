@@ -7,10 +7,13 @@ use fax_rows::Row;
 use kit_std::alloc::Global;
 use kit_std::marker::Model;
 
-/// What became of the next row of a page, and of those that are lost with it.
-#[derive(Clone, Copy)]
-pub(crate) enum PagePart {
+/// What became of the next row of a page, or of a strip with no file around it, and of those that are
+/// lost with it.
+#[derive(Clone, Copy, Debug, PartialEq, Eq)]
+pub enum PagePart {
+    /// The row is found.
     Found,
+    /// So many rows are lost, the first of them for this cause.
     Lost { rows: u32, cause: Cause },
 }
 
@@ -33,7 +36,7 @@ fn cause_of(fault: StripFault, whole: bool) -> Cause {
 
 /// What became of the next row of a page, by what became of it in its strip, which lies wholly in the
 /// file or does not.
-fn part_of(salvaged: Salvaged, whole: bool) -> PagePart {
+pub(crate) fn part_of(salvaged: Salvaged, whole: bool) -> PagePart {
     match salvaged {
         Salvaged::Found => PagePart::Found,
         Salvaged::Lost { fault, rows } => PagePart::Lost {

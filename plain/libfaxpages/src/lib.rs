@@ -5,6 +5,7 @@ use fax_c::calls::{
     self,
     FaxConverted,
     FaxForm,
+    FaxLost,
     FaxNote,
     FaxOptions,
     FaxPlace,
@@ -427,6 +428,64 @@ pub unsafe extern "C" fn faxpages_changes_from(
             kit_std::c::items_mut(runs, runs_len),
             kit_std::c::items_mut(rows, rows_len),
             kit_std::c::items_mut(out, out_len),
+            &mut *told,
+        )
+    }
+}
+
+/// # Safety
+///
+/// The header says what the caller owes.
+#[no_mangle]
+pub unsafe extern "C" fn faxpages_salvage(
+    file: *const u8,
+    file_len: usize,
+    page: u32,
+    form: *mut FaxForm,
+    out: *mut u8,
+    out_len: usize,
+    stride: usize,
+    lost: *mut FaxLost,
+    lost_len: usize,
+    told: *mut FaxTold,
+) -> u32 {
+    // SAFETY: as above.
+    unsafe {
+        calls::faxpages_salvage(
+            kit_std::c::items(file, file_len),
+            page,
+            &mut *form,
+            kit_std::c::items_mut(out, out_len),
+            stride,
+            kit_std::c::items_mut(lost, lost_len),
+            &mut *told,
+        )
+    }
+}
+
+/// # Safety
+///
+/// The header says what the caller owes.
+#[no_mangle]
+pub unsafe extern "C" fn faxpages_salvage_strip(
+    strip: *const u8,
+    strip_len: usize,
+    form: *const FaxStrip,
+    out: *mut u8,
+    out_len: usize,
+    stride: usize,
+    lost: *mut FaxLost,
+    lost_len: usize,
+    told: *mut FaxTold,
+) -> u32 {
+    // SAFETY: as above.
+    unsafe {
+        calls::faxpages_salvage_strip(
+            kit_std::c::items(strip, strip_len),
+            &*form,
+            kit_std::c::items_mut(out, out_len),
+            stride,
+            kit_std::c::items_mut(lost, lost_len),
             &mut *told,
         )
     }

@@ -1,0 +1,189 @@
+//! What is left of a damaged page or strip, in a raster, and the rows that are lost.
+
+use crate::faults::fault_number;
+use crate::filled::{Filled, Stop};
+use crate::forms::FaxForm;
+use crate::raster::{packed_len, put_padded, put_zeros};
+use crate::status;
+use crate::strip_form::FaxStrip;
+use crate::strips::readable_form;
+use crate::told::FaxTold;
+use fax_files::Cause;
+use fax_rows::Row;
+use fax_walk::{Cursor, PageLeft, PagePart, RowsLeft, Stretch};
+use kit_std::alloc::Global;
+
+/// Rows of a page or a strip that are lost, one after another.
+#[repr(C)]
+#[derive(Clone, Copy)]
+pub struct FaxLost {
+    /// The first of them, from 0.
+    pub row: u32,
+    /// How many they are.
+    pub rows: u32,
+    /// The number of the fault for which the first of them is lost.
+    pub fault: u32,
+}
+
+impl FaxLost {
+    /// A stretch as it stands in memory of the caller.
+    fn of(stretch: &Stretch) -> Self {
+        FaxLost {
+            row: stretch.row,
+            rows: stretch.rows,
+            fault: fault_number(stretch.cause),
+        }
+    }
+}
+
+/// The stretch that ends before a row of a page, with so many rows more, which are lost for this cause.
+fn longer(lost: Option<Stretch>, page: u32, row: u32, rows: u32, cause: Cause) -> Stretch {
+    match lost {
+        Some(stretch) => Stretch {
+            rows: stretch.rows + rows,
+            ..stretch
+        },
+        None => Stretch {
+            page,
+            row,
+            rows,
+            cause,
+        },
+    }
+}
+
+/// Writes a stretch that has ended, if one has, after so many others, where it has room, and answers
+/// how many there are now.
+fn put_stretch(ended: Option<Stretch>, lost: &mut [FaxLost], count: usize) -> usize {
+    let Some(stretch) = ended else {
+        return count;
+    };
+    if count < lost.len() {
+        lost[count] = FaxLost::of(&stretch);
+    }
+    count + 1
+}
+
+/// Whether so many bytes hold so many rows of a raster, each in so many bytes.
+fn holds_rows(len: usize, width: u32, rows: u32, stride: usize) -> bool {
+    if stride < packed_len(width) {
+        return false;
+    }
+    match (rows as usize).checked_mul(stride) {
+        Some(all) => all <= len,
+        None => false,
+    }
+}
+
+/// Writes a row that is found into a raster that has room for it, and answers where it ends.
+fn put_found(row: &Row, stride: usize, out: &mut [u8], at: usize) -> usize {
+    let Some(to) = put_padded(row, stride, out, at) else {
+        unreachable!();
+    };
+    to
+}
+
+/// Writes so many rows that are lost into a raster that has room for them, and answers where they end.
+fn put_lost(rows: u32, stride: usize, out: &mut [u8], at: usize) -> usize {
+    let to = at + rows as usize * stride;
+    put_zeros(out, at, to);
+    to
+}
+
+/// Why no more is written, where so many stretches have room.
+fn stop_after(stretches: usize, room: usize) -> Stop {
+    if stretches <= room {
+        Stop::Done
+    } else {
+        Stop::NoRoom
+    }
+}
+
+/// Writes all rows that are left into a raster that has room for them, and the first stretches that
+/// are lost, as many as have room.
+fn fill_left(
+    left: &mut RowsLeft,
+    page: u32,
+    stride: usize,
+    out: &mut [u8],
+    lost: &mut [FaxLost],
+) -> Filled {
+    fax_walk::laws::rows_are_left_in_one_way();
+    let mut row = 0;
+    let mut at = 0;
+    let mut count = 0;
+    let mut ended = None;
+    while let Some(part) = left.next_part() {
+        match part {
+            PagePart::Found => {
+                at = put_found(left.row(), stride, out, at);
+                count = put_stretch(ended, lost, count);
+                ended = None;
+                row += 1;
+            }
+            PagePart::Lost { rows, cause } => {
+                at = put_lost(rows, stride, out, at);
+                ended = Some(longer(ended, page, row, rows, cause));
+                row += rows;
+            }
+        }
+    }
+    let used = put_stretch(ended, lost, count);
+    Filled {
+        cursor: Cursor { page, row },
+        count: row as usize,
+        used,
+        stop: stop_after(used, lost.len()),
+    }
+}
+
+/// Writes what is left of a file's page into a raster, and the rows that are lost, and tells the
+/// page's form.
+pub fn faxpages_salvage(
+    alloc: Global,
+    file: &[u8],
+    page: u32,
+    form: &mut FaxForm,
+    out: &mut [u8],
+    stride: usize,
+    lost: &mut [FaxLost],
+    told: &mut FaxTold,
+) -> u32 {
+    let cursor = Cursor { page, row: 0 };
+    let found = match PageLeft::at(file, page) {
+        Ok(found) => found,
+        Err(end) => return Filled::nothing(cursor, Stop::Ended(end)).tell(told),
+    };
+    let its = found.form();
+    *form = FaxForm::of(&its);
+    if !holds_rows(out.len(), its.width, its.rows, stride) {
+        return Filled::nothing(cursor, Stop::NoRoom).tell(told);
+    }
+    match found.rows(alloc) {
+        Ok(mut left) => fill_left(&mut left, page, stride, out, lost).tell(told),
+        Err(_memory) => Filled::nothing(cursor, Stop::Memory).tell(told),
+    }
+}
+
+/// Writes what is left of a strip into a raster, and the rows that are lost.
+pub fn faxpages_salvage_strip(
+    alloc: Global,
+    strip: &[u8],
+    form: &FaxStrip,
+    out: &mut [u8],
+    stride: usize,
+    lost: &mut [FaxLost],
+    told: &mut FaxTold,
+) -> u32 {
+    let Some(form) = readable_form(strip, form) else {
+        return status::NO_OPTIONS;
+    };
+    let cursor = Cursor { page: 0, row: 0 };
+    if !holds_rows(out.len(), form.width, form.rows, stride) {
+        return Filled::nothing(cursor, Stop::NoRoom).tell(told);
+    }
+    match RowsLeft::of_strip(alloc, strip, form) {
+        Ok(mut left) => fill_left(&mut left, 0, stride, out, lost).tell(told),
+        Err(_memory) => Filled::nothing(cursor, Stop::Memory).tell(told),
+    }
+}

@@ -1,0 +1,114 @@
+//! The rows that are left of a page, or of a strip with no file around it, one after another.
+
+use crate::opening::DuePage;
+use crate::salvage_rows::{PagePart, part_of};
+use crate::shown_rows::ShownRows;
+use crate::{Cursor, End};
+use fax_bits::Memory;
+use fax_files::PageForm;
+use fax_page::{SalvageReader, StripForm};
+use fax_rows::Row;
+use kit_std::alloc::Global;
+use kit_std::marker::Model;
+
+/// What rows are left of.
+enum Left<'a> {
+    Page(ShownRows<'a>),
+    /// A strip of these bytes.
+    Strip(SalvageReader<'a>, &'a [u8]),
+}
+
+/// What becomes of the row that is due, or `None` after the last one.
+fn next_of(left: &mut Left) -> Option<PagePart> {
+    fax_page::laws::strips_are_salvaged_in_one_way();
+    match left {
+        Left::Page(its) => {
+            let part = its.next_part();
+            its.rows_are_left();
+            part
+        }
+        Left::Strip(reader, _) => match reader.advance() {
+            Some(salvaged) => Some(part_of(salvaged, true)),
+            None => None,
+        },
+    }
+}
+
+/// A page of a file that may be damaged, found by its number. Contracts see its file, and where and
+/// what it is.
+pub struct PageLeft<'a> {
+    due: DuePage<'a>,
+}
+
+impl<'a> Model for PageLeft<'a> {}
+
+impl<'a> PageLeft<'a> {
+    /// The page of a file with this number, from 0, also after pages that are refused. It takes no
+    /// memory.
+    ///
+    /// # Errors
+    ///
+    /// How the rows end there, where the file has no such page, or it is refused.
+    pub fn at(file: &'a [u8], page: u32) -> Result<Self, End> {
+        match DuePage::at(file, Cursor { page, row: 0 })? {
+            Some(due) => Ok(PageLeft { due }),
+            None => Err(End::Proper),
+        }
+    }
+
+    /// Its form.
+    pub fn form(&self) -> PageForm {
+        self.due.form
+    }
+
+    /// Before the first of its rows. It takes all the memory that the page needs.
+    ///
+    /// # Errors
+    ///
+    /// `Memory` where a growth was refused.
+    pub fn rows(self, alloc: Global) -> Result<RowsLeft<'a>, Memory> {
+        let rows = ShownRows::open(alloc, self.due.form, self.due.strips)?;
+        Ok(RowsLeft {
+            left: Left::Page(rows),
+        })
+    }
+}
+
+/// Goes through the rows of a page, or of a strip with no file around it, and tells of each whether it
+/// is found or lost. Contracts see what the rows are left of, how many were passed, how many they are,
+/// and the row that was found last.
+pub struct RowsLeft<'a> {
+    left: Left<'a>,
+}
+
+impl<'a> Model for RowsLeft<'a> {}
+
+impl<'a> RowsLeft<'a> {
+    /// Before the first row of a strip in at most 4,294,967,295 bytes. It takes all the memory that
+    /// the strip needs.
+    ///
+    /// # Errors
+    ///
+    /// `Memory` where a growth was refused.
+    pub fn of_strip(alloc: Global, bytes: &'a [u8], form: StripForm) -> Result<Self, Memory> {
+        let reader = SalvageReader::new(alloc, bytes, form)?;
+        Ok(RowsLeft {
+            left: Left::Strip(reader, bytes),
+        })
+    }
+
+    /// What became of the row that is due, and of those that are lost with it, or `None` after the
+    /// last one. It takes no memory.
+    pub fn next_part(&mut self) -> Option<PagePart> {
+        crate::laws::rows_are_left_in_one_way();
+        next_of(&mut self.left)
+    }
+
+    /// The row that was found last.
+    pub fn row(&self) -> &Row {
+        match &self.left {
+            Left::Page(its) => its.row(),
+            Left::Strip(reader, _) => reader.reference(),
+        }
+    }
+}

@@ -1,0 +1,49 @@
+//! The rows of a page that are left, as they are handed out.
+
+use crate::page::{row_for_exchange, set_exchanged};
+use crate::salvage_rows::{PagePart, SalvageRows};
+use fax_bits::Memory;
+use fax_files::{PageForm, Strips};
+use fax_rows::Row;
+use kit_std::alloc::Global;
+use kit_std::marker::Model;
+
+/// The rows of a page that are gone through, with the row that was found last, as it is handed out.
+pub(crate) struct ShownRows<'a> {
+    rows: SalvageRows<'a>,
+    /// Where colours are exchanged, if they are: the row that was found last, as it is handed out.
+    exchanged: Option<Row>,
+}
+
+impl<'a> Model for ShownRows<'a> {}
+
+impl<'a> ShownRows<'a> {
+    /// Before the first row of a page. It takes all the memory that the page needs.
+    pub fn open(alloc: Global, form: PageForm, strips: Strips<'a>) -> Result<Self, Memory> {
+        let exchanged = row_for_exchange(alloc, &form)?;
+        let rows = SalvageRows::begin(alloc, form, strips)?;
+        Ok(ShownRows { rows, exchanged })
+    }
+
+    /// What becomes of the row that is due, or `None` after the page's last one.
+    pub fn next_part(&mut self) -> Option<PagePart> {
+        let part = self.rows.next_part();
+        if let Some(row) = &mut self.exchanged {
+            set_exchanged(row, self.rows.reference());
+        }
+        part
+    }
+
+    /// The row that was found last, as it is handed out.
+    pub fn row(&self) -> &Row {
+        match &self.exchanged {
+            Some(row) => row,
+            None => self.rows.reference(),
+        }
+    }
+
+    /// Rows are left of the page, or none: it computes nothing.
+    pub fn rows_are_left(&self) {
+        self.rows.rows_are_left();
+    }
+}
