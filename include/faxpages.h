@@ -251,9 +251,8 @@ struct faxpages_lost {
  *
  * `form` is written if the file has the page, even with out_room 0: so ask for its size first. A
  * page has at most (rows + 1) / 2 stretches. `count` of `told` says how many rows the page has,
- * found and lost, and `used` how many stretches, also where `lost` has room for fewer, after DONE
- * and this NO_ROOM; otherwise both are 0. A page is found by its number, also after one that is
- * refused.
+ * found and lost, and `used` how many stretches, also where `lost` has room for fewer; both are 0
+ * where no row is written. A page is found by its number, also after one that is refused.
  *
  * In this order: END, if the file has exactly `page` pages, OUTSIDE, if it has fewer, or FAULT, at
  * a fault of the header, a directory or a field: then no form is written. NO_ROOM, if `stride` is
