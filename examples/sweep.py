@@ -20,6 +20,11 @@ except ImportError as missing:
     sys.exit(f"sweep.py: {missing}")
 
 
+# Faults of files that are no faxes which are read here, as a PDF or one with another compression: they need not be
+# damaged.
+OTHERS = (faxpages.Unsupported, faxpages.ByteOrder, faxpages.Magic)
+
+
 def faxes(folder: str, counts: Counter[str]) -> Iterator[str]:
     """The names of all faxes below a folder. A folder that cannot be read is counted."""
     for base, _, names in sorted(os.walk(folder, onerror=lambda error: not_read(error, counts))):
@@ -42,7 +47,9 @@ def sweep(name: str, counts: Counter[str]) -> None:
         error.filename = name  # a read that failed does not name its file
         not_read(error, counts)
         return
-    counts.update(faxes=1, pages=report.pages, rows=report.rows, damaged=not report.ok)
+    other = isinstance(report.fault, OTHERS)
+    counts.update(faxes=1, pages=report.pages, rows=report.rows, damaged=int(not report.ok and not other))
+    counts.update({"of other kinds": int(other)})
     counts.update(f"N{note.number} {note.name}" for note in report.notes)
     if not report.ok:
         print(f"{name}: {report.fault}")
@@ -57,7 +64,7 @@ def main() -> int:
         sweep(name, counts)
     for what, count in sorted(counts.items()):
         print(f"{count} {what}")
-    return 1 if counts["damaged"] or counts["not read"] else 0
+    return 1 if counts["damaged"] or counts["of other kinds"] or counts["not read"] else 0
 
 
 if __name__ == "__main__":

@@ -16,6 +16,7 @@ from typing import IO, Any, Iterator, List, NamedTuple, Sequence, Tuple, Union
 import pikepdf
 
 from ._cups import Job, Other, Refused, say, seconds_of, within
+from ._directory import kind_of
 from ._fax import Fax, Page
 from ._raster import Raster
 from ._report import check
@@ -63,6 +64,9 @@ def sheets(data: bytes, salvage: bool) -> Iterator[Sheet]:
     bound(fax)
     if not salvage:
         fault = check(data).fault
+        kind = kind_of(data, fault) if fault else None
+        if kind:
+            raise Refused(f"fault {fault}: it is no fax that is read here, but {kind}, and not printed")
         if fault:
             raise Refused(f"fault {fault}: the fax is damaged, and not printed; with -o faxpages=salvage what can be "
                           "read of it is printed")

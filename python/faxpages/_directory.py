@@ -80,7 +80,13 @@ class Directories:
             if 0 in self.numbers("II", entry.at):
                 return False
         unit = found.get(UNIT)
-        return unit is None or unit.kind in (SHORT, _LONG) and unit.values == 1 and self.values(unit)[0] in (1, 2, 3)
+        return unit is None or self._first(unit) in (1, 2, 3)
+
+    def _first(self, entry: Entry) -> Optional[int]:
+        """The first value of a field of SHORT or LONG, where it is in the file."""
+        if entry.kind not in (SHORT, _LONG) or not entry.values or entry.at + SIZES[entry.kind] > len(self.data):
+            return None
+        return self.values(entry._replace(values=1))[0]
 
 
 def first_of(entries: List[Entry]) -> Dict[int, Entry]:

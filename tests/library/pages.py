@@ -11,6 +11,7 @@ import itertools
 import mmap
 import os
 import pathlib
+import struct
 import subprocess
 import sys
 import tempfile
@@ -124,6 +125,51 @@ def resolutions(claims):
                       lambda dpi=dpi: faxpages.encode([page], dpi=dpi))
     for dpi in (0, -1, (200, 0), 2 ** 32, float("nan"), float("inf"), 1e-30):
         claims.raises(f"dpi {dpi}", ValueError, lambda dpi=dpi: faxpages.encode([page], dpi=dpi))
+
+
+def given(claims):
+    """Whether a file gives a page's resolution, beside what the library reads of it."""
+    whole = faxpages.encode([faxpages.Raster(8, 2, b"12", 98, 98)] * 2)
+    claims.see("given", [page.resolution_given for page in faxpages.open(whole)] == [True, True])
+    cases = {"no XResolution": (282, 0, "H", 60000), "no YResolution": (283, 0, "H", 60000), "another type": (282, 2, "H", 4),
+             "no value": (283, 4, "I", 0), "outside": (282, 8, "I", len(whole) - 7), "unit 4": (296, 8, "H", 4),
+             "two units": (296, 4, "I", 2), "units outside": (296, 4, "I", 3), "no unit field": (296, 0, "H", 60000), "a unit of LONG": (296, 2, "H", 4)}  # fmt: skip
+    places = directories(whole)
+    for number in range(2):
+        for name, (tag, at, form, value) in cases.items():
+            data = bytearray(whole)
+            struct.pack_into(f"<{form}", data, entry_at(data, places[number], tag) + at, value)
+            told_rightly(claims, f"{name}, page {number}", bytes(data), number)
+        for tag, half in itertools.product((282, 283), (0, 4)):
+            data = bytearray(whole)
+            (place,) = struct.unpack_from("<I", data, entry_at(data, places[number], tag) + 8)
+            struct.pack_into("<I", data, place + half, 0)
+            told_rightly(claims, f"0 in {tag}, page {number}", bytes(data), number)
+
+
+def told_rightly(claims, name, data, number):
+    """98 by 98 are given; 204 by 196 are what the library takes where nothing can be read."""
+    for page in faxpages.open(data):
+        is_usual = (page.x, page.y, page.unit) == (204, 196, 2)
+        claims.see(f"{name}: page {page.number}", page.resolution_given == (not is_usual) and (
+            page.number == number or page.resolution_given))
+
+
+def directories(data):
+    """Where the directories of a file of little-endian bytes stand."""
+    found, (at,) = [], struct.unpack_from("<I", data, 4)
+    while at:
+        found.append(at)
+        (count,) = struct.unpack_from("<H", data, at)
+        (at,) = struct.unpack_from("<I", data, at + 2 + 12 * count)
+    return found
+
+
+def entry_at(data, directory, tag):
+    """Where the field of a tag stands."""
+    (count,) = struct.unpack_from("<H", data, directory)
+    places = [directory + 2 + 12 * number for number in range(count)]
+    return next(at for at in places if struct.unpack_from("<H", data, at) == (tag,))
 
 
 def refused(claims):
@@ -250,7 +296,7 @@ def main():
         as_sequence(claims, name, data)
         if faxpages.check(data).ok and len(data) < 3000:
             written(claims, name, data)
-    for part in (resolutions, refused, limits, sources, rasters, small_room, command):
+    for part in (resolutions, given, refused, limits, sources, rasters, small_room, command):
         part(claims)
     return claims.ends("pages")
 

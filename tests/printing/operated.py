@@ -198,7 +198,7 @@ def full_temporary_folder(room, folder):
 
 def drawn(room, folder, is_small):
     """The operator's jobs, and what is there at the end."""
-    seed = int(os.environ.get("SEED", "20261127"))
+    seed = os.environ.get("SEED", "20261127")
     operator = Operator(room, seed, folder)
     actions = [operator.kill, operator.kill, operator.cancel, operator.take, operator.restart]
     for number in range(JOBS):

@@ -111,6 +111,17 @@ def bounds(room):
         room.claim("many bytes", (status, "it has more than 268435456 bytes" in said), (3 if backend else 1, True))
 
 
+def kinds(room):
+    """Sound files that are no faxes read here are not printed as such, and nobody calls them damaged."""
+    source = f"{server.TOP}/samples/one-mh-page.tif"
+    for name, words, kind in (("tiles", ["-t", "-w", "16", "-l", "16", "-c", "g4"], "a picture in tiles"),
+                              ("big", ["-8"], "a BigTIFF file, or none in TIFF")):  # fmt: skip
+        made.run(room.made(""), "tiffcp", "-s", *words, source, f"kind-{name}.tif")
+        status, out, said = by_hand(room, False, "", room.made(f"kind-{name}.tif"))
+        told = f": it is no fax that is read here, but {kind}, and not printed\n" in said
+        room.claim(f"{name}: {said}", (status, out, told, "damaged" in said), (1, b"", True, False))
+
+
 def pdf_of(pages, content, size=(595, 842)):
     """A PDF whose pages have this content."""
     kids = " ".join(f"{5 + number} 0 R" for number in range(pages))
@@ -271,6 +282,7 @@ def folders(room):
 def play(room):
     words(room)
     bounds(room)
+    kinds(room)
     documents(room)
     endless(room)
     kept_by_others(room)

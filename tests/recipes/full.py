@@ -134,11 +134,15 @@ def example(room, _):
             *(f"faxes/{it}faulty.tif: {fault}".strip() for it in ("", "in/")),
         ]
     )
-    yield "counts", [it for it in lines[4:] if it.endswith(("damaged", "faxes", "not read"))], [
+    yield "counts", [it for it in lines[4:] if it.endswith(("damaged", "faxes", "not read", "of other kinds"))], [
         "2 damaged",
         "8 faxes",
         "2 not read",
+        "0 of other kinds",
     ]
+    room.put("kinds/pdf.tif", b"%PDF-1.4\n%%EOF\n")
+    status, output, _ = room.call(*sweep, "kinds", PYTHONPATH="")
+    yield "a PDF is not damaged", (status, {b"0 damaged", b"1 of other kinds"} <= set(output.splitlines())), (1, True)
     for name in ("faxes/gone.tif", "faxes/unread.tif", "faxes/faulty.tif", "faxes/in/faulty.tif"):
         os.remove(room(name))
     yield "all are whole", room.call(*sweep, "faxes", PYTHONPATH="")[::2], (0, "")

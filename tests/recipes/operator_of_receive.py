@@ -10,7 +10,7 @@ import time
 from room import HOSTILE
 from waiting import left_of, wait_for
 
-SEED = int(os.environ.get("FAXPAGES_SEED", "20261127"))
+SEED = os.environ.get("FAXPAGES_SEED", "20261127")
 STEPS = int(os.environ.get("FAXPAGES_STEPS", "300"))
 NAMES = ["a", "a.report", "a.report.report", "b.tif", "b.tif.report", HOSTILE[2], HOSTILE[3], HOSTILE[5]]
 FOLDERS = ["in", "in/sub", "out", "out/good", "out/faulty"]
