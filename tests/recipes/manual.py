@@ -49,7 +49,7 @@ def examples(page):
 
 def manual(room, _):
     page = files.get(MANUAL).decode()
-    names = sorted(os.listdir(SCRIPTS))
+    names = sorted(name for name in os.listdir(SCRIPTS) if os.access(f"{SCRIPTS}/{name}", os.X_OK))
     heads = re.findall(r"^\.Ss (\S+)\n(.*?)(?=^\.S[sh] )", page, re.M | re.S)
     yield "a section for each", [name for name, _ in heads], names
     yield "names", re.findall(r"^\.Nm (\S+)", page.split(".Sh SYNOPSIS")[0], re.M), names

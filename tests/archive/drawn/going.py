@@ -70,6 +70,9 @@ class Gone(Comparison):
         shutil.rmtree(moved, ignore_errors=True)
         names = {*self.before.target, *self.after.target, *self.wanted}
         names.update(name for path in {*self.before.rows, *self.after.rows} for name in self.job.copies_of(path))
+        # What the run wrote into TARGET before it went, or after, is a copy of its table.
+        for name, its in self.wanted.items():
+            self.model.written.setdefault(name, set()).update(data for _, _, data in its)
         for job in self.episode.jobs[1:]:
             self.model.maybe.setdefault(job.table, set()).update(names)
         for name in names:
