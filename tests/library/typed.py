@@ -108,6 +108,19 @@ def of_raster(raster: faxpages.Raster) -> bytes:
     return faxpages.encode_strip(again, coding="mr", order=2, k=Index(), align=True)
 
 
+def of_salvaged(page: faxpages.Page, coded: bytes) -> int:
+    """What is left of a page, and of a strip of as many rows in MR."""
+    left: faxpages.Salvaged = page.salvaged()
+    lost: Tuple[faxpages.Stretch, ...] = left.lost
+    told: List[Tuple[int, int, int, str]] = [(it.first, it.rows, it.last, it.name) for it in lost]
+    again: faxpages.Salvaged = faxpages.salvage_strip(
+        coded, page.width, rows=left.raster.rows, coding="mr", order=2)
+    ok: Tuple[bool, bool] = left.ok, again.ok
+    if told or ok != (True, True) or again.found != left.found or again.raster.packed != left.raster.packed:
+        raise AssertionError("something is lost")
+    return left.found
+
+
 def of_strips(raster: faxpages.Raster) -> int:
     """A strip that is coded, read at once and in pieces, and checked."""
     data: bytes = of_raster(raster)
@@ -138,6 +151,8 @@ def of_pages(fax: faxpages.Fax) -> int:
     dpi: Optional[Tuple[float, float]] = written[0].dpi
     registers: Callable[[], None] = faxpages.register
     pages: int = len(faxpages.open(data)) + len(written)
+    if of_salvaged(first, of_raster(first.raster())) != first.rows:
+        raise AssertionError("another number of rows")
     if dpi != (200.0, 200.0) or not callable(registers) or first not in fax or of_strips(first.raster()) != first.rows:
         raise AssertionError("another file of pages")
     return pages
