@@ -3,7 +3,7 @@
 # The options of a command, and those of a command of faxpages-archive.
 _faxpages_command_options() {
     case $1 in
-    faxpages-archive-check) echo --table --dask --scheduler --processes --timeout --again --share --follow --gone --names --faults-ok ;;
+    faxpages-archive-check) echo --table --dask --scheduler --processes --timeout --again --share --follow --gone --names --faults-ok --lost ;;
     faxpages-archive-convert) echo --to --order --k --strip --align --fields --adopt --delete --give-up --table --dask --scheduler --processes --timeout --again --share --follow --gone --names --faults-ok ;;
     faxpages-archive-table) echo --csv --json --summary --prometheus --faulty ;;
     faxpages-compare) echo --replace ;;

@@ -10,6 +10,7 @@ for option in dask follow gone names faults-ok
     complete -c faxpages-archive -n '__fish_seen_subcommand_from check convert' -l $option
 end
 complete -c faxpages-archive -n '__fish_seen_subcommand_from check convert' -l again -x -a 'unread faulty copies all'
+complete -c faxpages-archive -n '__fish_seen_subcommand_from check' -l lost
 complete -c faxpages-archive -n '__fish_seen_subcommand_from convert' -l to -x -a 'pbm mh mr mmr'
 complete -c faxpages-archive -n '__fish_seen_subcommand_from convert' -l order -x -a '1 2'
 for option in k strip give-up
