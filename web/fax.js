@@ -60,7 +60,8 @@ class LostRows {
 class Fax extends Known {
     /** The classes that a worker is made of. */
     static WORKER = [
-        Library, Cursor, Form, Left, Salvaging, Reading, Drawing, Shrunk, Cells, Pdf, Png, Saving, Importing, FaxWorker];
+        Library, Cursor, Form, Left, Salvaging, Reading, Drawing, Shrunk, Cells, Pdf, Png, Saving, Importing, FaxWorker,
+    ];
     static ids = 0;
 
     /** @param {File} file @param {(fax: Fax) => void} changed */

@@ -94,7 +94,7 @@ class Reading {
         return took < Reading.SLICE ? Math.min(Library.ROWS, 2 * most) : most;
     }
 
-    /** Goes on at the page after a fault, if there is anything after it. Of a page that is damaged it tells what is lost.
+    /** Goes on at the page after a fault, if there is anything after it. Of a damaged page it tells what is lost.
      * @param {Cursor} cursor @param {Fault} fault */
     skip(cursor, fault) {
         const form = Salvaging.isOfRows(fault) ? this.library.form(fault.page) : null;

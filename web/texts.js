@@ -97,8 +97,8 @@ const TEXTS = {
         image: "Image {0}",
         more: "{0} more are not shown.",
         reportGoesOn: "The report goes on: save it as text.",
-        unseen: "A row above those that cannot be read may be wrong too: of 1,000 pages in MMR with one bit turned 343 had " +
-            "such a row, and 126 had no fault. No reader sees damage that makes other codes.",
+        unseen: "A row above those that cannot be read may be wrong too: of 1,000 pages in MMR with one bit turned " +
+            "343 had such a row, and 126 had no fault. No reader sees damage that makes other codes.",
         unchecked: "Notes were not looked for, since this file takes long.",
         lookFor: "Look for notes",
     },
