@@ -1,6 +1,7 @@
 """A drawn operator of faxpages-sweep: a tree whose faxes come, change, move and go, with links of both kinds, foreign
 files in the places of what a sweep writes, and kills; after each sweep all is compared with a plain model."""
 
+import errno
 import os
 import random
 import re
@@ -63,6 +64,9 @@ class Operator:
                 os.link(other, place)
             else:
                 os.rename(other, place)
+            # Of links that lead to themselves find says so itself, and the sweep ends with its status: none is drawn.
+            for path in filter(leads_to_itself, self.files()):
+                os.unlink(path)
 
     def files(self):
         """All that stands in the tree but for folders."""
@@ -82,6 +86,15 @@ class Operator:
                 found[told.st_dev, told.st_ino, told.st_ctime_ns, told.st_size] = kind
         # A link that leads nowhere is looked at once a minute has passed, too.
         return {key: kind for key, kind in found.items() if kind != "not_read" or key[2] < (time.time() - 60) * 1e9}
+
+
+def leads_to_itself(path):
+    """Whether a path is of a link that leads to itself, by others or at once."""
+    try:
+        os.stat(path)
+    except OSError as error:
+        return error.errno == errno.ELOOP
+    return False
 
 
 def figures_of(room):
