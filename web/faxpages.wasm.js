@@ -1,4 +1,4 @@
-// The library in WebAssembly, as share/build-web makes it: change nothing here.
+// The library in WebAssembly, as tools/build-web makes it: change nothing here.
 // version 1.6.0
 // rustc 1.96.0
 // sources 9a534792620c60d4ae9d713276070cfee6cd48f0e52781f5abc3c6dd544b9fe5

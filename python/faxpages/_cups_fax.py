@@ -1,5 +1,5 @@
 """What is printed, as a fax in a folder or for HylaFAX, for the backend faxpages of CUPS: a job is handed on once,
-whole, and with a number that it names, or it is held. Only share/cups/faxpages imports this."""
+whole, and with a number that it names, or it is held. Only cups/faxpages imports this."""
 
 from __future__ import annotations
 

@@ -1,6 +1,6 @@
 # mypy: disable-error-code="import,attr-defined"
 # pyright: reportMissingImports=false
-"""A fax as a PDF, for the filter faxtopdf of CUPS: MMR data on pages of their true size. Only share/cups/faxtopdf
+"""A fax as a PDF, for the filter faxtopdf of CUPS: MMR data on pages of their true size. Only cups/faxtopdf
 imports this: it needs pikepdf."""
 
 from __future__ import annotations

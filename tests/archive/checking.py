@@ -234,7 +234,7 @@ def wrong(room, *_):
 
 def documented(room, *_):
     """faxpages-archive(1) has the options and columns of the command, and no other option."""
-    with open(os.path.join(made.HERE, "..", "..", "share", "faxpages-archive.1"), encoding="utf-8") as file:
+    with open(os.path.join(made.HERE, "..", "..", "man", "faxpages-archive.1"), encoding="utf-8") as file:
         manual = file.read()
     commands = ([], ["check"], ["convert"], ["table"], ["merge"])
     said = "".join(room.run(*command, "--help")[1].decode() for command in commands)

@@ -22,7 +22,7 @@ def there():
         "number": {f"{name} {number}" for name, number in re.findall(r"\b(FAXPAGES_[A-Z0-9_]+) = (\d+)", header)},
         "python": set(re.findall(r'"(\w+)"', listed)),
         "rust": set(re.findall(r"^ *pub (?:const )?(?:fn|struct|enum|type|mod|trait) (\w+)", rust, re.M)),
-        "script": {os.path.basename(name) for name in glob.glob(os.path.join(TOP, "share/recipes/faxpages-*"))},
+        "script": {os.path.basename(name) for name in glob.glob(os.path.join(TOP, "recipes/faxpages-*"))},
     }
 
 

@@ -36,7 +36,7 @@ def in_synopsis(lines):
 
 
 def in_bash():
-    text = read("share", "completions", "faxpages.bash")
+    text = read("completions", "faxpages.bash")
     names = re.search(r"words='([\w ]+)'", text).group(1).split()
     options = dict(re.findall(r"^    (\w+)\) echo (-.*) ;;", text, re.M))
     valued = set(re.findall(r"--?\w+", " ".join(re.findall(r"^        (-[-\w| ]+)\)", text, re.M))))
@@ -44,7 +44,7 @@ def in_bash():
 
 
 def in_zsh():
-    text = read("share", "completions", "_faxpages")
+    text = read("completions", "_faxpages")
     names = re.findall(r"'(\w+):", text.split("commands=(")[1].split("\n)")[0])
     part = text.split("part=(")[1].split("\n)")[0]
     cases = text.split("case $command in\n")[1].split("\nesac")[0]
@@ -56,7 +56,7 @@ def in_zsh():
 
 
 def in_fish():
-    text = read("share", "completions", "faxpages.fish")
+    text = read("completions", "faxpages.fish")
     found = {name: [] for name in re.search(r"set -l commands ([\w ]+)", text).group(1).split()}
     for line in re.findall(r"__fish_seen_subcommand_from (\w.*)", text):
         option = re.match(r"([\w ]+)' -(l|s) (\w+)( -x)?", line)

@@ -38,12 +38,12 @@ def given(room, folder, commands, replaced):
 
 def scripts(room):
     """The scripts as shellcheck sees them, and CUPS's own test of the queue's file, where they are here."""
-    for name, words in (("shellcheck", [f"{server.TOP}/share/cups/{it}" for it in ("faxpages", "faxtopdf")]),
-                        ("cupstestppd", ["-q", f"{server.TOP}/share/cups/fax.ppd"])):  # fmt: skip
+    for name, words in (("shellcheck", [f"{server.TOP}/cups/{it}" for it in ("faxpages", "faxtopdf")]),
+                        ("cupstestppd", ["-q", f"{server.TOP}/cups/fax.ppd"])):  # fmt: skip
         if shutil.which(name):
             room.claim(name, room.run(name, *words), (0, b"", ""))
         else:
-            print(f"SKIPPED: {name} is not installed, so: it does not look at share/cups")
+            print(f"SKIPPED: {name} is not installed, so: it does not look at cups/")
 
 
 def play(room):
@@ -72,7 +72,7 @@ def play(room):
                ["systemctl", "restart", "cups"]))  # fmt: skip
     spool = f"{room.server.folder}/by-recipe"
     status, said, _ = given(room, folder, found["Print to Fax"], {
-        "/var/spool/faxpages": spool, "/usr/share/ppd/faxpages": f"{server.TOP}/share/cups", "-p Fax ": "-p Fax2 ",
+        "/var/spool/faxpages": spool, "/usr/share/ppd/faxpages": f"{server.TOP}/cups", "-p Fax ": "-p Fax2 ",
         "-d Fax ": "-d Fax2 "})  # fmt: skip
     job = int(re.search(rb"Fax2-(\d+)", said).group(1))
     room.claim("Print to Fax", (status, room.server.ended(job)[0].state), (0, "completed"))

@@ -60,9 +60,9 @@ def from_pdf(room, path, form):
     coding, resolution, width = form
     fax = room.made("drawn-here.tif")
     how = ["--standard"] if resolution == "Standard" else []
-    scripts = f"{server.TOP}/share/recipes:{os.path.dirname(room.program)}:{os.environ['PATH']}"
+    scripts = f"{server.TOP}/recipes:{os.path.dirname(room.program)}:{os.environ['PATH']}"
     words = ["--replace", *how, "--coding", coding.lower(), "--width", width, path, fax]
-    script = f"{server.TOP}/share/recipes/faxpages-from-pdf"
+    script = f"{server.TOP}/recipes/faxpages-from-pdf"
     status, _, said = room.run(script, *words, env={**os.environ, "PATH": scripts})
     if status:
         raise OSError(said)
@@ -73,7 +73,7 @@ def as_cups_hands_it(room, path):
     """The PDF that pdftopdf of cups-filters makes for the queue."""
     ran = subprocess.run(
         [f"{server.SERVER_BIN}/filter/pdftopdf", "1", "user", "title", "1", "", path], capture_output=True, check=True,
-        env={"PPD": f"{server.TOP}/share/cups/fax.ppd", "PATH": "/usr/bin:/bin", "CONTENT_TYPE": "application/pdf",
+        env={"PPD": f"{server.TOP}/cups/fax.ppd", "PATH": "/usr/bin:/bin", "CONTENT_TYPE": "application/pdf",
              "FINAL_CONTENT_TYPE": "application/pdf"}, timeout=server.PATIENCE)  # fmt: skip
     handed = room.made("handed.pdf")
     with open(handed, "wb") as file:

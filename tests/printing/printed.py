@@ -163,7 +163,7 @@ def told_fault(fault):
 
 def as_salvage_has_it(room, fax):
     """The lines of faxpages-salvage."""
-    path = f"{server.TOP}/share/recipes:{os.path.dirname(room.program)}:{os.environ['PATH']}"
+    path = f"{server.TOP}/recipes:{os.path.dirname(room.program)}:{os.environ['PATH']}"
     shutil.rmtree(room.made("lost"), ignore_errors=True)
     room.run("faxpages-salvage", fax, room.made("lost"), env={**os.environ, "PATH": path})
     with open(room.made("lost/lost.txt")) as file:

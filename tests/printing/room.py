@@ -37,7 +37,7 @@ class Room:
 
     def fax_queue(self, name, folder, more=""):
         self.server.do(
-            "lpadmin", "-p", name, "-E", "-v", f"faxpages:{folder}{more}", "-P", f"{server.TOP}/share/cups/fax.ppd"
+            "lpadmin", "-p", name, "-E", "-v", f"faxpages:{folder}{more}", "-P", f"{server.TOP}/cups/fax.ppd"
         )
 
     def job_of_one(self):

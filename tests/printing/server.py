@@ -122,13 +122,13 @@ class Server:
             for name in os.listdir(installed) if os.path.isdir(installed) else ():
                 os.symlink(f"{installed}/{name}", f"{self.folder}/bin/{kind}/{name}")
         # Where this folder is, other users may not look, so what they run is copied.
-        self.put("filter/faxtopdf", f"{TOP}/share/cups/faxtopdf")
-        self.put("backend/faxpages", f"{TOP}/share/cups/faxpages")
+        self.put("filter/faxtopdf", f"{TOP}/cups/faxtopdf")
+        self.put("backend/faxpages", f"{TOP}/cups/faxpages")
         self.put("filter/faxpages", program)
         for name in ("faxpages-from-pdf", *scripts):
-            self.put(f"filter/{name}", f"{TOP}/share/recipes/{name}")
+            self.put(f"filter/{name}", f"{TOP}/recipes/{name}")
         for name in ("faxpages.types", "faxpages.convs"):
-            shutil.copy(f"{TOP}/share/cups/{name}", f"{self.folder}/etc")
+            shutil.copy(f"{TOP}/cups/{name}", f"{self.folder}/etc")
 
     def put(self, name, path):
         """Copies a program to a name below ServerBin, in place of what is there."""

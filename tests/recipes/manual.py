@@ -6,7 +6,7 @@ import re
 import files
 from recipes import ROOT, SCRIPTS
 
-MANUAL = f"{ROOT}/share/faxpages-recipes.1"
+MANUAL = f"{ROOT}/man/faxpages-recipes.1"
 
 
 def synopsis(page):

@@ -4,7 +4,7 @@ import os
 import re
 
 ROOT = os.path.abspath(os.path.join(os.path.dirname(os.path.abspath(__file__)), "..", ".."))
-SCRIPTS = os.path.join(ROOT, "share", "recipes")
+SCRIPTS = os.path.join(ROOT, "recipes")
 
 
 def recipes():

@@ -73,7 +73,7 @@ def said(program, *words):
 
 def picture(program, name, page):
     """The page as faxpages-picture draws it: width, height, and 0, 1 or 2 a pel: white, black, grey."""
-    script = os.path.join(TOP, "share", "recipes", "faxpages-picture")
+    script = os.path.join(TOP, "recipes", "faxpages-picture")
     path = os.pathsep.join([os.path.dirname(os.path.abspath(program)), os.environ["PATH"]])
     ran = subprocess.run([script, name, str(page)], env=dict(os.environ, PATH=path), capture_output=True, check=False)
     return (*pels_of_png(ran.stdout), ran.stderr.decode()) if ran.stdout else None

@@ -31,16 +31,16 @@ def claims():
 
 
 def module_is_of_these_sources():
-    """The module was built of the sources as they stand: share/build-web makes it anew."""
+    """The module was built of the sources as they stand: tools/build-web makes it anew."""
     head = dict(re.findall(r"^// (version|rustc|sources|module) (\S+)$", read("web", "faxpages.wasm.js"), re.M))
     yield "web/faxpages.wasm.js: its version", head.get("version"), read("VERSION").strip()
-    yield "web/faxpages.wasm.js: its sources (share/build-web makes it anew)", head.get("sources"), printed(
-        "share/build-web", "--sources")
+    yield "web/faxpages.wasm.js: its sources (tools/build-web makes it anew)", head.get("sources"), printed(
+        "tools/build-web", "--sources")
     text = re.search(r"^const FAXPAGES_WASM = `\n([^`]*)`;$", read("web", "faxpages.wasm.js"), re.M)
     module = base64.b64decode(text[1])
     yield "web/faxpages.wasm.js: it is a module", module[:8], b"\0asm\1\0\0\0"
     yield "web/faxpages.wasm.js: no path of a machine", re.findall(rb"/(?:usr|tmp|root|home|work|var)/", module), []
-    yield "web/faxpages.wasm.js: its module", head.get("module"), printed("share/build-web", "--digest")
+    yield "web/faxpages.wasm.js: its module", head.get("module"), printed("tools/build-web", "--digest")
 
 
 def words_are_those_of_troubleshooting():
