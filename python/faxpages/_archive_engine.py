@@ -2,7 +2,6 @@
 
 from __future__ import annotations
 
-import asyncio
 import importlib
 import logging
 import os
@@ -11,15 +10,11 @@ import threading
 from concurrent.futures import FIRST_COMPLETED, Executor, Future, ThreadPoolExecutor, wait
 from typing import Any, Callable, Dict, Iterator, List, Optional, Tuple
 
-from ._archive_fax import Done, Found, Job, Waiting
-from ._archive_worker import NoWorker, Worker
+from ._archive_fax import Done, Found, Job, NoEngine, NoWorker, Waiting
+from ._archive_worker import Worker
 
 # Every so many seconds the run has its turn, whether something has come or not.
 _TURN = 1.0
-
-
-class NoEngine(Exception):
-    """An engine is not installed, or does not answer."""
 
 
 class Batches:
@@ -127,6 +122,9 @@ def by_processes(job: Job, timeout: Optional[float], batches: Batches, count: in
 def by_dask(job: Job, timeout: Optional[float], batches: Batches, address: Optional[str],
             count: Optional[int]) -> Iterator[List[Done]]:
     """By Dask: on the scheduler at this address, or on a cluster of this machine with so many processes."""
+    # It takes as long to load as a hundred faxes to check, and all other engines do without it.
+    import asyncio
+
     try:
         distributed: Any = importlib.import_module("distributed")
     except ImportError:

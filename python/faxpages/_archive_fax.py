@@ -30,6 +30,14 @@ GOOD, FAULTY, OTHER, NOT_READ = 0, 1, 2, 3
 FIELDS = b".fields"
 
 
+class NoEngine(Exception):
+    """An engine is not installed, or does not answer."""
+
+
+class NoWorker(Exception):
+    """No worker can be started."""
+
+
 class Waiting(NamedTuple):
     """A fax that is due: its path below the tree, its size and mtime when it was found, the digests that the table
     knows of its copy and of the copy's fields, and whether the copy is of this fax as it is, so that a copy which has

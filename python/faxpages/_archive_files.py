@@ -507,17 +507,20 @@ class Links:
         except OSError:
             return False
 
-    def unlink(self, place: Place, fax: Seen) -> bool:
-        """Deletes a name of a fax, or a link to one, if it is as it was; whether it was."""
+    def unlink(self, place: Place, fax: Seen, copy_is_kept: Callable[[], bool]) -> Optional[str]:
+        """Deletes a name of a fax, or a link to one, if its copy is kept and it is as it was, which are looked at last;
+        why not, if they are not."""
         file = os.open(place.name, os.O_PATH | os.O_NOFOLLOW | os.O_CLOEXEC, dir_fd=place.folder)
         try:
+            if not copy_is_kept():
+                return "NoCopy"
             if not self.is_still(place, fax):
-                return False
+                return "Changed"
             os.unlink(place.name, dir_fd=place.folder)
             told = os.fstat(file)
             if told.st_nlink:
                 self._changed[_number(told.st_dev), _number(told.st_ino)] = time_of(told.st_ctime_ns)
-            return True
+            return None
         finally:
             os.close(file)
 
@@ -541,11 +544,12 @@ def stays(tree: Root, relative: bytes, fax: Seen, links: Links) -> Optional[str]
         return "OutsideTree" if error.errno in (errno.ENOTDIR, errno.ELOOP) else "Changed"
 
 
-def delete(tree: Root, relative: bytes, fax: Seen, links: Links) -> Optional[str]:
-    """Deletes a fax that stands in the tree and is as it was, or a link; why it is not gone, if it is not."""
+def delete(tree: Root, relative: bytes, fax: Seen, links: Links, copy_is_kept: Callable[[], bool]) -> Optional[str]:
+    """Deletes a fax that stands in the tree and is as it was, or a link, if its copy is kept; why it is not gone, if it
+    is not."""
     try:
         with tree.place(relative) as place:
-            return None if links.unlink(place, fax) else "Changed"
+            return links.unlink(place, fax, copy_is_kept)
     except FileNotFoundError:
         return "Changed"
     except OSError as error:

@@ -44,9 +44,10 @@ def lacks(data: bytes, notes: str, to: str, fields: bool) -> str:
 def _lacking(file: Directories, entries: List[Entry], place: Span, to: str, fields: bool) -> "set[str]":
     """What is lacking of one page."""
     found = set()
-    if to != "pbm" and not file.gives_resolution(entries):
+    first = first_of(entries)
+    if to != "pbm" and not file.gives_resolution(first):
         found.add("Resolution")
-    if len({entry.tag for entry in entries}) < len(entries) and not fields:
+    if len(first) < len(entries) and not fields:
         found.add("Fields")
     for entry in entries:
         if entry.tag == _FOLDERS or entry.kind not in SIZES or entry.tag >= _PRIVATE and entry.tag not in _KNOWN:

@@ -11,7 +11,6 @@ import sys
 import time
 from typing import Any, Dict, Iterator, List, Optional, Set, Tuple
 
-from . import _archive_engine as engine
 from . import _archive_files as files
 from . import _archive_walk as walk
 from ._archive_fax import FAULTY, FIELDS, GOOD, NOT_READ, OTHER, Done, Found, Job, Waiting
@@ -266,6 +265,9 @@ class Run:
 
     def _done(self) -> Iterator[List[Done]]:
         """What comes of the faxes that are due, by the engine that was chosen."""
+        # What it loads takes as long as a hundred faxes to check, and a run where nothing is due does without it.
+        from . import _archive_engine as engine
+
         words = self._words
         batches = engine.Batches(self._table.taker())
         if words.dask or words.scheduler is not None:
@@ -294,8 +296,8 @@ class Run:
         return FAULTY if self._counts[FAULTY] + self._counts[OTHER] else GOOD
 
     def _delete(self, status: int) -> int:
-        """Deletes the faxes of the table, if all are copied, each is compared with its copy once more, and all copies
-        are on the disk. What a copy lacks keeps its fax, unless the words give it up. The status."""
+        """Deletes the faxes of the table, if all are copied and each is compared with its copy once more. What a copy
+        lacks keeps its fax, unless the words give it up. The status."""
         if status != GOOD:
             say("not all is copied; nothing is deleted")
             return status
@@ -304,7 +306,6 @@ class Run:
         if lacking:
             say("not all copies are right; nothing is deleted")
             return NOT_READ
-        os.sync()
         count = changed = outside = 0
         for batch in self._table.all_compared():
             gone, others, away = self._delete_some(batch)
@@ -362,6 +363,7 @@ class Run:
                 self._keep(it, why)
         self._table.forget_deleted([it.path for it in ready])
         marked = [it for it in ready if self._is_marked(it)]
+        # Now all copies are on the disk, with their marks and the folders that they stand in.
         os.sync()
         gone = [it.path for it in marked if self._is_gone(tree, it)]
         self._table.are_deleted(gone)
@@ -393,12 +395,15 @@ class Run:
 
     def _is_gone(self, tree: files.Root, it: Compared) -> bool:
         """Deletes a fax; whether it is gone."""
-        assert self._target is not None
-        kept = all(files.is_kept(self._target, *each) for each in self._copies(it))
-        why = files.delete(tree, it.path, it.fax, self._links) if kept else "NoCopy"
+        why = files.delete(tree, it.path, it.fax, self._links, lambda: self._is_kept(it))
         if why is not None:
             self._keep(it, why)
         return why is None
+
+    def _is_kept(self, it: Compared) -> bool:
+        """Whether the copy of a fax stands, and is as it was compared."""
+        assert self._target is not None
+        return all(files.is_kept(self._target, *each) for each in self._copies(it))
 
     def _copies(self, it: Compared) -> List[Tuple[bytes, Seen]]:
         """The copy of a fax, and its fields, by their names below TARGET."""

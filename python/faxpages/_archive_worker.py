@@ -16,7 +16,7 @@ import time
 from multiprocessing.connection import Connection, Pipe
 from typing import Any, List, Optional, Tuple
 
-from ._archive_fax import Done, Found, Job, Waiting, not_read
+from ._archive_fax import Done, Found, Job, NoWorker, Waiting, not_read
 
 # The seconds in which a worker has to start, also on a machine that has much else to do, since one that fails ends at
 # once; and in which one that is killed has to end.
@@ -33,10 +33,6 @@ spec.loader.exec_module(module)
 from faxpages import _archive_worker
 _archive_worker.main(int(sys.argv[2]))
 """
-
-
-class NoWorker(Exception):
-    """No worker can be started."""
 
 
 class Worker:

@@ -49,7 +49,17 @@ class Directories:
         """The fields of a directory, of which all before have been found good."""
         at = self._place(number)
         (count,) = self.numbers("H", at)
-        return [self._entry(at + 2 + 12 * place) for place in range(count)]
+        # One look at all fields takes a third of the time of one at each.
+        told = struct.iter_unpack(self._order + "HHII", self._piece(at + 2, 12 * count))
+        return [Entry(tag, kind, values, value if SIZES.get(kind, 0) * values > 4 else at + 10 + 12 * place)
+                for place, (tag, kind, values, value) in enumerate(told)]
+
+    def _piece(self, at: int, count: int) -> bytes:
+        """So many bytes at a place."""
+        piece = self.data[at:at + count]
+        if len(piece) < count:
+            raise struct.error(f"the file has no {count} bytes at {at}")
+        return piece
 
     def _place(self, number: int) -> int:
         """Where a directory stands; 0 after the last one."""
@@ -61,18 +71,13 @@ class Directories:
             self._places += self.numbers("I", at)
         return self._places[number]
 
-    def _entry(self, at: int) -> Entry:
-        tag, kind, count = self.numbers("HHI", at)
-        size = SIZES.get(kind, 0) * count
-        return Entry(tag, kind, count, at + 8 if size <= 4 else self.numbers("I", at + 8)[0])
-
     def values(self, entry: Entry) -> Tuple[int, ...]:
         """The values of a field of SHORT or LONG."""
         return self.numbers(f"{entry.values}{'H' if entry.kind == SHORT else 'I'}", entry.at)
 
-    def gives_resolution(self, entries: List[Entry]) -> bool:
-        """Whether a page says its resolution; else the library takes 204 by 196 to the inch."""
-        found = first_of(entries)
+    def gives_resolution(self, found: Dict[int, Entry]) -> bool:
+        """Whether a page, by the first field of each tag, says its resolution; else the library takes 204 by 196 to the
+        inch."""
         for tag in RESOLUTIONS:
             entry = found.get(tag)
             if entry is None or entry.kind != RATIONAL or not entry.values or entry.at + 8 > len(self.data):

@@ -14,7 +14,7 @@ from . import _library as _c
 from ._array import Array
 from ._convert import convert
 from ._cursor import Cursor, a_cursor
-from ._directory import Directories
+from ._directory import Directories, first_of
 from ._image import Image
 from ._raster import Raster, dpi_of
 from ._report import Report, check
@@ -80,7 +80,7 @@ class _ByNumber(threading.local):
 
     def __init__(self, data: bytes) -> None:
         super().__init__()
-        self.forms, self.ahead = _Forms(data), Ahead()
+        self.forms, self.ahead, self.directories = _Forms(data), Ahead(), Directories(data)
 
 
 @dataclass(frozen=True)
@@ -236,7 +236,6 @@ class Fax(Sequence[Page]):
         self._data = own(data)
         self._by_number = _ByNumber(self._data)
         self._length: Optional[int] = None
-        self._directories = threading.local()
 
     def __enter__(self) -> "Fax":
         return self
@@ -267,10 +266,8 @@ class Fax(Sequence[Page]):
 
     def _gives_resolution(self, page: int) -> bool:
         """Whether the directory of a page gives a resolution."""
-        kept = self._directories
-        if not hasattr(kept, "all"):
-            kept.all = Directories(self._data)
-        return bool(kept.all.gives_resolution(kept.all.entries(page)))
+        kept = self._by_number.directories
+        return kept.gives_resolution(first_of(kept.entries(page)))
 
     def __iter__(self) -> Iterator[Page]:
         return self.pages

@@ -46,6 +46,8 @@ def own(data: ReadableBuffer) -> bytes:
 
 def bytes_of(source: Source) -> bytes:
     """The bytes of a source, which nobody changes."""
+    if type(source) is bytes:  # whether it can be read takes longer to ask
+        return source
     if isinstance(source, (str, os.PathLike)):
         with io.open(source, "rb") as file:
             return file.read()

@@ -14,7 +14,6 @@ Also as python3 -I -m faxpages.archive. Status: 0 all faxes are good; 1 one has 
 from __future__ import annotations
 
 import argparse
-import csv
 import io
 import json
 import os
@@ -24,15 +23,12 @@ import sys
 from typing import Callable, Dict, Iterable, List, Optional
 
 from . import _archive_files as files
-from . import _archive_merge as merging
 from . import _archive_walk as walk
-from ._archive_engine import NoEngine
-from ._archive_fax import GOOD, NOT_READ, Found, Job
+from ._archive_fax import GOOD, NOT_READ, Found, Job, NoEngine, NoWorker
 from ._archive_marks import Owner
 from ._archive_run import Run, Stopped, say, shown, signals, state_of, told
 from ._archive_table import COLUMNS, Table, TableError, WrongTable, job_of, text_of, where_of
 from ._archive_words import words_of
-from ._archive_worker import NoWorker
 
 WORDS = 2
 
@@ -67,6 +63,8 @@ def _do_table(words: argparse.Namespace) -> int:
         last = table.last_run()
         out = io.TextIOWrapper(sys.stdout.buffer, "utf-8", "surrogateescape", newline="", write_through=False)
         if words.summary or words.prometheus:
+            from . import _archive_merge as merging  # nothing else needs it
+
             found = merging.summary(table)
             out.write(json.dumps(found) + "\n" if words.summary else merging.prometheus(found))
         else:
@@ -83,6 +81,8 @@ def _print_rows(words: argparse.Namespace, out: io.TextIOWrapper, rows: Iterable
     """Rows as CSV, as lines of JSON, or as a line of text each. A byte of a name that is no UTF-8 is itself in CSV, and
     a lone surrogate in JSON."""
     if words.csv:
+        import csv
+
         plain = csv.writer(out, lineterminator="\n")
         quoted = csv.writer(out, lineterminator="\n", quoting=csv.QUOTE_ALL)
         plain.writerow(COLUMNS)
@@ -96,8 +96,15 @@ def _print_rows(words: argparse.Namespace, out: io.TextIOWrapper, rows: Iterable
         out.writelines(f"{shown(row.path)}: {told(row)}\n" for row in rows)
 
 
+def _do_merge(words: argparse.Namespace) -> int:
+    """merge."""
+    from . import _archive_merge as merging  # nothing else needs it
+
+    return merging.merge(words)
+
+
 _DO: Dict[str, Callable[[argparse.Namespace], int]] = {
-    "check": _do_tree, "convert": _do_tree, "table": _do_table, "merge": merging.merge}
+    "check": _do_tree, "convert": _do_tree, "table": _do_table, "merge": _do_merge}
 
 
 def _said(error: object, status: int) -> int:

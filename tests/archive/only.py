@@ -148,9 +148,8 @@ def target_goes(room, *_):
                 break
             with open(f"{place}/amid", encoding="utf-8") as file:
                 gone = set(json.load(file)) - set(os.listdir(f"{place}/tree"))
-            # Where it was only renamed its copies are there, and early in the run they are made again.
-            copies = {name for folder in ("moved", "copies") if os.path.exists(f"{place}/{folder}")
-                      for name in os.listdir(f"{place}/{folder}")}  # fmt: skip
+            # Early in the run the copies are made again.
+            copies = set(os.listdir(f"{place}/copies")) if os.path.exists(f"{place}/copies") else set()
             if gone - copies:
                 lost.append((at, sorted(gone - copies)))
         room.claim(f"TARGET goes: all {at - 1} calls are met", 40 < at < 2 * CALLS - 1)

@@ -50,12 +50,14 @@ class Gone(Comparison):
         self.claim(set(after) <= set(before), f"new in the tree: {set(after) - set(before)}")
         self.claim(all(before[name] == entry for name, entry in after.items()), "changed in the tree")
         moved = os.fsencode(moved_of(room))
+        there = set(self.after.target)
         # Where TARGET was only renamed all copies are there still.
         self.after.target = {**self.after.target, **(snapshot(moved) if os.path.isdir(moved) else {})}
         deleted = set(before) - set(after)
-        late = deleted & left_at(room)
+        # Where it went before the run opened it, the copies were made again in the folder that has its name.
+        late = {name for name in deleted & left_at(room) if not there.issuperset(self.job.copies_of(name)[:1])}
+        self.claim(len(late) <= 1, f"deleted once the copies were gone: {late}")
         if self.amid is not None and self.amid.replaces:
-            self.claim(len(late) <= 1, f"deleted once the copies were gone: {late}")
             deleted = set()
         for name in deleted:
             self._may_be_deleted(name)

@@ -3,6 +3,7 @@ amid them."""
 
 import contextlib
 import errno
+import importlib
 import io
 import os
 import random
@@ -184,6 +185,9 @@ def _child(words: List[str], room: str, names: List[str], trouble: Trouble, engi
                                       "backslashreplace", write_through=True)
         os.chdir(room)
         signal.alarm(PATIENCE)
+        # What the command loads only where it needs it another user may not read.
+        for name in ("csv", "faxpages._archive_engine", "faxpages._archive_merge"):
+            importlib.import_module(name)
         if trouble.other_user:
             os.setgroups([])
             os.setgid(OTHER)
