@@ -1,8 +1,5 @@
 "use strict";
 
-/** Why a call has no answer: its worker was ended. */
-class Stopped extends Error {}
-
 /** What is known of a file that is read. */
 class Known {
     constructor() {
@@ -60,7 +57,8 @@ class LostRows {
 class Fax extends Known {
     /** The classes that a worker is made of. */
     static WORKER = [
-        Library, Cursor, Form, Left, Salvaging, Reading, Drawing, Shrunk, Cells, Pdf, Png, Saving, Importing, FaxWorker,
+        Library, Cursor, Form, Left, Salvaging, Reading, Drawing, Shrunk, Cells, Pdf, Png, Saving, Importing, Broken,
+        FaxWorker,
     ];
     static ids = 0;
 
@@ -70,18 +68,19 @@ class Fax extends Known {
         this.file = file;
         this.changed = changed;
         this.number = ++Fax.ids;
-        /** @type {Worker | null} */
-        this.worker = null;
-        /** @type {Map<number, { resolve: (result: any) => void, reject: (error: Error) => void, tell?: Function }>} */
-        this.calls = new Map();
-        this.asked = 0;
+        this.life = new Life(Fax.parts.place, {
+            again: () => this.again(), told: (event) => this.take(event), failed: (error) => this.fail(error),
+        });
+        /** Which reading of the file it is that is known: an answer of an earlier one is nobody's. */
+        this.reading = 0;
+        this.seen = "";
+        this.sum = 0;
+        this.wasChanged = false;
+        /** What is made of it, for who saves it.
+         * @type {Making | null} */
+        this.making = null;
         /** @type {Bare | null} */
         this.coded = null;
-    }
-
-    /** Forgets all that was read. */
-    forget() {
-        Object.assign(this, new Known());
     }
 
     /** What workers are made of: their text, as an address that a page from `file:` can hand over too, and the bytes
@@ -96,64 +95,64 @@ class Fax extends Known {
         return { place: URL.createObjectURL(new Blob([text], { type: "text/javascript" })), wasm: bytes.buffer };
     })();
 
-    /** Starts a worker; with `reads` it reads the file, otherwise it only answers calls.
-     * @param {boolean} reads */
-    start(reads) {
-        this.endWorker();
-        const worker = new Worker(Fax.parts.place);
-        worker.onmessage = ({ data }) => this.take(data, worker);
-        worker.onerror = (event) => this.fail(event.message || "the worker ended");
-        this.worker = worker;
-        if (reads) {
-            this.forget();
-            this.state = "opens";
-        }
+    /** Reads the file, as if nothing was known of it. */
+    read(wasChanged = false) {
+        this.wasChanged = wasChanged;
+        Object.assign(this, new Known());
+        this.setMaking(null);
+        this.reading++;
+        this.seen = this.looks();
+        this.state = "opens";
+        this.life.open({ wasm: Fax.parts.wasm, file: this.file, bare: this.coded, reads: true, sum: null });
         this.changed(this);
-        this.send("open", { wasm: Fax.parts.wasm, file: this.file, bare: this.coded, reads }).catch(
-            (error) => this.fail(error.message));
     }
 
-    /** @param {string} why */
-    fail(why) {
-        if (this.isBusy()) {
-            this.state = "failed";
-            this.failure = why;
-            this.changed(this);
+    /** What a browser says of a file that is changed on the disk. */
+    looks() {
+        return `${this.file.size} ${this.file.lastModified}`;
+    }
+
+    /** Has the file be taken in again for calls: read anew, if it is not as it was. */
+    again() {
+        if (this.seen === this.looks()) {
+            this.life.open({ wasm: Fax.parts.wasm, file: this.file, bare: this.coded, reads: false, sum: this.sum });
+        } else {
+            this.read(true);
         }
     }
 
-    /** Sends a call to the worker, and answers its result.
+    /** @param {Failed} error */
+    fail({ kind, message }) {
+        if (kind === "changed" && !this.isBusy()) {
+            this.read(true);
+            return;
+        }
+        this.failure = say(TEXTS.broken[/** @type {"ended"} */ (kind)] ?? TEXTS.broken.ended, message);
+        this.state = this.isBusy() ? "failed" : this.state;
+        this.changed(this);
+    }
+
+    /** Asks the worker, which is started where there is none.
      * @param {string} call @param {object} words @param {Function} [tell] @returns {Promise<any>} */
-    send(call, words, tell) {
-        const id = ++this.asked;
-        return new Promise((resolve, reject) => {
-            this.calls.set(id, { resolve, reject, tell });
-            this.worker?.postMessage({ ...words, call, id });
-        });
-    }
-
-    /** The same, where a worker that has ended is started anew.
-     * @param {string} call @param {object} words @param {Function} [tell] */
     ask(call, words, tell) {
-        if (!this.worker) {
-            this.start(false);
-        }
-        return this.send(call, words, tell);
+        return this.life.call(call, words, tell);
     }
 
-    /** Ends the worker, whatever it does; what was read stays. */
-    endWorker() {
-        this.worker?.terminate();
-        this.worker = null;
-        for (const { reject } of this.calls.values()) {
-            reject(new Stopped("it was stopped"));
-        }
-        this.calls.clear();
+    /** @param {Making | null} making */
+    setMaking(making) {
+        this.making?.drop();
+        this.making = making;
+    }
+
+    /** Forgets the file: nothing of it is asked for any more. */
+    close() {
+        this.life.close();
+        this.setMaking(null);
     }
 
     /** Stops reading. */
     stop() {
-        this.endWorker();
+        this.life.end();
         if (this.isBusy()) {
             this.state = "left";
             this.changed(this);
@@ -164,26 +163,15 @@ class Fax extends Known {
         return ["waits", "opens", "lists", "reads", "checks"].includes(this.state);
     }
 
-    /** @param {any} data @param {Worker} worker */
-    take(data, worker) {
-        if (worker !== this.worker) {
-            return;
-        }
-        if (data.event) {
-            const name = `on${data.event[0].toUpperCase()}${data.event.slice(1)}`;
-            this[/** @type {"onWalked"} */ (name)](data);
-            return;
-        }
-        const call = this.calls.get(data.id);
-        this.calls.delete(data.id);
-        if (data.error !== undefined) {
-            call?.reject(new Error(data.error));
-        } else {
-            call?.resolve(data.result);
-        }
+    /** @param {any} data */
+    take(data) {
+        const name = `on${data.event[0].toUpperCase()}${data.event.slice(1)}`;
+        this[/** @type {"onWalked"} */ (name)](data);
     }
 
-    onOpened() {
+    /** @param {any} data */
+    onOpened({ sum }) {
+        this.sum = sum;
         if (this.state === "opens") {
             this.move("lists");
         }
@@ -275,11 +263,6 @@ class Fax extends Known {
         this.move("done");
     }
 
-    /** @param {{ id: number, done: number, all: number }} data */
-    onSaving({ id, done, all }) {
-        this.calls.get(id)?.tell?.(done, all);
-    }
-
     /** @param {number} page @returns {Form | null} */
     form(page) {
         const numbers = this.forms[page];
@@ -310,12 +293,15 @@ class Fax extends Known {
         /** @type {Finding[]} */
         const found = [];
         const pages = [...new Set([...this.refused.keys(), ...this.lost.keys(), ...this.notes.keys()])];
+        const shown = [...this.notes.values()].reduce((count, notes) => count + notes.length, 0);
+        // More notes may be counted than were handed out.
+        const unseen = Math.max(0, (this.report?.count ?? 0) - shown);
         const all = pages.sort((one, other) => one - other).reduce((count, page) => {
             const here = found.length < most ? this.findingsOf(page, most) : [];
             found.push(...here.slice(0, most - found.length));
             return count + (this.refused.has(page) ? 1 : 0) + (this.lost.get(page)?.count ?? 0) +
                 (this.notes.get(page)?.length ?? 0);
-        }, 0);
+        }, unseen);
         if (this.end && found.length < most) {
             found.push(this.endFinding());
         }
@@ -325,7 +311,7 @@ class Fax extends Known {
     /** @returns {Finding} */
     endFinding() {
         const { fault, name } = this.end;
-        const head = fault.page === 0 ? TEXTS.findings.file : say(TEXTS.findings.chain, String(fault.page));
+        const head = fault.page === 0 ? TEXTS.findings.file : say(TEXTS.findings.chain, sayPage(fault.page));
         return { page: Math.max(0, fault.page - 1), row: 0, head, name, tag: fault.tag, kind: "fault" };
     }
 
@@ -338,18 +324,25 @@ class Fax extends Known {
             const isStrip = strip !== Library.NO_STRIP;
             return { page, row: isStrip ? strip * (this.form(page)?.rowsOfStrip ?? 0) : 0, name, tag: 0,
                 kind: /** @type {"note"} */ ("note"),
-                head: isStrip ? say(texts.strip, String(page), String(strip)) : say(texts.directory, String(page)) };
+                head: isStrip ? say(texts.strip, sayPage(page), String(strip)) : say(texts.directory, sayPage(page)) };
         });
         const lost = (this.lost.get(page)?.stretches(most) ?? []).map(({ from, to, name }) => ({
             page, row: from, name, tag: 0, kind: /** @type {"fault"} */ ("fault"),
-            head: from === to ? say(texts.row, String(page), from) : say(texts.rows, String(page), from, to) }));
+            head: from === to ? say(texts.row, sayPage(page), from) : say(texts.rows, sayPage(page), from, to) }));
         const faults = refused ? [{ page, row: 0, name: refused.name, tag: refused.fault.tag,
-            kind: /** @type {"fault"} */ ("fault"), head: say(texts.page, String(page)) }] : [];
+            kind: /** @type {"fault"} */ ("fault"), head: say(texts.page, sayPage(page)) }] : [];
         return [...faults, ...notes, ...lost].sort((one, other) => one.row - other.row);
     }
 
-    /** What is said of the whole file. */
+    /** What is said of the whole file: that it cannot be read any more comes first. */
     verdict() {
+        const parts = [this.failure && this.state !== "failed" ? say(TEXTS.broken.later, this.failure) : "",
+            this.wasChanged ? TEXTS.broken.readAgain : "", this.readVerdict()];
+        return parts.filter(Boolean).join(" ");
+    }
+
+    /** What was read says. */
+    readVerdict() {
         const texts = TEXTS.verdicts;
         switch (this.state) {
             case "waits":
@@ -357,9 +350,9 @@ class Fax extends Known {
             case "tooLarge": return TEXTS.files.tooLarge;
             case "failed": return say(TEXTS.files.failed, this.failure);
             case "lists": return say(texts.lists, this.pages);
-            case "left": return say(texts.left, String(this.page), this.pages);
+            case "left": return say(texts.left, sayPage(this.page), this.pages);
             case "reads":
-            case "checks": return say(texts.reads, String(Math.min(this.page, this.pages - 1)), this.pages, this.rows);
+            case "checks": return say(texts.reads, sayPage(Math.min(this.page, this.pages - 1)), this.pages, this.rows);
             default: return [this.toldVerdict(), this.pages || !this.told ? this.pagesVerdict() : ""].join(" ").trim();
         }
     }
@@ -372,7 +365,7 @@ class Fax extends Known {
             return "";
         }
         if (told.kind === "images") {
-            return `${say(texts.image, String(told.image))} ${sayOfFault(told.name).join(" ")}`;
+            return `${say(texts.image, sayPage(told.image))} ${sayOfFault(told.name).join(" ")}`;
         }
         const means = told.name ? sayOfFault(told.name)[0].replace(/\.$/, "") : "";
         if (told.rows === 0) {
@@ -392,14 +385,28 @@ class Fax extends Known {
         }
         const parts = damaged ? [say(texts.damaged, this.pages - damaged, pages)] : [];
         if (this.end) {
-            parts.push(say(texts.chain, String(this.end.fault.page - 1)));
+            parts.push(say(texts.chain, String(this.end.fault.page)));
         }
         return parts.length > 0 ? parts.join(" ")
             : say(this.notes.size ? texts.noted : texts.whole, pages, sayCount(this.rows, "row", "rows"));
     }
 
-    /** The report as text: the lines of `faxpages list` and `faxpages check`, with what was lost, and what it means. */
+    /** The report as text. */
     text() {
+        return this.textParts().join("");
+    }
+
+    /** The report as bytes, with all notes, also where there are so many that only the first ones are kept. */
+    async textBlob() {
+        const shown = [...this.notes.values()].reduce((count, notes) => count + notes.length, 0);
+        const [head, notes, rest] = this.textParts();
+        const all = (this.report?.count ?? 0) > shown ? await this.ask("noteLines", {}) : notes;
+        return new Blob([head, all, rest], { type: "text/plain" });
+    }
+
+    /** The report in three parts, of which the second are the lines of notes: the lines of `faxpages list` and of
+     * `faxpages check`, with what was lost, and what it means. It counts pages from 0, as these do. */
+    textParts() {
         const faultLine = (/** @type {Fault} */ { page, row, tag }, /** @type {string} */ name) =>
             `fault page ${page} row ${row}: ${name}${tag ? ` ${tag}` : ""}`;
         const lines = Array.from({ length: this.pages }, (_, page) => {
@@ -407,10 +414,10 @@ class Fax extends Known {
             return refused ? faultLine(refused.fault, refused.name) : this.form(page)?.line(page) ?? "";
         });
         lines.push(this.end ? faultLine(this.end.fault, this.end.name) : "end", "");
-        for (const [page, notes] of [...this.notes].sort(([one], [other]) => one - other)) {
-            lines.push(...notes.map(({ strip, name }) => `note page ${page}${
-                strip === Library.NO_STRIP ? "" : ` strip ${strip}`}: N${this.report.kinds.indexOf(name)} ${name}`));
-        }
+        const unseen = this.lost.size ? `\n${TEXTS.findings.unseen}` : "";
+        const head = `${this.file.name}\n${this.verdict()}${unseen}\n\n${lines.splice(0).join("\n")}\n`;
+        const notes = [...this.notes].sort(([one], [other]) => one - other).map(([page, all]) => all.map(
+            ({ strip, name }) => FaxWorker.noteLine(page, strip, this.report.kinds.indexOf(name), name)).join(""));
         if (this.report) {
             const { pages, rows, fault } = this.report;
             lines.push(`pages ${pages} rows ${rows}`, ...(fault ? [faultLine(fault, fault.name)] : []));
@@ -421,7 +428,6 @@ class Fax extends Known {
                 lines.push(`page ${page} rows ${from} to ${to}: ${name}`);
             }
         }
-        const unseen = this.lost.size ? `\n${TEXTS.findings.unseen}` : "";
-        return `${this.file.name}\n${this.verdict()}${unseen}\n\n${lines.join("\n")}\n`;
+        return [head, notes.join(""), `${lines.join("\n")}\n`];
     }
 }

@@ -21,9 +21,8 @@ class App {
         this.fax = null;
         this.page = 0;
         this.isDue = false;
-        /** What was made last, for who saves it.
-         * @type {{ blob: Blob, name: string } | null} */
-        this.made = null;
+        this.makings = new Makings({ said: the("saved"), submit: the("save-make"), cancel: the("save-cancel"),
+            progress: the("save-progress") }, () => this.changed());
         this.found = "";
         this.view = new View(the("view"), the("sheet"), the("paper"));
         this.thumbs = new Thumbs(the("thumbs"), the("thumbs-all"), (page) => this.goTo(page));
@@ -46,9 +45,10 @@ class App {
         on("right", () => this.view.turn(1));
         on("stop", () => this.fax?.stop());
         on("notes", () => this.lookForNotes());
+        on("again", () => this.fax?.read());
         on("close", () => this.close());
         the("report").addEventListener("toggle", () => this.renderReport());
-        the("page").addEventListener("change", () => this.goTo(Number(the("page").value)));
+        the("page").addEventListener("change", () => this.goTo(Number(the("page").value) - 1));
         the("findings").addEventListener("click", (/** @type {Event} */ event) => {
             const button = /** @type {HTMLElement} */ (event.target).closest("button");
             if (button) {
@@ -99,12 +99,11 @@ class App {
         const waiting = this.faxes.filter((fax) => fax.state === "waits");
         waiting.sort((one, other) => Number(other === this.fax) - Number(one === this.fax));
         for (const fax of waiting.slice(0, Math.max(0, App.READERS - reading))) {
-            fax.start(true);
+            fax.read();
         }
-        const idle = this.faxes.filter(
-            (fax) => fax !== this.fax && fax.worker && !fax.isBusy() && fax.calls.size === 0);
+        const idle = this.faxes.filter((fax) => fax !== this.fax && !fax.isBusy() && fax.life.isIdle());
         for (const fax of idle.slice(0, Math.max(0, idle.length - App.WORKERS))) {
-            fax.endWorker();
+            fax.life.end();
         }
     }
 
@@ -112,9 +111,7 @@ class App {
     show(fax) {
         this.fax = fax;
         this.page = 0;
-        this.made = null;
         this.found = "";
-        the("saved").replaceChildren();
         the("bare-said").textContent = "";
         this.changed();
     }
@@ -122,7 +119,7 @@ class App {
     close() {
         const { fax } = this;
         if (fax) {
-            fax.endWorker();
+            fax.close();
             const at = this.faxes.indexOf(fax);
             this.faxes.splice(at, 1);
             this.show(this.faxes[Math.min(at, this.faxes.length - 1)] ?? null);
@@ -150,7 +147,7 @@ class App {
         }
         if (hasMoved) {
             const state = /** @type {Fax} */ (this.fax).stateOf(wanted);
-            this.announce(say(TEXTS.announce.page, String(wanted), TEXTS.pages[state]));
+            this.announce(say(TEXTS.announce.page, sayPage(wanted), TEXTS.pages[state]));
         }
     }
 
@@ -158,7 +155,7 @@ class App {
         const { fax } = this;
         if (fax) {
             fax.move("checks");
-            fax.ask("notes", {}).catch((error) => fax.fail(error.message));
+            fax.ask("notes", {}).catch(() => fax.isBusy() && fax.move("left"));
         }
     }
 
@@ -187,6 +184,7 @@ class App {
         }
         this.thumbs.show(fax, this.page);
         this.view.show(fax, this.page);
+        this.makings.show(fax);
     }
 
     renderFiles() {
@@ -194,7 +192,7 @@ class App {
         the("files").hidden = faxes.length < 2;
         const buttons = faxes.map((fax) => {
             const button = the(`file-${fax.number}`) ?? this.fileButton(fax);
-            button.className = fax.isBusy() ? "busy" : fax.isWhole() ? "whole" : "damaged";
+            button.className = fax.failure ? "failed" : fax.isBusy() ? "busy" : fax.isWhole() ? "whole" : "damaged";
             button.setAttribute("aria-pressed", String(fax === this.fax));
             return button;
         });
@@ -223,7 +221,7 @@ class App {
         put("name", fax.file.name);
         put("verdict", fax.verdict());
         const isReading = fax.isBusy() && fax.state !== "waits";
-        const state = fax.state !== "done" ? "left" : fax.isWhole() ? "whole" : "damaged";
+        const state = fax.failure || fax.state !== "done" ? "left" : fax.isWhole() ? "whole" : "damaged";
         the("verdict").className = isReading ? "busy" : state;
         the("progress").hidden = !isReading;
         if (isReading && fax.state === "reads" && fax.pages > 0) {
@@ -234,6 +232,7 @@ class App {
         }
         the("stop").hidden = !isReading;
         the("notes").hidden = !fax.isLong;
+        the("again").hidden = !fax.failure;
         the("save").hidden = fax.pages === 0 || fax.isBusy();
         the("bare").hidden = !(fax.told?.kind === "bare" || (fax.state === "done" && fax.pages === 0 && fax.end &&
             ["ByteOrder", "ShortHeader", "Magic"].includes(fax.end.name)));
@@ -242,7 +241,7 @@ class App {
     /** @param {Fax} fax */
     renderFindings(fax) {
         const count = Math.min(fax.refused.size + fax.lost.size, fax.isBusy() ? App.MOST_FINDINGS : Infinity);
-        const key = [fax.number, count, fax.notes.size, fax.state, Boolean(fax.end)].join(" ");
+        const key = [fax.number, fax.reading, count, fax.notes.size, fax.state, Boolean(fax.end)].join(" ");
         if (key === this.found) {
             return;
         }
@@ -286,10 +285,10 @@ class App {
         const texts = TEXTS.pages;
         the("view-part").hidden = fax.pages === 0;
         if (document.activeElement !== the("page")) {
-            the("page").value = String(this.page);
+            the("page").value = sayPage(this.page);
         }
-        the("page").max = String(Math.max(0, fax.pages - 1));
-        the("of").textContent = `of 0 to ${Math.max(0, fax.pages - 1)}`;
+        the("page").max = String(Math.max(1, fax.pages));
+        the("of").textContent = say(texts.of, fax.pages);
         the("before").disabled = this.page === 0;
         the("next").disabled = this.page >= fax.pages - 1;
         const resolution = form && form.across > 0 && form.down > 0 && TEXTS.units[form.unit]
@@ -297,8 +296,8 @@ class App {
             : texts.noResolution;
         the("form").textContent = form
             ? say(texts.form, form.width, form.rows, TEXTS.codings[form.coding], resolution)
-            : fax.pages > 0 ? say(TEXTS.findings.page, String(this.page)) : "";
-        the("sheet").setAttribute("aria-label", say(texts.picture, String(this.page), texts[fax.stateOf(this.page)]));
+            : fax.pages > 0 ? say(TEXTS.findings.page, sayPage(this.page)) : "";
+        the("sheet").setAttribute("aria-label", say(texts.picture, sayPage(this.page), texts[fax.stateOf(this.page)]));
     }
 
     readBare() {
@@ -314,67 +313,14 @@ class App {
             this.fax.coded = bare;
             this.found = "";
             this.page = 0;
-            this.fax.start(true);
+            this.fax.read();
         }
     }
 
-    /** Makes a file, and offers it once it was read again and compared. */
-    async save() {
-        const { fax } = this;
-        const kind = the("save").elements.kind.value;
-        const said = the("saved");
-        if (!fax) {
-            return;
+    save() {
+        if (this.fax) {
+            this.makings.make(this.fax, the("save").elements.kind.value, this.page);
         }
-        const pages = kind === "png" ? [this.page] : fax.wholePages();
-        const name = App.nameOf(fax, kind, this.page);
-        this.made = null;
-        if (kind !== "text" && (pages.length === 0 || !fax.form(pages[0]))) {
-            said.textContent = TEXTS.saving.nothing;
-            return;
-        }
-        said.textContent = say(TEXTS.saving.works, name, 0);
-        try {
-            const blob = kind === "text" ? new Blob([fax.text()], { type: "text/plain" }) : await fax.ask("save",
-                { kind: kind.replace(/\d/, ""), coding: Number(kind.slice(-1)) || 0, pages },
-                (/** @type {number} */ done, /** @type {number} */ all) => {
-                    said.textContent = say(TEXTS.saving.works, name, Math.floor((100 * done) / all));
-                });
-            if (fax === this.fax) {
-                const isLess = !["png", "text"].includes(kind) && pages.length < fax.pages;
-                this.offer(blob, name, isLess
-                    ? say(TEXTS.saving.less, name, pages.length, sayCount(fax.pages, "page", "pages"))
-                    : say(kind === "text" ? TEXTS.saving.report : TEXTS.saving.ready, name));
-            }
-        } catch (error) {
-            said.textContent = say(TEXTS.saving.failed, name, /** @type {Error} */ (error).message);
-        }
-    }
-
-    /** @param {Fax} fax @param {string} kind @param {number} page */
-    static nameOf(fax, kind, page) {
-        const base = fax.file.name.replace(/\.[^.]*$/, "") || "fax";
-        const endings = /** @type {Record<string, string>} */ ({ text: "-report.txt", png: `-page-${page}.png`,
-            tiff1: "-mh.tif", tiff2: "-mr.tif", tiff3: "-mmr.tif" });
-        return base + (endings[kind] ?? `.${kind}`);
-    }
-
-    /** @param {Blob} blob @param {string} name @param {string} said */
-    offer(blob, name, said) {
-        const link = document.createElement("a");
-        const text = document.createElement("span");
-        const before = the("saved").querySelector("a");
-        if (before) {
-            URL.revokeObjectURL(before.href);
-        }
-        this.made = { blob, name };
-        link.className = "button";
-        link.download = name;
-        link.href = URL.createObjectURL(blob);
-        link.textContent = say(TEXTS.saving.link, name);
-        text.textContent = said;
-        the("saved").replaceChildren(text, " ", link);
-        link.focus();
     }
 
     /** @param {KeyboardEvent} event */

@@ -209,7 +209,7 @@ class Library {
         const status = this.calls.faxpages_salvage(this.file, this.length, page,
             this.room("form", 4 * Library.FORM_NUMBERS), raster, size, form.stride, lost, most, this.told);
         if (status !== Library.DONE) {
-            throw new Error(`what is left of page ${page} is told with status ${status}`);
+            throw new Error(`what is left of page ${page + 1} is told with status ${status}`);
         }
         const count = this.numbers(this.told, 2)[1];
         return new Left(this, form, raster, this.numbers(lost, 3 * count).slice());

@@ -96,7 +96,7 @@ class Png {
         const form = this.drawing.library.form(page);
         const [across, down] = form ? Png.repeats(form) : [1, 1];
         if (!form || form.width * across * form.rows * down > Png.MOST_PELS) {
-            throw new Error(`page ${page} is too large for a picture`);
+            throw new Error(`page ${page + 1} is too large for a picture`);
         }
         const bits = this.drawing.salvaging.of(page, form) ? 2 : 1;
         const packed = await Png.through(Png.stream("Compression"), this.lines(page, form, bits, across, down));
@@ -151,12 +151,12 @@ class Png {
         let at = 0;
         for await (const piece of this.lines(page, form, bits, across, down)) {
             if (!Saving.isEqual(piece, again.subarray(at, at + piece.length))) {
-                throw new Error(`page ${page} was not written as it is`);
+                throw new Error(`page ${page + 1} was not written as it is`);
             }
             at += piece.length;
         }
         if (at !== again.length) {
-            throw new Error(`page ${page} was not written as it is`);
+            throw new Error(`page ${page + 1} was not written as it is`);
         }
     }
 

@@ -28,7 +28,7 @@ class Saving {
     formOf(page) {
         const form = this.library.form(page);
         if (!form || form.stride * form.rows > Saving.MOST_RASTER) {
-            throw new Error(`page ${page} is too large to be saved`);
+            throw new Error(`page ${page + 1} is too large to be saved`);
         }
         return form;
     }
@@ -44,7 +44,7 @@ class Saving {
                 this.made.bytes(at + due * form.stride, form.stride).set(this.library.row(index).bytes);
             }
             if (told.count === 0 || told.status === Library.FAULT) {
-                throw new Error(`page ${page} cannot be read wholly`);
+                throw new Error(`page ${page + 1} cannot be read wholly`);
             }
         }
         return at;
@@ -107,7 +107,7 @@ class Saving {
                 const told = this.library.readRows(this.cursor, form.rows - due);
                 const again = this.made.readRows(made, told.count);
                 if (told.count === 0 || again.count !== told.count || !this.isSame(told.count, number, due)) {
-                    throw new Error(`page ${page} was not written as it is`);
+                    throw new Error(`page ${page + 1} was not written as it is`);
                 }
                 due += told.count;
             }
@@ -133,7 +133,27 @@ class Saving {
 
     /** @param {Uint8Array} one @param {Uint8Array} other */
     static isEqual(one, other) {
-        return one.length === other.length && one.every((byte, at) => byte === other[at]);
+        let at = 0;
+        if (one.length !== other.length) {
+            return false;
+        }
+        if (one.byteOffset % 4 === 0 && other.byteOffset % 4 === 0) {
+            const words = one.length >> 2;
+            const mine = new Uint32Array(one.buffer, one.byteOffset, words);
+            const its = new Uint32Array(other.buffer, other.byteOffset, words);
+            for (let word = 0; word < words; word++) {
+                if (mine[word] !== its[word]) {
+                    return false;
+                }
+            }
+            at = 4 * words;
+        }
+        for (; at < one.length; at++) {
+            if (one[at] !== other[at]) {
+                return false;
+            }
+        }
+        return true;
     }
 
     /** The pages as raw PBM, an image after another.
@@ -159,7 +179,7 @@ class Saving {
         this.made.bytes(this.made.takeFile(image.size), image.size).set(new Uint8Array(await image.arrayBuffer()));
         const converted = this.made.convert(Library.MMR);
         if (converted.status !== Library.DONE) {
-            throw new Error(`page ${page} was not written as it is`);
+            throw new Error(`page ${page + 1} was not written as it is`);
         }
         const { file, length } = this.made;
         [this.made.file, this.made.length] = [converted.at, converted.length];
@@ -168,7 +188,7 @@ class Saving {
         for (let due = 0; due < form.rows; await this.pause()) {
             const told = this.library.readRows(this.cursor, form.rows - due);
             if (this.made.readRows(made, told.count).count !== told.count || !this.isSame(told.count, 0, due)) {
-                throw new Error(`page ${page} was not written as it is`);
+                throw new Error(`page ${page + 1} was not written as it is`);
             }
             due += told.count;
         }
@@ -184,7 +204,7 @@ class Saving {
             const raster = await this.rasterOf(page, form);
             const strip = this.made.codeStrip(form, raster);
             if (strip.status !== Library.DONE) {
-                throw new Error(`page ${page} is not coded`);
+                throw new Error(`page ${page + 1} is not coded`);
             }
             const data = new Blob([this.made.bytes(strip.at, strip.length)]);
             await this.compareStrip(data, page, form, raster);
@@ -205,7 +225,7 @@ class Saving {
         const numbers = [form.width, form.rows, Library.MMR, 1, 0];
         const told = this.made.readStrip(strip, data.size, numbers, cursor, again, size, form.stride);
         if (told.count !== form.rows || !Saving.isEqual(this.made.bytes(raster, size), this.made.bytes(again, size))) {
-            throw new Error(`page ${page} was not written as it is`);
+            throw new Error(`page ${page + 1} was not written as it is`);
         }
     }
 }

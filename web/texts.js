@@ -66,9 +66,19 @@ const TEXTS = {
     files: {
         tooLarge: "The file has more than 268,435,456 bytes, which is the most that is read.",
         unreadable: "This file cannot be read as a fax.",
-        failed: "The browser could not read this file: {0}",
+        failed: "This file was not read: {0}",
         waits: "Waits for other files.",
         opens: "Is being opened.",
+    },
+    /** Why a file that was opened is not read, or not any more. */
+    broken: {
+        gone: "the file is gone from its place, or was changed there: open it again.",
+        changed: "the file is changed while it is read: open it again once it is whole.",
+        memory: "the browser has no memory left for it: close other files, and open it again.",
+        policy: "the rules of the server that this page is from (Content-Security-Policy) do not let it work: {0}",
+        ended: "what reads it broke down: {0}",
+        later: "It cannot be shown any more: {0} What was read of it before:",
+        readAgain: "The file was changed on the disk, and was read again.",
     },
     verdicts: {
         lists: "Looking for pages: {0} so far.",
@@ -104,6 +114,7 @@ const TEXTS = {
     },
     pages: {
         label: "Page {0} of {1}",
+        of: "of {0}",
         form: "{0} by {1} pels, {2}, {3}",
         resolution: "{0} by {1} to the {2}",
         noResolution: "no resolution",
@@ -118,6 +129,7 @@ const TEXTS = {
         report: "{0} was made.",
         less: "{0} was made of {1} of {2}, read again and compared. The other pages are damaged, and left out.",
         failed: "{0} was not made: {1}.",
+        cancelled: "{0} was not made: it was cancelled.",
         nothing: "No page can be read wholly, so there is nothing to save in this way.",
         link: "Save {0}",
     },
@@ -134,6 +146,12 @@ function say(text, ...values) {
         const value = values[Number(at)];
         return typeof value === "number" ? value.toLocaleString("en-US") : value;
     });
+}
+
+/** The number of a page as people count, from 1; the program and the report count from 0.
+ * @param {number} page */
+function sayPage(page) {
+    return String(page + 1);
 }
 
 /** What is said of a fault: what it means, and what to do.

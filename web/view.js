@@ -69,6 +69,7 @@ class View {
         this.queue = new Queue(2);
         /** @type {Fax | null} */
         this.fax = null;
+        this.reading = 0;
         this.page = -1;
         /** @type {Form | null} */
         this.form = null;
@@ -86,8 +87,11 @@ class View {
     /** @param {Fax | null} fax @param {number} page */
     show(fax, page) {
         const form = fax ? fax.form(page) : null;
-        if (this.fax !== fax || this.page !== page || Boolean(this.form) !== Boolean(form)) {
+        const reading = fax?.reading ?? 0;
+        if (this.fax !== fax || this.reading !== reading || this.page !== page ||
+            Boolean(this.form) !== Boolean(form)) {
             this.fax = fax;
+            this.reading = reading;
             this.page = page;
             this.form = form;
             this.clear();
@@ -238,7 +242,8 @@ class View {
     /** @param {string} key */
     add(key) {
         const form = /** @type {Form} */ (this.form);
-        const { fax, page } = this;
+        const { page, reading } = this;
+        const fax = /** @type {Fax} */ (this.fax);
         const canvas = document.createElement("canvas");
         const [column, line, across, down] = key.split(" ").map(Number);
         const [x, y] = [column * View.ACROSS, line * View.DOWN];
@@ -247,11 +252,14 @@ class View {
         this.tiles.set(key, canvas);
         this.place(canvas, key);
         this.paper.append(canvas);
-        this.queue.add(() => this.tiles.get(key) === canvas, async () => {
-            const { pels } = await /** @type {Fax} */ (fax).ask("part", { page, x, y, width, height, across, down });
-            putPels(canvas, pels, Math.ceil(width / across), Math.ceil(height / down));
-            canvas.dataset.drawn = key;
-            this.drop((other) => other !== key && View.placeOf(other) === View.placeOf(key));
+        const isWanted = () => this.tiles.get(key) === canvas && fax.reading === reading;
+        this.queue.add(isWanted, async () => {
+            const { pels } = await fax.ask("part", { page, x, y, width, height, across, down });
+            if (isWanted()) {
+                putPels(canvas, pels, Math.ceil(width / across), Math.ceil(height / down));
+                canvas.dataset.drawn = key;
+                this.drop((other) => other !== key && View.placeOf(other) === View.placeOf(key));
+            }
         });
     }
 
@@ -318,6 +326,7 @@ class Thumbs {
         this.kept = new Map();
         /** @type {Fax | null} */
         this.fax = null;
+        this.reading = 0;
         this.page = -1;
         box.addEventListener("scroll", () => this.fill());
         new ResizeObserver(() => this.fill()).observe(box);
@@ -331,8 +340,10 @@ class Thumbs {
 
     /** @param {Fax | null} fax @param {number} page */
     show(fax, page) {
-        if (this.fax !== fax) {
+        const reading = fax?.reading ?? 0;
+        if (this.fax !== fax || this.reading !== reading) {
             this.fax = fax;
+            this.reading = reading;
             this.items.clear();
             this.kept.clear();
             this.all.replaceChildren();
@@ -386,12 +397,19 @@ class Thumbs {
         item.append(canvas, label);
         this.items.set(page, item);
         this.all.append(item);
-        const { fax } = this;
-        this.queue.add(() => this.items.get(page) === item, async () => {
-            if (!this.kept.has(page) && fax?.form(page)) {
-                this.keep(page, await fax.ask("small", { page, most: Thumbs.MOST }));
+        const { reading } = this;
+        const fax = /** @type {Fax} */ (this.fax);
+        // An answer that comes once another fax, or another reading of it, is shown is dropped.
+        const isMine = () => this.fax === fax && this.reading === reading && fax.reading === reading;
+        this.queue.add(() => isMine() && this.items.get(page) === item, async () => {
+            if (!this.kept.has(page) && fax.form(page)) {
+                const small = await fax.ask("small", { page, most: Thumbs.MOST });
+                if (!isMine()) {
+                    return;
+                }
+                this.keep(page, small);
             }
-            const small = this.fax === fax ? this.kept.get(page) : null;
+            const small = this.kept.get(page);
             if (small) {
                 putPels(canvas, small.pels.slice(), small.width, small.height);
             }
@@ -412,7 +430,7 @@ class Thumbs {
         const fax = /** @type {Fax} */ (this.fax);
         const state = fax.stateOf(page);
         const label = /** @type {HTMLElement} */ (item.lastElementChild);
-        const text = state === "whole" ? String(page) : `${page}: ${TEXTS.pages[state]}`;
+        const text = state === "whole" ? sayPage(page) : `${sayPage(page)}: ${TEXTS.pages[state]}`;
         if (label.textContent !== text) {
             label.textContent = text;
         }
@@ -420,6 +438,6 @@ class Thumbs {
         item.setAttribute("aria-selected", String(page === this.page));
         item.setAttribute("aria-setsize", String(fax.pages));
         item.setAttribute("aria-posinset", String(page + 1));
-        item.setAttribute("aria-label", say(TEXTS.pages.label, String(page), fax.pages));
+        item.setAttribute("aria-label", say(TEXTS.pages.label, sayPage(page), fax.pages));
     }
 }

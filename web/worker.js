@@ -122,6 +122,15 @@ class Importing {
     }
 }
 
+/** The file cannot be taken in. */
+class Broken extends Error {
+    /** @param {string} kind */
+    constructor(kind) {
+        super(kind);
+        this.kind = kind;
+    }
+}
+
 /**
  * Answers the calls of the page for one file: a worker has one of it.
  *
@@ -134,6 +143,12 @@ class FaxWorker {
     static NOTES = 20000;
     /** Where reading all rows took longer, in milliseconds, notes are looked for only where that is asked for. */
     static LONG = 5000;
+
+    /** What kind of failure an error is, by its name.
+     * @type {Record<string, string>} */
+    static KINDS = {
+        NotReadableError: "gone", NotFoundError: "gone", RangeError: "memory", CompileError: "policy",
+    };
 
     /** @param {any} scope of the worker */
     constructor(scope) {
@@ -175,29 +190,45 @@ class FaxWorker {
             const pels = /** @type {any} */ (result)?.pels;
             this.send({ id: asked.id, result }, pels ? [pels.buffer] : []);
         } catch (error) {
-            this.send({ id: asked.id, error: String(/** @type {any} */ (error)?.message ?? error) });
+            const { message, name, kind = FaxWorker.KINDS[name] } = /** @type {any} */ (error);
+            this.send({ id: asked.id, error: String(message ?? error), kind: kind ?? "ended" });
         }
     }
 
     /** Takes the file in, piece by piece, each through the same few bytes where the browser can do so.
      * @param {File} file @param {Library} library */
     async load(file, library) {
+        let sum = 0;
         /** @type {any} */
         const reader = FaxWorker.reader(file);
         let at = library.takeFile(file.size);
         const end = at + file.size;
         for (let room = new Uint8Array(FaxWorker.PIECE); ;) {
-            const { value, done } = await reader.read(room);
+            const { value, done } = await reader.read(room).catch(() => {
+                throw new Broken("gone");
+            });
             if (done || !value || at + value.length > end) {
                 break;
             }
             library.bytes(at, value.length).set(value);
+            sum = FaxWorker.added(sum, value);
             at += value.length;
             room = new Uint8Array(value.buffer);
         }
         if (at !== end) {
-            throw new Error("the file has changed");
+            throw new Broken("changed");
         }
+        return sum;
+    }
+
+    /** A sum of bytes by which it is seen that a file was changed.
+     * @param {number} sum @param {Uint8Array} bytes */
+    static added(sum, bytes) {
+        let all = sum;
+        for (let at = 0; at < bytes.length; at++) {
+            all = (Math.imul(all, 31) + bytes[at]) | 0;
+        }
+        return all;
     }
 
     /** @param {File} file @returns {any} */
@@ -210,15 +241,18 @@ class FaxWorker {
     }
 
     /** Opens a file and reads it; what it finds is sent as events.
-     * @param {{ wasm: ArrayBuffer, file: File, bare: Bare | null, reads: boolean }} asked */
-    async open({ wasm, file, bare, reads }) {
+     * @param {{ wasm: ArrayBuffer, file: File, bare: Bare | null, reads: boolean, sum: number | null }} asked */
+    async open({ wasm, file, bare, reads, sum }) {
         this.module = new WebAssembly.Module(wasm);
         this.library = new Library(this.module);
         if (file.size > Library.MOST_BYTES) {
             this.send({ event: "tooLarge" });
             return;
         }
-        await this.load(file, this.library);
+        const found = await this.load(file, this.library);
+        if (sum !== null && sum !== found) {
+            throw new Broken("changed");
+        }
         const head = String.fromCharCode(...this.library.bytes(this.library.file, Math.min(2, file.size)));
         if (bare || head === "P4") {
             const importing = new Importing(this.module, this.library, this.pause);
@@ -232,7 +266,7 @@ class FaxWorker {
         this.salvaging = new Salvaging(this.library);
         this.drawing = new Drawing(this.library, this.salvaging);
         this.isReady();
-        this.send({ event: "opened", version: this.version() });
+        this.send({ event: "opened", version: this.version(), sum: found });
         if (reads) {
             await this.read();
         }
@@ -261,6 +295,27 @@ class FaxWorker {
         const name = fault.number ? this.library.name("fault", fault.number) : "";
         const kinds = [0, 1, 2, 3, 4, 5].map((kind) => this.library.name("note", kind));
         this.send({ event: "checked", notes, count, pages, rows, fault, name, kinds });
+    }
+
+    /** All notes as lines, however many there are. */
+    noteLines() {
+        const { notes } = this.library.check(this.library.check(0).count);
+        const names = [0, 1, 2, 3, 4, 5].map((kind) => this.library.name("note", kind));
+        const parts = [];
+        for (let at = 0; at < notes.length; at += 30000) {
+            let text = "";
+            for (let next = at; next < Math.min(notes.length, at + 30000); next += 3) {
+                text += FaxWorker.noteLine(notes[next], notes[next + 1], notes[next + 2], names[notes[next + 2]]);
+            }
+            parts.push(text);
+        }
+        return new Blob(parts);
+    }
+
+    /** The line that `faxpages check` prints of a note.
+     * @param {number} page @param {number} strip @param {number} kind @param {string} name */
+    static noteLine(page, strip, kind, name) {
+        return `note page ${page}${strip === Library.NO_STRIP ? "" : ` strip ${strip}`}: N${kind} ${name}\n`;
     }
 
     /** A part of a page, in pels of four bytes.

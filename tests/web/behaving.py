@@ -43,8 +43,9 @@ def keys(browser, _program, _room):
     for key, page in (("n", 1), ("n", 2), ("n", 2), ("p", 1), ("Home", 0), ("End", 2), ("p", 1), ("f", 2), ("Home", 0),
                       ("f", 2)):
         browser.press(key, number={"Home": 36, "End": 35}.get(key, 0))
-        yield f"{key}: the page", browser.run('[app.page, Number(document.getElementById("page").value)]'), [page, page]
-    yield "the page is said", browser.run('document.getElementById("said").textContent'), "Page 2, damaged."
+        yield f"{key}: the page", browser.run(
+            '[app.page, Number(document.getElementById("page").value)]'), [page, page + 1]
+    yield "the page is said", browser.run('document.getElementById("said").textContent'), "Page 3, damaged."
     browser.run('document.getElementById("thumbs").focus()')
     for key, number, page in (("ArrowUp", 38, 1), ("ArrowDown", 40, 2), ("PageUp", 33, 0), ("PageDown", 34, 2)):
         browser.press(key, number=number)
@@ -105,7 +106,7 @@ def names(browser, _program, _room):
     wanted = {"banner", "main", "heading", "status", "listbox", "option", "toolbar", "image", "list"}
     yield "roles", wanted - roles, set()
     image = [it["name"]["value"] for it in nodes if it["role"]["value"] == "image" and "Picture" in it["name"]["value"]]
-    yield "the picture says what it is", image, ["Picture of page 0: whole"]
+    yield "the picture says what it is", image, ["Picture of page 1: whole"]
     yield "the verdict is told", browser.run('document.getElementById("verdict").getAttribute("role")'), "status"
     browser.call("Accessibility.disable")
 

@@ -13,6 +13,7 @@ sys.path.insert(0, os.path.join(TOP, "tests", "convert"))
 sys.path.append(os.path.join(TOP, "bench"))
 
 import pages  # noqa: E402
+import files as parts_of  # noqa: E402,F401
 from files import get, put  # noqa: E402,F401
 
 CODINGS = ["mh", "mr", "mmr"]

@@ -65,7 +65,7 @@ def leaves(browser, _program, room):
     # In one turn of the page: what is drawn after that starts a worker anew.
     left = browser.run("""(() => {
         document.getElementById("stop").click();
-        return [app.fax.state, app.fax.worker];
+        return [app.fax.state, app.fax.life.worker];
     })()""")
     yield "it is left", left, ["left", None]
     yield "what was read stays", browser.run("app.fax.pages === 60000 && app.fax.page >= 3 && app.fax.rows >= 3"), True
@@ -152,13 +152,30 @@ def many_stretches(browser, program, room):
     close_all(browser)
 
 
+def many_notes(browser, program, room):
+    """Of 30,000 notes the first are listed, the others are counted, and the report that is saved has all."""
+    strip = hostile.packed("000000000001" + "10011" + "000000000001" * 6)
+    path = faxes.put(f"{room}/notes.tif", pages(30000, strip))
+    browser.choose("#choose", path)
+    browser.until('app.fax && app.fax.state === "done" && document.querySelectorAll("#findings li").length > 0')
+    listed = browser.run('document.querySelectorAll("#findings li").length')
+    yield "30,000 notes: the others are counted", browser.run(
+        'document.getElementById("findings-more").textContent').split(".")[0], f"{30000 - listed:,} more are not shown"
+    browser.run("""document.getElementById("save").elements.kind.value = "text";
+        document.querySelector("#save button").click()""")
+    browser.until('app.fax.making && app.fax.making.state === "ready"')
+    text = browser.run("app.fax.making.blob.text()")
+    yield "30,000 notes: the report has all", text.split("\n\n")[2] + "\n" == faxes.said(program, "check", path), True
+    close_all(browser)
+
+
 def many_files(browser, program, room):
     """A hundred files at once: few keep a worker, and each can be gone back to."""
     names = [faxes.put(f"{room}/file-{number}.tif", faxes.drawn(program, 3000 + number)) for number in range(100)]
     browser.choose("#choose", *names)
     browser.until("app.faxes.length === 100 && app.faxes.every((fax) => fax.state === 'done')")
-    browser.until("app.faxes.filter((fax) => fax.worker).length <= 6")
-    yield "a hundred files: few workers", browser.run("app.faxes.filter((fax) => fax.worker).length <= 6"), True
+    browser.until("app.faxes.filter((fax) => fax.life.worker).length <= 6")
+    yield "a hundred files: few workers", browser.run("app.faxes.filter((fax) => fax.life.worker).length <= 6"), True
     browser.run('document.querySelectorAll("#files button")[3].click()')
     browser.until('app.view.fax === app.faxes[3] && document.querySelector("#paper canvas[data-drawn]")')
     name = browser.run('document.getElementById("name").textContent')

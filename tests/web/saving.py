@@ -14,7 +14,7 @@ import faxes
 sys.path.insert(0, os.path.join(faxes.TOP, "tests", "convert"))
 import files as parts_of  # noqa: E402
 
-BLOB = """app.made.blob.arrayBuffer().then((buffer) => {
+BLOB = """app.fax.making.blob.arrayBuffer().then((buffer) => {
     const bytes = new Uint8Array(buffer);
     let text = "";
     for (let at = 0; at < bytes.length; at += 8192) text += String.fromCharCode(...bytes.subarray(at, at + 8192));
@@ -30,13 +30,15 @@ def opened(browser, path):
 
 def made(browser, kind):
     """Has the page make a file, and takes it, with its name and what is said."""
-    browser.run(f"""app.made = null; document.getElementById("save").elements.kind.value = "{kind}";
+    browser.until('!document.getElementById("save-make").disabled')
+    browser.run(f"""app.fax.setMaking(null); document.getElementById("save").elements.kind.value = "{kind}";
         document.querySelector("#save button").click()""")
-    browser.until('app.made || /was not made|nothing to save/.test(document.getElementById("saved").textContent)')
+    browser.until('app.fax.making && app.fax.making.state !== "works"')
+    browser.until('document.getElementById("saved").textContent.startsWith(app.fax.making.said)')
     said = browser.run('document.getElementById("saved").textContent')
-    if not browser.run("Boolean(app.made)"):
+    if browser.run("app.fax.making.state") != "ready":
         return None, None, said
-    return base64.b64decode(browser.run(BLOB)), browser.run("app.made.name"), said
+    return base64.b64decode(browser.run(BLOB)), browser.run("app.fax.making.name"), said
 
 
 def close_all(browser):
@@ -148,7 +150,7 @@ def images(browser, program, room):
         fault = faxes.said(program, "convert", "-o", "mmr", f"{room}/cut.pbm")
         number = re.search(r"image (\d+):", fault).group(1)
         yield f"PBM: {fault}", name in browser.run("app.fax.verdict()"), True
-        yield f"PBM: {fault}: the image", f"Image {number} " in browser.run("app.fax.verdict()"), True
+        yield f"PBM: {fault}: the image", f"Image {int(number) + 1} " in browser.run("app.fax.verdict()"), True
         close_all(browser)
 
 

@@ -95,9 +95,9 @@ def first_part(listed):
 def findings(browser, program, room):
     """The faults, the notes and their words stand in the page, each once, and lead to where they are."""
     wanted = {
-        "damaged-fourth-page.tif": (["Page 3, rows 5 to 10 cannot be read: OutOfRow"], 3),
-        "return-to-control.tif": (["Page 0, strip 0: ReturnToControl"], 0),
-        "three-pages.tif": (["Page 2, row 1 cannot be read: DataEnds"], 2),
+        "damaged-fourth-page.tif": (["Page 4, rows 5 to 10 cannot be read: OutOfRow"], 3),
+        "return-to-control.tif": (["Page 1, strip 0: ReturnToControl"], 0),
+        "three-pages.tif": (["Page 3, row 1 cannot be read: DataEnds"], 2),
         "one-mh-page.tif": ([], 0),
     }
     for name, (lines, page) in wanted.items():

@@ -1,0 +1,146 @@
+"use strict";
+
+/** A file that is made of a fax, for whoever saves it: how far it is, and in the end its bytes, at an address of their
+ * own until it is dropped. */
+class Making {
+    /** @param {string} name @param {() => void} changed */
+    constructor(name, changed) {
+        this.name = name;
+        this.changed = changed;
+        /** @type {"works" | "ready" | "failed"} */
+        this.state = "works";
+        this.percent = 0;
+        this.said = say(TEXTS.saving.works, name, 0);
+        /** @type {Blob | null} */
+        this.blob = null;
+        this.place = "";
+    }
+
+    /** @param {number} done @param {number} all */
+    tell(done, all) {
+        this.percent = Math.floor((100 * done) / all);
+        this.said = say(TEXTS.saving.works, this.name, this.percent);
+        this.changed();
+    }
+
+    /** @param {Blob} blob @param {string} said */
+    end(blob, said) {
+        this.state = "ready";
+        this.blob = blob;
+        this.said = said;
+        this.place = URL.createObjectURL(blob);
+        this.changed();
+    }
+
+    /** @param {string} said */
+    fail(said) {
+        this.state = "failed";
+        this.said = said;
+        this.changed();
+    }
+
+    /** Gives back what it has. */
+    drop() {
+        if (this.place) {
+            URL.revokeObjectURL(this.place);
+        }
+        this.place = "";
+        this.blob = null;
+    }
+}
+
+/** Has files be made of faxes, one at a time, and shows the one of the fax that is looked at. */
+class Makings {
+    /**
+     * @param {{ said: HTMLElement, submit: HTMLButtonElement, cancel: HTMLElement, progress: HTMLProgressElement }}
+     *     parts
+     * @param {() => void} changed
+     */
+    constructor(parts, changed) {
+        this.parts = parts;
+        this.changed = changed;
+        /** The fax of which a file is made now.
+         * @type {Fax | null} */
+        this.working = null;
+        /** What is shown. */
+        this.shown = "";
+        parts.cancel.addEventListener("click", () => this.cancel());
+    }
+
+    /** Makes a file of a fax, and offers it once it was read again and compared.
+     * @param {Fax} fax @param {string} kind @param {number} page */
+    async make(fax, kind, page) {
+        if (this.working) {
+            return;
+        }
+        const pages = kind === "png" ? [page] : fax.wholePages();
+        const making = new Making(Makings.nameOf(fax, kind, page), this.changed);
+        fax.setMaking(making);
+        if (kind !== "text" && (pages.length === 0 || !fax.form(pages[0]))) {
+            making.fail(TEXTS.saving.nothing);
+            return;
+        }
+        this.working = fax;
+        this.changed();
+        try {
+            const words = { kind: kind.replace(/\d/, ""), coding: Number(kind.slice(-1)) || 0, pages };
+            const tell = (/** @type {number} */ done, /** @type {number} */ all) => making.tell(done, all);
+            const blob = kind === "text" ? await fax.textBlob() : await fax.ask("save", words, tell);
+            // What is made of an earlier reading, or of a file that was closed, is nobody's.
+            if (fax.making === making) {
+                making.end(blob, Makings.saidOf(fax, kind, making.name, pages.length));
+            }
+        } catch (error) {
+            const isStopped = error instanceof Stopped || error instanceof Closed;
+            making.fail(isStopped ? say(TEXTS.saving.cancelled, making.name)
+                : say(TEXTS.saving.failed, making.name, /** @type {Error} */ (error).message));
+        } finally {
+            this.working = null;
+            this.changed();
+        }
+    }
+
+    /** @param {Fax} fax @param {string} kind @param {string} name @param {number} count */
+    static saidOf(fax, kind, name, count) {
+        const isLess = !["png", "text"].includes(kind) && count < fax.pages;
+        return isLess ? say(TEXTS.saving.less, name, count, sayCount(fax.pages, "page", "pages"))
+            : say(kind === "text" ? TEXTS.saving.report : TEXTS.saving.ready, name);
+    }
+
+    /** @param {Fax} fax @param {string} kind @param {number} page */
+    static nameOf(fax, kind, page) {
+        const base = fax.file.name.replace(/\.[^.]*$/, "") || "fax";
+        const endings = /** @type {Record<string, string>} */ ({ text: "-report.txt", png: `-page-${sayPage(page)}.png`,
+            tiff1: "-mh.tif", tiff2: "-mr.tif", tiff3: "-mmr.tif" });
+        return base + (endings[kind] ?? `.${kind}`);
+    }
+
+    /** Ends what makes a file. The worker is started again where something else is asked of it. */
+    cancel() {
+        this.working?.life.end();
+    }
+
+    /** Shows what is made of a fax.
+     * @param {Fax | null} fax */
+    show(fax) {
+        const { said, submit, cancel, progress } = this.parts;
+        const making = fax?.making ?? null;
+        submit.disabled = this.working !== null;
+        cancel.hidden = progress.hidden = making?.state !== "works";
+        progress.value = making?.percent ?? 0;
+        const key = [fax?.number, fax?.reading, making?.state, making?.said].join("\n");
+        if (key !== this.shown) {
+            this.shown = key;
+            said.replaceChildren(making?.said ?? "");
+            if (making?.place) {
+                const link = document.createElement("a");
+                link.className = "button";
+                link.download = making.name;
+                link.href = making.place;
+                link.textContent = say(TEXTS.saving.link, making.name);
+                said.append(" ", link);
+                link.focus();
+            }
+        }
+    }
+}
