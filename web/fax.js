@@ -5,8 +5,11 @@ class Known {
     constructor() {
         /** @type {(Uint32Array | undefined)[]} */
         this.forms = [];
-        /** @type {Map<number, { name: string, fault: Fault }>} */
+        /** @type {Map<number, { name: string, fault: Fault, kind: Kind | null }>} */
         this.refused = new Map();
+        /** How many pages have a form, and how many are pictures of other kinds. */
+        this.listed = 0;
+        this.others = 0;
         /** @type {Map<number, LostRows>} */
         this.lost = new Map();
         /** @type {Map<number, { strip: number, name: string }[]>} */
@@ -57,8 +60,8 @@ class LostRows {
 class Fax extends Known {
     /** The classes that a worker is made of. */
     static WORKER = [
-        Library, Cursor, Form, Left, Salvaging, Reading, Drawing, Shrunk, Cells, Pdf, Png, Saving, Importing, Broken,
-        FaxWorker,
+        Library, Cursor, Form, Left, Salvaging, Kinds, Reading, Drawing, Shrunk, Cells, Pdf, Png, Saving, Importing,
+        Broken, FaxWorker,
     ];
     static ids = 0;
 
@@ -81,6 +84,8 @@ class Fax extends Known {
         this.making = null;
         /** @type {Bare | null} */
         this.coded = null;
+        /** Whether somebody said that it is bare data. */
+        this.isBare = false;
     }
 
     /** What workers are made of: their text, as an address that a page from `file:` can hand over too, and the bytes
@@ -206,22 +211,24 @@ class Fax extends Known {
     /** @param {{ page: number, numbers: Uint32Array }} data */
     onForms({ page, numbers }) {
         for (let at = 0; at < numbers.length; at += Library.FORM_NUMBERS) {
+            this.listed++;
             this.forms[page++] = numbers.subarray(at, at + Library.FORM_NUMBERS);
         }
         this.pages = page;
         this.changed(this);
     }
 
-    /** @param {{ fault: Fault, name: string }} data */
-    onRefused({ fault, name }) {
-        this.refused.set(fault.page, { name, fault });
+    /** @param {{ fault: Fault, name: string, kind: Kind | null }} data */
+    onRefused({ fault, name, kind }) {
+        this.refused.set(fault.page, { name, fault, kind });
+        this.others += kind ? 1 : 0;
         this.pages = fault.page + 1;
         this.changed(this);
     }
 
     /** @param {any} data */
-    onListed({ fault, name }) {
-        this.end = fault && { fault, name };
+    onListed({ fault, name, kind }) {
+        this.end = fault && { fault, name, kind };
         this.move("reads");
     }
 
@@ -281,10 +288,18 @@ class Fax extends Known {
         return this.pages > 0 && !this.lost.size && !this.refused.size && !this.end && !this.told?.name;
     }
 
+    /** What the file is, where it has nothing but pictures of other kinds, or is no fax at all.
+     * @returns {Kind | null} */
+    otherKind() {
+        const isOther = this.listed === 0 && !this.told && this.state === "done" && this.others === this.pages;
+        return !isOther ? null : this.pages ? this.refused.get(0)?.kind ?? null : this.end?.kind ?? null;
+    }
+
     /** What a page is like.
      * @param {number} page */
     stateOf(page) {
-        return this.refused.has(page) ? "refused" : this.lost.has(page) ? "damaged" : "whole";
+        const refused = this.refused.get(page);
+        return refused ? (refused.kind ? "other" : "refused") : this.lost.has(page) ? "damaged" : "whole";
     }
 
     /** What is wrong, page by page, and downwards: as many as are asked for, and how many there are.
@@ -302,10 +317,11 @@ class Fax extends Known {
             return count + (this.refused.has(page) ? 1 : 0) + (this.lost.get(page)?.count ?? 0) +
                 (this.notes.get(page)?.length ?? 0);
         }, unseen);
-        if (this.end && found.length < most) {
+        const isFault = this.end && !this.end.kind;
+        if (isFault && found.length < most) {
             found.push(this.endFinding());
         }
-        return { found, all: all + (this.end ? 1 : 0) };
+        return { found, all: all + (isFault ? 1 : 0) };
     }
 
     /** @returns {Finding} */
@@ -330,7 +346,9 @@ class Fax extends Known {
             page, row: from, name, tag: 0, kind: /** @type {"fault"} */ ("fault"),
             head: from === to ? say(texts.row, sayPage(page), from) : say(texts.rows, sayPage(page), from, to) }));
         const faults = refused ? [{ page, row: 0, name: refused.name, tag: refused.fault.tag,
-            kind: /** @type {"fault"} */ ("fault"), head: say(texts.page, sayPage(page)) }] : [];
+            kind: /** @type {"fault"} */ ("fault"), head: refused.kind
+                ? say(texts.otherPage, sayPage(page), sayOfKind(refused.kind)[0])
+                : say(texts.page, sayPage(page)) }] : [];
         return [...faults, ...notes, ...lost].sort((one, other) => one.row - other.row);
     }
 
@@ -379,11 +397,18 @@ class Fax extends Known {
     pagesVerdict() {
         const texts = TEXTS.verdicts;
         const pages = sayCount(this.pages, "page", "pages");
-        const damaged = this.refused.size + this.lost.size;
+        const damaged = this.refused.size - this.others + this.lost.size;
+        const kind = this.otherKind();
+        if (kind) {
+            return say(texts.other, ...sayOfKind(kind));
+        }
         if (this.pages === 0) {
             return texts.nothing;
         }
-        const parts = damaged ? [say(texts.damaged, this.pages - damaged, pages)] : [];
+        const parts = damaged ? [say(texts.damaged, this.pages - this.others - damaged, pages)] : [];
+        if (this.others) {
+            parts.push(say(texts.others, this.others, pages));
+        }
         if (this.end) {
             parts.push(say(texts.chain, String(this.end.fault.page)));
         }

@@ -45,6 +45,7 @@ class App {
         on("right", () => this.view.turn(1));
         on("stop", () => this.fax?.stop());
         on("notes", () => this.lookForNotes());
+        on("bare-open", () => this.askForBare());
         on("again", () => this.fax?.read());
         on("close", () => this.close());
         the("report").addEventListener("toggle", () => this.renderReport());
@@ -192,13 +193,20 @@ class App {
         the("files").hidden = faxes.length < 2;
         const buttons = faxes.map((fax) => {
             const button = the(`file-${fax.number}`) ?? this.fileButton(fax);
-            button.className = fax.failure ? "failed" : fax.isBusy() ? "busy" : fax.isWhole() ? "whole" : "damaged";
+            button.className = App.lookOf(fax);
             button.setAttribute("aria-pressed", String(fax === this.fax));
             return button;
         });
         if (buttons.length !== the("files").childElementCount || buttons.some((button) => !button.isConnected)) {
             the("files").replaceChildren(...buttons);
         }
+    }
+
+    /** What a file looks like in the list.
+     * @param {Fax} fax */
+    static lookOf(fax) {
+        return fax.failure ? "failed" : fax.isBusy() ? "busy" : fax.otherKind() ? "other"
+            : fax.isWhole() ? "whole" : "damaged";
     }
 
     /** @param {Fax} fax */
@@ -221,7 +229,8 @@ class App {
         put("name", fax.file.name);
         put("verdict", fax.verdict());
         const isReading = fax.isBusy() && fax.state !== "waits";
-        const state = fax.failure || fax.state !== "done" ? "left" : fax.isWhole() ? "whole" : "damaged";
+        const state = fax.failure || fax.state !== "done" || fax.otherKind() ? "left"
+            : fax.isWhole() ? "whole" : "damaged";
         the("verdict").className = isReading ? "busy" : state;
         the("progress").hidden = !isReading;
         if (isReading && fax.state === "reads" && fax.pages > 0) {
@@ -234,8 +243,12 @@ class App {
         the("notes").hidden = !fax.isLong;
         the("again").hidden = !fax.failure;
         the("save").hidden = fax.pages === 0 || fax.isBusy();
-        the("bare").hidden = !(fax.told?.kind === "bare" || (fax.state === "done" && fax.pages === 0 && fax.end &&
-            ["ByteOrder", "ShortHeader", "Magic"].includes(fax.end.name)));
+        // Whoever knows that these are bare fax data says so.
+        const mayBeBare = fax.state === "done" && fax.pages === 0 && fax.end && !["pdf", "empty"].includes(
+            fax.end.kind?.name ?? "") && ["ByteOrder", "ShortHeader", "Magic"].includes(fax.end.name);
+        const isBare = fax.told?.kind === "bare" || Boolean(mayBeBare && fax.isBare);
+        the("bare").hidden = !isBare;
+        the("bare-open").hidden = isBare || !mayBeBare;
     }
 
     /** @param {Fax} fax */
@@ -298,6 +311,15 @@ class App {
             ? say(texts.form, form.width, form.rows, TEXTS.codings[form.coding], resolution)
             : fax.pages > 0 ? say(TEXTS.findings.page, sayPage(this.page)) : "";
         the("sheet").setAttribute("aria-label", say(texts.picture, sayPage(this.page), texts[fax.stateOf(this.page)]));
+    }
+
+    /** Opens the form for bare data, and goes to it. */
+    askForBare() {
+        if (this.fax) {
+            this.fax.isBare = true;
+            this.render();
+            the("bare").elements.coding.focus();
+        }
     }
 
     readBare() {

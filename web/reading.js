@@ -16,6 +16,7 @@ class Reading {
      */
     constructor(library, salvaging, send, pause) {
         this.library = library;
+        this.kinds = new Kinds(library);
         this.salvaging = salvaging;
         this.send = send;
         this.pause = pause;
@@ -41,10 +42,13 @@ class Reading {
                 next += told.count;
             }
             if (told.status === Library.FAULT && Reading.isOfFields(told.fault) && told.fault.page >= next) {
-                this.send({ event: "refused", fault: told.fault, name: this.nameOf(told.fault) });
+                const name = this.nameOf(told.fault);
+                this.send({ event: "refused", fault: told.fault, name, kind: this.kinds.ofPage(told.fault, name) });
                 next = told.fault.page + 1;
             } else if (told.status === Library.FAULT && told.fault.page >= next) {
-                this.send({ event: "listed", pages: next, fault: told.fault, name: this.nameOf(told.fault) });
+                const name = this.nameOf(told.fault);
+                const kind = next === 0 ? this.kinds.ofFile(name) : null;
+                this.send({ event: "listed", pages: next, fault: told.fault, name, kind });
                 return next;
             } else if (told.status !== Library.DONE) {
                 this.send({ event: "listed", pages: next, fault: null });

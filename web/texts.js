@@ -7,7 +7,7 @@ const TEXTS = {
     faults: {
         ShortHeader: ["The file has fewer than eight bytes.", "It was cut, or is empty. Ask for it again."],
         ByteOrder: ["It begins with neither II nor MM: not a TIFF file.",
-            "If it is bare fax data (T.4 or T.6), say below how it is coded. Otherwise it is no fax: open it with " +
+            "If it is bare fax data (T.4 or T.6), say so, and how it is coded. Otherwise it is no fax: open it with " +
             "the program that it was made for."],
         Magic: ["The number after the byte order is not 42: not a TIFF file, or BigTIFF.",
             "Ask for the fax as a TIFF file."],
@@ -61,6 +61,25 @@ const TEXTS = {
             "If a receiver refuses it: save the fax as TIFF."],
         EntriesOutOfOrder: ["A directory's tags do not ascend.", "If a reader misses fields: save the fax as TIFF."],
     },
+    /** What is no fax that is read here, and what reads it. */
+    kinds: {
+        pdf: ["a PDF", "A PDF viewer opens it."],
+        png: ["a PNG picture", "A picture viewer opens it."],
+        jpeg: ["a JPEG picture", "A picture viewer opens it."],
+        gif: ["a GIF picture", "A picture viewer opens it."],
+        bmp: ["a BMP picture", "A picture viewer opens it."],
+        zip: ["a ZIP archive", "Unpack it: the fax may be inside."],
+        postScript: ["PostScript", "A PostScript viewer opens it."],
+        text: ["text", "A text editor opens it."],
+        empty: ["an empty file", "Ask for it again."],
+        bigTiff: ["a BigTIFF file", "libtiff's tiffcp makes a TIFF file of it, or a picture viewer opens it."],
+        tiles: ["a picture in tiles", "libtiff's tiffcp makes strips of it, or a picture viewer opens it."],
+        compression: ["a picture in TIFF with another compression ({0})", "A picture viewer opens it."],
+        bits: ["a grey or coloured picture in TIFF", "A picture viewer opens it."],
+        colour: ["a coloured picture in TIFF", "A picture viewer opens it."],
+        mode: ["a fax in uncompressed mode", "Ask for it without that mode."],
+        other: ["a picture in TIFF of another kind (field {0})", "A picture viewer opens it."],
+    },
     codings: ["", "MH", "MR", "MMR"],
     units: ["", "", "inch", "cm"],
     files: {
@@ -89,6 +108,8 @@ const TEXTS = {
         damaged: "This fax is damaged: {0} of {1} can be read wholly.",
         chain: "The fax is damaged after page {0}: whatever followed is not found.",
         nothing: "This file cannot be read as a fax.",
+        other: "This is no fax that is read here, but {0}. {1}",
+        others: "{0} of {1} are no fax pages that are read here.",
         bareWhole: "The data were read to their end: {0} rows.",
         bareMissing: "{0} rows were read, and {1} are missing.",
         bareDamaged: "{0} rows were read. Row {0} cannot be read: {1}.",
@@ -100,6 +121,7 @@ const TEXTS = {
         rows: "Page {0}, rows {1} to {2} cannot be read",
         row: "Page {0}, row {1} cannot be read",
         page: "Page {0} cannot be read",
+        otherPage: "Page {0} is no fax page that is read here, but {1}",
         chain: "Pages from {0} on are not found",
         file: "The file cannot be read",
         strip: "Page {0}, strip {1}",
@@ -121,6 +143,7 @@ const TEXTS = {
         whole: "whole",
         damaged: "damaged",
         refused: "cannot be read",
+        other: "no fax page",
         picture: "Picture of page {0}: {1}",
     },
     saving: {
@@ -159,6 +182,12 @@ function sayPage(page) {
 function sayOfFault(name, tag) {
     const faults = /** @type {Record<string, string[]>} */ (TEXTS.faults);
     return faults[`${name}${tag}`] ?? faults[name] ?? [name, ""];
+}
+
+/** What something is that is no fax, and what reads it.
+ * @param {{ name: string, value: string }} kind @returns {string[]} */
+function sayOfKind({ name, value }) {
+    return TEXTS.kinds[/** @type {"other"} */ (name)].map((text) => say(text, value));
 }
 
 /** @param {number} count @param {string} one @param {string} many */

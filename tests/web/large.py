@@ -1,10 +1,12 @@
 """Large and hostile files: the page answers while they are read, they can be left, and what was read stays."""
 
 import os
+import shutil
 import struct
 
 import faxes
 import hostile
+import saving
 
 # Milliseconds of the processor that a task of the page may take, and how often that is tried: a garbage collection
 # falls where it will.
@@ -149,6 +151,13 @@ def many_stretches(browser, program, room):
     yield "20,000 stretches: rows are counted", browser.run("app.fax.rows"), found
     listed = browser.run('document.querySelectorAll("#findings li").length')
     yield "20,000 stretches: few are listed", 0 < listed < len(lines), True
+    if shutil.which("pngtopnm"):
+        got = saving.made(browser, "png")[0]
+        is_lost = [bytes(pels) == bytes([2] * 8) for pels in zip(*[iter(faxes.pels_of_png(got)[2])] * 8)]
+        wanted = [False] * 40000
+        for line in lines:
+            wanted[int(line[2]):int(line[2]) + int(line[3])] = [True] * int(line[3])
+        yield "20,000 stretches: the picture has the same rows grey", is_lost == wanted, True
     close_all(browser)
 
 

@@ -194,8 +194,8 @@ def as_bare(browser, program, room, data, words, rows, verdict):
     close_all(browser)
     opened(browser, faxes.put(f"{room}/bare.g3", data))
     name = f"bare {words}"
-    if browser.run('document.getElementById("bare").hidden'):
-        browser.until('!document.getElementById("bare").hidden')
+    browser.until('!document.getElementById("bare-open").hidden')
+    browser.run('document.getElementById("bare-open").click()')
     browser.run(f"""(() => {{
         const form = document.getElementById("bare");
         for (const [name, value] of Object.entries({json.dumps({"eols": True, "aligned": False, **words})})) {{

@@ -5,6 +5,7 @@ import json
 import os
 import re
 import shutil
+import struct
 
 import faxes
 
@@ -113,6 +114,40 @@ def findings(browser, program, room):
             browser.until('document.querySelector("#paper .mark")')
             yield f"{name}: a mark on the page", browser.run(
                 'document.querySelector("#paper .mark").textContent.includes("%s")' % lines[0].split(": ")[1]), True
+    close_all(browser)
+
+
+def picture_of(*fields):
+    """A TIFF file of one page with these fields, each a tag, a type, a count and a value."""
+    told = sorted([(256, 3, 1, 8), (257, 3, 1, 1), (262, 3, 1, 0), (277, 3, 1, 1), *fields])
+    data = b"".join(struct.pack("<HHII", *it) for it in told)
+    return struct.pack("<2sHIH", b"II", 42, 8, len(told)) + data + bytes(8)
+
+
+def kinds(browser, _program, room):
+    """What is no fax that is read here is called so, by its name, and not damaged; the form for bare data waits."""
+    strips = [(273, 4, 1, 8), (278, 3, 1, 1), (279, 4, 1, 1)]
+    tiles = [(322, 3, 1, 16), (323, 3, 1, 16), (324, 4, 1, 8), (325, 4, 1, 1)]
+    tried = {
+        "a.pdf": (b"%PDF-1.4\n%", "a PDF"), "b.png": (b"\x89PNG\r\n\x1a\n" + bytes(9), "a PNG picture"),
+        "big.tif": (b"II+\0\x08\0\0\0" + bytes(20), "a BigTIFF file"), "text.tif": (b"Dear all,\n" * 9, "text"),
+        "empty.tif": (b"", "an empty file"), "photo.tif": (b"\xff\xd8\xff\xe0" + bytes(20), "a JPEG picture"),
+        "lzw.tif": (picture_of((259, 3, 1, 5), (258, 3, 1, 1), *strips),
+                    "a picture in TIFF with another compression (LZW)"),
+        "grey.tif": (picture_of((259, 3, 1, 3), (258, 3, 1, 8), *strips), "a grey or coloured picture in TIFF"),
+        "tiles.tif": (picture_of((259, 3, 1, 3), (258, 3, 1, 1), *tiles), "a picture in tiles"),
+    }
+    for name, (data, kind) in tried.items():
+        browser.choose("#choose", faxes.put(f"{room}/{name}", data))
+        browser.until(f"""app.fax && app.fax.state === "done" && app.fax.file.name === "{name}" &&
+            document.getElementById("verdict").textContent === app.fax.verdict()""")
+        told = browser.run("""[document.getElementById("verdict").textContent.replace(/\\..*/, ""),
+            document.getElementById("verdict").className, document.getElementById("bare").hidden, app.fax.isWhole()]""")
+        yield f"{name}: what is said", told, [f"This is no fax that is read here, but {kind}", "left", True, False]
+        yield f"{name}: in the list", browser.run("App.lookOf(app.fax)"), "other"
+    browser.choose("#choose", faxes.put(f"{room}/mixed.tif", b"\x00\x01\xfe" * 30))
+    browser.until('app.fax && app.fax.file.name === "mixed.tif" && app.fax.state === "done"')
+    yield "other bytes are of no known kind", browser.run("app.fax.verdict()"), "This file cannot be read as a fax."
     close_all(browser)
 
 
