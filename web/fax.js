@@ -283,6 +283,12 @@ class Fax extends Known {
             (page) => this.forms[page] && !this.lost.has(page));
     }
 
+    /** The pages that can be shown, damaged ones too. */
+    shownPages() {
+        const read = this.state === "left" ? this.page : this.pages;
+        return Array.from({ length: read }, (_, page) => page).filter((page) => this.forms[page]);
+    }
+
     /** Whether all that was read so far is whole. */
     isWhole() {
         return this.pages > 0 && !this.lost.size && !this.refused.size && !this.end && !this.told?.name;

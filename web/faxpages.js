@@ -11,6 +11,8 @@ class App {
     static READERS = 3;
     static WORKERS = 4;
     static MOST_FINDINGS = 200;
+    /** As in faxpages.css. */
+    static NARROW = "(max-width: 60rem)";
     /** So many letters of a report are shown; all are saved. */
     static MOST_REPORT = 50000;
 
@@ -28,6 +30,7 @@ class App {
         this.thumbs = new Thumbs(the("thumbs"), the("thumbs-all"), (page) => this.goTo(page));
         this.listen();
         this.listenForFiles();
+        this.fold();
         this.render();
     }
 
@@ -43,6 +46,7 @@ class App {
         on("wide", () => this.view.setZoom("wide"));
         on("left", () => this.view.turn(-1));
         on("right", () => this.view.turn(1));
+        on("print", () => this.print());
         on("stop", () => this.fax?.stop());
         on("notes", () => this.lookForNotes());
         on("bare-open", () => this.askForBare());
@@ -64,6 +68,16 @@ class App {
             });
         }
         document.addEventListener("keydown", (event) => this.key(event));
+    }
+
+    /** On a narrow screen, or one that shows all large, what is not the page is folded: the page comes first. */
+    fold() {
+        const narrow = matchMedia(App.NARROW);
+        const set = () => {
+            the("more").open = !narrow.matches;
+        };
+        narrow.addEventListener("change", set);
+        set();
     }
 
     /** Files that are chosen, or dropped. */
@@ -145,6 +159,9 @@ class App {
         this.render();
         if (row !== undefined) {
             this.view.goTo(row);
+            if (matchMedia(App.NARROW).matches) {
+                the("view-part").scrollIntoView();
+            }
         }
         if (hasMoved) {
             const state = /** @type {Fax} */ (this.fax).stateOf(wanted);
@@ -243,6 +260,7 @@ class App {
         the("notes").hidden = !fax.isLong;
         the("again").hidden = !fax.failure;
         the("save").hidden = fax.pages === 0 || fax.isBusy();
+        the("print").hidden = the("save").hidden;
         // Whoever knows that these are bare fax data says so.
         const mayBeBare = fax.state === "done" && fax.pages === 0 && fax.end && !["pdf", "empty"].includes(
             fax.end.kind?.name ?? "") && ["ByteOrder", "ShortHeader", "Magic"].includes(fax.end.name);
@@ -341,7 +359,14 @@ class App {
 
     save() {
         if (this.fax) {
-            this.makings.make(this.fax, the("save").elements.kind.value, this.page);
+            this.makings.make(this.fax, the("save").elements.kind.value, this.page, this.view.turns);
+        }
+    }
+
+    /** Makes the PDF, and has it be opened: what shows PDFs prints them, a page a sheet, in their size. */
+    print() {
+        if (this.fax) {
+            this.makings.make(this.fax, "pdf", this.page, this.view.turns, true);
         }
     }
 

@@ -10,6 +10,8 @@ class Making {
         /** @type {"works" | "ready" | "failed"} */
         this.state = "works";
         this.percent = 0;
+        /** Whether it is opened to be printed, and not saved. */
+        this.isToPrint = false;
         this.said = say(TEXTS.saving.works, name, 0);
         /** @type {Blob | null} */
         this.blob = null;
@@ -68,13 +70,14 @@ class Makings {
     }
 
     /** Makes a file of a fax, and offers it once it was read again and compared.
-     * @param {Fax} fax @param {string} kind @param {number} page */
-    async make(fax, kind, page) {
+     * @param {Fax} fax @param {string} kind @param {number} page @param {number} turns @param {boolean} [isToPrint] */
+    async make(fax, kind, page, turns, isToPrint = false) {
         if (this.working) {
             return;
         }
-        const pages = kind === "png" ? [page] : fax.wholePages();
+        const pages = kind === "png" ? [page] : kind === "pdf" ? fax.shownPages() : fax.wholePages();
         const making = new Making(Makings.nameOf(fax, kind, page), this.changed);
+        making.isToPrint = isToPrint;
         fax.setMaking(making);
         if (kind !== "text" && (pages.length === 0 || !fax.form(pages[0]))) {
             making.fail(TEXTS.saving.nothing);
@@ -83,7 +86,7 @@ class Makings {
         this.working = fax;
         this.changed();
         try {
-            const words = { kind: kind.replace(/\d/, ""), coding: Number(kind.slice(-1)) || 0, pages };
+            const words = { kind: kind.replace(/\d/, ""), coding: Number(kind.slice(-1)) || 0, pages, turns };
             const tell = (/** @type {number} */ done, /** @type {number} */ all) => making.tell(done, all);
             const blob = kind === "text" ? await fax.textBlob() : await fax.ask("save", words, tell);
             // What is made of an earlier reading, or of a file that was closed, is nobody's.
@@ -103,6 +106,9 @@ class Makings {
     /** @param {Fax} fax @param {string} kind @param {string} name @param {number} count */
     static saidOf(fax, kind, name, count) {
         const isLess = !["png", "text"].includes(kind) && count < fax.pages;
+        if (kind === "pdf" && !isLess && fax.lost.size) {
+            return say(TEXTS.saving.grey, name);
+        }
         return isLess ? say(TEXTS.saving.less, name, count, sayCount(fax.pages, "page", "pages"))
             : say(kind === "text" ? TEXTS.saving.report : TEXTS.saving.ready, name);
     }
@@ -128,16 +134,20 @@ class Makings {
         submit.disabled = this.working !== null;
         cancel.hidden = progress.hidden = making?.state !== "works";
         progress.value = making?.percent ?? 0;
-        const key = [fax?.number, fax?.reading, making?.state, making?.said].join("\n");
+        const key = [fax?.number, fax?.reading, making?.state, making?.said, making?.place].join("\n");
         if (key !== this.shown) {
             this.shown = key;
             said.replaceChildren(making?.said ?? "");
             if (making?.place) {
                 const link = document.createElement("a");
                 link.className = "button";
-                link.download = making.name;
                 link.href = making.place;
-                link.textContent = say(TEXTS.saving.link, making.name);
+                link.textContent = say(making.isToPrint ? TEXTS.saving.print : TEXTS.saving.link, making.name);
+                if (making.isToPrint) {
+                    link.target = "_blank";
+                } else {
+                    link.download = making.name;
+                }
                 said.append(" ", link);
                 link.focus();
             }

@@ -1,8 +1,17 @@
 "use strict";
 
-/** A PDF whose pages are images of MMR data: the few objects that it needs. */
+/**
+ * A PDF whose pages are images of MMR data: the few objects that it needs. A page of which rows are lost has two masks:
+ * the lost rows are painted grey, and then what is black black.
+ */
 class Pdf {
-    constructor() {
+    static GREY = 0.66;
+
+    /** @param {number} turns quarters, by which a viewer turns each page */
+    constructor(turns) {
+        this.turns = turns;
+        /** The last object that was written; 1 and 2 are written at the end. */
+        this.last = 2;
         /** @type {BlobPart[]} */
         this.parts = [];
         this.length = 0;
@@ -42,18 +51,28 @@ class Pdf {
         return form.unit === 1 ? (pels / inUnit) * (form.across / 204) : pels / (inUnit * (form.unit === 3 ? 2.54 : 1));
     }
 
-    /** @param {Form} form @param {Blob} data */
-    addPage(form, data) {
-        const number = 3 + 3 * this.pages.length;
+    /** @param {Form} form @param {Blob} data @param {Blob | null} lost of a raster whose lost rows are black */
+    addPage(form, data, lost) {
+        const number = this.last + 1;
         const [across, down] = [Pdf.inches(form, form.width, form.across), Pdf.inches(form, form.rows, form.down)]
             .map((inches) => (72 * inches).toFixed(3));
-        const drawn = new Blob([`q ${across} 0 0 ${down} 0 0 cm /I Do Q`]);
+        const drawn = new Blob([`q ${across} 0 0 ${down} 0 0 cm `, lost ? `${Pdf.GREY} g /L Do 0 g ` : "", "/I Do Q"]);
         this.pages.push(number);
         this.object(number, `<< /Type /Page /Parent 2 0 R /MediaBox [0 0 ${across} ${down}] ` +
-            `/Contents ${number + 1} 0 R /Resources << /XObject << /I ${number + 2} 0 R >> >> >>`);
+            `${this.turns ? `/Rotate ${90 * this.turns} ` : ""}/Contents ${number + 1} 0 R /Resources << /XObject << ` +
+            `/I ${number + 2} 0 R ${lost ? `/L ${number + 3} 0 R ` : ""}>> >> >>`);
         this.object(number + 1, `<< /Length ${drawn.size} >>`, drawn);
-        this.object(number + 2, `<< /Type /XObject /Subtype /Image /Width ${form.width} /Height ${form.rows} ` +
-            "/ColorSpace /DeviceGray /BitsPerComponent 1 /Filter /CCITTFaxDecode " +
+        this.image(number + 2, form, data, lost !== null);
+        if (lost) {
+            this.image(number + 3, form, lost, true);
+        }
+        this.last = number + (lost ? 3 : 2);
+    }
+
+    /** @param {number} number @param {Form} form @param {Blob} data @param {boolean} isMask */
+    image(number, form, data, isMask) {
+        this.object(number, `<< /Type /XObject /Subtype /Image /Width ${form.width} /Height ${form.rows} ` +
+            `${isMask ? "/ImageMask true" : "/ColorSpace /DeviceGray"} /BitsPerComponent 1 /Filter /CCITTFaxDecode ` +
             `/DecodeParms << /K -1 /Columns ${form.width} /Rows ${form.rows} >> /Length ${data.size} >>`, data);
     }
 
@@ -107,8 +126,22 @@ class Png {
         head.setUint8(8, bits);
         return new Blob([
             Uint8Array.of(0x89, 0x50, 0x4e, 0x47, 13, 10, 26, 10), Png.chunk("IHDR", new Uint8Array(head.buffer)),
-            Png.chunk("IDAT", packed), Png.chunk("IEND", new Uint8Array(0)),
+            ...Png.sizes(form, across, down), Png.chunk("IDAT", packed), Png.chunk("IEND", new Uint8Array(0)),
         ], { type: "image/png" });
+    }
+
+    /** How many pels of the picture a metre has, where the file says it.
+     * @param {Form} form @param {number} across @param {number} down */
+    static sizes(form, across, down) {
+        const inUnit = { 2: 1 / 0.0254, 3: 100 }[form.unit];
+        if (!inUnit || !(form.across > 0 && form.down > 0)) {
+            return [];
+        }
+        const view = new DataView(new ArrayBuffer(9));
+        view.setUint32(0, Math.round(form.across * across * inUnit));
+        view.setUint32(4, Math.round(form.down * down * inUnit));
+        view.setUint8(8, 1);
+        return [Png.chunk("pHYs", new Uint8Array(view.buffer))];
     }
 
     /** The lines of the picture, each after a 0, in pieces: white is the highest number, and grey is 2 of 3.

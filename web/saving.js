@@ -1,8 +1,8 @@
 "use strict";
 
 /**
- * Makes files of pages that can be read wholly. What was made is read again by the library, or unpacked, and compared
- * with the rows of the fax before it is handed out.
+ * Makes files of pages: TIFF and PBM of those that can be read wholly, PDF of all, with lost rows grey. What was made
+ * is read again by the library, or unpacked, and compared with the rows of the fax before it is handed out.
  *
  * @typedef {{ at: number, length: number, page: number }} Piece
  */
@@ -11,15 +11,16 @@ class Saving {
     static MOST_RASTER = Library.MOST_BYTES;
 
     /**
-     * @param {Library} library of the fax
+     * @param {Drawing} drawing of the fax
      * @param {WebAssembly.Module} module
      * @param {() => Promise<void>} pause
      * @param {(done: number, all: number) => void} tell
      */
-    constructor(library, module, pause, tell) {
-        this.library = library;
+    constructor(drawing, module, pause, tell) {
+        this.drawing = drawing;
+        this.library = drawing.library;
         this.made = new Library(module);
-        this.cursor = library.cursor(0, 0);
+        this.cursor = this.library.cursor(0, 0);
         this.pause = pause;
         this.tell = tell;
     }
@@ -195,23 +196,53 @@ class Saving {
         [this.made.file, this.made.length] = [file, length];
     }
 
-    /** The pages as a PDF: each is one image of MMR data.
-     * @param {number[]} pages */
-    async pdf(pages) {
-        const pdf = new Pdf();
+    /** The pages as a PDF, each an image of MMR data, or two masks where rows are lost.
+     * @param {number[]} pages @param {number} turns */
+    async pdf(pages, turns) {
+        const pdf = new Pdf(turns);
         for (const [done, page] of pages.entries()) {
             const form = this.formOf(page);
-            const raster = await this.rasterOf(page, form);
-            const strip = this.made.codeStrip(form, raster);
-            if (strip.status !== Library.DONE) {
-                throw new Error(`page ${page + 1} is not coded`);
-            }
-            const data = new Blob([this.made.bytes(strip.at, strip.length)]);
-            await this.compareStrip(data, page, form, raster);
-            pdf.addPage(form, data);
+            const isDamaged = this.drawing.salvaging.of(page, form) !== null;
+            const raster = isDamaged ? this.rasterLeft(page, form, false) : await this.rasterOf(page, form);
+            const data = await this.coded(page, form, raster);
+            const lost = isDamaged ? await this.coded(page, form, this.rasterLeft(page, form, true)) : null;
+            pdf.addPage(form, data, lost);
+            await this.pause();
             this.tell(done + 1, pages.length);
         }
         return pdf.blob();
+    }
+
+    /** What is left of a page as a raster of the other library, with lost rows white; or these rows alone, black.
+     * @param {number} page @param {Form} form @param {boolean} isOfLost */
+    rasterLeft(page, form, isOfLost) {
+        const at = this.made.room("raster", form.stride * form.rows);
+        this.drawing.eachRow(page, form, 0, form.rows, (row, bytes) => {
+            const place = this.made.bytes(at + row * form.stride, form.stride);
+            if (bytes && !isOfLost) {
+                place.set(bytes);
+            } else {
+                place.fill(isOfLost && !bytes ? 255 : 0);
+            }
+        });
+        if (isOfLost && form.width % 8) {
+            for (let row = 0; row < form.rows; row++) {
+                this.made.bytes(at + (row + 1) * form.stride - 1, 1)[0] &= 0xff << (8 - (form.width % 8));
+            }
+        }
+        return at;
+    }
+
+    /** A raster as MMR data, which were read again and compared.
+     * @param {number} page @param {Form} form @param {number} raster */
+    async coded(page, form, raster) {
+        const strip = this.made.codeStrip(form, raster);
+        if (strip.status !== Library.DONE) {
+            throw new Error(`page ${page + 1} is not coded`);
+        }
+        const data = new Blob([this.made.bytes(strip.at, strip.length)]);
+        await this.compareStrip(data, page, form, raster);
+        return data;
     }
 
     /** Reads the data of an image again, and compares its rows with those of the page.

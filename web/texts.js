@@ -154,7 +154,9 @@ const TEXTS = {
         failed: "{0} was not made: {1}.",
         cancelled: "{0} was not made: it was cancelled.",
         nothing: "No page can be read wholly, so there is nothing to save in this way.",
+        grey: "{0} was made, read again and compared: it has all that can be read, and lost rows are grey.",
         link: "Save {0}",
+        print: "Open {0}, to print it",
     },
     bare: {
         refused: "Say a width from 1 to 65,535 and a number of rows up to 1,000,000.",

@@ -140,12 +140,19 @@ class View {
         this.paper.style.height = `${high}px`;
         this.paper.style.transform = ["none", `translate(${high}px, 0) rotate(90deg)`,
             `translate(${wide}px, ${high}px) rotate(180deg)`, `translate(0, ${wide}px) rotate(270deg)`][this.turns];
+        this.view.style.setProperty("--print-scale", String(this.printScale()));
         this.paper.classList.toggle("sharp", this.scale * devicePixelRatio >= 1);
         for (const [key, canvas] of this.tiles) {
             this.place(canvas, key);
         }
         this.mark();
         this.plan();
+    }
+
+    /** By how much a sheet of paper shows the page larger than the screen: 96 pels of a style are an inch. */
+    printScale() {
+        const form = /** @type {Form} */ (this.form);
+        return (96 * Pdf.inches(form, form.width, form.across)) / this.size()[0];
     }
 
     /** The size of the page on the screen before it is turned. */

@@ -330,13 +330,14 @@ class FaxWorker {
     }
 
     /** Makes a file of a page, or of pages.
-     * @param {{ id: number, kind: string, pages: number[], coding: number }} asked */
-    async save({ id, kind, pages, coding }) {
+     * @param {{ id: number, kind: string, pages: number[], coding: number, turns: number }} asked */
+    async save({ id, kind, pages, coding, turns }) {
         if (kind === "png") {
             return new Png(this.drawing, this.pause).blob(pages[0]);
         }
-        const saving = new Saving(this.library, this.module, this.pause,
+        const saving = new Saving(this.drawing, this.module, this.pause,
             (done, all) => this.send({ event: "saving", id, done, all }));
-        return kind === "tiff" ? saving.tiff(pages, coding) : kind === "pdf" ? saving.pdf(pages) : saving.pbm(pages);
+        return kind === "tiff" ? saving.tiff(pages, coding)
+            : kind === "pdf" ? saving.pdf(pages, turns) : saving.pbm(pages);
     }
 }

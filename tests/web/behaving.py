@@ -1,8 +1,11 @@
 """How the page behaves: keys, names for screen readers, narrow and dark screens, and no request to anywhere."""
 
+import base64
 import json
 import os
 import re
+import shutil
+import subprocess
 import urllib.parse
 
 import faxes
@@ -125,6 +128,47 @@ def narrow(browser, _program, _room):
     yield "dark is another picture", browser.run("getComputedStyle(document.body).backgroundColor"), "rgb(27, 28, 30)"
     browser.resize(1280, 900)
     browser.call("Emulation.setEmulatedMedia", features=[])
+
+
+def page_first(browser, _program, _room):
+    """On a phone, and at 200 percent, the page begins in the first screen: all else is folded, and can be opened."""
+    opened(browser)
+    top = 'Math.round(document.getElementById("view").getBoundingClientRect().top + scrollY)'
+    for width, height in ((360, 740), (640, 450)):
+        browser.resize(width, height)
+        browser.until(f"innerWidth === {width} && !document.getElementById('more').open")
+        yield f"{width} by {height}: the page begins in the first screen", browser.run(top) < height - 40, True
+        browser.run('document.querySelector("#more > summary").click()')
+        browser.until('document.getElementById("findings").checkVisibility()')
+        browser.run('scrollTo(0, 0); document.querySelector("#findings button").click()')
+        yield f"{width} by {height}: a finding leads to the page", browser.until(
+            'Math.abs(document.getElementById("view-part").getBoundingClientRect().top) < 40 || scrollY > 0'), True
+        browser.run('document.getElementById("more").open = false')
+    browser.resize(1280, 900)
+    browser.until("document.getElementById('more').open")
+    paper = browser.run('getComputedStyle(document.getElementById("paper")).backgroundColor')
+    yield "what is not drawn is not white", paper != "rgb(255, 255, 255)", True
+
+
+def printed(browser, _program, room):
+    """What is printed is the page alone, in its size."""
+    if not shutil.which("pdftotext"):
+        print("SKIPPED: what is printed of the page (poppler-utils)")
+        return
+    browser.run("while (app.fax) app.close()")
+    browser.choose("#choose", f"{faxes.TOP}/samples/received/over-a-noisy-line.tif")
+    browser.until('app.fax && app.fax.state === "done" && document.querySelector("#paper canvas[data-drawn]")')
+    data = base64.b64decode(browser.call("Page.printToPDF", printBackground=True)["data"])
+    made = faxes.put(f"{room}/printed.pdf", data)
+    words = subprocess.run(["pdftotext", made, "-"], capture_output=True, check=True).stdout.decode().split()
+    yield "no word of the page is printed", words, []
+    told = subprocess.run(["pdfinfo", made], capture_output=True, check=True).stdout.decode()
+    yield "one sheet", re.search(r"Pages: +(\d+)", told)[1], "1"
+    browser.call("Emulation.setEmulatedMedia", media="print")
+    wide = browser.run('document.getElementById("sheet").getBoundingClientRect().width / 96')
+    browser.call("Emulation.setEmulatedMedia", media="")
+    yield "in its size, in inches", abs(wide - 1728 / 204) < 0.05 or abs(
+        wide * browser.run("app.view.printScale()") - 1728 / 204) < 0.05, True
 
 
 def refusals(browser, _program, _room):

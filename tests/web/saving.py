@@ -109,6 +109,65 @@ def damaged(browser, program, room):
     yield "some have pages that can be read", tried > 5, True
 
 
+def greys(browser, program, room):
+    """A PDF has all pages, and rows that are lost are grey, as in faxpages-picture; and it is turned as the page is."""
+    if not shutil.which("pngtopnm") or not shutil.which("pdftoppm"):
+        print("SKIPPED: damaged pages in PDFs beside faxpages-picture (netpbm, poppler-utils)")
+        return
+    count = 0
+    for path in faxes.damaged(program, room)[:25]:
+        # At 72 pels to the inch a pel of the PDF is a pel of the picture.
+        data = faxes.get(path)
+        data = data.replace(struct.pack("<2I", 204, 1), struct.pack("<2I", 72, 1))
+        data = data.replace(struct.pack("<2I", 196, 1), struct.pack("<2I", 72, 1))
+        opened(browser, faxes.put(f"{room}/grey.tif", data))
+        shown = browser.run("app.fax.shownPages()")
+        drawn = [faxes.picture(program, f"{room}/grey.tif", page) for page in shown]
+        if drawn and all(drawn) and browser.run("app.fax.lost.size") and not browser.run("app.fax.end"):
+            pdf = faxes.put(f"{room}/grey.pdf", made(browser, "pdf")[0])
+            pages = subprocess.run(["pdftoppm", "-gray", "-r", "72", "-aa", "no", "-aaVector", "no", pdf],
+                                   capture_output=True, check=True).stdout
+            # Poppler shades images as it draws them, but no masks.
+            for page, got, wanted in zip(shown, greys_of(pages), drawn):
+                if browser.run(f"app.fax.lost.has({page})"):
+                    yield f"{os.path.basename(path)}: page {page} of the PDF", got == wanted[:3], True
+            yield f"{os.path.basename(path)}: all pages", len(greys_of(pages)), len(drawn)
+            count += 1
+        close_all(browser)
+    yield "some were tried", count > 5, True
+    yield from turned(browser, room)
+
+
+def turned(browser, room):
+    """The PDF of a page that was turned says so, and the one to be printed is opened and not saved."""
+    opened(browser, f"{faxes.TOP}/samples/three-mmr-rows.tif")
+    browser.run("app.view.turn(1)")
+    faxes.put(f"{room}/turned.pdf", made(browser, "pdf")[0])
+    said = subprocess.run(["pdfinfo", f"{room}/turned.pdf"], capture_output=True, check=True).stdout.decode()
+    yield "turned right", re.search(r"Page rot: +(\d+)", said)[1], "90"
+    browser.run("app.view.turn(-1); app.fax.setMaking(null)")
+    browser.run('document.getElementById("print").click()')
+    browser.until("""app.fax.making?.place &&
+        document.querySelector("#saved a")?.href === app.fax.making.place""")
+    yield "what is printed is opened", browser.run("""(() => {
+        const link = document.querySelector("#saved a");
+        return [link.target, link.hasAttribute("download"), link.textContent];
+    })()"""), ["_blank", False, "Open three-mmr-rows.pdf, to print it"]
+    close_all(browser)
+
+
+def greys_of(data):
+    """The width, the height and the pels of each picture of a raw PGM: 0 white, 1 black, 2 grey."""
+    found = []
+    while data:
+        head = re.match(rb"P5\n(\d+) (\d+)\n255\n", data)
+        width, height = map(int, head.groups())
+        raster = data[head.end():head.end() + width * height]
+        found.append((width, height, bytes({0: 1, 255: 0}.get(value, 2) for value in raster)))
+        data = data[head.end() + width * height:]
+    return found
+
+
 def rows_of(program, path, page, number):
     """The rows of a page, as those of a page with this number."""
     form = faxes.said(program, "list", "--cursor", f"1:{page}:0", "--max", "1", path).split()
@@ -134,6 +193,7 @@ def pictures(browser, program, room):
                 browser.run(f"app.goTo({page})")
                 got = made(browser, "png")[0]
                 yield f"{os.path.basename(path)}: page {page} as PNG", faxes.pels_of_png(got) == drawn[:3], True
+                yield f"{os.path.basename(path)}: page {page}: its size", got.count(b"pHYs"), 1
         close_all(browser)
 
 
