@@ -13,14 +13,13 @@ import sys
 import tempfile
 import time
 
-HERE = os.path.dirname(os.path.abspath(__file__))
-sys.path[:0] = [HERE, os.path.join(HERE, "..", "python")]
+import numpy
+from PIL import Image, ImageSequence
 
-import numpy  # noqa: E402
-from PIL import Image, ImageSequence  # noqa: E402
+import tests  # noqa: F401  which says where faxpages is
 
-import faxpages  # noqa: E402
-import measure  # noqa: E402
+import faxpages
+import measure
 
 PAGES, TIMES, SEED = 20, 15, 1
 

@@ -1,14 +1,17 @@
 """Waits for events in tests, and finds what runs in a folder."""
 
+from __future__ import annotations
+
 import contextlib
 import os
 import time
+from typing import Callable
 
 # The end of each wait for an event, in seconds: no machine is so loaded.
 PATIENCE = 900
 
 
-def wait_for(holds, seconds=PATIENCE):
+def wait_for(holds: Callable[[], object], seconds: float = PATIENCE) -> bool:
     """Waits until something holds; whether it does in the end."""
     until = time.monotonic() + seconds
     while not holds():
@@ -18,7 +21,7 @@ def wait_for(holds, seconds=PATIENCE):
     return True
 
 
-def there_in(folder):
+def there_in(folder: str) -> list[int]:
     """The processes that run in a folder, or below it."""
     found = []
     for process in filter(str.isdecimal, os.listdir("/proc")):
@@ -28,7 +31,7 @@ def there_in(folder):
     return found
 
 
-def left_of(leader):
+def left_of(leader: int) -> list[int]:
     """The processes of a session that have not ended."""
     found = []
     for process in filter(str.isdecimal, os.listdir("/proc")):

@@ -1,11 +1,11 @@
-"""Which module of archives is tried, and a copy of it whose workers break."""
+"""A copy of it whose workers break."""
 
 import os
 import shutil
 
+from tests import MODULE
+
 HERE = os.path.dirname(os.path.abspath(__file__))
-# Another one where a test plants something in a copy.
-MODULE = os.environ.get("OPERATED", os.path.join(HERE, "..", "..", "python"))
 
 
 def broken_module(folder):

@@ -10,9 +10,9 @@ import sqlite3
 import subprocess
 import sys
 
-import engines
-import made
-from room import PATIENCE, TOP, wait_for
+from tests import TOP
+from tests.archive import engines, made
+from tests.waiting import PATIENCE, wait_for
 
 # Who runs what root must not, by a number that no account has to have.
 OTHER_USER = 65534

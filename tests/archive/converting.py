@@ -5,7 +5,7 @@ import shutil
 import signal
 import subprocess
 
-import made
+from tests.archive import made
 
 OPTIONS = {"mmr": [], "mr": ["--k", "2", "--strip", "3", "--order", "2"], "mh": ["--align"], "pbm": []}
 

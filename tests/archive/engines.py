@@ -8,9 +8,10 @@ import re
 import signal
 import subprocess
 
-from keeping import contents
-from room import PATIENCE, TOP, started, wait_for
-from waiting import there_in
+from tests import TOP
+from tests.archive.drawn import contents
+from tests.archive.room import started
+from tests.waiting import PATIENCE, there_in, wait_for
 
 # Of how many faxes the program is asked too.
 ASKED = 200

@@ -13,14 +13,11 @@ import stat
 import subprocess
 import sys
 
-import made
-from converting import files_below
-from room import CONNECT, MODULE
-
-sys.path.insert(0, os.path.join(made.HERE, "drawn"))
-
-import contents  # noqa: E402
-import playing  # noqa: E402
+from tests import MODULE
+from tests.archive import made
+from tests.archive.converting import files_below
+from tests.archive.drawn import contents, playing
+from tests.archive.room import CONNECT
 
 # More calls of the system than such a run makes.
 CALLS = 130

@@ -7,9 +7,9 @@ import shutil
 import sqlite3
 import subprocess
 
-from checking import ask
-from keeping import drawn, put
-from room import TOP
+from tests import TOP
+from tests.archive.checking import ask
+from tests.archive.keeping import drawn, put
 
 SAMPLE = os.path.join(TOP, "samples", "one-mh-page.tif")
 # How each is made of a sample, and what is said of it.

@@ -5,8 +5,8 @@ import os
 import shutil
 import subprocess
 
-from keeping import drawn, put
-from room import TOP
+from tests import TOP
+from tests.archive.keeping import drawn, put
 
 SAMPLES = ["damaged-fourth-page.tif", "received/over-a-noisy-line.tif", "second-row-missing.tif", "three-pages.tif",
            "return-to-control.tif"]  # fmt: skip

@@ -7,9 +7,8 @@ import struct
 import sys
 
 HERE = os.path.dirname(os.path.abspath(__file__))
-sys.path.insert(0, os.path.join(HERE, "..", "convert"))
 
-import pages  # noqa: E402
+from tests.convert import pages  # noqa: E402
 
 HOSTILE = [b"caf\xe9.tif", b"a\nline.tif", b"a 'quote\", and more.TIFF", b"-o.tif", b"\xff\xfe.Tif",
            "päge.tif".encode()]
@@ -74,7 +73,6 @@ def make(faxpages, tree, count, of=300, first=()):
 
 
 if __name__ == "__main__":
-    sys.path.insert(0, os.path.join(HERE, "..", "..", "python"))
     import faxpages as module
 
     random.seed(0)

@@ -5,8 +5,8 @@ import shutil
 import subprocess
 import sys
 
-from keeping import drawn, put
-from room import MODULE
+from tests import MODULE
+from tests.archive.keeping import drawn, put
 
 
 def may_mount():

@@ -11,11 +11,9 @@ import shutil
 import sqlite3
 import subprocess
 
-from converting import files_below
-from keeping import CALLS, drawn, put
-from keeping import playing
-
-import going
+from tests.archive.converting import files_below
+from tests.archive.drawn import going, playing
+from tests.archive.keeping import CALLS, drawn, put
 
 # At two calls for each of three faxes, TARGET gone and renamed, a fax may go with its copy.
 LEAST = 12

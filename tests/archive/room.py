@@ -10,11 +10,9 @@ import sqlite3
 import subprocess
 import sys
 
-TOP = os.path.dirname(os.path.dirname(os.path.dirname(os.path.abspath(__file__))))
-sys.path.insert(0, os.path.join(TOP, "tests"))
-
-from breaking import MODULE, broken_module  # noqa: E402
-from waiting import PATIENCE, wait_for  # noqa: E402
+from tests import MODULE
+from tests.archive.breaking import broken_module
+from tests.waiting import PATIENCE, wait_for
 
 # How long Dask tries to reach its own processes, which a loaded machine starts slowly.
 CONNECT = "DASK_DISTRIBUTED__COMM__TIMEOUTS__CONNECT"

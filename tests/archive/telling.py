@@ -15,10 +15,12 @@ import subprocess
 import sys
 import time
 
-import made
-from checking import OTHER_USER, add, few, runs_as
-from keeping import convert, drawn, put
-from room import CONNECT, MODULE, count, wait_for
+from tests import MODULE
+from tests.archive import made
+from tests.archive.checking import OTHER_USER, add, few, runs_as
+from tests.archive.keeping import convert, drawn, put
+from tests.archive.room import CONNECT, count
+from tests.waiting import wait_for
 
 
 def change(room, table, *statements):
@@ -290,7 +292,7 @@ def told(room, *_):
 
 def contents_with_tag():
     """A fax whose compression is none."""
-    import contents
+    from tests.archive.drawn import contents
     import faxpages
 
     return next(it.data for it in contents.drawn(faxpages, 1) if b"II" == it.data[:2] and (

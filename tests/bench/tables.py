@@ -7,14 +7,13 @@ NAME is a function here; it ends with status 0 if all that it claims is so. PEAK
 
 from __future__ import annotations
 
-import os
 import subprocess
 import sys
 from typing import List
 
 sys.dont_write_bytecode = True
-TOP = os.path.dirname(os.path.dirname(os.path.dirname(os.path.abspath(__file__))))
-sys.path.insert(0, os.path.join(TOP, "bench"))
+
+import tests  # noqa: E402,F401  which says where it is
 
 import kept  # noqa: E402
 import measure  # noqa: E402

@@ -1,18 +1,23 @@
 """Lines of tables that are computed, by a plain coder: too many or too long to be written by hand."""
 
+from __future__ import annotations
+
 import functools
 import itertools
 import os
 import random
 import re
 import sys
+from multiprocessing.pool import Pool
+from typing import Callable, Iterator
 
 sys.dont_write_bytecode = True
 
-import named  # noqa: E402
-from plain import (  # noqa: E402
-    CODES, EOL, MODE_CODES, OTHER, one_dimensional, runs_of, strip_bits, to_bytes, two_dimensional,
+from tests.calls import named  # noqa: E402
+from tests.calls.plain import (  # noqa: E402
+    CODES, MODE_CODES, OTHER, one_dimensional, runs_of, strip_bits, to_bytes, two_dimensional,
 )
+from tests.plain.tables import EOL  # noqa: E402
 
 HERE = os.path.dirname(os.path.abspath(__file__))
 
@@ -23,33 +28,33 @@ MOST_K = 5
 PELS = str.maketrans("01", "WB")
 
 
-def line(call, wanted, why):
+def line(call: str, wanted: object, why: str) -> str:
     return f"{call} = {wanted} # {why}"
 
 
-def digits(data):
+def digits(data: bytes) -> str:
     return f"x{bytes(data).hex().upper()}"
 
 
-def pels_of(data, width):
+def pels_of(data: bytes, width: int) -> str:
     """The pels of packed bytes."""
     return "".join(f"{byte:08b}" for byte in data)[:width].translate(PELS)
 
 
-def packed(pels):
+def packed(pels: str) -> str:
     """A row in a call: its width and its bytes."""
     bits = "".join("01"[pel == "B"] for pel in pels)
     return f"{len(pels)}:{digits(to_bytes(bits))}"
 
 
-def numbers(values):
+def numbers(values: list[int]) -> str:
     return ",".join(map(str, values))
 
 
 # Bits.
 
 
-def codes(_pool):
+def codes(_pool: Pool) -> Iterator[str]:
     """Bytes of each count up to 67 that are turned round: a lane has 8, and a step of lanes 64."""
     for count in range(68):
         data = bytes((37 * i + count) % 256 for i in range(count))
@@ -60,7 +65,7 @@ def codes(_pool):
 # Rows.
 
 
-def others(pels, colour):
+def others(pels: str, colour: str) -> str:
     """For each place up to the end the first one from there on that is not of this colour."""
     due, found = len(pels), [len(pels)]
     for place in reversed(range(len(pels))):
@@ -69,7 +74,7 @@ def others(pels, colour):
     return " ".join(map(str, reversed(found)))
 
 
-def first_others():
+def first_others() -> Iterator[str]:
     """White bytes with one black pel in the last, and black ones with some white pels, of each count up to 67."""
     for count in range(68):
         white = bytes(16 if i == count - 1 else 0 for i in range(count))
@@ -79,13 +84,13 @@ def first_others():
             yield line(f"first_others {colour} {digits(data)}", wanted, f"{count} bytes")
 
 
-def noise(seed, count):
+def noise(seed: int, count: int) -> Iterator[int]:
     for _ in range(count):
         seed = (seed * 1_664_525 + 1_013_904_223) % 2**32
         yield seed >> 24
 
 
-def marks(kind, seed, width):
+def marks(kind: str, seed: int, width: int) -> str:
     """Pels of a kind."""
     count = -(-width // 8)
     kinds = {
@@ -98,7 +103,7 @@ def marks(kind, seed, width):
     return pels_of(kinds[kind], width)
 
 
-def read_and_put(reference, row, why):
+def read_and_put(reference: str, row: str, why: str) -> Iterator[str]:
     """A row is written in both codings, and read back."""
     runs = numbers(runs_of(row))
     one, two = one_dimensional(row), two_dimensional(reference, row)
@@ -108,7 +113,7 @@ def read_and_put(reference, row, why):
     yield line(f"read_2d {packed(reference)} {digits(to_bytes(two))}", f"{runs} {len(two)}", why)
 
 
-def marked_rows():
+def marked_rows() -> Iterator[str]:
     """Rows of each kind over rows of each kind, and the rows of most changes."""
     kinds = "white", "black", "in turn", "thin marks", "noise"
     for width, over, kind in itertools.product((1, 2, 7, 8, 9, 64, 1728), kinds, kinds):
@@ -121,13 +126,13 @@ def marked_rows():
     yield from read_and_put(white, black_first, "the row of most runs, the first of which has no pels")
 
 
-def coded_run(colour, make_up, last):
+def coded_run(colour: str, make_up: list[int], last: int) -> tuple[str, int]:
     """A run of these make-up codes, and how many pels it has."""
     table = CODES[colour]
     return "".join(table["more", pels] for pels in make_up) + table["end", last], sum(make_up) + last
 
 
-def long_codes():
+def long_codes() -> Iterator[str]:
     """Rows in horizontal mode, over a white row or one that is black after ten white pels, whose runs have several
     make-up codes: as T.4 chooses them, or others. They stand near the end of the bytes, and far from it."""
     width, lists = 12_000, [[2560, 64], [2560, 2560], [64, 64], [64, 2560], [64] * 40]
@@ -143,17 +148,17 @@ def long_codes():
             yield line(f"read_2d {packed(reference)} {digits(data)}", f"{runs} {len(bits)}", "several make-up codes")
 
 
-def rows_of_width(width):
+def rows_of_width(width: int) -> list[str]:
     return ["".join(pels) for pels in itertools.product("WB", repeat=width)]
 
 
-def each_over(reference):
+def each_over(reference: str) -> str:
     """Every row over a reference row, written and read back."""
     bits = [two_dimensional(reference, row) for row in rows_of_width(len(reference))]
     return line(f"put_each {reference}", "".join(f"{of_row}." for of_row in bits), "every row over it")
 
 
-def each_row(pool):
+def each_row(pool: Pool) -> Iterator[str]:
     """Every row of few pels, alone and over every reference row: 1,398,100 pairs."""
     references = [row for width in range(1, MOST_PELS + 1) for row in rows_of_width(width)]
     assert sum(2 ** len(row) for row in references) == 1_398_100
@@ -164,7 +169,7 @@ def each_row(pool):
     yield from pool.imap(each_over, references, 16)
 
 
-def rows(pool):
+def rows(pool: Pool) -> Iterator[str]:
     yield from first_others()
     yield from marked_rows()
     yield from long_codes()
@@ -174,7 +179,7 @@ def rows(pool):
 # Strips.
 
 
-def ways():
+def ways() -> Iterator[tuple[str, int, bool]]:
     """Each coding, with and without aligned EOLs, and in MR each k."""
     yield "mmr", 1, False
     for aligned in (False, True):
@@ -183,15 +188,15 @@ def ways():
             yield "mr", k, aligned
 
 
-def draw_row(rng, width):
-    turns, pels = rng.random() < 0.25, []
+def draw_row(rng: random.Random, width: int) -> str:
+    turns, pels = rng.random() < 0.25, list[str]()
     for _ in range(width):
         pels.append("WB"[turns])
         turns ^= rng.random() < 0.2
     return "".join(pels)
 
 
-def draw_rows(rng, width):
+def draw_rows(rng: random.Random, width: int) -> list[str]:
     """One to twelve rows, of which some are the one before."""
     drawn = [draw_row(rng, width)]
     for _ in range(rng.randrange(12)):
@@ -199,7 +204,7 @@ def draw_rows(rng, width):
     return drawn
 
 
-def drawn_strips():
+def drawn_strips() -> Iterator[str]:
     """Drawn rows in each way and order of bits: 1,560 strips."""
     rng = random.Random(10)
     for number in range(LISTS):
@@ -211,7 +216,7 @@ def drawn_strips():
             yield line(call, wanted, f"list {number} of drawn rows")
 
 
-def eight_pels(row, at):
+def eight_pels(row: int, at: int) -> int:
     """Eight pels of a page of real size: rules, a dithered patch, and lines of marks like text."""
     strokes = [0x00, 0x18, 0x60, 0x3C, 0x66, 0x0C, 0x7E, 0x42]
     if row % 500 < 3:
@@ -224,11 +229,11 @@ def eight_pels(row, at):
 
 
 @functools.cache
-def page_row(row):
+def page_row(row: int) -> str:
     return pels_of(bytes(eight_pels(row, at) for at in range(216)), 1728)
 
 
-def real_strips():
+def real_strips() -> Iterator[str]:
     """A page at the usual resolution, 1,728 pels by 2,292 rows, written and read back in each coding."""
     drawn = [page_row(row) for row in range(2292)]
     words = " ".join(map(packed, drawn))
@@ -240,7 +245,7 @@ def real_strips():
         yield line(f"read_rows {coding} msb 1728x2292 {strip}", runs, "a page of real size")
 
 
-def strips(_pool):
+def strips(_pool: Pool) -> Iterator[str]:
     yield from drawn_strips()
     yield from real_strips()
 
@@ -248,7 +253,7 @@ def strips(_pool):
 # Files.
 
 
-def files(_pool):
+def files(_pool: Pool) -> Iterator[str]:
     """The file of each fault of `files.txt` again, with the highest byte of each number first."""
     with open(os.path.join(HERE, "files.txt")) as table:
         faults = re.findall(r"^(strip \$\{one_page\.put.*)\} = ([^$]*) # (.*)$", table.read(), re.MULTILINE)
@@ -260,7 +265,7 @@ def files(_pool):
 # Walks.
 
 
-def walks(_pool):
+def walks(_pool: Pool) -> Iterator[str]:
     """A walk over a million rows of one white pel, and as many pages as a file cannot have."""
     rows = 1_000_000
     strip = to_bytes("1" * rows + 2 * EOL)
@@ -274,19 +279,21 @@ def walks(_pool):
     yield line(f"convert pbm {usual} {digits(images)}", digits(images), "PBM has no such limit")
 
 
-def expanded(text):
+def expanded(text: str) -> str:
     """A line with the bytes of each `${..}` in its place."""
     return re.sub(r"\$\{(.*?)\}", lambda found: digits(eval(found[1], vars(named))), text)
 
 
-COMPUTED = {"codes": codes, "rows": rows, "strips": strips, "files": files, "walks": walks}
+COMPUTED: dict[str, Callable[[Pool], Iterator[str]]] = {
+    "codes": codes, "rows": rows, "strips": strips, "files": files, "walks": walks,
+}
 
 
-def written_lines(subject):
+def written_lines(subject: str) -> list[str]:
     """The lines of a table as they were written by hand, with bytes in place of names."""
     with open(os.path.join(HERE, f"{subject}.txt")) as table:
         return [expanded(text.rstrip("\n")) for text in table]
 
 
-def computed_lines(subject, pool):
+def computed_lines(subject: str, pool: Pool) -> list[str]:
     return list(COMPUTED[subject](pool)) if subject in COMPUTED else []

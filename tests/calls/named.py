@@ -1,6 +1,13 @@
 """Files that the tables name, as the standards lay them out, and changes of them."""
 
+from __future__ import annotations
+
 import struct
+
+# An entry of a directory: tag, type, count, and the value or its place.
+Entry = tuple[int, int, int, int]
+# A page that is written: its coding, its width, its rows, the rows of a strip, and its strips.
+Page = tuple[str, int, int, int, list[bytes]]
 
 MARKS = {2: "<H", 4: "<I"}
 
@@ -8,16 +15,16 @@ MARKS = {2: "<H", 4: "<I"}
 class File(bytes):
     """The bytes of a file."""
 
-    def put(self, place, digits):
+    def put(self, place: int, digits: str) -> File:
         """The file with these bytes in place of its own from a place on."""
         new = bytes.fromhex(digits)
         return File(self[:place] + new + self[place + len(new) :])
 
-    def cut(self, count):
+    def cut(self, count: int) -> File:
         """Its first bytes."""
         return File(self[:count])
 
-    def big(self):
+    def big(self) -> File:
         """A file of one page in the layout of `one_page`, with the highest byte of each number first."""
         data = bytearray(self)
         if data[:2] != b"II":
@@ -34,21 +41,20 @@ class File(bytes):
         return File(data)
 
 
-def directory(entries, next_offset=0):
-    """A directory of entries: tag, type, count, and the value or its place."""
+def directory(entries: list[Entry], next_offset: int = 0) -> bytes:
+    """A directory of entries."""
     packed = b"".join(struct.pack("<HHII", *entry) for entry in entries)
     return struct.pack("<H", len(entries)) + packed + struct.pack("<I", next_offset)
 
 
-def small(strips, *fields):
+def small(strips: bytes, *fields: Entry) -> File:
     """A file of 8 pels to a row: a header, these bytes, and a directory of the fields that are needed."""
     entries = [(256, 3, 1, 8), *fields]
     return File(b"II*\0" + struct.pack("<I", 8 + len(strips)) + strips + directory(entries))
 
 
-def written(*pages):
-    """A file of pages as it is written: each page is its coding, its width, its rows, the rows of a strip and its
-    strips. A page is its strips, a zero byte where they end at an odd place, its directory, the two
+def written(*pages: Page) -> File:
+    """A file of pages as it is written. A page is its strips, a zero byte where they end at an odd place, its directory, the two
     resolutions, and the strips' offsets and byte counts where there are more than one."""
     data = bytearray(b"II*\0")
     link = 4

@@ -1,23 +1,25 @@
 """A plain coder of rows by the wording of T.4 (4.1.1 and 4.2.1.3.3), over the places where the colour changes and codes
 as text. It shares no code with the libraries, which are compared with it."""
 
+from __future__ import annotations
+
 import functools
-import os
 import sys
+from typing import Sequence
 
 sys.dont_write_bytecode = True
-sys.path.insert(0, os.path.join(os.path.dirname(os.path.abspath(__file__)), os.pardir, "plain"))
 
-from tables import EOL, MODES, RUNS  # noqa: E402
+from tests.plain.tables import EOL, MODES, RUNS  # noqa: E402
 
 LONGEST = 2560
-CODES = {colour: {meaning: code for code, meaning in RUNS[colour].items()} for colour in "WB"}
+CODES = {colour: {meaning: code for code, meaning in RUNS[colour].items() if not isinstance(meaning, str)}
+         for colour in "WB"}
 MODE_CODES = {meaning: code for code, meaning in MODES.items()}
 OTHER = {"W": "B", "B": "W"}
 
 
 @functools.lru_cache(4096)
-def changes_of(row):
+def changes_of(row: str) -> list[int]:
     """The changing elements of a row: each pel of another colour than the one before it, a white one before the
     first."""
     places, edge = [], "B"
@@ -29,13 +31,13 @@ def changes_of(row):
     return places
 
 
-def runs_of(row):
+def runs_of(row: str) -> list[int]:
     """The lengths of its runs, the first of them white."""
     places = [0, *changes_of(row), len(row)]
     return [after - before for before, after in zip(places, places[1:])]
 
 
-def run_codes(colour, length):
+def run_codes(colour: str, length: int) -> str:
     """The codes of a run: the longest make-up code as often as it fits, at most one other, and a terminating code."""
     codes, table = "", CODES[colour]
     while length >= LONGEST:
@@ -45,16 +47,17 @@ def run_codes(colour, length):
     return codes + table["end", length % 64]
 
 
-def one_dimensional(row):
+def one_dimensional(row: str) -> str:
     return "".join(run_codes("WB"[number % 2], length) for number, length in enumerate(runs_of(row)))
 
 
-def two_dimensional(reference, row):
+def two_dimensional(reference: str, row: str) -> str:
     """The codes of a row over its reference row. The changes of even number are black; after the last stands the
     width, as often as it is looked at."""
     width = len(row)
     above, here = changes_of(reference) + [width] * 3, changes_of(row) + [width] * 2
-    codes, a0, b, a, is_black = [], -1, 0, 0, False
+    codes: list[str] = []
+    a0, b, a, is_black = -1, 0, 0, False
     while a0 < width:
         # a1 is the next change of the row, b1 the next one above it that is not of a0's colour.
         while here[a] <= a0 and here[a] < width:
@@ -78,10 +81,11 @@ def two_dimensional(reference, row):
     return "".join(codes)
 
 
-def strip_bits(coding, k, aligned, rows):
+def strip_bits(coding: str, k: int, aligned: bool, rows: Sequence[str]) -> str:
     """The bits of a strip by the wording of T.4 (4.1.2, 4.1.3, 4.2.1.1 and 4.2.2) and of T.6 (2.2.1, and the end of the
     facsimile block)."""
-    parts, length, reference = [], 0, "W" * len(rows[0])
+    parts: list[str] = []
+    length, reference = 0, "W" * len(rows[0])
     for number, row in enumerate(rows):
         is_one_dimensional = coding == "mh" or coding == "mr" and number % k == 0
         fill = "0" * (-(length + len(EOL)) % 8) if aligned else ""
@@ -94,7 +98,7 @@ def strip_bits(coding, k, aligned, rows):
     return "".join(parts) + (2 * EOL if coding == "mmr" else "")
 
 
-def to_bytes(bits, order=1):
+def to_bytes(bits: str, order: int = 1) -> bytes:
     """The bytes of bits, filled with zeros; 1 where the highest bit is first, 2 where the lowest is."""
     bits += "0" * (-len(bits) % 8)
     if order == 2:

@@ -7,25 +7,31 @@ return to control, end an MMR strip with the end of the facsimile block and choo
 chooses. `pbmtog3` ends a page with seven EOLs: that of the last row and a return to control after it. The
 first six are the return to control for `check`, note N2, and the seventh is data after the end, note N3."""
 
-import shutil
+from __future__ import annotations
 
-import pages
-from files import directories_of, framed, get, put, read, strips_of, tool
+import shutil
+from typing import Iterator
+
+from tests import Claim
+from tests.convert import pages
+from tests.convert.files import directories_of, framed, get, put, read, strips_of, tool
 
 WIDTHS = [1, 7, 8, 9, 31, 32, 33, 64, 1728, 2560, 2624, 65535]
 COMPARISONS = 4200
 TOOLS = ["tiffcp", "tiffdump", "pnmtotiff", "pbmtog3"]
 SEED = 2
+# Codings, and whether EOLs are aligned.
+WAYS: list[tuple[str, list[str]]] = [("mh", []), ("mh", ["--align"]), ("mr", []), ("mr", ["--align"]), ("mmr", [])]
 SEVEN_EOLS = "note page 0 strip 0: N2 ReturnToControl\nnote page 0 strip 0: N3 DataAfterEnd\n"
 
 
-def missing(_):
+def missing(_: str) -> str:
     """What is missing, or nothing."""
     names = [name for name in TOOLS if not shutil.which(name)]
     return f"{', '.join(names)} missing (libtiff-tools, netpbm)" if names else ""
 
 
-def images_of(data):
+def images_of(data: bytes) -> bytes:
     """The raw PBM images of the pages of an uncompressed file."""
     images = []
     for fields in directories_of(data):
@@ -41,16 +47,16 @@ def images_of(data):
     return b"".join(images)
 
 
-def most_runs(width, drawn):
+def most_runs(width: int, drawn: list[list[int]]) -> bool:
     """Whether a row has the most runs of all: one of no white pels, and then each pel is a run."""
     return any(row == sum(1 << at for at in range(width - 1, -1, -2)) for rows in drawn for row in rows)
 
 
-def written(program, room, width, drawn, uncoded):
+def written(program: str, room: str, width: int, drawn: list[list[int]], uncoded: list[str]) -> Iterator[Claim]:
     """What the tools have of what `convert` writes: a name, what came, and what is wanted."""
     source = b"".join(pages.image(width, rows) for rows in drawn)
     rng = pages.seeded(SEED, width, len(drawn), source)
-    for coding, aligned in (("mh", []), ("mh", ["--align"]), ("mr", []), ("mr", ["--align"]), ("mmr", [])):
+    for coding, aligned in WAYS:
         for order in ("1", "2"):
             numbers = ["--k", str(rng.randint(1, 5)), "--strip", str(rng.randint(1, 13))]
             words = ["-o", coding, "--order", order, *numbers, *aligned]
@@ -69,7 +75,8 @@ def written(program, room, width, drawn, uncoded):
                 yield f"{name}: tiffcp", said or images_of(get(out)), source
 
 
-def from_tiffcp(program, room, drawn, source, uncoded):
+def from_tiffcp(program: str, room: str, drawn: list[list[int]], source: bytes,
+                uncoded: list[str]) -> Iterator[Claim]:
     out = f"{room}/out.tif"
     for coding in ("g3:1d", "g3:2d", "g3:1d:fill", "g3:2d:fill", "g4"):
         for form in (["-f", "msb2lsb", "-L"], ["-f", "lsb2msb", "-B", "-r", "2"]):
@@ -78,7 +85,7 @@ def from_tiffcp(program, room, drawn, source, uncoded):
             yield from read(program, b"" if said else out, f"{' '.join(words)} {said or ''}", drawn, source)
 
 
-def from_netpbm(program, room, width, rows):
+def from_netpbm(program: str, room: str, width: int, rows: list[int]) -> Iterator[Claim]:
     source, out = pages.image(width, rows), f"{room}/out.tif"
     image = put(f"{room}/image.pbm", source)
     for coding in (["-g3"], ["-g3", "-2d"], ["-g3", "-fill"], ["-g4"]):
@@ -86,14 +93,15 @@ def from_netpbm(program, room, width, rows):
             words = ["pnmtotiff", *coding, white]
             tool([*words, image], out)
             yield from read(program, out, " ".join(words), [rows], source)
-    for order, words in ((1, []), (2, ["-reversebits"]), (1, ["-align8"])):
-        words = ["pbmtog3", "-nofixedwidth", *words]
+    orders: list[tuple[int, list[str]]] = [(1, []), (2, ["-reversebits"]), (1, ["-align8"])]
+    for order, more in orders:
+        words = ["pbmtog3", "-nofixedwidth", *more]
         tool([*words, image], out)
         data = framed(width, len(rows), order, "mh", get(out))
         yield from read(program, data, " ".join(words), [rows], source, SEVEN_EOLS)
 
 
-def compare(program, room, width, drawn, source):
+def compare(program: str, room: str, width: int, drawn: list[list[int]], source: bytes) -> Iterator[Claim]:
     """The comparisons of a document: a name, what came, and what is wanted."""
     uncoded = []
     for number, rows in enumerate(drawn):

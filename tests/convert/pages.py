@@ -1,7 +1,10 @@
 """Drawn pages as raw PBM images, and runs of programs over them."""
 
+from __future__ import annotations
+
 import random
 import subprocess
+from typing import Sequence
 
 KINDS = ["black", "white", "noise", "marks", "stripes"]
 DOCUMENTS = [*KINDS, "all"]
@@ -9,7 +12,7 @@ NARROW = range(1, 71)
 WIDE = [100, 1728, 2432, 2560, 2623, 2624, 5200, 32768, 65535]
 
 
-def draw_row(rng, kind, width, number, before):
+def draw_row(rng: random.Random, kind: str, width: int, number: int, before: int) -> int:
     """The pels of a row as a number, the first pel in its highest bit, 1 for black."""
     every = (1 << width) - 1
     if kind == "black":
@@ -29,7 +32,7 @@ def draw_row(rng, kind, width, number, before):
     return row
 
 
-def draw_page(rng, kind, width):
+def draw_page(rng: random.Random, kind: str, width: int) -> list[int]:
     """The rows of a page."""
     rows, before = [], 0
     for number in range(rng.randint(1, 12 if width < 2000 else 6)):
@@ -38,18 +41,18 @@ def draw_page(rng, kind, width):
     return rows
 
 
-def draw_document(seed, kind, width):
+def draw_document(seed: int, kind: str, width: int) -> list[list[int]]:
     """The pages of a document: one of this kind, or one of each."""
     rng = seeded(seed, kind, width)
     return [draw_page(rng, of, width) for of in (KINDS if kind == "all" else [kind])]
 
 
-def report(drawn, notes=""):
+def report(drawn: list[list[int]], notes: str = "") -> str:
     """The report of `check` on these pages, with these notes."""
     return f"{notes}pages {len(drawn)} rows {sum(map(len, drawn))}\n"
 
 
-def image(width, rows, spare=0):
+def image(width: int, rows: list[int], spare: int = 0) -> bytes:
     """The raw PBM image of these rows, with these bits (ones or none) after the last pel of each."""
     size = -(-width // 8)
     pad = 8 * size - width
@@ -58,17 +61,24 @@ def image(width, rows, spare=0):
     return b"P4\n%d %d\n" % (width, len(rows)) + raster
 
 
-def converted(program, words, data):
+def converted(program: str, words: Sequence[str], data: bytes) -> bytes | tuple[int, bytes]:
     """What `convert` writes with these words; a fault is told in its place."""
     ran = subprocess.run([program, "convert", *words], input=data, capture_output=True, timeout=900)
     return ran.stdout if (ran.returncode, ran.stderr) == (0, b"") else (ran.returncode, ran.stderr)
 
 
-def told(program, command, data):
+def coded(program: str, words: Sequence[str], data: bytes) -> bytes:
+    """What `convert` writes with these words, where a fault is the end of the test."""
+    made = converted(program, words, data)
+    assert isinstance(made, bytes), made
+    return made
+
+
+def told(program: str, command: str, data: bytes) -> str | tuple[int, bytes]:
     """What `check`, `list` or `rows` prints; a fault is told in its place."""
     ran = subprocess.run([program, command], input=data, capture_output=True, timeout=900)
     return ran.stdout.decode() if (ran.returncode, ran.stderr) == (0, b"") else (ran.returncode, ran.stderr)
 
 
-def seeded(*names):
+def seeded(*names: bytes | int | str) -> random.Random:
     return random.Random(" ".join(map(str, names)))

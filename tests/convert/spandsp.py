@@ -7,24 +7,30 @@ PBM. Of a file that it keeps `check` has no note. What it sends in MH and MR end
 note N2, and its last byte is filled with ones, note N3, where T.6 has zeros. It sends pages of any width, but
 receives those alone whose rows are whole bytes: of other widths it does not read its own pages either."""
 
+from __future__ import annotations
+
 import os
 import shutil
 import subprocess
+from typing import Iterator
 
-import pages
-from files import directories_of, framed, put, read, strips_of
+from tests import Claim
+from tests.convert import pages
+from tests.convert.files import directories_of, framed, put, read, strips_of
 
 WIDTHS = [1, 7, 8, 9, 31, 32, 33, 64, 864, 1728, 2048, 2432, 2560, 2624, 4864, 65528, 65535]
 COMPARISONS = 2538
 CODINGS = ["mh", "mr", "mmr"]
 SEED = 3
+# Codings, and whether EOLs are aligned.
+WAYS: list[tuple[str, list[str]]] = [("mh", []), ("mh", ["--align"]), ("mr", []), ("mr", ["--align"]), ("mmr", [])]
 SOURCE = os.path.join(os.path.dirname(os.path.abspath(__file__)), "spandsp.c")
 # Later versions name the codings otherwise.
 PROBE = b"#include <spandsp.h>\nint coding = T4_COMPRESSION_ITU_T4_1D;\n"
-BUILT = None
+BUILT = ""
 
 
-def missing(room):
+def missing(room: str) -> str:
     """What is missing, or nothing: then the program is built."""
     global BUILT
     if not shutil.which("cc"):
@@ -37,26 +43,26 @@ def missing(room):
     return ""
 
 
-def spandsp(*words):
+def spandsp(*words: str) -> bytes | tuple[int, bytes]:
     """What the program prints; what it has to say otherwise stands in its place."""
     ran = subprocess.run([BUILT, *words], capture_output=True, timeout=900)
     return ran.stdout if (ran.returncode, ran.stderr) == (0, b"") else (ran.returncode, ran.stderr)
 
 
-def end_of(coding):
+def end_of(coding: str) -> str:
     """The bits that end a page: the return to control, six EOLs, or the end of the facsimile block, two."""
     eol = "000000000001"
     return {"mh": 6 * eol, "mr": 6 * (eol + "1"), "mmr": 2 * eol}[coding]
 
 
-def ended(coding, strip):
+def ended(coding: str, strip: bytes) -> bytes:
     """A strip in fill order 2 as it comes over the line: with the return to control."""
     bits = "" if coding == "mmr" else end_of(coding)
     bits += "0" * (-len(bits) % 8)
     return strip + bytes(int(bits[at : at + 8][::-1], 2) for at in range(0, len(bits), 8))
 
 
-def notes_of(coding, line):
+def notes_of(coding: str, line: bytes) -> str:
     """The notes of a page that spandsp sent: N2, and N3 where a 1 follows the end."""
     bits = "".join(f"{byte:08b}"[::-1] for byte in line)
     _, _, rest = bits.rpartition(end_of(coding))
@@ -65,34 +71,34 @@ def notes_of(coding, line):
     return "".join(f"note page 0 strip 0: {note}\n" for note in notes)
 
 
-def lines_of(room, coding, data):
+def lines_of(room: str, coding: str, data: bytes) -> list[str]:
     """The names of files with the strips of a TIFF file, each as it comes over the line."""
     strips = [strip for fields in directories_of(data) for strip in strips_of(data, fields)]
     return [put(f"{room}/line{at}", ended(coding, strip)) for at, strip in enumerate(strips)]
 
 
-def decoded(program, room, width, source, rasters):
+def decoded(program: str, room: str, width: int, source: bytes, rasters: bytes) -> Iterator[Claim]:
     """What spandsp decodes of the strips that `convert` writes."""
     rng = pages.seeded(SEED, width, source)
-    for coding, aligned in (("mh", []), ("mh", ["--align"]), ("mr", []), ("mr", ["--align"]), ("mmr", [])):
+    for coding, aligned in WAYS:
         numbers = ["--k", str(rng.randint(1, 5)), "--strip", str(rng.randint(1, 13))]
         words = ["-o", coding, "--order", "2", *numbers, *aligned]
-        lines = lines_of(room, coding, pages.converted(program, words, source))
+        lines = lines_of(room, coding, pages.coded(program, words, source))
         yield f"{' '.join(words)}: spandsp decodes", spandsp("decode", coding, str(width), f"{room}/unused.tif", *lines), rasters
 
 
-def received(program, room, width, drawn, source):
+def received(program: str, room: str, width: int, drawn: list[list[int]], source: bytes) -> Iterator[Claim]:
     """What comes of the files that spandsp keeps of pages as `convert` codes them."""
     file = f"{room}/kept.tif"
     for coding in CODINGS:
-        lines = lines_of(room, coding, pages.converted(program, ["-o", coding, "--order", "2"], source))
+        lines = lines_of(room, coding, pages.coded(program, ["-o", coding, "--order", "2"], source))
         for kept in CODINGS:
             said = spandsp("receive", coding, str(width), kept, file, *lines)
-            name = f"spandsp receives {coding}, keeps {kept} {said or ''}"
+            name = f"spandsp receives {coding}, keeps {kept} {str(said) if said else ''}"
             yield from read(program, file if said == b"" else b"", name, drawn, source)
 
 
-def sent(program, room, width, rows, source):
+def sent(program: str, room: str, width: int, rows: list[int], source: bytes) -> Iterator[Claim]:
     """What comes of a page that spandsp sends, without fill and with it."""
     page = put(f"{room}/page.tif", framed(width, len(rows), 1, "plain", raster_of(width, rows)))
     for coding in CODINGS:
@@ -106,12 +112,12 @@ def sent(program, room, width, rows, source):
             yield from read(program, data, name, [rows], source, notes_of(coding, line))
 
 
-def raster_of(width, rows):
+def raster_of(width: int, rows: list[int]) -> bytes:
     """The raster of a page, without the header of its image."""
     return pages.image(width, rows).split(b"\n", 2)[2]
 
 
-def compare(program, room, width, drawn, source):
+def compare(program: str, room: str, width: int, drawn: list[list[int]], source: bytes) -> Iterator[Claim]:
     """The comparisons of a document: a name, what came, and what is wanted."""
     rasters = b"".join(raster_of(width, rows) for rows in drawn)
     if width % 8 == 0:

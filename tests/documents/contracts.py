@@ -1,17 +1,20 @@
 """The public calls of a crate, with their contracts, as they stand in its sources."""
 
+from __future__ import annotations
+
 import os
 import re
+from typing import Iterator
 
 TOP = os.path.dirname(os.path.dirname(os.path.dirname(os.path.abspath(__file__))))
 
 
-def read(*parts):
+def read(*parts: str) -> str:
     with open(os.path.join(TOP, *parts), encoding="utf-8") as file:
         return file.read()
 
 
-def sources(crate):
+def sources(crate: str) -> Iterator[str]:
     """The crate's source files in the order in which its root names them, the root first, without tests."""
     root = read("crates", crate, "src", "lib.rt")
     modules = re.findall(r"^(?:pub )?mod (\w+);", root, re.M)
@@ -22,7 +25,7 @@ def sources(crate):
             yield os.path.join(folder, f"{name}.rt")
 
 
-def exported(crate):
+def exported(crate: str) -> set[str]:
     """The names that the crate's root shows of its own modules, or defines itself."""
     root = read("crates", crate, "src", "lib.rt")
     names = set(re.findall(r"^pub (?:struct|enum|trait|fn) (\w+)", root, re.M))
@@ -31,10 +34,10 @@ def exported(crate):
     return names
 
 
-def head(lines, start):
+def head(lines: list[str], start: int) -> list[str]:
     """A call's signature and clauses: what stands before its body, which begins in a line of its own if there
     are clauses."""
-    indent = re.match(r" *", lines[start]).group()
+    indent = lines[start][: len(lines[start]) - len(lines[start].lstrip(" "))]
     taken = []
     for line in lines[start:]:
         if line == indent + "{":
@@ -49,7 +52,7 @@ def head(lines, start):
     return taken
 
 
-def calls(crate):
+def calls(crate: str) -> Iterator[tuple[str | None, list[str]]]:
     """For each public call the name of its type (none for a function) and its lines."""
     names = exported(crate)
     for path in sources(crate):
@@ -62,13 +65,13 @@ def calls(crate):
                 is_trait = opened.group(2) is not None
             elif line == "}" or re.match(r"impl", line):
                 owner = None
-            elif re.match(r"pub (const )?fn (\w+)", line) and re.match(r"pub (?:const )?fn (\w+)", line).group(1) in names:
+            elif (function := re.match(r"pub (?:const )?fn (\w+)", line)) and function.group(1) in names:
                 yield None, head(lines, at)
             elif owner in names and re.match(r"    (pub )?fn ", line) and ("pub" in line or is_trait):
                 yield owner, head(lines, at)
 
 
-def quoted(crate):
+def quoted(crate: str) -> str:
     """The text of all public calls, those of a type after its name."""
     parts, last = [], None
     for owner, lines in calls(crate):

@@ -1,31 +1,34 @@
 """The header of the library, as the manual page faxpages(3) has it: its calls, and its types and numbers."""
 
+from __future__ import annotations
+
 import re
 import textwrap
+from typing import Iterator
 
-from contracts import read
+from tests.documents.contracts import read
 
 # How many characters a line of the manual page's synopsis has at most.
 WIDTH = 76
 
 
-def declared():
+def declared() -> list[str]:
     """What include/faxpages.h declares between its guards, piece by piece, without the comments outside of types."""
     text = read("include", "faxpages.h").split('extern "C" {\n#endif\n')[1].split("#ifdef __cplusplus")[0]
     return re.findall(r"^(?:(?:enum|struct) \w+ \{.*?^\};|#define .*?$|\w[^{}#]*?\);)", text, re.M | re.S)
 
 
-def calls():
+def calls() -> list[str]:
     """The declaration of each call, on one line."""
     return [re.sub(r"\s+", " ", piece) for piece in declared() if piece.endswith(");")]
 
 
-def types():
+def types() -> list[str]:
     """Each enum, struct and constant, as it stands."""
     return [piece for piece in declared() if not piece.endswith(");")]
 
 
-def call_lines(call):
+def call_lines(call: str) -> Iterator[str]:
     """A call in the synopsis: what is declared is bold, and the names of what it takes are italic. No line ends within
     a parameter."""
     joined = re.sub(r"(?<!,) ", "\0", call)
@@ -34,11 +37,11 @@ def call_lines(call):
         yield ".BI " + " ".join(f'"{part}"' for part in parts)
 
 
-def synopsis():
+def synopsis() -> str:
     """The calls as the manual page has them."""
     return "\n.PP\n".join("\n".join(call_lines(call)) for call in calls()) + "\n"
 
 
-def types_shown():
+def types_shown() -> str:
     """The types and numbers as the manual page has them."""
     return "\n.PP\n".join(piece.replace("\\", "\\e") for piece in types()) + "\n"

@@ -1,20 +1,26 @@
 """What a version promises to keep, by promised.txt: a line a kind and a name."""
 
+from __future__ import annotations
+
 import glob
 import os
 import re
+from typing import Iterator
 
-import words
-from contracts import TOP, read
+from tests import Claim
+from tests import TOP
+from tests.documents import words
+from tests.documents.contracts import read
+from tests.finding import found
 
 
-def there():
+def there() -> dict[str, set[str]]:
     """The names that are there now, by kind."""
     grammar = words.in_grammar()
     header = read("include", "faxpages.h")
     module = read("python", "faxpages", "__init__.py")
     rust = "".join(read(os.path.relpath(name, TOP)) for name in sorted(glob.glob(os.path.join(TOP, "rust/src/*.rs"))))
-    listed = re.search(r"^__all__ = \[(.*?)\]", module, re.M | re.S).group(1)
+    listed = found(r"^__all__ = \[(.*?)\]", module, re.M | re.S).group(1)
     return {
         "command": set(grammar),
         "option": {f"{command} {option}" for command, options in grammar.items() for option, _ in options},
@@ -26,22 +32,23 @@ def there():
     }
 
 
-def promised():
+def promised() -> Iterator[tuple[str, str]]:
     """The kinds and names that stay."""
     for line in read("tests", "documents", "promised.txt").splitlines():
         if line and not line.startswith("#"):
-            yield tuple(line.split(" ", 1))
+            kind, name = line.split(" ", 1)
+            yield kind, name
 
 
-def rows_of_tests():
+def rows_of_tests() -> Iterator[tuple[str, str, str]]:
     """The table of tests/README.md: promise, file, text."""
     for line in read("tests", "README.md").splitlines():
         row = re.fullmatch(r"\| (.+) \| (tests/\S+) \| (.+) \|", line)
         if row:
-            yield row.groups()
+            yield row[1], row[2], row[3]
 
 
-def claims():
+def claims() -> Iterator[tuple[str, bool]]:
     """Each name that was promised is there, and tests/README.md tells where the promises are tested."""
     now, rows = there(), list(rows_of_tests())
     for kind, name in promised():
@@ -55,7 +62,7 @@ def claims():
         yield f"{promise}: {file} has '{text}'", there_is and text in read(*file.split("/"))
 
 
-def write():
+def write() -> None:
     """Prints all that is there now, for a version that promises it."""
     for kind, names in there().items():
         for name in sorted(names):

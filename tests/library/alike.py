@@ -5,13 +5,12 @@ tried. FAXPAGES_LIBRARY names the library."""
 
 from __future__ import annotations
 
-import os
 import sys
 from typing import List, NamedTuple, Optional
 
-sys.path.insert(0, os.path.join(os.path.dirname(os.path.abspath(__file__)), os.pardir, os.pardir, "python"))
+import tests  # noqa: F401  which says where it is
 
-import faxpages  # noqa: E402
+import faxpages
 
 CODINGS = {1: "mh", 2: "mr", 3: "mmr"}
 END, FAULT, DATA_END, MORE = 1, 2, 9, 10

@@ -5,20 +5,17 @@
 
 FAXPAGES_LIBRARY names the library. Ends with 'bare: N passed, N failed'."""
 
-import os
 import random
 import sys
 
-from counted import TOP, Claims, faxpages, until_fault
+from tests import TOP
+from tests.calls import plain
+from tests.library.counted import Claims, until_fault
+from tests.plain import drawing, notes, uncounted
+from tests.plain.reading import bits_of, read_lines
+from tests.plain.tables import EOL
 
-sys.path[1:1] = [os.path.join(TOP, "tests", "plain"), os.path.join(TOP, "tests", "calls")]
-
-import drawing  # noqa: E402
-import notes  # noqa: E402
-import plain  # noqa: E402
-import uncounted  # noqa: E402
-from reading import bits_of, read_lines  # noqa: E402
-from tables import EOL  # noqa: E402
+import faxpages
 
 DRAWN = 1500
 MOST_ROWS = 1000000

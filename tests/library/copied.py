@@ -13,7 +13,9 @@ import os
 import pickle
 import sys
 
-from counted import SMALL, Claims, faxpages
+from tests.library.counted import SMALL, Claims
+
+import faxpages
 
 # So many seconds a pool may take: one that hangs is ended.
 SECONDS = 900

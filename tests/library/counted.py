@@ -1,20 +1,21 @@
 """What the tests of the Python module share: faxpages itself, claims that are counted, and faxes."""
 
-import os
-import sys
+from __future__ import annotations
 
-TOP = os.path.dirname(os.path.dirname(os.path.dirname(os.path.abspath(__file__))))
-sys.path.insert(0, os.path.join(TOP, "python"))
+from typing import Callable, Iterable, TypeVar
 
-import faxpages  # noqa: E402
+import tests  # noqa: F401  which says where it is
 
+import faxpages
+
+Item = TypeVar("Item")
 # A page of 64 by 8 pels, as raw PBM.
 SMALL = b"P4\n64 8\n" + bytes([0x0F, 0xF0, 0, 0, 0xFF, 0, 0xFF, 0]) * 8
 
 
-def until_fault(items):
+def until_fault(items: Iterable[Item]) -> tuple[list[Item], faxpages.Fault | None]:
     """All items, and the fault that ends them, or None."""
-    found = []
+    found: list[Item] = []
     try:
         for item in items:
             found.append(item)
@@ -26,16 +27,16 @@ def until_fault(items):
 class Claims:
     """How many claims were true; each that was not is printed."""
 
-    def __init__(self):
+    def __init__(self) -> None:
         self.passed, self.failed = 0, 0
 
-    def see(self, name, fine):
+    def see(self, name: str, fine: object) -> None:
         """Counts a claim."""
         self.passed, self.failed = self.passed + bool(fine), self.failed + (not fine)
         if not fine:
             print(f"FAILED: {name}", flush=True)
 
-    def raises(self, name, kind, work):
+    def raises(self, name: str, kind: type[BaseException], work: Callable[[], object]) -> None:
         """Claims that the work raises just this kind."""
         try:
             work()
@@ -43,7 +44,7 @@ class Claims:
         except BaseException as raised:  # pylint: disable=broad-except
             self.see(f"{name}: {raised!r} is raised", type(raised) is kind)
 
-    def ends(self, name):
+    def ends(self, name: str) -> int:
         """Says the counts, and answers the status of the test."""
         print(f"{name}: {self.passed} passed, {self.failed} failed")
         return 1 if self.failed else 0

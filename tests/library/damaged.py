@@ -15,12 +15,9 @@ import random
 import sys
 from typing import Iterator, List
 
-from lines import CODINGS, digits, draw_rows, draw_width, number_of, packed
-
-import drawing
-import salvaging
-import spoiling
-from reading import bits_of
+from tests.library.lines import CODINGS, digits, draw_rows, draw_width, number_of, packed
+from tests.plain import drawing, salvaging, spoiling
+from tests.plain.reading import bits_of
 
 # One line in so many is of a file.
 FILES = 8

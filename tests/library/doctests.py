@@ -13,7 +13,10 @@ import inspect
 import os
 import sys
 
-from counted import TOP, Claims, faxpages
+from tests import TOP
+from tests.library.counted import Claims
+
+import faxpages
 
 # What an example needs, by the ending of its name.
 NEEDS = {".image": "PIL", ".array": "numpy", ".mask": "numpy", ".register": "PIL"}

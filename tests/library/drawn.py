@@ -13,12 +13,10 @@ from __future__ import annotations
 import random
 import sys
 
-from lines import CODINGS, digits, draw_rows, draw_width, number_of, packed
-
-import drawing
-import notes
-import plain
-from reading import bits_of, read_lines, runs_of
+from tests.calls import plain
+from tests.library.lines import CODINGS, digits, draw_rows, draw_width, number_of, packed
+from tests.plain import drawing, notes
+from tests.plain.reading import bits_of, read_lines, runs_of
 
 
 def damaged(rng: random.Random, bits: str) -> str:

@@ -17,13 +17,10 @@ import random
 import sys
 from typing import Iterator
 
-from lines import CODINGS, digits, draw_rows, draw_width, number_of, packed
-
-import drawing
-import notes
-import uncounted
-from reading import bits_of
-from tables import EOL
+from tests.library.lines import CODINGS, digits, draw_rows, draw_width, number_of, packed
+from tests.plain import drawing, notes, uncounted
+from tests.plain.reading import bits_of
+from tests.plain.tables import EOL
 
 STATUSES = {None: 1, uncounted.MARKED: 1, uncounted.DATA_END: 9, uncounted.MORE: 10}
 

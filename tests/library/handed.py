@@ -18,7 +18,10 @@ import tempfile
 import threading
 import typing
 
-from counted import TOP, Claims, faxpages
+from tests import TOP
+from tests.library.counted import Claims
+
+import faxpages
 
 HAS_NUMPY = importlib.util.find_spec("numpy") is not None
 # A page that fills the room of a pipe many times.

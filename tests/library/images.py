@@ -14,11 +14,11 @@ import struct
 import sys
 import warnings
 
-from counted import SMALL, TOP, Claims, faxpages
+from tests import TOP
+from tests.library.counted import SMALL, Claims
+from tests.plain.strips import file_of
 
-sys.path.insert(0, os.path.join(TOP, "tests", "plain"))
-
-from strips import file_of  # noqa: E402
+import faxpages
 
 try:
     import numpy

@@ -5,13 +5,12 @@ Prints how many strips and pages were tried, and how many pages are refused. FAX
 from __future__ import annotations
 
 import collections
-import os
 import sys
 from typing import Dict, List
 
-sys.path.insert(0, os.path.join(os.path.dirname(os.path.abspath(__file__)), os.pardir, os.pardir, "python"))
+import tests  # noqa: F401  which says where it is
 
-import faxpages  # noqa: E402
+import faxpages
 
 CODINGS = {1: "mh", 2: "mr", 3: "mmr"}
 NAMES: Dict[int, str] = {number: kind.__name__ for number, kind in faxpages.faults.BY_NUMBER.items()}

@@ -8,10 +8,9 @@ import sys
 
 sys.dont_write_bytecode = True
 TESTS = os.path.join(os.path.dirname(os.path.abspath(__file__)), os.pardir)
-sys.path[:0] = [os.path.join(TESTS, "plain"), os.path.join(TESTS, "calls")]
 
-import drawing  # noqa: E402
-import plain  # noqa: E402
+from tests.calls import plain  # noqa: E402
+from tests.plain import drawing  # noqa: E402
 
 CODINGS = {"mh": 1, "mr": 2, "mmr": 3}
 FAULTS = ["DataEnds", "BadCode", "Extension", "RunTooLong", "OutOfRow", "MissingEol", "EndMarker", "TooManyRows"]

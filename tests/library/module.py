@@ -11,10 +11,9 @@ import random
 import subprocess
 import sys
 
-TOP = os.path.dirname(os.path.dirname(os.path.dirname(os.path.abspath(__file__))))
-sys.path.insert(0, os.path.join(TOP, "python"))
+from tests import TOP
 
-import faxpages  # noqa: E402
+import faxpages
 
 PROGRAM = sys.argv[1]
 # How many damaged files are made.

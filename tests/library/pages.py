@@ -17,11 +17,11 @@ import sys
 import tempfile
 import tracemalloc
 
-from counted import SMALL, TOP, Claims, faxpages, until_fault
+from tests import TOP
+from tests.library.counted import SMALL, Claims, until_fault
+from tests.plain.strips import file_of
 
-sys.path.insert(0, os.path.join(TOP, "tests", "plain"))
-
-from strips import file_of  # noqa: E402
+import faxpages
 
 PROGRAM = sys.argv[1]
 # More than a page that is refused or empty may take.

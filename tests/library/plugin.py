@@ -25,7 +25,10 @@ import sys
 import tempfile
 import warnings
 
-from counted import TOP, Claims, faxpages
+from tests import TOP
+from tests.library.counted import Claims
+
+import faxpages
 
 from PIL import Image, ImageFile, ImageSequence, TiffImagePlugin  # isort: skip
 

@@ -8,7 +8,9 @@ FILE has two pages or more, and FAXPAGES_LIBRARY names the library. Ends with 'r
 import dataclasses
 import sys
 
-from counted import SMALL, Claims, faxpages
+from tests.library.counted import SMALL, Claims
+
+import faxpages
 
 MOST = 2 ** 32 - 1
 TOO_MANY = [-1, -2 ** 32, -2 ** 64, 2 ** 32, 2 ** 32 + 1, 2 ** 64, 10 ** 5000]

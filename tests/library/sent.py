@@ -11,12 +11,11 @@ import sys
 
 sys.dont_write_bytecode = True
 TESTS = os.path.join(os.path.dirname(os.path.abspath(__file__)), os.pardir)
-sys.path[:0] = [os.path.join(TESTS, "plain"), os.path.join(TESTS, "calls")]
 
-import drawing  # noqa: E402
-import plain  # noqa: E402
-from reading import runs_of  # noqa: E402
-from tables import EOL  # noqa: E402
+from tests.calls import plain  # noqa: E402
+from tests.plain import drawing  # noqa: E402
+from tests.plain.reading import runs_of  # noqa: E402
+from tests.plain.tables import EOL  # noqa: E402
 
 WIDTH, ROWS, K, DAMAGED = 1728, 60, 4, 17
 

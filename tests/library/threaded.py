@@ -12,7 +12,10 @@ import sys
 import threading
 import time
 
-from counted import TOP, Claims, faxpages, until_fault
+from tests import TOP
+from tests.library.counted import Claims, until_fault
+
+import faxpages
 
 THREADS = 6
 # The rows of pages, of which some end amid what is read ahead, and how many rows are in a batch.

@@ -6,7 +6,7 @@ from __future__ import annotations
 import itertools
 from typing import Dict, List, NamedTuple, Tuple
 
-import pages
+from tests.line import pages
 
 # How many rows a program puts at the head of each page that it sends: efax has a white band there, over rows of the
 # page's margin, and ones before the first EOL.

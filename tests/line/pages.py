@@ -3,17 +3,12 @@ says which one it was."""
 
 from __future__ import annotations
 
-import os
 import random
 import struct
-import sys
 from typing import Dict, List
 
-sys.path.insert(0, os.path.join(os.path.dirname(os.path.abspath(__file__)), os.pardir, "plain"))
-
-import drawing  # noqa: E402
-import notes  # noqa: E402
-from tables import EOL  # noqa: E402
+from tests.plain import drawing, notes
+from tests.plain.tables import EOL
 
 WIDTH, ROWS, MARGIN = 1728, 300, 24
 WHITE = "W" * WIDTH

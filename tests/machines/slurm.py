@@ -9,16 +9,12 @@ import signal
 import socket
 import sqlite3
 import subprocess
-import sys
 
-import files
-from archive import COMMAND
-from recipes import ROOT, recipes
-from waiting import PATIENCE, there_in, wait_for
-
-sys.path.append(f"{ROOT}/tests/archive")
-
-from breaking import broken_module  # noqa: E402
+from tests.archive.breaking import broken_module
+from tests.convert import files
+from tests.recipes.archive import COMMAND
+from tests.recipes.recipes import ROOT, recipes
+from tests.waiting import PATIENCE, there_in, wait_for
 
 TOOLS = ["sbatch", "squeue", "scancel", "sinfo"]
 SERVERS = ["munged", "slurmctld", "slurmd"]

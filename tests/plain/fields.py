@@ -1,13 +1,20 @@
 """Every field of a page refused in every way, once in each byte order, with the fault that is wanted."""
 
-from drawing import to_bytes
-from tables import EOL
+from __future__ import annotations
+
+from typing import Iterator, Literal, Union
+
+from tests.plain.drawing import to_bytes
+from tests.plain.reading import Text
+from tests.plain.tables import EOL
 
 BYTE, ASCII, SHORT, LONG, RATIONAL = 1, 2, 3, 4, 5
+# Type, count and value.
+Field = tuple[int, int, Union[int, list[int]]]
 
 # A page of 8 pels by 2 rows, WWWBBWWW, in MH and in two strips: type, count and value of each field. A
 # value that is a list of numbers stands after the directory.
-FIELDS = {
+FIELDS: dict[int, Field] = {
     256: (LONG, 1, 8),
     257: (LONG, 1, 2),
     258: (SHORT, 1, 1),
@@ -29,7 +36,7 @@ OUTSIDE = 1_000_000
 READ = "read"
 
 
-def scalar_ways(tag):
+def scalar_ways(tag: int) -> Iterator[tuple[Field, str]]:
     """How any field of one number is refused."""
     yield (ASCII, 1, FIELDS[tag][2]), f"BadField {tag}"
     yield (RATIONAL, 1, 8), f"BadField {tag}"
@@ -39,7 +46,7 @@ def scalar_ways(tag):
     yield (SHORT, 3, OUTSIDE), f"BadField {tag}"
 
 
-def ways():
+def ways() -> Iterator[tuple[int, Field | None, str]]:
     """Each change of a field, with the fault that is wanted, or that the page is read."""
     absent = dict.fromkeys([256, 257, 259, 262, 273, 279], "MissingField")
     for tag in FIELDS:
@@ -73,18 +80,18 @@ def ways():
     yield 278, (LONG, 1, 1), READ
 
 
-def file_of(endian, tag, change):
+def file_of(endian: Literal["little", "big"], tag: int, change: Field | None) -> bytes:
     """The file of the page with one field changed."""
 
-    def number(value, size):
+    def number(value: int, size: int) -> bytes:
         return value.to_bytes(size, endian)
 
     strip = to_bytes(EOL + "1000" + "11" + "1000", 1)
     data = (b"II" if endian == "little" else b"MM") + number(42, 2) + number(16, 4)
     data += strip + b"\0" + strip + b"\0"
-    fields = dict(FIELDS)
-    fields[tag] = change
-    fields = {tag: field for tag, field in fields.items() if field is not ABSENT}
+    fields = {name: field for name, field in FIELDS.items() if name != tag}
+    if change is not None:
+        fields[tag] = change
     entries, after, place = b"", b"", len(data) + 6 + 12 * len(fields)
     for tag, (kind, count, value) in sorted(fields.items()):
         if isinstance(value, list):
@@ -95,9 +102,10 @@ def file_of(endian, tag, change):
     return data + number(len(fields), 2) + entries + number(0, 4) + after
 
 
-def refused_fields():
+def refused_fields() -> Iterator[tuple[bytes, Text]]:
     """Each file, with what `rows` writes of it: its output, its error line and its status."""
-    for endian in ("little", "big"):
+    endians: list[Literal["little", "big"]] = ["little", "big"]
+    for endian in endians:
         for tag, change, wanted in ways():
             text = "row 0 0 3 2 3\nrow 0 1 3 2 3\nend\n", "", 0
             if wanted != READ:

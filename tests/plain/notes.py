@@ -1,11 +1,15 @@
 """What a check reports of a file, by a plain reading of its strips and of what stands after their rows."""
 
+from __future__ import annotations
+
 import itertools
 
-from drawing import MAKE_UP, MODE_CODES, TERMINATING
-from reading import Fault, File, bits_of, chain, fault_line, next_changing, other, read_form, read_one_dimensional, read_start
-from reading import read_strip, read_two_dimensional, runs_of
-from tables import EOL
+from tests.plain.drawing import MAKE_UP, MODE_CODES, TERMINATING
+from tests.plain.reading import (
+    Entries, Fault, File, Text, bits_of, chain, fault_line, next_changing, other, read_form, read_one_dimensional,
+    read_start, read_strip, read_two_dimensional, runs_of,
+)
+from tests.plain.tables import EOL
 
 NAMES = ["NoEndOfBlock", "ReturnToControl", "DataAfterEnd", "NotT4Choice", "EntriesOutOfOrder"]
 
@@ -13,7 +17,7 @@ NAMES = ["NoEndOfBlock", "ReturnToControl", "DataAfterEnd", "NotT4Choice", "Entr
 # What T.4 chooses.
 
 
-def chosen_run(colour, length):
+def chosen_run(colour: str, length: int) -> str:
     codes = MAKE_UP[colour][2560] * (length // 2560) if length >= 2560 else ""
     length %= 2560
     if length >= 64:
@@ -21,11 +25,11 @@ def chosen_run(colour, length):
     return codes + TERMINATING[colour][length % 64]
 
 
-def chosen_one_dimensional(row):
+def chosen_one_dimensional(row: str) -> str:
     return "".join(map(chosen_run, itertools.cycle("WB"), runs_of(row)))
 
 
-def chosen_two_dimensional(reference, row):
+def chosen_two_dimensional(reference: str, row: str) -> str:
     codes, a0 = "", -1
     while a0 < len(row):
         colour = "W" if a0 < 0 else row[a0]
@@ -46,7 +50,7 @@ def chosen_two_dimensional(reference, row):
 # What stands after the last row.
 
 
-def after_mark(coding, left):
+def after_mark(coding: str, left: str) -> str | None:
     """What stands after the end mark at the front of the bits, or None where there is none."""
     if coding == "mmr":
         return left[24:] if left.startswith(EOL * 2) else None
@@ -62,7 +66,7 @@ def after_mark(coding, left):
     return left
 
 
-def notes_of_strip(coding, order, width, rows, data):
+def notes_of_strip(coding: str, order: int, width: int, rows: int, data: bytes) -> list[str]:
     """The names of the notes on a strip of which all rows can be read."""
     bits, at, reference, is_choice = bits_of(data, order), 0, "W" * width, True
     for number in range(rows):
@@ -76,11 +80,11 @@ def notes_of_strip(coding, order, width, rows, data):
         is_choice = is_choice and bits[at:after] == chosen
         reference, at = row, after
     left = bits[at:]
-    after = after_mark(coding, left)
+    marked = after_mark(coding, left)
     holds = [
-        coding == "mmr" and after is None,
-        coding != "mmr" and after is not None,
-        "1" in (left if after is None else after),
+        coding == "mmr" and marked is None,
+        coding != "mmr" and marked is not None,
+        "1" in (left if marked is None else marked),
         not is_choice,
     ]
     return list(itertools.compress(NAMES, holds))
@@ -89,31 +93,31 @@ def notes_of_strip(coding, order, width, rows, data):
 # Files.
 
 
-def note_line(page, strip, name):
+def note_line(page: int, strip: int | None, name: str) -> str:
     place = f"page {page}" if strip is None else f"page {page} strip {strip}"
     return f"note {place}: N{NAMES.index(name) + 1} {name}"
 
 
-def is_in_order(file, offset):
+def is_in_order(file: File, offset: int) -> bool:
     """Whether the tags of a directory ascend."""
     places = range(offset + 2, offset + 2 + 12 * file.number(offset, 2), 12)
     tags = [file.number(place, 2) for place in places]
     return all(first < second for first, second in zip(tags, tags[1:]))
 
 
-def check_page(file, offset, entries, page):
+def check_page(file: File, offset: int, entries: Entries, page: int) -> tuple[list[str], int, Fault | None]:
     """The note lines of a page, its rows that can be read, and the fault after them, if there is one."""
     try:
         form = read_form(file, entries)
-    except Fault as fault:
-        return [], 0, fault
+    except Fault as refused:
+        return [], 0, refused
     lines, read = [] if is_in_order(file, offset) else [note_line(page, None, "EntriesOutOfOrder")], 0
-    for strip in range(form["strips"]):
-        place, count = form["offsets"][strip], form["counts"][strip]
+    for strip in range(form.strips):
+        place, count = form.offsets[strip], form.counts[strip]
         if not file.has(place, count):
             return lines, read, Fault("StripOutside")
-        left = min(form["height"], form["rows"] - strip * form["height"])
-        told = form["coding"], form["order"], form["width"], left, file.data[place : place + count]
+        left = min(form.height, form.rows - strip * form.height)
+        told = form.coding, form.order, form.width, left, file.data[place : place + count]
         rows, fault = read_strip(*told)
         read += len(rows)
         if fault:
@@ -122,13 +126,15 @@ def check_page(file, offset, entries, page):
     return lines, read, None
 
 
-def check_pages(data):
+def check_pages(data: bytes) -> tuple[list[str], int, int, tuple[int, int, Fault] | None]:
     """The note lines of a file, how many pages and rows were read, and the fault with its place, if there is one."""
     try:
         file = File(data)
-    except Fault as fault:
-        return [], 0, 0, (0, 0, fault)
-    (directories, fault), lines, rows, offset = chain(file), [], 0, file.first
+    except Fault as refused:
+        return [], 0, 0, (0, 0, refused)
+    directories, fault = chain(file)
+    lines: list[str] = []
+    rows, offset = 0, file.first
     for page, entries in enumerate(directories):
         own, read, stop = check_page(file, offset, entries, page)
         lines += own
@@ -140,7 +146,7 @@ def check_pages(data):
     return lines, count, rows, (count, 0, fault) if fault else None
 
 
-def report_of(data):
+def report_of(data: bytes) -> Text:
     """What a check writes: the output, the error line and the status."""
     lines, pages, rows, fault = check_pages(data)
     output = "\n".join([*lines, f"pages {pages} rows {rows}", ""])

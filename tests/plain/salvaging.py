@@ -8,16 +8,14 @@ prints what `faxpages salvage` prints of a file, or of the standard input. Field
 
 from __future__ import annotations
 
-import os
 import sys
 from typing import List, NamedTuple, Optional, Tuple
 
 sys.dont_write_bytecode = True
-sys.path.insert(0, os.path.dirname(os.path.abspath(__file__)))
 
-import reading  # noqa: E402
-from reading import Fault  # noqa: E402
-from tables import EOL  # noqa: E402
+from tests.plain import reading  # noqa: E402
+from tests.plain.reading import Fault  # noqa: E402
+from tests.plain.tables import EOL  # noqa: E402
 
 
 class Row(NamedTuple):
@@ -89,14 +87,14 @@ class Stretch(NamedTuple):
     name: str
 
 
-def page_rows(file: reading.File, form: dict) -> List[Row]:
+def page_rows(file: reading.File, form: reading.Form) -> List[Row]:
     """The rows of a page, found or lost, as they are handed out."""
     done: List[Row] = []
-    for strip in range(form["strips"]):
-        offset, count = form["offsets"][strip], form["counts"][strip]
-        height = min(form["height"], form["rows"] - strip * form["height"])
-        bits = reading.bits_of(file.data[offset : offset + count], form["order"])
-        rows = strip_rows(form["coding"], form["width"], height, bits)
+    for strip in range(form.strips):
+        offset, count = form.offsets[strip], form.counts[strip]
+        height = min(form.height, form.rows - strip * form.height)
+        bits = reading.bits_of(file.data[offset : offset + count], form.order)
+        rows = strip_rows(form.coding, form.width, height, bits)
         if not file.has(offset, count):
             rows = [row if row.pels is not None else Row(None, "StripOutside") for row in rows]
         done += [row if row.pels is None else row._replace(pels=reading.shown(form, row.pels)) for row in rows]
@@ -119,7 +117,7 @@ def stretches(rows: List[Row]) -> List[Stretch]:
 class Page(NamedTuple):
     """A page of a file: its form and its rows, or why its form is refused."""
 
-    form: Optional[dict]
+    form: Optional[reading.Form]
     rows: List[Row]
     refused: str = ""
 

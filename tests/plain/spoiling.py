@@ -6,8 +6,8 @@ from __future__ import annotations
 import random
 from typing import Callable, Dict, List, NamedTuple, Tuple
 
-import drawing
-from tables import EOL
+from tests.plain import drawing
+from tests.plain.tables import EOL
 
 Rng = random.Random
 

@@ -1,10 +1,13 @@
 """Strips by rule: each mode in each place over each short reference row, each code of runs, and a
 sample of strips cut at each bit and with each bit flipped."""
 
+from __future__ import annotations
+
 import itertools
 import random
+from typing import Iterator
 
-from drawing import (
+from tests.plain.drawing import (
     MAKE_UP,
     MODE_CODES,
     TERMINATING,
@@ -16,11 +19,11 @@ from drawing import (
     end_mark,
     to_bytes,
 )
-from reading import next_changing, other
-from tables import EOL
+from tests.plain.reading import next_changing, other
+from tests.plain.tables import EOL
 
 
-def file_of(coding, order, width, rows, data):
+def file_of(coding: str, order: int, width: int, rows: int, data: bytes) -> bytes:
     """A file of one page with one strip."""
     builder = Builder(random.Random(0))
     place, put = builder.put(data), builder.numbers
@@ -31,7 +34,7 @@ def file_of(coding, order, width, rows, data):
     return bytes(builder.data)
 
 
-def steps_at(reference, a0, colour):
+def steps_at(reference: str, a0: int, colour: str) -> Iterator[tuple[str, tuple[int, str] | None]]:
     """Each step that may be tried at a place, and whence it leads, if it does."""
     width, s = len(reference), max(a0, 0)
     b1 = next_changing(reference, a0, colour)
@@ -45,7 +48,7 @@ def steps_at(reference, a0, colour):
     yield MODE_CODES["extension"], None
 
 
-def places_of(reference):
+def places_of(reference: str) -> dict[tuple[int, str], str]:
     """Each place that steps lead to, with the codes of one way there."""
     ways, due = {(-1, "W"): ""}, [(-1, "W")]
     while due:
@@ -57,7 +60,7 @@ def places_of(reference):
     return ways
 
 
-def mode_strips():
+def mode_strips() -> Iterator[bytes]:
     """Strips of MMR: a reference row, a row with each step in each place, and one more row."""
     rng = random.Random(1)
     for width in range(1, 6):
@@ -75,7 +78,7 @@ def mode_strips():
                     yield file_of("mmr", order, width, 3, to_bytes(bits, order))
 
 
-def run_strips():
+def run_strips() -> Iterator[bytes]:
     """Strips of MH: each code of each colour."""
     for colour, length in itertools.product("WB", [*range(64), *range(64, 2561, 64)]):
         codes = TERMINATING["W"][0] if colour == "B" else ""
@@ -86,7 +89,7 @@ def run_strips():
             yield file_of("mh", order, max(length, 1), 1, to_bytes(EOL + codes, order))
 
 
-def damaged_strips(coding):
+def damaged_strips(coding: str) -> Iterator[bytes]:
     """Strips of a coding, cut at each bit, and with each bit flipped."""
     rng = random.Random(coding)
     for number in range(60):
@@ -101,7 +104,7 @@ def damaged_strips(coding):
             yield file_of(coding, order, width, 3, to_bytes(bits[:place], order))
 
 
-def marked_strips(coding):
+def marked_strips(coding: str) -> Iterator[bytes]:
     """Strips of a coding that end where a row is due: with the mark of an end, or cut."""
     rng = random.Random(coding)
     for number in range(240):

@@ -1,5 +1,9 @@
 """The code tables of ITU-T T.4, typed from the standard: a dictionary of codes, as text of 0 and 1."""
 
+from __future__ import annotations
+
+from typing import Union
+
 WHITE_TERMINATING = """
 00110101 000111 0111 1000 1011 1100 1110 1111 10011 10100 00111 01000 001000 000011 110100 110101
 101010 101011 0100111 0001100 0001000 0010111 0000011 0000100 0101000 0101011 0010011 0100100
@@ -41,9 +45,13 @@ COMMON_MAKE_UP = """
 EXTENSION = "extension"
 
 
-def run_table(terminating, make_up):
-    """The meaning of each code of runs of a colour: ('end', n), ('more', n) or the extension."""
-    table = {code: ("end", n) for n, code in enumerate(terminating)}
+# What a code of a run says: ("end", n), ("more", n) or the extension.
+Run = Union[tuple[str, int], str]
+
+
+def run_table(terminating: list[str], make_up: list[str]) -> dict[str, Run]:
+    """The meaning of each code of runs of a colour."""
+    table: dict[str, Run] = {code: ("end", n) for n, code in enumerate(terminating)}
     table.update({code: ("more", 64 * (n + 1)) for n, code in enumerate(make_up)})
     table.update({code: ("more", 1792 + 64 * n) for n, code in enumerate(COMMON_MAKE_UP)})
     table["000000001"] = EXTENSION
@@ -56,7 +64,7 @@ RUNS = {
 }
 
 # Vertical mode is the number by which a1 is right of b1.
-MODES = {
+MODES: dict[str, Union[int, str]] = {
     "0001": "pass",
     "001": "horizontal",
     "1": 0,

@@ -5,8 +5,8 @@ from __future__ import annotations
 
 from typing import List, NamedTuple, Optional, Tuple
 
-from notes import after_mark
-from reading import read_lines
+from tests.plain.notes import after_mark
+from tests.plain.reading import read_lines
 
 MOST_ROWS = 1000000
 MARKED, DATA_END, MORE = "Marked", "DataEnd", "More"

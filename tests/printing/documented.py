@@ -1,23 +1,26 @@
 """The recipes of docs/RECIPES.md whose headings begin with Print, as they stand there but for the printer's name and
 two folders; in place of apt-get and systemctl stand programs that keep their words, and cupsd runs already."""
 
+from __future__ import annotations
+
 import os
 import re
 import shutil
 
-import made
-import server
-from faxed import spooled
+from tests import finding
+from tests.printing.room import Room
+from tests.printing import made, server
+from tests.printing.faxed import spooled
 
 
-def recipes():
+def recipes() -> dict[str, str]:
     """The commands of each recipe, by its heading."""
     with open(f"{server.TOP}/docs/RECIPES.md") as document:
         text = document.read()
     return dict(re.findall(r"^## (Print .*)\n(?:(?!^## |^```).*\n)*^```sh\n((?:.*\n)*?)^```$", text, re.MULTILINE))
 
 
-def stand_ins(room):
+def stand_ins(room: Room) -> None:
     """Programs that keep their words."""
     os.mkdir(room.made("bin"))
     for name in ("apt-get", "systemctl"):
@@ -26,7 +29,7 @@ def stand_ins(room):
         os.chmod(room.made(f"bin/{name}"), 0o755)
 
 
-def given(room, folder, commands, replaced):
+def given(room: Room, folder: str, commands: str, replaced: dict[str, str]) -> tuple[int, bytes, str]:
     """Gives commands to a shell, in a folder with a fax and a letter."""
     for text, other in replaced.items():
         if text not in commands:
@@ -36,7 +39,7 @@ def given(room, folder, commands, replaced):
     return room.run("bash", "-ec", commands, cwd=folder, env={**room.server.environment, "PATH": path})
 
 
-def scripts(room):
+def scripts(room: Room) -> None:
     """The scripts as shellcheck sees them, and CUPS's own test of the queue's file, where they are here."""
     for name, words in (("shellcheck", [f"{server.TOP}/cups/{it}" for it in ("faxpages", "faxtopdf")]),
                         ("cupstestppd", ["-q", f"{server.TOP}/cups/fax.ppd"])):  # fmt: skip
@@ -46,7 +49,7 @@ def scripts(room):
             print(f"SKIPPED: {name} is not installed, so: it does not look at cups/")
 
 
-def play(room):
+def play(room: Room) -> None:
     scripts(room)
     found = recipes()
     room.claim("recipes", sorted(found), ["Print a fax", "Print to Fax"])
@@ -62,7 +65,7 @@ def play(room):
     room.claim("Print a fax: the queue", (ran[0], ran[2]), (0, ""))
     server.wait_for(lambda: b'Printer "office" is now available' in room.server.get("log/error"))
     status, said, _ = given(room, folder, "lp " + last, {})
-    job = int(re.search(rb"office-(\d+)", said).group(1))
+    job = int(finding.found(rb"office-(\d+)", said).group(1))
     room.claim("Print a fax", (status, room.server.ended(job)[0].state), (0, "completed"))
     (path,) = [it for it in printer.received() if it.endswith("-fax_tif.pdf")]
     room.claim("Print a fax: pels", room.images(path) == room.pages(f"{folder}/fax.tif"))
@@ -74,7 +77,7 @@ def play(room):
     status, said, _ = given(room, folder, found["Print to Fax"], {
         "/var/spool/faxpages": spool, "/usr/share/ppd/faxpages": f"{server.TOP}/cups", "-p Fax ": "-p Fax2 ",
         "-d Fax ": "-d Fax2 "})  # fmt: skip
-    job = int(re.search(rb"Fax2-(\d+)", said).group(1))
+    job = int(finding.found(rb"Fax2-(\d+)", said).group(1))
     room.claim("Print to Fax", (status, room.server.ended(job)[0].state), (0, "completed"))
     told, fax = spooled(spool)["letter.pdf"]
     room.claim("Print to Fax: number", told["number"], "+49301234567")

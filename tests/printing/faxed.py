@@ -1,25 +1,27 @@
 """What is printed to the queue Fax: TIFF-F that `check` passes without a note, with the pels that faxpages-from-pdf
 draws; and jobs that are held, with the reason."""
 
+from __future__ import annotations
+
 import os
 import re
 import shutil
 import subprocess
 
-import made
-import server
-from strangers import by_hand, new_identity
+from tests.printing.room import Room
+from tests.printing import made, server
+from tests.printing.strangers import by_hand, new_identity
 
 FORMS = [("MH", "Fine", "1728"), ("MR", "Standard", "1728"), ("MMR", "Fine", "2048"), ("MMR", "Standard", "2432")]
 
 
-def told_of(path):
+def told_of(path: str) -> dict[str, str]:
     """The lines of a job file."""
     with open(path, encoding="utf-8") as file:
         return dict(line.rstrip("\n").split(": ", 1) for line in file)
 
 
-def spooled(folder):
+def spooled(folder: str) -> dict[str, tuple[dict[str, str], str]]:
     """The faxes of a folder, by their titles: what the job file says, and the fax's path."""
     found = {}
     for name in os.listdir(folder):
@@ -29,7 +31,7 @@ def spooled(folder):
     return found
 
 
-def documents(room):
+def documents(room: Room) -> dict[str, str]:
     """Ten PDFs of several programs, by their names: the path, and whether each page is A4 and upright."""
     folder = f"{room.folder}/made"
     made.pdf(folder, "gs-1.pdf", 1)
@@ -55,7 +57,7 @@ def documents(room):
     return {name: room.made(f"{name}.pdf") for name in names}
 
 
-def from_pdf(room, path, form):
+def from_pdf(room: Room, path: str, form: tuple[str, str, str]) -> list[tuple[int, list[bytes]]]:
     """The rows that faxpages-from-pdf draws."""
     coding, resolution, width = form
     fax = room.made("drawn-here.tif")
@@ -69,7 +71,7 @@ def from_pdf(room, path, form):
     return room.pages(fax)
 
 
-def as_cups_hands_it(room, path):
+def as_cups_hands_it(room: Room, path: str) -> str:
     """The PDF that pdftopdf of cups-filters makes for the queue."""
     ran = subprocess.run(
         [f"{server.SERVER_BIN}/filter/pdftopdf", "1", "user", "title", "1", "", path], capture_output=True, check=True,
@@ -81,7 +83,7 @@ def as_cups_hands_it(room, path):
     return handed
 
 
-def ten(room):
+def ten(room: Room) -> None:
     """Ten PDFs, each with a form and a number."""
     found = documents(room)
     jobs = {}
@@ -111,7 +113,7 @@ def ten(room):
             room.claim(f"{name}: pels of the PDF itself", pages == from_pdf(room, found[name], form))
 
 
-def proportions(room):
+def proportions(room: Room) -> None:
     """What is drawn keeps its proportions, on paper of any size."""
     _, fax = spooled(room.spool)["mixed"]
     for page, (width, rows) in enumerate(room.pages(fax)):
@@ -120,7 +122,7 @@ def proportions(room):
         room.claim(f"mixed page {page}: there is ink", len(ink) > 100)
 
 
-def held(room):
+def held(room: Room) -> None:
     """Jobs whose number is none, or more than one, and jobs that are no document: they are held, and say why."""
     pdf = room.made("gs-1.pdf")
     none = "no number: print with -o FaxNumber=NUMBER, or with fax:NUMBER in the title"
@@ -148,10 +150,11 @@ def held(room):
         room.server.do("cancel", str(number))
 
 
-def numbers(room):
+def numbers(room: Room) -> None:
     """Numbers as titles and options name them."""
     pdf = room.made("gs-1.pdf")
-    cases = {"Letter fax:+49-30-1234": ([], "+49301234"), "FAX: 0301235 to Anna": ([], "0301235"),
+    cases: dict[str, tuple[list[str], str]] = {
+             "Letter fax:+49-30-1234": ([], "+49301234"), "FAX: 0301235 to Anna": ([], "0301235"),
              "by phone": (["-o", "phone=030/1236"], "0301236"),
              "custom": (["-o", "FaxNumber=Custom.0301237"], "0301237"),
              "twice fax:1238 fax:12-38": ([], "1238"), "option fax:9": (["-o", "FaxNumber='(030) 1239'"], "0301239"),
@@ -164,7 +167,7 @@ def numbers(room):
         room.claim(f"{title}", got[title][0]["number"] if title in got else None, number)
 
 
-def without_titles(room):
+def without_titles(room: Room) -> None:
     """A queue whose device does not ask for it takes no number of a title; and a policy hides numbers."""
     folder = room.new_spool("untitled")
     room.fax_queue("Untitled", folder)
@@ -186,7 +189,7 @@ def without_titles(room):
         room.claim(f"policy {policy}: strangers see the number", shown, wanted)
 
 
-def released(room):
+def released(room: Room) -> None:
     """A job that was held is faxed, once, when it gets its number."""
     job = room.server.print("Fax", "-t", "released", room.made("gs-1.pdf"))
     room.server.ended(job)
@@ -195,7 +198,7 @@ def released(room):
     room.claim("released", spooled(room.spool)["released"][0]["number"], "0301241")
 
 
-def queue_says(room):
+def queue_says(room: Room) -> None:
     """What the queue's own settings say, where a job says nothing; page ranges, and copies, of which there are none."""
     room.server.do("lpadmin", "-p", "Fax", "-o", "FaxCoding=MMR", "-o", "FaxResolution=Standard")
     pdf = room.made("gs-4.pdf")
@@ -210,7 +213,7 @@ def queue_says(room):
     room.server.do("lpadmin", "-p", "Fax", "-o", "FaxCoding=MH", "-o", "FaxResolution=Fine")
 
 
-def raster(room):
+def raster(room: Room) -> None:
     """PWG raster, as driverless clients send it, and text."""
     drawn = subprocess.run(
         [f"{server.SERVER_BIN}/filter/gstoraster", "1", "user", "title", "1", "media=A4", room.made("gs-1.pdf")],
@@ -231,7 +234,7 @@ def raster(room):
         room.claim(f"{name}: a page with ink", len(pages) == 1 and sum(map(any, pages[0][1])) > 100)
 
 
-def a_fax_again(room):
+def a_fax_again(room: Room) -> None:
     """A fax that is printed to Fax is faxed on; a damaged one is not."""
     spoiled, fault = made.damaged(room.made("gs-tiffg4-196-1.tif"), room.program, 9) if os.path.exists(
         room.made("gs-tiffg4-196-1.tif")) else made.damaged(room.made("scan.tif"), room.program, 9)  # fmt: skip
@@ -239,13 +242,13 @@ def a_fax_again(room):
             room.server.print("Fax", "-t", "spoiled fax:1", spoiled)]  # fmt: skip
     good, bad = room.server.ended(*jobs)
     room.claim("a fax is faxed on", good.state, "completed")
-    room.claim("with its pages", spooled(room.spool).get("again fax:1", ({},))[0].get("pages"), "4")
+    room.claim("with its pages", spooled(room.spool)["again fax:1"][0].get("pages"), "4")
     room.claim("a damaged one is not", bad.state in ("processing-stopped", "pending-held"))
     room.claim("a damaged one: its message", room.says(bad, fault))
     room.claim("nothing of it is spooled", "spoiled fax:1" in spooled(room.spool), False)
 
 
-def several(room):
+def several(room: Room) -> None:
     """The documents of one job are one fax, in order: PDFs, text, a fax in TIFF-F, and a banner at the end."""
     one, four, scan, text = (room.made(it) for it in ("gs-1.pdf", "gs-4.pdf", "scan.tif", "page.txt"))
     cases = {
@@ -258,19 +261,23 @@ def several(room):
         room.claim(f"several, {form[0]}: done", {it.state for it in room.server.ended(*jobs)}, {"completed"})
         got = spooled(room.spool)
         for name, words in cases.items():
-            wanted = [page for path in words if path.endswith((".pdf", ".txt"))
-                      for page in (from_pdf(room, path, form) if path.endswith(".pdf") else [None])]  # fmt: skip
-            told, fax = got.get(f"{form[0]} {name} fax:1", ({"pages": "0"}, None))
+            wanted: list[object] = []
+            for path in words:
+                if path.endswith(".pdf"):
+                    wanted += from_pdf(room, path, form)
+                elif path.endswith(".txt"):
+                    wanted.append(None)
+            told, fax = got.get(f"{form[0]} {name} fax:1", ({"pages": "0"}, ""))
             pages = room.pages(fax) if fax else []
             count = len(wanted) + 4 * words.count(scan) + (name == "a banner")
             room.claim(f"several, {form[0]}, {name}: pages", (told["pages"], len(pages)), (str(count), count))
             if scan not in words and name != "PDF and text" and fax:
                 room.claim(f"several, {form[0]}, {name}: pels, in order", pages[:len(wanted)] == wanted)
-            report = room.run(room.program, "check", fax) if fax else None
-            room.claim(f"several, {form[0]}, {name}: check", bool(report) and report[0] == 0 and b"note" not in report[1])
+            report = room.run(room.program, "check", fax) if fax else (1, b"", "")
+            room.claim(f"several, {form[0]}, {name}: check", report[0] == 0 and b"note" not in report[1])
 
 
-def one_is_lost(room):
+def one_is_lost(room: Room) -> None:
     """A job of two documents of which one comes, as where its filter was killed or CUPS hands over a file, is held."""
     one, four = room.made("gs-1.pdf"), room.made("gs-4.pdf")
     told = room.server.ended(room.server.print(
@@ -299,7 +306,7 @@ def one_is_lost(room):
     room.server.do("cancel", str(two))
 
 
-def with_the_same_uuid(room):
+def with_the_same_uuid(room: Room) -> None:
     """A job that has chosen the uuid of another one is a job of its own, and neither is dropped."""
     pdf = room.made("gs-1.pdf")
     victim = room.server.print("Fax", "-H", "hold", "-t", "victim fax:0301260", pdf)
@@ -324,7 +331,7 @@ def with_the_same_uuid(room):
         room.claim(f"{kind} by an earlier version: released", by_hand(room, True, option, pdf)[0], 0)
 
 
-def by_libreoffice(room):
+def by_libreoffice(room: Room) -> None:
     """A letter that LibreOffice prints: by hand, with FAXPAGES_OFFICE set, since its package is large."""
     if not os.environ.get("FAXPAGES_OFFICE"):
         return
@@ -339,7 +346,7 @@ def by_libreoffice(room):
     os.makedirs(home, exist_ok=True)
     before = room.server.jobs()
     ran = subprocess.run(
-        [office, "--headless", f"-env:UserInstallation=file://{home}", "--pt", "Fax", room.made("letter.txt")],
+        [office or "", "--headless", f"-env:UserInstallation=file://{home}", "--pt", "Fax", room.made("letter.txt")],
         env=room.server.environment, capture_output=True, timeout=server.PATIENCE, check=False)  # fmt: skip
     new = sorted(set(room.server.jobs()) - set(before))
     room.claim(f"LibreOffice prints: {ran.stderr[-200:]!r}", (ran.returncode, len(new)), (0, 1))
@@ -353,7 +360,7 @@ def by_libreoffice(room):
         room.claim("LibreOffice: a page with ink", sum(map(any, room.pages(fax)[0][1])) > 100)
 
 
-def by_hylafax(room):
+def by_hylafax(room: Room) -> None:
     """A queue that hands faxes to sendfax, here a stand-in that keeps its words and the fax."""
     folder = room.new_spool("to-hylafax")
     taken = room.new_spool("taken")
@@ -390,7 +397,7 @@ def by_hylafax(room):
     room.claim("sendfax: nothing is left", (left, len(os.listdir(f"{folder}/.faxpages"))), ([], 2))
 
 
-def not_known(room, folder, taken):
+def not_known(room: Room, folder: str, taken: str) -> None:
     """A sendfax that is killed, or whose watcher is, may have queued the fax: the job is held, and its release hands
     nothing on."""
     for number, way in enumerate(("dies", "alone")):
@@ -412,7 +419,7 @@ def not_known(room, folder, taken):
                 os.remove(f"{folder}/.faxpages/{name}")
 
 
-def play(room):
+def play(room: Room) -> None:
     ten(room)
     proportions(room)
     held(room)

@@ -7,15 +7,16 @@ What was killed is begun again, also after somebody has taken the fax; a job in 
 says. Each fax is handed on once. Prints a line for each that is not, and at last how many were tried and how many were
 in doubt."""
 
+from __future__ import annotations
+
 import errno
 import itertools
 import os
 import signal
 import sys
+from typing import Callable
 
-sys.path.insert(0, os.environ["FAXPAGES_MODULE"])
-
-from faxpages import _cups, _spool  # noqa: E402
+from faxpages import _cups, _spool
 
 CALLS = ["open", "link", "rename", "unlink", "fsync", "mkdir", "fchmod", "close"]
 # Calls for which a disk has no room; others free some, or need none.
@@ -23,16 +24,16 @@ GROWING = {"open", "link", "fsync", "mkdir"}
 DONE, CANCELLED, HELD, DOUBT, KILLED = "done", "cancelled", "held", "in doubt", "killed"
 
 
-def stop(*_):
+def stop(*_: object) -> None:
     raise SystemExit(5)
 
 
-def fail_at(at, how):
+def fail_at(at: int, how: str) -> None:
     """Has the call of the system with this number fail, or something happen just before it."""
     numbers = itertools.count()
 
-    def counted(name, call):
-        def made(*words, **more):
+    def counted(name: str, call: Callable[..., object]) -> Callable[..., object]:
+        def made(*words: object, **more: object) -> object:
             if next(numbers) == at:
                 if how == "full" and name in GROWING:
                     raise OSError(errno.ENOSPC, "No space left on device")
@@ -44,10 +45,9 @@ def fail_at(at, how):
 
     for name in CALLS:
         setattr(os, name, counted(name, getattr(os, name)))
-    return numbers
 
 
-def in_child(folder, name, at, how):
+def in_child(folder: str, name: str, at: int | None, how: str) -> int:
     """Puts the fax into the folder, as the backend does; the status tells what came of it."""
     signal.signal(signal.SIGTERM, stop)
     if at is not None:
@@ -63,7 +63,7 @@ def in_child(folder, name, at, how):
     return 0
 
 
-def attempt(folder, name, at=None, how="kill"):
+def attempt(folder: str, name: str, at: int | None = None, how: str = "kill") -> str:
     """What came of putting a fax."""
     child = os.fork()
     if child == 0:
@@ -80,7 +80,7 @@ def attempt(folder, name, at=None, how="kill"):
     return {0: DONE, 3: HELD, 4: DOUBT, 5: CANCELLED}.get(os.WEXITSTATUS(status), f"status {status}")
 
 
-def take(folder, name):
+def take(folder: str, name: str) -> int:
     """Takes a fax, as who sends it does, by its job file; tells how many there were."""
     if not os.path.exists(f"{folder}/{name}.job"):
         return 0
@@ -92,7 +92,7 @@ def take(folder, name):
     return 1
 
 
-def play(folder, name, at, how, takes):
+def play(folder: str, name: str, at: int, how: str, takes: bool) -> tuple[int, list[str], list[str]]:
     """One fax with one failure: how often it was handed on, what is left of it, and what came of it by and by."""
     said = [attempt(folder, name, at, how)]
     taken = take(folder, name) if takes else 0
@@ -106,7 +106,7 @@ def play(folder, name, at, how, takes):
     return taken, left, said
 
 
-def main():
+def main() -> None:
     folder = sys.argv[1]
     attempt(folder, "first")
     tried = doubts = failed = 0

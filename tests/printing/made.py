@@ -1,9 +1,14 @@
 """Faxes that other programs make, and damaged ones."""
 
+from __future__ import annotations
+
 import os
 import random
 import re
 import subprocess
+from typing import Iterator
+
+from tests.finding import found
 
 # Pages of text in which each line is another.
 SHEETS = """%%!PS
@@ -15,25 +20,25 @@ n page mul %(seed)d mul 9973 mod 12 string cvs show } for
 """
 
 
-def run(folder, *words):
+def run(folder: str, *words: str) -> None:
     subprocess.run(words, cwd=folder, check=True, timeout=900, stdout=subprocess.DEVNULL, stderr=subprocess.DEVNULL)
 
 
-def sheets(folder, name, pages, seed=7):
+def sheets(folder: str, name: str, pages: int, seed: int = 7) -> str:
     """A file of PostScript with so many pages."""
     with open(f"{folder}/{name}", "w") as file:
         file.write(SHEETS % {"pages": pages, "seed": seed})
     return name
 
 
-def pdf(folder, name, pages, seed=7):
+def pdf(folder: str, name: str, pages: int, seed: int = 7) -> str:
     """A PDF with so many pages of text."""
     sheets(folder, f"{name}.ps", pages, seed)
     run(folder, "gs", "-q", "-dNOPAUSE", "-dBATCH", "-sDEVICE=pdfwrite", "-o", name, f"{name}.ps")
     return f"{folder}/{name}"
 
 
-def by_ghostscript(folder):
+def by_ghostscript(folder: str) -> Iterator[str]:
     for device in ("tiffg3", "tiffg32d", "tiffg4"):
         for lines, pages in ((196, 1), (98, 1), (196, 3), (98, 2)):
             name = f"gs-{device}-{lines}-{pages}.tif"
@@ -42,7 +47,7 @@ def by_ghostscript(folder):
             yield name
 
 
-def by_libtiff(folder):
+def by_libtiff(folder: str) -> Iterator[str]:
     """Those of tiffcp, and of fax2tiff out of raw data, and of netpbm's pnmtotiff."""
     source = "gs-tiffg4-196-3.tif"
     for name, words in {"g3": ["-c", "g3:1d"], "g3-fill": ["-c", "g3:1d:fill"], "g3-2d": ["-c", "g3:2d:fill"],
@@ -51,20 +56,20 @@ def by_libtiff(folder):
         run(folder, "tiffcp", *words, source, f"tiffcp-{name}.tif")
         yield f"tiffcp-{name}.tif"
     run(folder, "gs", "-q", "-dNOPAUSE", "-dBATCH", "-sDEVICE=pbmraw", "-r204x196", "-o", "drawn.pbm", "drawn.ps")
-    for words in ("-g3", "-g4"):
-        with open(f"{folder}/pnmtotiff{words}.tif", "wb") as file:
-            subprocess.run(["pnmtotiff", words, "-xresolution", "204", "-yresolution", "196", "drawn.pbm"], cwd=folder,
+    for form in ("-g3", "-g4"):
+        with open(f"{folder}/pnmtotiff{form}.tif", "wb") as file:
+            subprocess.run(["pnmtotiff", form, "-xresolution", "204", "-yresolution", "196", "drawn.pbm"], cwd=folder,
                            check=True, stdout=file, stderr=subprocess.DEVNULL, timeout=900)  # fmt: skip
-        yield f"pnmtotiff{words}.tif"
+        yield f"pnmtotiff{form}.tif"
 
 
-def others(folder):
+def others(folder: str) -> list[str]:
     """The paths of 20 faxes that other programs make."""
     names = [*by_ghostscript(folder), *by_libtiff(folder)]
     return [f"{folder}/{name}" for name in names]
 
 
-def damaged(path, program, seed):
+def damaged(path: str, program: str, seed: int) -> tuple[str, str]:
     """A copy of a fax with a byte of it changed, so that it has a fault; and the fault's line."""
     with open(path, "rb") as file:
         data = bytearray(file.read())
@@ -82,31 +87,31 @@ def damaged(path, program, seed):
             return name, said
 
 
-def pages_of(program, path):
+def pages_of(program: str, path: str) -> list[tuple[int, list[bytes]]]:
     """The pages of a fax as `convert` writes them: of each its width, and its rows."""
     ran = subprocess.run([program, "convert", "-o", "pbm", path], capture_output=True, check=True, timeout=900)
     return pictures_of(ran.stdout)
 
 
-def pictures_of(data):
+def pictures_of(data: bytes) -> list[tuple[int, list[bytes]]]:
     """The pictures of a raw PBM, which may have a comment: of each its width, and its rows."""
-    found = []
+    pictures = []
     while data:
-        head = re.match(rb"P4\n(?:#[^\n]*\n)?(\d+) (\d+)\n", data)
+        head = found(rb"\AP4\n(?:#[^\n]*\n)?(\d+) (\d+)\n", data)
         width, height, at = int(head.group(1)), int(head.group(2)), head.end()
         stride = (width + 7) // 8
         rows = [data[at + i * stride : at + (i + 1) * stride] for i in range(height)]
-        found.append((width, [whole_pels(width, row) for row in rows]))
+        pictures.append((width, [whole_pels(width, row) for row in rows]))
         data = data[at + height * stride :]
-    return found
+    return pictures
 
 
-def whole_pels(width, row):
+def whole_pels(width: int, row: bytes) -> bytes:
     """A row with no bits after its last pel."""
     return row[:-1] + bytes([row[-1] & 0xFF << -width % 8 & 0xFF])
 
 
-def images_of(folder, path):
+def images_of(folder: str, path: str) -> list[tuple[int, list[bytes]]]:
     """The images of a PDF's pages: of each its width, and its rows."""
     room = f"{folder}/images"
     os.makedirs(room, exist_ok=True)

@@ -4,6 +4,8 @@ that is not cancelled is handed on once and whole; one that is cancelled, once o
 printed, whose filter is killed or which are cancelled: the printer has all of them or nothing. SEED in the environment
 draws another."""
 
+from __future__ import annotations
+
 import contextlib
 import os
 import random
@@ -12,44 +14,48 @@ import signal
 import subprocess
 import sys
 import time
+from typing import Iterator
 
-import made
-import server
-from faxed import told_of
-from strangers import by_hand, new_identity
+from tests.printing import made, server
+from tests.printing.faxed import told_of
+from tests.printing.room import Room
+from tests.printing.strangers import by_hand, new_identity
 
 JOBS, PRINTED = int(os.environ.get("JOBS", "24")), 8
 # How often lp is asked where it reaches no cupsd.
 TRIES = 5
 
 
-def enumerated(room, folder):
+def enumerated(room: Room, folder: str) -> None:
     """The folder, with a failure at each call of the system in turn."""
     module = f"{room.server.folder}/module"
-    more = {"FAXPAGES_MODULE": module, "FAXPAGES_LIBRARY": f"{module}/libfaxpages.so.1"}
+    more = {"PYTHONPATH": module, "FAXPAGES_LIBRARY": f"{module}/libfaxpages.so.1"}
     status, out, said = room.run(sys.executable, "-B", f"{server.HERE}/killed.py", folder, env={**os.environ, **more})
     lines = out.decode().splitlines()
     room.claim(f"a failure at each call: {lines[:5]} {said[-300:]}", (status, len(lines)), (0, 1))
     tried = re.fullmatch(r"tried (\d+), in doubt (\d+), failed 0", lines[-1] if lines else "")
-    room.claim("many calls, few in doubt", bool(tried) and int(tried.group(1)) == 480 and 0 < int(tried.group(2)) < 24)
+    room.claim("many calls, few in doubt", tried is not None and int(tried.group(1)) == 480 and 0 < int(tried.group(2)) < 24)
 
 
 class Operator:
     """Acts on the queue as drawn, and keeps what is wanted of each number."""
 
-    def __init__(self, room, seed, folder):
+    def __init__(self, room: Room, seed: str, folder: str) -> None:
         self.room, self.server, self.rng, self.folder = room, room.server, random.Random(seed), folder
-        self.taken, self.cancelled, self.numbers, self.pages = [], set(), {}, {}
+        self.taken: list[str] = []
+        self.cancelled: set[str] = set()
+        self.numbers: dict[str, int] = {}
+        self.pages: dict[str, int] = {}
         self.pdf, self.one = made.pdf(room.made(""), "drawn-4.pdf", 4), made.pdf(room.made(""), "drawn-1.pdf", 1, 5)
         room.fax_queue("Drawn", folder, "?title")
         self.server.do("lpadmin", "-p", "Drawn", "-o", "printer-error-policy=retry-current-job")
 
-    def print(self):
+    def print(self) -> int:
         """Prints one document or several; now and then with the uuid of another job."""
         number = str(1000 + len(self.numbers))
         documents = self.rng.choice([[self.pdf], [self.pdf], [self.pdf, self.one], [self.one, self.pdf, self.one]])
         self.pages[number] = sum(4 if it == self.pdf else 1 for it in documents)
-        more = []
+        more: list[str] = []
         if self.numbers and self.rng.random() < 0.2:
             with contextlib.suppress(KeyError):
                 other = self.server.jobs()[self.rng.choice(list(self.numbers.values()))]
@@ -57,7 +63,7 @@ class Operator:
         self.numbers[number] = self.printed("-t", f"drawn fax:{number}", *more, *documents)
         return self.numbers[number]
 
-    def printed(self, *words):
+    def printed(self, *words: str) -> int:
         """Prints by lp. Where lp reaches no cupsd, as one that has just been started on a machine with much to do, it
         says that there is no queue, and has made no job: then it is asked again, and that is said."""
         for _ in range(TRIES):
@@ -70,10 +76,10 @@ class Operator:
                 time.sleep(1)
         raise OSError("lp reaches no cupsd")
 
-    def pause(self):
+    def pause(self) -> None:
         time.sleep(self.rng.choice([0, 0.02, 0.1, 0.2, 0.3, 0.4, 0.5, 0.7]))
 
-    def kill(self):
+    def kill(self) -> None:
         """Kills one of the processes of a job: a filter, the one that watches the backend, the one that works, or one
         that draws. If the one that watches is gone, none more of this job is killed: CUPS has it as done."""
         found = list(processes(b"DEVICE_URI=faxpages:" + self.folder.encode()))
@@ -81,18 +87,18 @@ class Operator:
             with contextlib.suppress(ProcessLookupError):
                 os.kill(self.rng.choice(found), signal.SIGKILL)
 
-    def cancel(self):
+    def cancel(self) -> None:
         number, job = self.rng.choice(list(self.numbers.items()))
         if self.server.call("cancel", str(job))[0] == 0:
             self.cancelled.add(number)
 
-    def restart(self):
+    def restart(self) -> None:
         """Kills cupsd, and starts it again; a backend that it has started may go on."""
         self.server.do("lpstat", "-r")
         self.server.stop(signal.SIGKILL)
         self.server.start()
 
-    def take(self):
+    def take(self) -> None:
         """Takes what is there, as who sends it does: by the job file, which is gone then."""
         for name in sorted(os.listdir(self.folder)):
             if name.endswith(".job") and self.rng.random() < 0.7:
@@ -105,7 +111,7 @@ class Operator:
                 os.remove(fax)
                 self.taken.append(told["number"])
 
-    def settle(self):
+    def settle(self) -> None:
         """Waits until all jobs have ended, and looks at those that are in doubt, as their message says."""
         end = time.monotonic() + server.PATIENCE
         while time.monotonic() < end:
@@ -122,7 +128,7 @@ class Operator:
             time.sleep(0.2)
         raise TimeoutError(f"jobs do not end: {left}")
 
-    def release(self, number, told):
+    def release(self, number: str, told: server.Told) -> None:
         """Releases a job that is held; one in doubt is cancelled if the fax is there, or was taken."""
         doubt = re.search(r"delete (\S+) and release", told.message)
         seen = number in self.taken or any(
@@ -135,7 +141,7 @@ class Operator:
                 os.remove(doubt.group(1))
         self.server.call("lp", "-i", f"Drawn-{self.numbers[number]}", "-H", "resume")
 
-    def full(self):
+    def full(self) -> None:
         """A job while the disk is full: it is held, and goes on when there is room."""
         with open(f"{self.folder}/filler", "wb") as file, contextlib.suppress(OSError):
             while True:
@@ -152,20 +158,21 @@ class Operator:
         os.remove(f"{self.folder}/filler")
 
 
-def parent_of(process):
+def parent_of(process: int) -> int | None:
     """The number of the process that started this one, as long as it is there."""
     with contextlib.suppress(OSError, IndexError):
         with open(f"/proc/{process}/stat") as file:
             return int(file.read().rpartition(")")[2].split()[1])
+    return None
 
 
-def is_kept(room, folder, job):
+def is_kept(room: Room, folder: str, job: int) -> bool:
     """Whether a job's documents are kept in the folder, whole."""
     kept = [it for it in os.listdir(f"{folder}/.faxpages") if it.startswith(f"{job}-") and it.endswith(".pdf")]
     return bool(kept) and all(room.run("pdfinfo", f"{folder}/.faxpages/{it}")[0] == 0 for it in kept)
 
 
-def processes(told):
+def processes(told: bytes) -> Iterator[int]:
     """The processes that have this in their environment."""
     for name in os.listdir("/proc"):
         with contextlib.suppress(OSError, ValueError):
@@ -174,7 +181,7 @@ def processes(told):
                     yield int(name)
 
 
-def full_temporary_folder(room, folder):
+def full_temporary_folder(room: Room, folder: str) -> None:
     """A filter or a backend whose temporary files have no room: all of a PDF comes or nothing, and the job is held.
     Python takes another folder for temporary files, if there is one."""
     fax = room.made("gs-tiffg4-196-3.tif")
@@ -196,7 +203,7 @@ def full_temporary_folder(room, folder):
     room.claim("no temporary file is left", left, [])
 
 
-def drawn(room, folder, is_small):
+def drawn(room: Room, folder: str, is_small: bool) -> None:
     """The operator's jobs, and what is there at the end."""
     seed = os.environ.get("SEED", "20261127")
     operator = Operator(room, seed, folder)
@@ -224,7 +231,7 @@ def drawn(room, folder, is_small):
     room.claim(f"seed {seed}: nothing half handed on", left, [])
 
 
-def printed(room):
+def printed(room: Room) -> None:
     """Jobs on their way to a printer, of which the filter is killed, or which are cancelled."""
     rng = random.Random(7)
     source = room.made("long-one.tif")
@@ -257,7 +264,7 @@ def printed(room):
     room.claim(f"killed: {states}", set(states) <= {"completed", "canceled", "processing-stopped", "aborted"})
 
 
-def is_of_filter(process, title):
+def is_of_filter(process: int, title: str) -> bool:
     """Whether a process is the filter's, for a job with this title."""
     with contextlib.suppress(OSError):
         with open(f"/proc/{process}/cmdline", "rb") as file:
@@ -266,7 +273,7 @@ def is_of_filter(process, title):
     return False
 
 
-def small_disk(room):
+def small_disk(room: Room) -> tuple[str, bool]:
     """A folder on a disk of its own, with little room, where one can be mounted."""
     folder = room.new_spool("small")
     mount = ["mount", "-t", "tmpfs", "-o", "size=1m,mode=2770", "none", folder]
@@ -278,7 +285,7 @@ def small_disk(room):
     return folder, able
 
 
-def play(room):
+def play(room: Room) -> None:
     folder, is_small = small_disk(room)
     try:
         enumerated(room, folder)

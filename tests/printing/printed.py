@@ -1,13 +1,17 @@
 """Faxes that are printed: what the printers receive is what `convert` writes of the faxes, and of damaged ones
 nothing, or with faxpages=salvage what can be read of them."""
 
+from __future__ import annotations
+
 import os
 import re
 import shutil
 import subprocess
 
-import made
-import server
+from tests.finding import found
+from tests.printing.room import Room
+from tests.printing.server import Told
+from tests.printing import made, server
 
 SAMPLES = f"{server.TOP}/samples"
 # A page of this paper is larger than a fax, and the difference is even in pels: nothing is scaled, and no pel is cut.
@@ -17,7 +21,7 @@ LINE = re.compile(r"faxpages: (page .*?) (?:is|are) missing: (\w+(?: \d+)?) \(nu
 PAPER_SIZE = (1734, {196: 2744, 98: 1372})
 
 
-def sent(room, jobs):
+def sent(room: Room, jobs: list[tuple[str, list[str], str]]) -> tuple[dict[str, Told], dict[str, str]]:
     """Prints files, each with its title and options, on the printers in turn; and tells by title what came of each."""
     numbers = {}
     for number, (title, words, path) in enumerate(jobs):
@@ -26,7 +30,7 @@ def sent(room, jobs):
     return told, received(room)
 
 
-def received(room):
+def received(room: Room) -> dict[str, str]:
     """What the printers have kept, by the titles."""
     found = {}
     for printer in room.printers:
@@ -35,14 +39,14 @@ def received(room):
     return found
 
 
-def cut_out(paper, rows, width, count):
+def cut_out(paper: int, rows: list[bytes], width: int, count: int) -> list[bytes]:
     """So many rows of this width in the middle of a page of paper."""
     left, top, size = (paper - width) // 2, (len(rows) - count) // 2, (width + 7) // 8
     pels = [(int.from_bytes(row, "big") >> 8 * len(row) - left - width) & (1 << width) - 1 for row in rows]
     return [(row << 8 * size - width).to_bytes(size, "big") for row in pels[top : top + count]]
 
 
-def rasterised(path, lines):
+def rasterised(path: str, lines: int) -> list[tuple[int, list[bytes]]]:
     """The pages of a PDF, drawn by Ghostscript."""
     drawn = subprocess.run(
         ["gs", "-q", "-dNOPAUSE", "-dBATCH", "-dSAFER", "-sDEVICE=pbmraw", f"-r204x{lines}", "-o", "-", path],
@@ -50,13 +54,13 @@ def rasterised(path, lines):
     return made.pictures_of(drawn.stdout)
 
 
-def whole(room):
+def whole(room: Room) -> list[str]:
     """Samples and faxes of other programs, of which all pels come to the printer, and the ink where it belongs."""
     faxes = made.others(room.folder + "/made")
     samples = [f"{SAMPLES}/{name}" for name in sorted(os.listdir(SAMPLES)) if name.endswith(".tif")]
     good = [it for it in samples if room.run(room.program, "check", it)[0] == 0] + faxes
     room.claim("faxes of other programs", len(faxes), 20)
-    jobs = [(re.sub(r"\W", "_", os.path.basename(it)), PAPER, it) for it in good]
+    jobs: list[tuple[str, list[str], str]] = [(re.sub(r"\W", "_", os.path.basename(it)), PAPER, it) for it in good]
     told, got = sent(room, jobs)
     for title, _, path in jobs:
         wanted = room.pages(path)
@@ -71,7 +75,7 @@ def whole(room):
     return faxes
 
 
-def as_they_are(room):
+def as_they_are(room: Room) -> None:
     """MMR data that `check` has no note on are in the PDF as they are in the fax."""
     path = room.made("gs-tiffg4-196-3.tif")
     mmr = room.made("as-it-is.tif")
@@ -89,21 +93,21 @@ def as_they_are(room):
     room.claim("MMR data as they are", [strip in data and len(strip) > 1000 for strip in strips], [True] * 3)
 
 
-def environment(room):
+def environment(room: Room) -> dict[str, str]:
     """What the filter has in its environment, when it is called by hand."""
     module = f"{room.server.folder}/module"
     return {"PATH": "/usr/bin:/bin", "FAXPAGES_MODULE": module, "FAXPAGES_LIBRARY": f"{module}/libfaxpages.so.1",
             "FAXPAGES_SECONDS": str(server.PATIENCE), "CUPS_SERVERBIN": f"{room.server.folder}/bin"}  # fmt: skip
 
 
-def damaged(room, faxes):
+def damaged(room: Room, faxes: list[str]) -> None:
     """Damaged faxes stop with the fault, and nothing is printed; with salvage what can be read is."""
     spoiled = [made.damaged(path, room.program, number) for number, path in enumerate(faxes)]
     spoiled += [(f"{SAMPLES}/{name}.tif", fault) for name, fault in
                 (("damaged-fourth-page", "fault page 3 row 5: OutOfRow"),
                  ("three-pages", "fault page 2 row 1: DataEnds"),
                  ("received/over-a-noisy-line", "fault page 0 row 72: MissingEol"))]  # fmt: skip
-    jobs = [(re.sub(r"\W", "_", os.path.basename(path)), [], path) for path, _ in spoiled]
+    jobs: list[tuple[str, list[str], str]] = [(re.sub(r"\W", "_", os.path.basename(path)), [], path) for path, _ in spoiled]
     before = set(received(room))
     told, got = sent(room, jobs)
     log = room.server.get("log/error").decode(errors="replace")
@@ -116,7 +120,7 @@ def damaged(room, faxes):
     salvaged(room, spoiled)
 
 
-def salvaged(room, spoiled):
+def salvaged(room: Room, spoiled: list[tuple[str, str]]) -> None:
     """With salvage a line says what each page lacks, and no row is another than the program finds."""
     jobs = [(f"salvaged_{number}", ["-o", "faxpages=salvage"], fax) for number, (fax, _) in enumerate(spoiled)]
     told, got = sent(room, jobs)
@@ -136,7 +140,7 @@ def salvaged(room, spoiled):
     without_the_program(room)
 
 
-def without_the_program(room):
+def without_the_program(room: Room) -> None:
     """The library salvages, and asks nothing of a `faxpages` on the PATH."""
     noisy = f"{SAMPLES}/received/over-a-noisy-line.tif"
     folder = room.made("broken")
@@ -149,19 +153,19 @@ def without_the_program(room):
     room.claim("no program is asked", (status, written[:5]), (0, b"%PDF-"))
 
 
-def fault_of(line):
+def fault_of(line: str) -> tuple[int, int, str]:
     """The page, the first row and the name of a line about what is lost."""
-    page, row, name = re.match(r"page (\d+)(?: rows? (\d+))?.*?: (.*)", line).groups()
+    page, row, name = found(r"^page (\d+)(?: rows? (\d+))?.*?: (.*)", line).groups()
     return int(page), int(row or 0), name
 
 
-def told_fault(fault):
+def told_fault(fault: str) -> tuple[int, int, str]:
     """The same of the program's line."""
-    page, row, name = re.match(r"fault page (\d+) row (\d+): (.*)", fault).groups()
+    page, row, name = found(r"^fault page (\d+) row (\d+): (.*)", fault).groups()
     return int(page), int(row), name
 
 
-def as_salvage_has_it(room, fax):
+def as_salvage_has_it(room: Room, fax: str) -> list[str]:
     """The lines of faxpages-salvage."""
     path = f"{server.TOP}/recipes:{os.path.dirname(room.program)}:{os.environ['PATH']}"
     shutil.rmtree(room.made("lost"), ignore_errors=True)
@@ -170,7 +174,7 @@ def as_salvage_has_it(room, fax):
         return [line.strip() for line in file if " is not in pages.tif" not in line]
 
 
-def readable_rows(room, fax, path):
+def readable_rows(room: Room, fax: str, path: str) -> bool | str:
     """Whether each row is the one that the program finds, and what it does not find has no ink."""
     told = what_is_left(room, fax)
     for page, (width, rows) in enumerate(room.images(path)):
@@ -185,12 +189,12 @@ def readable_rows(room, fax, path):
     return True
 
 
-def what_is_left(room, fax):
+def what_is_left(room: Room, fax: str) -> list[list[str]]:
     """The words of the lines that `salvage` prints."""
     return [line.split() for line in room.run(room.program, "salvage", fax)[1].decode().splitlines()]
 
 
-def first_lost(room, fax, fault):
+def first_lost(room: Room, fax: str, fault: str) -> tuple[int, int, str]:
     """The page, the first row and the name of what is lost first; of a broken chain of pages the fault says it."""
     lost = [line for line in what_is_left(room, fax) if line[0] == "lost"]
     if not lost:
@@ -199,22 +203,22 @@ def first_lost(room, fax, fault):
     return (int(page), int(row), rest[1]) if row.isdigit() else (int(page), 0, " ".join([row, *rest]))
 
 
-def runs_of(width, row):
+def runs_of(width: int, row: bytes) -> list[int]:
     """The runs of a row, white first."""
     pels = bin(int.from_bytes(row, "big") | 1 << 8 * len(row))[3 : 3 + width]
     runs = [len(run) for run in re.findall(r"0+|1+", pels)]
     return runs if pels[0] == "0" else [0, *runs]
 
 
-def grey(room):
+def grey(room: Room) -> None:
     """What is lost is grey on paper, and only that, and the page has its two lines below."""
     path, fault = made.damaged(room.made("gs-tiffg4-196-1.tif"), room.program, 5)
-    row = int(re.search(r"row (\d+)", fault).group(1))
+    row = int(found(r"row (\d+)", fault).group(1))
     told, got = sent(room, [("grey", ["-o", "faxpages=salvage", *PAPER], path)])
     drawn = subprocess.run(
         ["gs", "-q", "-dNOPAUSE", "-dBATCH", "-dSAFER", "-sDEVICE=pgmraw", "-r36", "-o", "-", got["grey"]],
         capture_output=True, check=True, timeout=server.PATIENCE).stdout  # fmt: skip
-    width, height = map(int, re.search(rb"\n(\d+) (\d+)\n255\n", drawn).groups())
+    width, height = map(int, found(rb"\n(\d+) (\d+)\n255\n", drawn).groups())
     column = [drawn[len(drawn) - width * height + width * line + 8] for line in range(height)]
     shades = [line for line, shade in enumerate(column) if 180 < shade < 200]
     # The page and its lines stand in the middle of the paper.
@@ -224,7 +228,7 @@ def grey(room):
     room.claim("grey: all between", len(shades), shades[-1] - shades[0] + 1)
 
 
-def asked_for(room):
+def asked_for(room: Room) -> None:
     """Pages, copies, paper, turned and fitted pages."""
     fax = room.made("gs-tiffg4-196-3.tif")
     pages = room.pages(fax)
@@ -236,22 +240,22 @@ def asked_for(room):
     room.claim("page-ranges", room.images(got["ranges"]) == pages[1:])
     room.claim("copies", room.images(got["copies"]) in (pages, 2 * pages))
     for title, sizes in (("a4", (595.276, 841.89)), ("landscape", (841.89, 595.276)), ("ranges", (612, 792))):
-        told = room.run("pdfinfo", got[title])[1].decode()
-        size = tuple(float(it) for it in re.search(r"Page size: +([0-9.]+) x ([0-9.]+)", told).groups())
+        shown = room.run("pdfinfo", got[title])[1].decode()
+        size = tuple(float(it) for it in found(r"Page size: +([0-9.]+) x ([0-9.]+)", shown).groups())
         room.claim(f"{title}: paper", size in (sizes, sizes[::-1]))
     for title, ratio in (("a4", 204 / 196), ("standard", 204 / 98), ("two", 204 / 196)):
         across, down = listed(room, got[title])
         room.claim(f"{title}: proportions {across} by {down}", abs(across / down / ratio - 1) < 0.015)
-    room.claim("two on a page", int(re.search(rb"Pages: +(\d+)", room.run("pdfinfo", got["two"])[1]).group(1)), 2)
+    room.claim("two on a page", int(found(rb"Pages: +(\d+)", room.run("pdfinfo", got["two"])[1]).group(1)), 2)
 
 
-def listed(room, path):
+def listed(room: Room, path: str) -> tuple[int, int]:
     """The pels to the inch of the first image."""
     line = room.run("pdfimages", "-list", path)[1].decode().splitlines()[2].split()
     return int(line[12]), int(line[13])
 
 
-def what_it_is(room):
+def what_it_is(room: Room) -> None:
     """A fax is one by what it is; another picture goes to imagetopdf; a fax whose format is named is checked too."""
     shutil.copy(room.made("gs-tiffg4-196-1.tif"), room.made("fax.txt"))
     spoiled, fault = made.damaged(room.made("gs-tiffg4-196-1.tif"), room.program, 3)
@@ -261,7 +265,7 @@ def what_it_is(room):
     with open(room.made("picture.tif"), "wb") as file:
         subprocess.run("pbmmake 60 40 | ppmchange white red | pnmtotiff", shell=True, check=True, stdout=file,
                        stderr=subprocess.DEVNULL)  # fmt: skip
-    named = ["-o", "document-format=image/tiff"]
+    named, alone = ["-o", "document-format=image/tiff"], list[str]()
     told, got = sent(room, [
         ("text", [], room.made("fax.txt")), ("spoiled", [], room.made("spoiled.jpg")),
         ("other", [], room.made("text.tif")), ("picture", [], room.made("picture.tif")),
@@ -280,12 +284,12 @@ def what_it_is(room):
     room.claim("another word", room.says(told["no_word"], "faxpages is salvage or whole"))
 
 
-def as_raster(room):
+def as_raster(room: Room) -> None:
     """A printer that takes raster alone gets pages of a fax, and none of a damaged one, whether its format is named."""
     spoiled, fault = made.damaged(room.made("gs-tiffg4-98-1.tif"), room.program, 4)
-    named = ["-o", "document-format=image/tiff"]
+    named, alone = ["-o", "document-format=image/tiff"], list[str]()
     jobs = [room.server.print("raster", "-t", title, *words, path) for title, words, path in (
-        ("good", [], room.made("gs-tiffg3-98-2.tif")), ("bad", [], spoiled), ("named_bad", named, spoiled))]  # fmt: skip
+        ("good", alone, room.made("gs-tiffg3-98-2.tif")), ("bad", alone, spoiled), ("named_bad", named, spoiled))]  # fmt: skip
     good, bad, named_bad = room.server.ended(*jobs)
     room.claim("raster: printed", good.state, "completed")
     room.claim("raster: damaged", [room.says(it, fault) for it in (bad, named_bad)], [True, True])
@@ -294,7 +298,7 @@ def as_raster(room):
     room.claim(f"raster: pages {sizes}", (sizes[0] > 10000, [size > 4 for size in sizes[1:]]), (True, [False, False]))
 
 
-def play(room):
+def play(room: Room) -> None:
     faxes = whole(room)
     as_they_are(room)
     damaged(room, faxes)

@@ -1,6 +1,8 @@
 """What strangers send: words that a shell or CUPS could take for their own, files that are made to take long, and
 folders that are not as they should be. The filter and the backend run as the user lp, with few rights."""
 
+from __future__ import annotations
+
 import contextlib
 import os
 import re
@@ -8,15 +10,17 @@ import signal
 import struct
 import subprocess
 import uuid
+from typing import IO, Iterator
 
-import made
-import server
+from tests.printing import made, server
+from tests.printing.room import Room
 
 TITLE = "x\nATTR: job-state=9\nERROR: owned; $(touch {0}) `touch {0}` '\"\\ | touch {0} & fax:0301250"
 USER = "-u; touch {0}"
 
 
-def by_hand(room, backend, options, path, more=None, title="fax:1", number=None, read=None):
+def by_hand(room: Room, backend: bool, options: str, path: str | None, more: dict[str, str] | None = None, title: str = "fax:1",
+            number: int | None = None, read: int | IO[bytes] | None = None) -> tuple[int, bytes, str]:
     """Runs the filter or the backend as CUPS does, as the user lp: its status, its output and what it says."""
     user, environment = room.server.user, environment_of(room, more)
     name = "backend/faxpages" if backend else "filter/faxtopdf"
@@ -26,7 +30,7 @@ def by_hand(room, backend, options, path, more=None, title="fax:1", number=None,
     return ran.returncode, ran.stdout, ran.stderr.decode(errors="replace")
 
 
-def environment_of(room, more=None):
+def environment_of(room: Room, more: dict[str, str] | None = None) -> dict[str, str]:
     """The variables of a filter or a backend."""
     module = f"{room.server.folder}/module"
     return {
@@ -37,13 +41,13 @@ def environment_of(room, more=None):
         **(more or {})}  # fmt: skip
 
 
-def new_identity(room, number=None):
+def new_identity(room: Room, number: int | None = None) -> tuple[str, str]:
     """The option by which CUPS names a job, and the name that a fax gets of it."""
     name = str(uuid.uuid4())
     return f"job-uuid=urn:uuid:{name} time-at-creation=1700000000", f"{number or room.job_of_one()}-1700000000-{name}"
 
 
-def words(room):
+def words(room: Room) -> None:
     """A title, a user and options with words of a shell and lines of CUPS, on both ways."""
     owned = f"{room.server.folder}/temporary/owned"
     option, name = new_identity(room)
@@ -74,7 +78,7 @@ def words(room):
     room.claim("who may read it", os.stat(f"{room.spool}/{name}.tif").st_mode & 0o777, 0o660)
 
 
-def repeated(pages, width, rows, strip):
+def repeated(pages: int, width: int, rows: int, strip: bytes) -> bytes:
     """A fax of so many pages that all have the same strip."""
     data, at = [b"II*\0" + struct.pack("<I", 8)], 8
     size = 2 + 12 * 8 + 4
@@ -88,7 +92,7 @@ def repeated(pages, width, rows, strip):
     return b"".join(data) + strip
 
 
-def bounds(room):
+def bounds(room: Room) -> None:
     """Files that are made to take long: pages, pels, strips and time are bounded."""
     # Each row as the row before, which is white at first.
     white = b"\xff" * 13000 + b"\0\x10\x01"
@@ -111,7 +115,7 @@ def bounds(room):
         room.claim("many bytes", (status, "it has more than 268435456 bytes" in said), (3 if backend else 1, True))
 
 
-def kinds(room):
+def kinds(room: Room) -> None:
     """Sound files that are no faxes read here are not printed as such, and nobody calls them damaged."""
     source = f"{server.TOP}/samples/one-mh-page.tif"
     for name, words, kind in (("tiles", ["-t", "-w", "16", "-l", "16", "-c", "g4"], "a picture in tiles"),
@@ -122,7 +126,7 @@ def kinds(room):
         room.claim(f"{name}: {said}", (status, out, told, "damaged" in said), (1, b"", True, False))
 
 
-def pdf_of(pages, content, size=(595, 842)):
+def pdf_of(pages: int, content: bytes, size: tuple[int, int] = (595, 842)) -> bytes:
     """A PDF whose pages have this content."""
     kids = " ".join(f"{5 + number} 0 R" for number in range(pages))
     objects = [b"<< /Type /Catalog /Pages 2 0 R >>", f"<< /Type /Pages /Count {pages} /Kids [{kids}] >>".encode(),
@@ -139,18 +143,18 @@ def pdf_of(pages, content, size=(595, 842)):
     return made_of + b"trailer << /Size %d /Root 1 0 R >>\nstartxref\n%d\n%%%%EOF\n" % (count, at)
 
 
-def damaged_page(pages, which):
+def damaged_page(pages: int, which: int) -> bytes:
     """A PDF of which one page has operators that there are none of."""
     data = pdf_of(pages, b"0 0 100 100 re f\n")
     at = [found.start() for found in re.finditer(rb"/Contents 3 0 R", data)][which - 1]
     return data[:at] + b"/Contents 9 0 R" + data[at + 15:]
 
 
-def documents(room):
+def documents(room: Room) -> None:
     """PDFs that are none, or too large, or slow: they are held, and nothing is left."""
     drawing = "faxpages-from-pdf: faxpages-from-pdf: "
     slow = b"0 0 595 842 re 0 0 m " + b"595 842 l 3 8 l 590 1 l 1 800 l " * 30000 + b"f*\n"
-    cases = {
+    cases: dict[str, tuple[bytes, dict[str, str], str | tuple[str, ...]]] = {
         "empty": (b"", {}, "nothing is printed"),
         "no PDF": (b"\x1b%-12345X@PJL", {}, "what is printed is no PDF"),
         "broken PDF": (b"%PDF-1.4\nno more\n%%EOF\n", {}, "pdfinfo: "),
@@ -179,7 +183,7 @@ def documents(room):
     room.claim("no temporary file is left", left, [])
 
 
-def processes_of(session):
+def processes_of(session: int) -> Iterator[str]:
     """The processes of a session."""
     for name in filter(str.isdecimal, os.listdir("/proc")):
         with contextlib.suppress(OSError), open(f"/proc/{name}/stat") as file:
@@ -187,7 +191,7 @@ def processes_of(session):
                 yield name
 
 
-def endless(room):
+def endless(room: Room) -> None:
     """What comes from a filter that never ends holds the queue for no longer than a job's seconds; nothing is left of
     what was killed, once another job has come."""
     user, temporary = room.server.user, f"{room.server.folder}/temporary"
@@ -202,9 +206,10 @@ def endless(room):
         os.close(held)
     room.claim(f"a document that never ends: {said}", (status, "it takes longer than 1 seconds" in said), (3, True))
     # A filter that waits for a program, and one after it: they end with the backend.
-    as_user = {"user": user.pw_uid, "group": user.pw_gid, "extra_groups": []}
-    first = subprocess.Popen(["sh", "-c", "sleep 900; :"], stdout=subprocess.PIPE, start_new_session=True, **as_user)
-    second = subprocess.Popen(["cat"], stdin=first.stdout, stdout=subprocess.PIPE, **as_user)
+    first = subprocess.Popen(["sh", "-c", "sleep 900; :"], stdout=subprocess.PIPE, start_new_session=True,
+                             user=user.pw_uid, group=user.pw_gid, extra_groups=[])  # fmt: skip
+    second = subprocess.Popen(["cat"], stdin=first.stdout, stdout=subprocess.PIPE, user=user.pw_uid, group=user.pw_gid,
+                              extra_groups=[])  # fmt: skip
     option, _ = new_identity(room)
     status, _, said = by_hand(room, True, option, None, {"FAXPAGES_SECONDS": "1"}, read=second.stdout)
     ended = (second.wait(server.PATIENCE), first.wait(server.PATIENCE))
@@ -232,7 +237,7 @@ def endless(room):
             os.remove(f"{room.spool}/.faxpages/{name}")
 
 
-def kept_by_others(room):
+def kept_by_others(room: Room) -> None:
     """A folder .faxpages of another user, or that others may look into, is not used."""
     pdf = room.made("gs-1.pdf")
     for owner, mode in ((0, 0o2777), (0, 0o2770), (None, 0o2775), (None, 0o2771), (None, 0o2770)):
@@ -246,7 +251,7 @@ def kept_by_others(room):
         room.claim(f"kept by {owner}, {mode:o}: {said}", (status, "open to others" in said), (0 if right else 3, not right))
 
 
-def folders(room):
+def folders(room: Room) -> None:
     """Folders that are not there, are not the user's, or are anyone's; and files in the way, which stay."""
     pdf, base = room.made("gs-1.pdf"), room.server.folder
     roots = f"{base}/roots"
@@ -279,7 +284,7 @@ def folders(room):
         os.remove(f"{room.spool}/{name}.{kind}")
 
 
-def play(room):
+def play(room: Room) -> None:
     words(room)
     bounds(room)
     kinds(room)

@@ -1,11 +1,16 @@
 """The recipes of archives, by the module for Python and the library beside the program."""
 
+from __future__ import annotations
+
 import csv
 import io
 import os
 import shutil
+from typing import Iterator
 
-from recipes import ROOT
+from tests import Claim
+from tests.recipes.recipes import ROOT
+from tests.recipes.room import Room, Tests
 
 COMMAND = """#!/bin/sh
 FAXPAGES_LIBRARY={library} PYTHONPATH={root}/python PYTHONDONTWRITEBYTECODE=1 exec python3 -m faxpages.archive "$@"
@@ -17,7 +22,7 @@ echo "Magic: 0x4949"
 """
 
 
-def with_archive(room):
+def with_archive(room: Room) -> bool:
     """Puts the command on the path, where there is a library; whether there is."""
     library = os.path.join(os.path.dirname(os.path.realpath(room.program)), "libfaxpages.so.1")
     if not os.path.exists(library):
@@ -26,7 +31,7 @@ def with_archive(room):
     return True
 
 
-def table(room, commands):
+def table(room: Room, commands: str) -> Iterator[Claim]:
     if not with_archive(room):
         print("not run: A table of an archive: no library beside the program")
         return
@@ -41,13 +46,13 @@ def table(room, commands):
     yield "nothing is done twice", b"; 0 done now, %d before" % len(given) in again[1], True
 
 
-def rows_of(printed):
+def rows_of(printed: bytes) -> dict[str, dict[str, str]]:
     """The rows of a table as CSV, by the names of their faxes."""
     text = printed.decode("utf-8", "surrogateescape")
     return {os.path.basename(row["path"]): row for row in csv.DictReader(io.StringIO(text, newline=""))}
 
 
-def mirror(room, commands):
+def mirror(room: Room, commands: str) -> Iterator[Claim]:
     if not with_archive(room):
         print("not run: A mirror of an archive: no library beside the program")
         return
@@ -72,4 +77,4 @@ def mirror(room, commands):
     yield "delete: what is left", left, (["disk"], ["e.tif"], wanted)
 
 
-TESTS = {"A table of an archive": (["python3"], table), "A mirror of an archive in MMR": (["python3"], mirror)}
+TESTS: Tests = {"A table of an archive": (["python3"], table), "A mirror of an archive in MMR": (["python3"], mirror)}

@@ -1,20 +1,23 @@
 """The scripts of the recipes with a full disk, and with files that cannot be read; and the example in Python. The full
 disk is a small file system of memory, for the temporary files and what is written."""
 
+from __future__ import annotations
+
 import os
 import subprocess
 import sys
+from typing import Iterator
 
-import files
-import pages
-from manual import manual
-from recipes import ROOT, SCRIPTS
-from room import UNREADABLE, WIDTH
+from tests import Claim
+from tests.convert import files, pages
+from tests.recipes.manual import manual
+from tests.recipes.recipes import ROOT, SCRIPTS
+from tests.recipes.room import UNREADABLE, WIDTH, Room, Tests
 
 SIZE = "64k"
 
 
-def cannot_mount(room):
+def cannot_mount(room: Room) -> str:
     """Lets the folder of temporary files be small: why it cannot be."""
     ran = subprocess.run(
         ["mount", "-t", "tmpfs", "-o", f"size={SIZE}", "tmpfs", f"{room.path}/tmp"], capture_output=True, text=True
@@ -22,13 +25,13 @@ def cannot_mount(room):
     return ran.stderr.strip()
 
 
-def noise(room, name):
+def noise(room: Room, name: str) -> None:
     """Writes a fax of two pages that takes more than the file system has."""
     image = b"P4\n%d 1000\n" % WIDTH + pages.seeded("full").randbytes(WIDTH // 8 * 1000)
-    room.put(name, pages.converted(room.program, ["-o", "mmr"], image * 2))
+    room.put(name, pages.coded(room.program, ["-o", "mmr"], image * 2))
 
 
-def full_disk(room, _):
+def full_disk(room: Room, _: str) -> Iterator[Claim]:
     why = cannot_mount(room)
     if why:
         print(f"not run: a full disk: {why}")
@@ -39,7 +42,7 @@ def full_disk(room, _):
         subprocess.run(["umount", f"{room.path}/tmp"], check=True)
 
 
-def refused(room):
+def refused(room: Room) -> Iterator[Claim]:
     """Each script says so, answers 3 (that of a PDF 1), writes nothing, and leaves what it was given."""
     noise(room, "archive/fax.tif")
     room.tool("sendmail", '#!/bin/sh\ncat >"$HOME/mailed"\n')
@@ -78,7 +81,7 @@ def refused(room):
     yield "sweep, with room: figures", b'faxpages_faxes{result="good"} 1\n' in files.get(f"{small}/figures"), True
 
 
-def unread(room, _):
+def unread(room: Room, _: str) -> Iterator[Claim]:
     """Of a file that cannot be read each script gives the reason, and status 3."""
     os.mkdir(room("folder.tif"))
     os.symlink(UNREADABLE, room("unread.tif"))
@@ -105,7 +108,7 @@ def unread(room, _):
     yield "nothing is left", (room.left(), room.names("sorted/good"), room.names("sorted/faulty")), ([], [], [])
 
 
-def example(room, _):
+def example(room: Room, _: str) -> Iterator[Claim]:
     """examples/sweep.py as it stands in the sources, where the library is as ./install puts it."""
     library = f"{os.path.dirname(room.program)}/libfaxpages.so.1"
     if not os.path.exists(library):
@@ -114,7 +117,7 @@ def example(room, _):
     sweep = [sys.executable, "-B", f"{ROOT}/examples/sweep.py"]
     for name in room.faxes("faxes"):
         room.put(f"faxes/in/{name}", room.get(f"faxes/{name}"))
-    status, _, said = room.call(*sweep, "faxes", PYTHONPATH="", FAXPAGES_LIBRARY="nowhere")
+    status, output, said = room.call(*sweep, "faxes", PYTHONPATH="", FAXPAGES_LIBRARY="nowhere")
     yield "no library", (status, said.startswith("sweep.py: libfaxpages.so.1 is not installed"), said.count("\n")), (
         1,
         True,
@@ -153,13 +156,13 @@ def example(room, _):
     yield "no words", room.call(*sweep, PYTHONPATH="")[0], 2
 
 
-def checked(room, _):
+def checked(room: Room, _: str) -> Iterator[Claim]:
     """The scripts as shellcheck sees them; `a && b || c` is meant as it stands."""
     for name in sorted(os.listdir(SCRIPTS)):
         yield name, room.call("shellcheck", "--exclude=SC2015", f"{SCRIPTS}/{name}"), (0, b"", "")
 
 
-EXTRA = {
+EXTRA: Tests = {
     "The manual page of the scripts": (["img2pdf", "pnmtopng", "pdfimages", "fax2tiff", "tiff2pdf", "tiffcp"], manual),
     "The example in Python": (["python3"], example),
     "The scripts, by shellcheck": (["shellcheck"], checked),

@@ -1,31 +1,36 @@
 """Recipes that show pages, compare them, or make other files of them."""
 
+from __future__ import annotations
+
 import base64
 import os
 import re
 import shutil
 import struct
 import subprocess
+from typing import Iterator
 
-import files
-import pages
-import spoiled
-from recipes import ROOT, SCRIPTS
-from room import HOSTILE, WIDTH, is_there
+from tests import Claim
+from tests.finding import found
+from tests.recipes.room import Room, Tests
+from tests.convert import files, pages
+from tests.recipes import spoiled
+from tests.recipes.recipes import ROOT, SCRIPTS
+from tests.recipes.room import HOSTILE, WIDTH, is_there
 
 PNG = b"\x89PNG"
 
 
-def grey(data):
+def grey(data: bytes) -> tuple[int, int, int, list[bytes]]:
     """The pels of a PNG, as numbers: its width, its height, and a row of bytes after another."""
     plain = subprocess.run(["pngtopnm"], input=data, capture_output=True, check=True).stdout
     raw = subprocess.run(["pgmtopgm"], input=plain, capture_output=True, check=True).stdout
-    kind, width, height, most, raster = re.match(rb"(P5)\s+(\d+)\s+(\d+)\s+(\d+)\s(.*)", raw, re.S).groups()
+    kind, width, height, most, raster = found(rb"\A(P5)\s+(\d+)\s+(\d+)\s+(\d+)\s(.*)", raw, re.S).groups()
     size = int(width)
     return size, int(height), int(most), [raster[at : at + size] for at in range(0, len(raster), size)]
 
 
-def look(room, commands):
+def look(room: Room, commands: str) -> Iterator[Claim]:
     images = room.fax("fax.tif", "mr", "all")
     yield "run", room.bash(commands)[:2], (0, b"")
     for page, image in enumerate(images):
@@ -42,7 +47,7 @@ def look(room, commands):
     yield "a fault: nothing is left", room.names(), ["fax.tif"]
 
 
-def look_in_terminal(room, commands):
+def look_in_terminal(room: Room, commands: str) -> Iterator[Claim]:
     room.fax("fax.tif", "mr", "all")
     status, shown, said = room.bash(commands)
     yield "run", (status, said, len(shown) > 100), (0, "", True)
@@ -51,7 +56,7 @@ def look_in_terminal(room, commands):
         yield "sixels", (sixels[0], sixels[1][:2]), (0, b"\x1bP")
 
 
-def look_at_low(room, commands):
+def look_at_low(room: Room, commands: str) -> Iterator[Claim]:
     images = room.fax("fax.tif", "mh", "all")
     yield "a fax of several pages", len(images) > 3, True
     yield "run", room.bash(commands), (0, b"", "")
@@ -66,12 +71,12 @@ def look_at_low(room, commands):
     yield "a fault", (status != 0, "fault page 3 row " in said, room.names()), (True, True, ["fax.tif"])
 
 
-def pictures(html):
+def pictures(html: bytes) -> list[bytes]:
     """The pictures in a page of HTML."""
     return [base64.b64decode(it) for it in re.findall(rb'src="data:image/png;base64,([^"]*)"', html)]
 
 
-def browser(room, commands):
+def browser(room: Room, commands: str) -> Iterator[Claim]:
     images = room.others("fax.tif")
     yield "run", room.bash(commands), (0, b"", "")
     html = room.get("fax.html")
@@ -96,7 +101,7 @@ def browser(room, commands):
     yield "nothing is left", room.left(), []
 
 
-def not_all_shown(room):
+def not_all_shown(room: Room) -> Iterator[Claim]:
     """What is left out of a long fax is told, in the file and beside it."""
     room.others("fax.tif")
     for most, left_out in (("4", True), ("5", False), ("6", False)):
@@ -108,7 +113,7 @@ def not_all_shown(room):
             f"faxpages-html: {told}\n" if left_out else "",
         )
         yield f"{most} of 5 pages: told", told.encode() in html, left_out
-    room.put("long.tif", pages.converted(room.program, ["-o", "mmr"], pages.image(8, [0]) * 201))
+    room.put("long.tif", pages.coded(room.program, ["-o", "mmr"], pages.image(8, [0]) * 201))
     room.tool("faxpages-picture", "#!/bin/sh\nexit 1\n")
     status, html, said = room.call("faxpages-html", "long.tif")
     yield "201 pages", (status, html.count(b"<h2>Page "), said), (
@@ -123,7 +128,7 @@ def not_all_shown(room):
     ], [2] * 5
 
 
-def shapes(room):
+def shapes(room: Room) -> Iterator[Claim]:
     """A page whose resolution differs across and down is drawn in its shape: its size, and its rows and pels."""
     (image,) = room.fax("fine.tif", "mmr", "all", 3)[:1]
     fine = drawn(image)
@@ -146,7 +151,7 @@ def shapes(room):
         yield f"lines {lines}", (status, got == wanted), (0, True)
 
 
-def in_narrow_window(room):
+def in_narrow_window(room: Room) -> Iterator[Claim]:
     """In a browser: the file is no wider than a narrow window, and its pages do not touch."""
     if not shutil.which("chromium"):
         print("not run: faxpages-html in a browser: chromium missing")
@@ -158,9 +163,9 @@ def in_narrow_window(room):
     room.put("fax.html", html.replace(b"</html>", MEASURE))
     dom = room.bash("chromium --headless --no-sandbox --disable-gpu --window-size=360,600 --virtual-time-budget=2000 "
                     '--dump-dom "file://$PWD/fax.html"')[1]  # fmt: skip
-    found = re.search(rb"<title>measured (\d+) (\d+) (-?\d+)</title>", dom)
-    yield "narrow: measured", found is not None, True
-    wide, window, apart = map(int, found.groups())
+    measured = re.search(rb"<title>measured (\d+) (\d+) (-?\d+)</title>", dom)
+    yield "narrow: measured", measured is not None, True
+    wide, window, apart = map(int, measured.groups() if measured else ())
     yield "narrow: it is no wider", (window <= 500, wide <= window), (True, True)
     yield "narrow: pages are apart", apart >= 10, True
 
@@ -173,12 +178,12 @@ document.title = `measured ${document.documentElement.scrollWidth} ${innerWidth}
 </script></html>"""
 
 
-def black(data):
+def black(data: bytes) -> list[list[bool]]:
     """The rows of a PNG: for each pel, whether it is black."""
     return [[value == 0 for value in line] for line in grey(data)[3]]
 
 
-def drawn(image):
+def drawn(image: bytes) -> list[list[bool]]:
     """The same of a raw PBM."""
     _, size, raster = image.split(b"\n", 2)
     width, height = map(int, size.split())
@@ -187,7 +192,7 @@ def drawn(image):
     return [[bit == "1" for bit in bits[at : at + width]] for at in range(0, len(bits), step)]
 
 
-def compare_without_the_program(room):
+def compare_without_the_program(room: Room) -> Iterator[Claim]:
     """Where there is no program two faxes are neither the same nor different."""
     os.mkdir(room("alone"))
     os.symlink(f"{SCRIPTS}/faxpages-compare", room("alone/faxpages-compare"))
@@ -197,7 +202,7 @@ def compare_without_the_program(room):
     shutil.rmtree(room("alone"))
 
 
-def compare(room, commands):
+def compare(room: Room, commands: str) -> Iterator[Claim]:
     room.others("sent.tif", 0)
     room.others("received.tif", 1)
     yield "the same", (room.bash(commands)[::2], "difference.png" in room.names()), ((0, ""), False)
@@ -216,7 +221,7 @@ def compare(room, commands):
     ]
     yield from long_rows(room, commands)
     images = room.others("sent.tif")
-    room.put("received.tif", pages.converted(room.program, ["-o", "mmr"], b"".join(images[:-1])))
+    room.put("received.tif", pages.coded(room.program, ["-o", "mmr"], b"".join(images[:-1])))
     status, shown, _ = room.bash(commands)
     yield "a page less", (status, shown.splitlines()[0], shown.splitlines()[2]), (1, b"first difference:", b"> end")
     yield "a page less: picture", colours(room.get("difference.png"))[:2], size_of(room, "sent.tif", len(images) - 1)
@@ -225,7 +230,7 @@ def compare(room, commands):
     shutil.copy(room("received.tif"), room("sent.tif"))
     status, _, said = room.bash(commands)
     yield "a fault in both", (status, "fault page 3 row" in said), (3, True)
-    room.put("sent.tif", pages.converted(room.program, ["-o", "mh"], whole_page(room)))
+    room.put("sent.tif", pages.coded(room.program, ["-o", "mh"], whole_page(room)))
     yield "a fault in one", room.bash(commands)[0], 3
     for name in HOSTILE:
         room.others(name)
@@ -234,13 +239,13 @@ def compare(room, commands):
     yield "nothing is left", room.left(), []
 
 
-def long_rows(room, commands):
+def long_rows(room: Room, commands: str) -> Iterator[Claim]:
     """Rows of many runs are cut to a line, from where they differ; and the picture of the page, in colours."""
     stripes, width = sum(1 << at for at in range(0, WIDTH, 2)), WIDTH
     changed = stripes ^ (0b11 << (WIDTH // 2))
     for name, rows in (("sent.tif", [0, stripes, 0]), ("received.tif", [0, changed, 0, stripes])):
         first = pages.image(width, [stripes] * 2)
-        room.put(name, pages.converted(room.program, ["-o", "mmr"], first + pages.image(width, rows)))
+        room.put(name, pages.coded(room.program, ["-o", "mmr"], first + pages.image(width, rows)))
     os.remove(room("difference.png"))
     status, shown, said = room.bash(commands)
     lines = shown.decode().splitlines()
@@ -266,7 +271,7 @@ def long_rows(room, commands):
     yield from compare_without_the_program(room)
 
 
-def pictures_that_are_there(room):
+def pictures_that_are_there(room: Room) -> Iterator[Claim]:
     """No picture takes the place of a fax, nor, unless it is asked for, of any file."""
     words = ["sent.tif", "received.tif"]
     before, made = room.contents("."), room.get("difference.png")
@@ -289,7 +294,7 @@ def pictures_that_are_there(room):
     os.remove(room("third.tif"))
 
 
-def colours(data):
+def colours(data: bytes) -> tuple[int, int, list[list[int]]]:
     """The pels of a PNG: its width, its height, and three bytes a pel."""
     plain = subprocess.run(["pngtopnm"], input=data, capture_output=True, check=True).stdout
     raw = subprocess.run(["pnmtoplainpnm"], input=plain, capture_output=True, check=True).stdout.split()
@@ -298,20 +303,20 @@ def colours(data):
     return width, height, [values[at : at + 3 * width] for at in range(0, len(values), 3 * width)]
 
 
-def row_of_colours(width, one, other):
+def row_of_colours(width: int, one: int, other: int) -> list[int]:
     """Black where both rows are, red where only the one is, blue where only the other is, and else white."""
     shown = {(0, 0): [255] * 3, (1, 1): [0] * 3, (1, 0): [255, 0, 0], (0, 1): [0, 0, 255]}
     return [it for at in range(width - 1, -1, -1) for it in shown[one >> at & 1, other >> at & 1]]
 
 
-def whole_page(room):
+def whole_page(room: Room) -> bytes:
     """The images of the damaged sample, with its first page in the place of the fourth."""
     status, image, _ = room.bash("faxpages-picture received.tif 0 | pngtopnm | pgmtopbm -threshold")
     assert status == 0
     return image * 4
 
 
-def pdf(room, commands):
+def pdf(room: Room, commands: str) -> Iterator[Claim]:
     images = room.fax("fax.tif", "mh", "all", 100)
     yield "run", room.bash(commands), (0, b"", "")
     yield from strips_in_pdf(room, images)
@@ -320,7 +325,7 @@ def pdf(room, commands):
     yield from strips_in_pdf(room, images)
 
 
-def strips_in_pdf(room, images):
+def strips_in_pdf(room: Room, images: list[bytes]) -> Iterator[Claim]:
     """Each strip of the TIFF file stands in the PDF as it is."""
     made, data = room.get("fax.pdf"), room.get("pages.tif")
     strips = [strip for fields in files.directories_of(data) for strip in files.strips_of(data, fields)]
@@ -329,7 +334,7 @@ def strips_in_pdf(room, images):
     yield "pages", made.count(b"/CCITTFaxDecode"), len(images)
 
 
-def salvage(room, commands):
+def salvage(room: Room, commands: str) -> Iterator[Claim]:
     images = room.others("fax.tif", 1)
     yield "whole", room.bash(commands), (0, b"5 pages whole, 0 in part\n", "")
     yield "whole: files", room.names("fax.salvaged"), ["lost.txt", "pages.pdf", "pages.tif"]
@@ -364,20 +369,20 @@ def salvage(room, commands):
     yield "nothing is left", room.left(), []
 
 
-def umask():
+def umask() -> int:
     mask = os.umask(0)
     os.umask(mask)
     return mask
 
 
-def salvage_damaged(room, commands):
+def salvage_damaged(room: Room, commands: str) -> Iterator[Claim]:
     """The sample, whose fourth page is damaged: the rows before the fault are there."""
     shutil.rmtree(room("fax.salvaged"))
     room.sample("damaged-fourth-page.tif", "fax.tif")
     yield "damaged", room.bash(commands), (1, b"3 pages whole, 1 in part\n", "")
     yield "damaged: files", room.names("fax.salvaged"), ["lost.txt", "page-3.png", "pages.pdf", "pages.tif"]
     rows, fault = room.rows("fax.tif")
-    row = int(re.search(rb"row (\d+)", fault).group(1))
+    row = int(found(rb"row (\d+)", fault).group(1))
     lost = re.fullmatch(rb"page 3 rows %d to 10: (\w+)\n" % row, room.get("fax.salvaged/lost.txt"))
     yield "damaged: lost", lost is not None and fault.endswith(lost.group(1) + b"\n"), True
     whole = [
@@ -391,16 +396,16 @@ def salvage_damaged(room, commands):
     yield "damaged: its first row", raster[1], raster_row(b"row 3 1", rows, most)
 
 
-def raster_row(place, rows, most):
+def raster_row(place: bytes, rows: bytes, most: int) -> bytes:
     """A row as bytes of a picture."""
     (line,) = [line for line in rows.splitlines() if line.startswith(place + b" ")]
     runs = [int(n) for n in line.split()[3:]]
     return b"".join(bytes([0 if at % 2 else most]) * n for at, n in enumerate(runs))
 
 
-def salvage_strips(room, images):
+def salvage_strips(room: Room, images: list[bytes]) -> Iterator[Claim]:
     """A page of many strips, two of which are damaged: the others are read; and a page whose fields are refused."""
-    room.put("strips.tif", pages.converted(room.program, ["-o", "mmr", "--strip", "1"], b"".join(images)))
+    room.put("strips.tif", pages.coded(room.program, ["-o", "mmr", "--strip", "1"], b"".join(images)))
     data = bytearray(room.get("strips.tif"))
     forms = list(files.directories_of(bytes(data)))
     number = max(range(len(forms)), key=lambda it: forms[it][257][0])
@@ -424,7 +429,7 @@ def salvage_strips(room, images):
     yield "refused: pages", len(room.run("list", name="refused/pages.tif")[1].splitlines()), 5 - (number != 0)
 
 
-def pages_of_pdf(room, name):
+def pages_of_pdf(room: Room, name: str) -> list[tuple[int, int, int]]:
     """The images of a PDF, each the one of its page: width, height and bits of a pel."""
     listed = subprocess.run(["pdfimages", "-list", room(name)], capture_output=True, check=True).stdout.decode()
     images = [line.split() for line in listed.splitlines()[2:]]
@@ -432,14 +437,15 @@ def pages_of_pdf(room, name):
     return [(int(image[3]), int(image[4]), int(image[7])) for image in images]
 
 
-def salvage_noisy(room):
+def salvage_noisy(room: Room) -> Iterator[Claim]:
     """What a server received over a noisy line: all rows but eight are there, the PDF shows what the picture does, and
     `lost.txt` has a line for each stretch."""
     room.sample("received/over-a-noisy-line.tif", "noisy.tif")
     yield "noisy", room.call("faxpages-salvage", "noisy.tif", "noisy"), (1, b"0 pages whole, 1 in part\n", "")
     yield "noisy: files", room.names("noisy"), ["lost.txt", "page-0.png", "pages.pdf"]
     said = room.run("salvage", name="noisy.tif")[1].decode().splitlines()
-    stretches = [list(map(int, line.split()[2:4])) + line.split()[4:] for line in said if line.startswith("lost ")]
+    words = [line.split() for line in said if line.startswith("lost ")]
+    stretches = [(int(first), int(rows), name) for _, _, first, rows, name in words]
     lines = [f"page 0 rows {first} to {first + rows - 1}: {name}" for first, rows, name in stretches]
     yield "noisy: lost", (room.get("noisy/lost.txt").decode().splitlines(), len(lines)), (lines, 5)
     width, height, most, raster = grey(room.get("noisy/page-0.png"))
@@ -462,14 +468,14 @@ def salvage_noisy(room):
         room.get("noisy/page-0.png"), "".join(f"{line}\n" for line in lines))  # fmt: skip
 
 
-def page_of(name):
+def page_of(name: str) -> tuple[dict[int, int], bytes]:
     """The fields and the strip of a sample of one page that a server received."""
     data = files.get(f"{ROOT}/samples/received/{name}")
     (fields,) = files.directories_of(data)
     return {tag: values[0] for tag, values in fields.items()}, files.strips_of(data, fields)[0]
 
 
-def chained(made):
+def chained(made: list[tuple[dict[int, int], bytes]]) -> bytes:
     """A file of pages in one strip each, whose last directory is followed by the first."""
     data, link = b"II*\0" + bytes(4), 4
     for fields, strip in made:
@@ -485,7 +491,7 @@ def chained(made):
     return data[:link] + data[4:8] + data[link + 4 :]
 
 
-def salvage_chain(room):
+def salvage_chain(room: Room) -> Iterator[Claim]:
     """Pages in their order: whole, refused, in part, whole; and a chain that leads back after them."""
     sent, noisy = page_of("as-it-was-sent.tif"), page_of("over-a-noisy-line.tif")
     refused = {**sent[0], 256: 0}, sent[1]
@@ -499,7 +505,7 @@ def salvage_chain(room):
     yield "chain: files", room.names("chain"), ["lost.txt", "page-2.png", "pages.pdf", "pages.tif"]
 
 
-def salvage_many(room):
+def salvage_many(room: Room) -> Iterator[Claim]:
     """A fax of so many damaged pages that they are not drawn is refused at once; pages of which nothing is left are
     listed."""
     head = b"II*\0" + struct.pack("<I", 16) + bytes.fromhex("0018e000") + bytes(4)
@@ -516,7 +522,7 @@ def salvage_many(room):
     yield "many: no PDF", room.names("many-4"), ["lost.txt"]
 
 
-def salvage_odd(room):
+def salvage_odd(room: Room) -> Iterator[Claim]:
     """A page that libtiff 4.5 cannot read, since its rows have the most runs: it is there as a picture."""
     room.others("odd.tif", 0)
     room.call("faxpages-salvage", "odd.tif", "odd")
@@ -530,7 +536,7 @@ def salvage_odd(room):
         yield f"odd: page {page} is whole", grey(room.get(f"odd/page-{page}.png"))[:2], size_of(room, "odd.tif", page)
 
 
-def salvage_standard(room):
+def salvage_standard(room: Room) -> Iterator[Claim]:
     """A damaged page of standard resolution: its picture has twice its rows."""
     room.fax("standard.tif", "mmr", "marks", 5)
     data = room.get("standard.tif").replace(struct.pack("<2I", 196, 1), struct.pack("<2I", 98, 1))
@@ -542,11 +548,12 @@ def salvage_standard(room):
     yield "standard: picture", grey(room.get("standard/page-0.png"))[:2], (width, 2 * height)
 
 
-def size_of(room, name, page):
-    return tuple(int(it) for it in room.run("list", name=name)[1].splitlines()[page].split()[2:4])
+def size_of(room: Room, name: str, page: int) -> tuple[int, int]:
+    width, height = room.run("list", name=name)[1].splitlines()[page].split()[2:4]
+    return int(width), int(height)
 
 
-TESTS = {
+TESTS: Tests = {
     "Look at a page": (["pamsplit", "pnmtopng", "pngtopnm"], look),
     "Look at a page in a terminal": (["pampick", "pnmtopng", "chafa"], look_in_terminal),
     "Look at a page of standard resolution": (

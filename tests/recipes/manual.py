@@ -1,15 +1,20 @@
 """The manual page of the scripts, faxpages-recipes(1): what it says of their arguments, and its examples."""
 
+from __future__ import annotations
+
 import os
 import re
+from typing import Iterator
 
-import files
-from recipes import ROOT, SCRIPTS
+from tests import Claim
+from tests.convert import files
+from tests.recipes.recipes import ROOT, SCRIPTS
+from tests.recipes.room import Room
 
 MANUAL = f"{ROOT}/man/faxpages-recipes.1"
 
 
-def synopsis(page):
+def synopsis(page: str) -> dict[str, str]:
     """The lines of the synopsis as a usage has them."""
     part = page.split(".Sh SYNOPSIS\n")[1].split(".Sh ")[0]
     said = {}
@@ -28,7 +33,7 @@ SAMPLES = {
 }
 
 
-def prepare(room):
+def prepare(room: Room) -> None:
     """The files that the examples take."""
     for sample, names in SAMPLES.items():
         for name in names:
@@ -39,7 +44,7 @@ def prepare(room):
     room.tool("sendmail", '#!/bin/sh\ncat >"$HOME/mailed"\n')
 
 
-def examples(page):
+def examples(page: str) -> Iterator[tuple[str, str]]:
     """The commands of each example, and what it prints."""
     for block in re.findall(r"^\.Bd -literal.*?\n(.*?)^\.Ed", page, re.M | re.S):
         for command in re.split(r"^\$ ", block, flags=re.M)[1:]:
@@ -47,7 +52,7 @@ def examples(page):
             yield words.replace("\\e", "\\"), printed
 
 
-def manual(room, _):
+def manual(room: Room, _: str) -> Iterator[Claim]:
     page = files.get(MANUAL).decode()
     names = sorted(name for name in os.listdir(SCRIPTS) if os.access(f"{SCRIPTS}/{name}", os.X_OK))
     heads = re.findall(r"^\.Ss (\S+)\n(.*?)(?=^\.S[sh] )", page, re.M | re.S)

@@ -1,10 +1,14 @@
 """Recipes for many cores, and for a Slurm array with a stand-in for it."""
 
-import os
+from __future__ import annotations
 
-import pages
-from archive import with_archive
-from room import HOSTILE, WIDTH, lines_of_rows
+import os
+from typing import Iterator
+
+from tests import Claim
+from tests.convert import pages
+from tests.recipes.archive import with_archive
+from tests.recipes.room import HOSTILE, WIDTH, Room, Tests, lines_of_rows
 
 # sbatch, as far as the recipes ask for it: it gives each task what Slurm gives it, one task after another, and ends
 # with the greatest of their statuses.
@@ -33,7 +37,7 @@ exit "$greatest"
 ARRAYS = ["0-3", "1-5", "0-6:2", "7"]
 
 
-def cores_by_file(room, commands):
+def cores_by_file(room: Room, commands: str) -> Iterator[Claim]:
     room.faxes("faxes")
     for number, name in enumerate(HOSTILE):
         room.others(f"faxes/{name}", number)
@@ -44,11 +48,11 @@ def cores_by_file(room, commands):
     yield "rows", room.contents("rows"), {f"{name}.txt": room.rows(f"faxes/{name}")[0] for name in given}
 
 
-def cores_by_part(room, commands):
+def cores_by_part(room: Room, commands: str) -> Iterator[Claim]:
     """All rows by parts; a part that is lost is done again, and no other; and a fault."""
     more = {"PARALLEL_HOME": room("parallel"), "LC_ALL": "C"}
     source = b"".join(pages.image(WIDTH, rows) for rows in pages.draw_document(4, "all", WIDTH)) * 24
-    room.put("big.tif", pages.converted(room.program, ["-o", "mr"], source))
+    room.put("big.tif", pages.coded(room.program, ["-o", "mr"], source))
     wanted = lines_of_rows(room.rows("big.tif")[0])
     yield "run", room.bash(commands, **more)[0], 0
     yield "rows", room.get("big.txt"), wanted
@@ -70,7 +74,7 @@ def cores_by_part(room, commands):
     yield "a fault: rows before it", lines_of_rows(room.get("parts/1:0:0.txt")), lines_of_rows(room.rows("big.tif")[0])
 
 
-def slurm(room, commands):
+def slurm(room: Room, commands: str) -> Iterator[Claim]:
     """Any range of the array makes the same table; a task that was lost is done again; a list is refused."""
     if not with_archive(room):
         print("not run: A Slurm array: no library beside the program")
@@ -95,18 +99,18 @@ def slurm(room, commands):
     )
 
 
-def given_array(commands, array):
+def given_array(commands: str, array: str) -> str:
     """The commands, with another array."""
     return commands.replace("sbatch ", f"sbatch --array={array} ")
 
 
-def archive_rows(room):
+def archive_rows(room: Room) -> list[bytes]:
     """The lines of the table but for the seconds."""
     printed = room.call("faxpages-archive", "table", "faxes.sqlite", "--csv")[1]
     return [line.rpartition(b",")[0] for line in printed.splitlines()[1:]]
 
 
-TESTS = {
+TESTS: Tests = {
     "Everyday jobs": (["xargs"], cores_by_file),
     "Many cores, one big file": (["parallel", "awk"], cores_by_part),
     "A Slurm array": (["python3"], slurm),

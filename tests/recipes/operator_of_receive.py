@@ -1,41 +1,49 @@
 """A drawn operator of faxpages-receive: folders with names that get into each other's way, links in all directions,
 foreign files, kills, and two calls at once; after each call nothing may be lost or written over."""
 
+from __future__ import annotations
+
 import os
 import random
 import signal
 import subprocess
 import time
+from typing import Iterator, Union
 
-from room import HOSTILE
-from waiting import left_of, wait_for
+from tests import Claim
+from tests.recipes.room import HOSTILE, Room, Tests
+from tests.waiting import left_of, wait_for
 
 SEED = os.environ.get("FAXPAGES_SEED", "20261127")
 STEPS = int(os.environ.get("FAXPAGES_STEPS", "300"))
 NAMES = ["a", "a.report", "a.report.report", "b.tif", "b.tif.report", HOSTILE[2], HOSTILE[3], HOSTILE[5]]
+# What a name leads to: "link" and its text, or "file" and its bytes.
+Held = tuple[str, Union[str, bytes]]
+# The status of `check`, and what it prints.
+Checked = tuple[int, bytes]
 FOLDERS = ["in", "in/sub", "out", "out/good", "out/faulty"]
 
 
 class Operator:
     """The room, what is drawn, and the contents that files are made of."""
 
-    def __init__(self, room, seed):
+    def __init__(self, room: Room, seed: str) -> None:
         self.room, self.draw = room, random.Random(seed)
         room.fax("good.tif", "mh", "marks")
         room.others("other.tif", 2)
         room.sample("damaged-fourth-page.tif", "bad.tif")
         self.contents = [room.get(name) for name in ("good.tif", "other.tif", "bad.tif")] + [b"", b"no fax\n"]
         self.contents.append(self.contents[2][:300])
-        self.reports = {}
+        self.reports: dict[bytes, Checked] = {}
         for name in ("good.tif", "other.tif", "bad.tif"):
             os.remove(room(name))
         for folder in ("in/sub", "out"):
             os.makedirs(room(folder))
         self.link_folders()
 
-    def report(self, what, content):
+    def report(self, what: str, content: str | bytes) -> Checked | None:
         """The status of `check` and what it prints, of a file; a report may be taken for a fax too."""
-        if what != "file":
+        if what != "file" or not isinstance(content, bytes):
             return None
         if content not in self.reports:
             self.room.put("checked", content)
@@ -43,32 +51,35 @@ class Operator:
             os.remove(self.room("checked"))
         return self.reports[content]
 
-    def link_folders(self):
+    def link_folders(self) -> None:
         """At times a folder of the sorted faxes is one that they come from, or both are one."""
         for name, to in (("good", "../in"), ("faulty", "../in/sub"), ("faulty", "good")):
             if self.draw.random() < 0.3 and not os.path.lexists(self.room(f"out/{name}")):
                 os.symlink(to, self.room(f"out/{name}"))
 
-    def files(self):
+    def files(self) -> dict[str, Held]:
         """What each name leads to: a link's text, or a file's bytes. Folders that are reached by links are left out."""
-        found = {}
+        found: dict[str, Held] = {}
         for place, folders, names in os.walk(self.room("")):
             for name in [*names, *(it for it in folders if os.path.islink(os.path.join(place, it)))]:
                 path = os.path.relpath(os.path.join(place, name), self.room(""))
                 whole = self.room(path)
-                found[path] = ("link", os.readlink(whole)) if os.path.islink(whole) else ("file", self.room.get(path))
+                if os.path.islink(whole):
+                    found[path] = "link", os.readlink(whole)
+                else:
+                    found[path] = "file", self.room.get(path)
         return found
 
-    def real(self, path):
+    def real(self, path: str) -> str:
         """The one name of a place, with no link in its folder."""
         folder, name = os.path.split(self.room(path))
         return os.path.relpath(os.path.join(os.path.realpath(folder), name), os.path.realpath(self.room("")))
 
-    def a_place(self):
+    def a_place(self) -> str:
         folders = [it for it in FOLDERS if os.path.isdir(self.room(it))]
         return f"{self.draw.choice(folders)}/{self.draw.choice(NAMES)}"
 
-    def meddle(self):
+    def meddle(self) -> None:
         """Somebody else makes a file, a link or a second name of a file, where nothing is."""
         place = self.a_place()
         if os.path.lexists(self.room(place)):
@@ -82,7 +93,7 @@ class Operator:
         else:
             self.room.put(place, self.draw.choice(self.contents))
 
-    def receive(self, fax):
+    def receive(self, fax: str) -> int | None:
         """The status, or nothing where the call was killed."""
         leader = self.room.start("faxpages-receive", fax, "out")
         if self.draw.random() < 0.25:
@@ -96,10 +107,10 @@ class Operator:
         return leader.wait()
 
 
-def lost(before, after, fax, status, place):
+def lost(before: dict[str, Held], after: dict[str, Held], fax: str, status: int | None, place: str) -> Iterator[str]:
     """What a call did that it may not do."""
-    for path, content in before.items():
-        if path != fax and after.get(path) != content:
+    for path, held in before.items():
+        if path != fax and after.get(path) != held:
             yield f"{path!r} is another, or gone"
     contents = {content for what, content in after.values() if what == "file"}
     for path, (what, content) in before.items():
@@ -113,7 +124,8 @@ def lost(before, after, fax, status, place):
         yield "the fax did not stay"
 
 
-def sorted_right(operator, before, after, fax, status, place):
+def sorted_right(operator: Operator, before: dict[str, Held], after: dict[str, Held], fax: str, status: int | None,
+                 place: str) -> Iterator[str]:
     """What a call says that is not so."""
     what, content = before.get(fax, ("none", b""))
     checked = operator.report(what, content)
@@ -128,7 +140,7 @@ def sorted_right(operator, before, after, fax, status, place):
         yield f"status {status}"
 
 
-def operate(room, _):
+def operate(room: Room, _: str) -> Iterator[Claim]:
     """Some hundred drawn calls in rooms of their own."""
     steps, number = 0, 0
     while steps < STEPS:
@@ -137,7 +149,7 @@ def operate(room, _):
         os.mkdir(room(""))
         operator = Operator(room, seed)
         for step in range(25):
-            for _ in range(operator.draw.randrange(3)):
+            for _meddled in range(operator.draw.randrange(3)):
                 operator.meddle()
             fax = operator.a_place()
             before, real = operator.files(), operator.real(fax)
@@ -155,4 +167,4 @@ def operate(room, _):
     yield "steps", steps >= STEPS, True
 
 
-EXTRA = {"A drawn operator of faxpages-receive": (["mktemp"], operate)}
+EXTRA: Tests = {"A drawn operator of faxpages-receive": (["mktemp"], operate)}

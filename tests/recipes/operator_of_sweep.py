@@ -1,6 +1,8 @@
 """A drawn operator of faxpages-sweep: a tree whose faxes come, change, move and go, with links of both kinds, foreign
 files in the places of what a sweep writes, and kills; after each sweep all is compared with a plain model."""
 
+from __future__ import annotations
+
 import errno
 import os
 import random
@@ -8,33 +10,41 @@ import re
 import signal
 import subprocess
 import time
+from typing import Iterator
 
-from waiting import left_of, wait_for
+from tests import Claim
+from tests.recipes.room import Room, Tests
+from tests.waiting import left_of, wait_for
 
 SEED = os.environ.get("FAXPAGES_SEED", "20261128")
 STEPS = int(os.environ.get("FAXPAGES_SWEEPS", "60"))
 NAMES = ["a.tif", "b.TIFF", "in/a.tif", "in/c d.tif", "in/new\nline.tif", "in/deep/-o.tif", "e.tif", "f.tif", "no.txt"]
+# What a fax is known by: device, number, time of its last change, and size.
+Key = tuple[int, int, int, int]
 FOREIGN = b"20261128 of somebody else\n"
 
 
 class Operator:
     """The room, what is drawn, and which faxes are known to have been seen: their devices, numbers, times and sizes."""
 
-    def __init__(self, room, seed):
+    def __init__(self, room: Room, seed: str) -> None:
         self.room, self.draw = room, random.Random(seed)
         room.fax("good", "mh", "marks")
         room.sample("damaged-fourth-page.tif", "faulty")
         self.kinds = {room.get("good"): "good", room.get("faulty"): "faulty", b"": "faulty", b"no fax at all\n": "other",
                       b"II+\0\x08\0\0\0": "other"}  # fmt: skip
-        self.seen, self.perhaps, self.unsure, self.foreign = set(), set(), False, []
+        self.seen: set[Key] = set()
+        self.perhaps: set[Key] = set()
+        self.unsure = False
+        self.foreign: list[str] = []
         os.makedirs(room("tree"))
         for _ in range(self.draw.randrange(4, 14)):
             self.come()
 
-    def a_place(self):
+    def a_place(self) -> str:
         return self.room(f"tree/{self.draw.choice(NAMES)}")
 
-    def come(self):
+    def come(self) -> None:
         """A fax comes, or is another one now."""
         place = self.a_place()
         os.makedirs(os.path.dirname(place), exist_ok=True)
@@ -44,7 +54,7 @@ class Operator:
             when = time.time() - 120
             os.utime(place, (when, when))
 
-    def meddle(self):
+    def meddle(self) -> None:
         """Something happens to the tree."""
         way = self.draw.choice(["come", "come", "come", "go", "move", "link", "name", "all go"])
         there = [path for path in self.files() if os.path.lexists(path)]
@@ -68,15 +78,15 @@ class Operator:
             for path in filter(leads_to_itself, self.files()):
                 os.unlink(path)
 
-    def files(self):
+    def files(self) -> list[str]:
         """All that stands in the tree but for folders."""
         return [os.path.join(folder, name) for folder, _, names in os.walk(self.room("tree")) for name in names]
 
-    def contents(self):
+    def contents(self) -> dict[str, str | bytes]:
         """All files, by their names: what links lead to, or bytes."""
         return {path: os.readlink(path) if os.path.islink(path) else open(path, "rb").read() for path in self.files()}
 
-    def faxes(self):
+    def faxes(self) -> dict[Key, str]:
         """What a sweep looks at: the kind of each, by what it is known by. A link that leads nowhere cannot be read."""
         found = {}
         for path in self.files():
@@ -88,7 +98,7 @@ class Operator:
         return {key: kind for key, kind in found.items() if kind != "not_read" or key[2] < (time.time() - 60) * 1e9}
 
 
-def leads_to_itself(path):
+def leads_to_itself(path: str) -> bool:
     """Whether a path is of a link that leads to itself, by others or at once."""
     try:
         os.stat(path)
@@ -97,14 +107,14 @@ def leads_to_itself(path):
     return False
 
 
-def figures_of(room):
+def figures_of(room: Room) -> dict[str, str]:
     """The counts of the figures; nothing where there are none."""
     if not os.path.exists(room("figures")):
         return {}
     return dict(re.findall(r'^faxpages_faxes\{result="(\w+)"\} (\d+)$', room.get("figures").decode(), re.M))
 
 
-def refused(operator, words, faxes):
+def refused(operator: Operator, words: list[str], faxes: dict[Key, str]) -> bool:
     """Whether a sweep is to change nothing: a foreign file is in a place of its own, or much is gone."""
     room = operator.room
     if any(os.path.exists(room(name)) and room.get(name) == FOREIGN for name in ("state/seen", "figures")):
@@ -114,7 +124,8 @@ def refused(operator, words, faxes):
     return "--gone" not in words and gone > 0 and (gone == len(operator.seen) or gone > 10 and 10 * gone > len(operator.seen))
 
 
-def compare(operator, words, before, status, out):
+def compare(operator: Operator, words: list[str], before: dict[str, str | bytes], status: int | None,
+            out: str) -> Iterator[str]:
     """What a sweep says or does that is not so."""
     room, faxes = operator.room, operator.faxes()
     if operator.contents() != before:
@@ -149,25 +160,25 @@ def compare(operator, words, before, status, out):
     operator.perhaps, operator.unsure = set(), False
 
 
-def sweep(operator, words):
+def sweep(operator: Operator, words: list[str]) -> tuple[int | None, str]:
     """A sweep's status, or nothing where it was killed; and what it printed."""
     room = operator.room
     with open(f"{room.path}/swept", "wb") as out:
         leader = subprocess.Popen(["faxpages-sweep", *words], cwd=room(""), env=room.environment({}), stdout=out,
                                   stderr=out, stdin=subprocess.DEVNULL, start_new_session=True)  # fmt: skip
-        status = "not killed"
+        is_killed = False
         if operator.draw.random() < 0.15:
             time.sleep(operator.draw.random() * 0.15)
             if leader.poll() is None:
                 os.killpg(leader.pid, signal.SIGKILL)
-                status = None
+                is_killed = True
         ended = leader.wait()
         wait_for(lambda: not left_of(leader.pid))
     with open(f"{room.path}/swept", encoding="utf-8", errors="replace") as said:
-        return (ended if status else None), said.read()
+        return (None if is_killed else ended), said.read()
 
 
-def foreign(operator):
+def foreign(operator: Operator) -> None:
     """Somebody else's file comes into a place of the sweep's, or goes again."""
     room = operator.room
     for name in operator.foreign:
@@ -182,7 +193,7 @@ def foreign(operator):
         operator.foreign = [name]
 
 
-def operate(room, _):
+def operate(room: Room, _: str) -> Iterator[Claim]:
     """Some drawn sweeps, in trees of their own."""
     steps, number = 0, 0
     while steps < STEPS:
@@ -191,7 +202,7 @@ def operate(room, _):
         os.mkdir(room(""))
         operator = Operator(room, seed)
         for step in range(25):
-            for _ in range(operator.draw.randrange(3)):
+            for _meddled in range(operator.draw.randrange(3)):
                 operator.meddle()
             foreign(operator)
             words = (["--gone"] if operator.draw.random() < 0.3 else []) + ["tree", "state", "figures"]
@@ -205,4 +216,4 @@ def operate(room, _):
     yield "steps", steps >= STEPS, True
 
 
-EXTRA = {"A drawn operator of faxpages-sweep": (["find", "flock"], operate)}
+EXTRA: Tests = {"A drawn operator of faxpages-sweep": (["find", "flock"], operate)}

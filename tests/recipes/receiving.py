@@ -1,5 +1,7 @@
 """Recipes for faxes that come in, and for archives of them."""
 
+from __future__ import annotations
+
 import email
 import email.policy
 import os
@@ -8,9 +10,13 @@ import shlex
 import shutil
 import signal
 import time
+from typing import Iterator
 
-from recipes import SCRIPTS
-from room import HOSTILE, PATIENCE, is_there
+from tests import Claim
+from tests.finding import found
+from tests.recipes.room import Room, Tests
+from tests.recipes.recipes import SCRIPTS
+from tests.recipes.room import HOSTILE, PATIENCE, is_there
 
 MAILER = """#!/bin/sh
 cat >"$HOME/mailed"
@@ -39,7 +45,7 @@ TTYCMD=false
 """
 
 
-def receive(room, commands):
+def receive(room: Room, commands: str) -> Iterator[Claim]:
     os.mkdir(room("faxes"))
     before = os.umask(0o027)
     try:
@@ -48,7 +54,7 @@ def receive(room, commands):
         os.umask(before)
 
 
-def sorted_faxes(room, commands):
+def sorted_faxes(room: Room, commands: str) -> Iterator[Claim]:
     for number, name in enumerate(["fax.tif", *HOSTILE]):
         room.others(name, number)
         data, wanted = room.get(name), room.report(name)
@@ -108,14 +114,14 @@ KINDS = {
 }  # fmt: skip
 
 
-def other_kinds(room, folder):
+def other_kinds(room: Room, folder: str) -> Iterator[Claim]:
     """Makes a file of each kind: its name, and what is said of it."""
     os.makedirs(room(folder), exist_ok=True)
     for kind, (command, said) in KINDS.items():
         yield f"{folder}/kind-{kind}.tif", said, room.bash(command.format(f"{folder}/kind-{kind}.tif"))[0]
 
 
-def received_of_other_kinds(room):
+def received_of_other_kinds(room: Room) -> Iterator[Claim]:
     """Sound files that are no faxes read here stay where they are, and nobody calls them faulty."""
     for name, kind, status in other_kinds(room, "."):
         name = os.path.basename(name)
@@ -129,7 +135,7 @@ def received_of_other_kinds(room):
         os.remove(room(name))
 
 
-def received_at_once(room):
+def received_at_once(room: Room) -> Iterator[Claim]:
     """Two faxes of one name at once: one of them is there with its own report, and the other one stays."""
     for number in range(10):
         room.others(f"a/{number}.tif", 1)
@@ -146,7 +152,7 @@ def received_at_once(room):
     shutil.rmtree(room("b"))
 
 
-def received_from_elsewhere(room):
+def received_from_elsewhere(room: Room) -> Iterator[Claim]:
     """A fax that is on another file system than the folders, where there is one; and no room for it there."""
     other = "/dev/shm"
     if not os.path.isdir(other) or os.stat(other).st_dev == os.stat(room("")).st_dev:
@@ -164,7 +170,7 @@ def received_from_elsewhere(room):
             os.remove(place)
 
 
-def received_into(room, folder, what):
+def received_into(room: Room, folder: str, what: str) -> Iterator[Claim]:
     """Faxes come into a folder where there are no links, by copies, which is said; nothing is written over there."""
     for name in ("linkless.tif", "report-there.tif"):
         room.others(name)
@@ -184,7 +190,7 @@ def received_into(room, folder, what):
         "linkless.tif": data, "linkless.tif.report": wanted, "report-there.tif.report": b"somebody else's"}
 
 
-def received_without_links(room):
+def received_without_links(room: Room) -> Iterator[Claim]:
     """A file system that has no links, here by an `ln` that says so."""
     room.tool("ln", "#!/bin/sh\necho 'ln: Operation not permitted' >&2\nexit 1\n")
     yield from received_into(room, f"{room('')}linkless", "no links")
@@ -192,7 +198,7 @@ def received_without_links(room):
     shutil.rmtree(room("linkless"))
 
 
-def received_into_exfat(room):
+def received_into_exfat(room: Room) -> Iterator[Claim]:
     """The same over a real one, where one can be mounted."""
     image = f"{room.path}/exfat"
     with open(image, "wb") as file:
@@ -211,7 +217,7 @@ def received_into_exfat(room):
     os.rmdir(room("exfat"))
 
 
-def left_is_swept(room):
+def left_is_swept(room: Room) -> Iterator[Claim]:
     """What a call has left that was killed goes by the next one; what may be at work stays, and all of other names."""
     good = "faxes/good"
     for name in (".faxpages-receive.AbCdEf", ".faxpages-receive.new000", ".faxpages-receive.longername", ".faxpages-mine"):
@@ -227,7 +233,7 @@ def left_is_swept(room):
     room.bash(f"rm -rf {good}/.faxpages*")
 
 
-def received_again(room):
+def received_again(room: Room) -> Iterator[Claim]:
     """A fax that is where it belongs stays there, by whatever way that folder is reached, and gets its report."""
     room.others("again.tif")
     data, report = room.get("again.tif"), room.report("again.tif")
@@ -253,7 +259,7 @@ def received_again(room):
         os.remove(room(place))
 
 
-def received_beside_others(room):
+def received_beside_others(room: Room) -> Iterator[Claim]:
     """A fax and a report never take the place of anything else."""
     room.others("a.report", 1)
     room.fax("a", "mh", "marks")
@@ -277,7 +283,7 @@ def received_beside_others(room):
         os.remove(room(name))
 
 
-def received_links(room):
+def received_links(room: Room) -> Iterator[Claim]:
     """A symbolic link, which would lead nowhere from its new place, stays."""
     room.others("spool/linked.tif")
     os.symlink("spool/linked.tif", room("link.tif"))
@@ -305,7 +311,7 @@ exit $status
 }
 
 
-def received_while_it_changes(room):
+def received_while_it_changes(room: Room) -> Iterator[Claim]:
     for how, text in CHANGING.items():
         room.tool("faxpages", text.format(program=room.program))
         room.others("changing.tif")
@@ -316,7 +322,7 @@ def received_while_it_changes(room):
     room.tool("faxpages", f'#!/bin/sh\nexec {room.program} "$@"\n')
 
 
-def hylafax(room, commands):
+def hylafax(room: Room, commands: str) -> Iterator[Claim]:
     """Debian's faxrcvd, in a spooling area of its own, calls the FaxDispatch that the recipe makes."""
     spool = room("spool")
     shutil.copytree(f"{HYLAFAX}/bin", f"{spool}/bin", symlinks=False, ignore_dangling_symlinks=True)
@@ -348,7 +354,7 @@ def hylafax(room, commands):
     yield from not_checked_by_hylafax(room)
 
 
-def received_by_hylafax(room, kind):
+def received_by_hylafax(room: Room, kind: str) -> tuple[int, list[email.message.EmailMessage]]:
     """Lets faxrcvd handle a fax: its status, and the mails."""
     status = room.bash(f"cd spool && bash bin/faxrcvd recvq/{kind}.tif ttyS0 000000001 '' 12345 'A `caller`'")[0]
     mails = [message(room.get(it)) for it in room.names() if it.startswith("mailed-") and it != "mailed-by"]
@@ -357,14 +363,15 @@ def received_by_hylafax(room, kind):
     return status, mails
 
 
-def told_as_errors(mails):
+def told_as_errors(mails: list[email.message.EmailMessage]) -> int:
     """How many mails tell the operator that a fax came with errors."""
     return len([mail for mail in mails if mail["To"] == "FaxMaster" and "with errors" in mail["Subject"]])
 
 
-def not_checked_by_hylafax(room):
+def not_checked_by_hylafax(room: Room) -> Iterator[Claim]:
     """A good fax that cannot be checked is none with an error, and the operator is told why."""
-    tools = {status: f"#!/bin/sh\necho 'because of {status}' >&2\nexit {status}\n" for status in (2, 3, 70, 126, 127)}
+    tools: dict[int | str, str] = {
+        status: f"#!/bin/sh\necho 'because of {status}' >&2\nexit {status}\n" for status in (2, 3, 70, 126, 127)}
     if not shutil.which("faxpages"):
         tools |= {"no program": ""}
     for status, text in tools.items():
@@ -388,23 +395,36 @@ def not_checked_by_hylafax(room):
     room.tool("faxpages", f'#!/bin/sh\nexec {room.program} "$@"\n')
 
 
-def tool_of(name):
+def tool_of(name: str) -> str:
     """The place of one of HylaFAX's programs: in Debian that on the path is a script, which mounts a folder first."""
     inner = f"/usr/lib/hylafax/bin/{name}"
-    return inner if os.path.exists(inner) else shutil.which(name, path="/usr/sbin:/usr/bin:/usr/local/sbin")
+    return inner if os.path.exists(inner) else shutil.which(name, path="/usr/sbin:/usr/bin:/usr/local/sbin") or name
 
 
-def message(data):
-    return email.message_from_bytes(data, policy=email.policy.default)
+def message(data: bytes) -> email.message.EmailMessage:
+    mail = email.message_from_bytes(data, policy=email.policy.default)
+    assert isinstance(mail, email.message.EmailMessage)
+    return mail
 
 
-def text_of(mail):
-    return mail.get_body(("plain",)).get_content()
+def text_of(mail: email.message.EmailMessage) -> str:
+    body = mail.get_body(("plain",))
+    assert isinstance(body, email.message.EmailMessage)
+    return str(body.get_content())
 
 
-def asterisk(room, commands):
+def parts_of(mail: email.message.EmailMessage) -> dict[str, bytes]:
+    """The files of a mail, by their names."""
+    files = {}
+    for part in mail.iter_attachments():
+        assert isinstance(part, email.message.EmailMessage)
+        files[str(part.get_filename())] = bytes(part.get_content())
+    return files
+
+
+def asterisk(room: Room, commands: str) -> Iterator[Claim]:
     """The words of System, as Asterisk gives them to a shell, without Asterisk."""
-    folder = re.search(r"Set\(FAX=(/var/spool/asterisk/fax)/\$\{UNIQUEID\}\.tif\)", commands).group(1)
+    folder = found(r"Set\(FAX=(/var/spool/asterisk/fax)/\$\{UNIQUEID\}\.tif\)", commands).group(1)
     (words,) = re.findall(r"System\((.*)\)", commands)
     words = words.replace("${FAX}", f"{folder}/pbx-1764060000.17.tif").replace(folder, room("fax"))
     yield "all is replaced", "${" in words or "/var" in words.replace(room(""), ""), False
@@ -419,7 +439,7 @@ def asterisk(room, commands):
     yield "the call had none", room.call("sh", "-c", words.replace(f"{room('fax')}/pbx-1764060000.17.tif", ""))[0], 2
 
 
-def mail_gateway(room, commands):
+def mail_gateway(room: Room, commands: str) -> Iterator[Claim]:
     room.tool("sendmail", MAILER)
     mailer = {"SENDMAIL": f"{room.path}/bin/sendmail"}
     room.others("fax.tif")
@@ -428,12 +448,11 @@ def mail_gateway(room, commands):
     yield "good: to", (mail["To"], room.get("mailed-by")), ("office@example.org", b"-oi -t\n")
     yield "good: subject", mail["Subject"].startswith("Fax, good: pages 5 rows "), True
     yield "good: report", room.report("fax.tif").decode() in text_of(mail), True
-    parts = list(mail.iter_attachments())
-    yield "good: files", [(it.get_filename(), it.get_content()[:5]) for it in parts], [("fax.pdf", b"%PDF-")]
+    yield "good: files", [(it, data[:5]) for it, data in parts_of(mail).items()], [("fax.pdf", b"%PDF-")]
     room.sample("damaged-fourth-page.tif", "fax.tif")
     yield "faulty", room.bash(commands, **mailer)[::2], (1, "")
     mail = message(room.get("mailed"))
-    parts = {it.get_filename(): it.get_content() for it in mail.iter_attachments()}
+    parts = parts_of(mail)
     yield "faulty: files", (sorted(parts), parts["fax.tif"]), (["fax.pdf", "fax.tif"], room.get("fax.tif"))
     yield "faulty: lost", "\nLost:\npage 3 rows " in text_of(mail), True
     yield from mailed_of_other_kinds(room, commands, mailer)
@@ -452,7 +471,7 @@ def mail_gateway(room, commands):
     yield "nothing is left", room.left(), []
 
 
-def mailed_of_other_kinds(room, commands, mailer):
+def mailed_of_other_kinds(room: Room, commands: str, mailer: dict[str, str]) -> Iterator[Claim]:
     """Sound files that are no faxes read here are mailed as they are, and nobody calls them faulty."""
     for name, kind, status in other_kinds(room, "kinds"):
         shutil.copy(room(name), room("fax.tif"))
@@ -466,14 +485,14 @@ def mailed_of_other_kinds(room, commands, mailer):
         yield f"{name}: attached", (part.get_content_type(), data), wanted
 
 
-def old(room, folder):
+def old(room: Room, folder: str) -> None:
     """Lets the files of a folder be two minutes old."""
     for place, _, names in os.walk(room(folder)):
         for name in names:
             os.utime(f"{place}/{name}", (time.time() - 120,) * 2)
 
 
-def figures(room):
+def figures(room: Room) -> dict[str, float]:
     lines = [line.split(" ") for line in room.get("faxpages.prom").decode().splitlines() if line[0] != "#"]
     return {name: float(value) for name, value in lines}
 
@@ -485,7 +504,7 @@ exec {program} "$@"
 """
 
 
-def swept_of_other_kinds(room):
+def swept_of_other_kinds(room: Room) -> Iterator[Claim]:
     """Sound files that are no faxes read here are named so, and count apart, also where an older version has seen them."""
     made = list(other_kinds(room, "kinds"))
     old(room, "kinds")
@@ -511,7 +530,7 @@ def swept_of_other_kinds(room):
     shutil.rmtree(room(".kinds"))
 
 
-def sweep(room, commands):
+def sweep(room: Room, commands: str) -> Iterator[Claim]:
     os.mkdir(room("faxes"))
     yield "an empty tree", room.bash(commands), (0, b"", "")
     yield "an empty tree: figures", figures(room)['faxpages_faxes{result="good"}'], 0
@@ -555,7 +574,7 @@ def sweep(room, commands):
     yield "nothing is left", (room.left(), room.names(".faxpages-sweep")), ([], ["lock", "seen"])
 
 
-def swept_again(room, commands, good):
+def swept_again(room: Room, commands: str, good: int) -> Iterator[Claim]:
     """A file that cannot be read is looked at again by each sweep; a sweep that is killed goes on; two at once."""
     room.tool("faxpages", WAITING.format(program=room.program))
     shutil.rmtree(room(".faxpages-sweep"))
@@ -589,7 +608,7 @@ def swept_again(room, commands, good):
         )
 
 
-def swept_gone(room, commands):
+def swept_gone(room: Room, commands: str) -> Iterator[Claim]:
     """A tree that is not mounted, and one of which much is gone, change nothing; a fax of the future is looked at."""
     room.tool("faxpages", f'#!/bin/sh\nexec {room.program} "$@"\n')
     room.bash(commands)
@@ -622,7 +641,7 @@ def swept_gone(room, commands):
     os.remove(room("faxes/future.tif"))
 
 
-def swept_others(room, commands):
+def swept_others(room: Room, commands: str) -> Iterator[Claim]:
     """What is in the places of the state and of the figures, and is not of a sweep, stays."""
     others = {"faxpages.prom": b"# HELP faxpages_archive_faxes Faxes of the archive\n", ".faxpages-sweep/seen": b"20261128\n"}
     for place, other in others.items():
@@ -653,7 +672,7 @@ def swept_others(room, commands):
     os.symlink(real, f"{room.path}/bin/flock")
 
 
-def swept_links(room, commands):
+def swept_links(room: Room, commands: str) -> Iterator[Claim]:
     """A tree, a folder in it and faxes that are reached by symbolic links; links that lead round, or nowhere."""
     room.tool("faxpages", f'#!/bin/sh\nexec {room.program} "$@"\n')
     shutil.rmtree(room("faxes"))
@@ -689,7 +708,7 @@ def swept_links(room, commands):
     room.tool("faxpages", f'#!/bin/sh\nexec {room.program} "$@"\n')
 
 
-def swept_forbidden(room, commands):
+def swept_forbidden(room: Room, commands: str) -> Iterator[Claim]:
     """A folder that may not be looked into, beside new faxes; root may look anywhere, and so becomes another user."""
     root = os.geteuid() == 0
     if root and room.call("setpriv", "--reuid", "nobody", "--clear-groups", "test", "-r", f"{SCRIPTS}/faxpages-sweep")[0]:
@@ -715,7 +734,7 @@ def swept_forbidden(room, commands):
     yield "a closed folder: again", room.bash(commands)[:2], (1, b"\n".join(shown.splitlines()[:2]) + b"\n")
 
 
-def sweep_by_timer(room, commands):
+def sweep_by_timer(room: Room, commands: str) -> Iterator[Claim]:
     """The units as systemd-analyze sees them, without systemd; and what the service calls."""
     room.tool("systemctl", '#!/bin/sh\necho "$*" >>"$HOME/asked"\n')
     yield "run", room.bash(commands), (0, b"", "")
@@ -724,8 +743,8 @@ def sweep_by_timer(room, commands):
     units = [f".config/systemd/user/faxpages-sweep.{kind}" for kind in ("service", "timer")]
     for unit in units:
         checked = room.call("systemd-analyze", "verify", "--user", "--man=no", room(unit), XDG_RUNTIME_DIR=room(""))
-        said = [line for line in checked[2].splitlines() if "faxpages" in line]
-        yield f"systemd-analyze: {unit}", (checked[0], said), (0, [])
+        named = [line for line in checked[2].splitlines() if "faxpages" in line]
+        yield f"systemd-analyze: {unit}", (checked[0], named), (0, [])
     when = room.bash(f'systemd-analyze calendar --iterations=3 "$(sed -n s/^OnCalendar=//p {units[1]})"')[1].decode()
     minutes = [int(hour) * 60 + int(minute) for hour, minute in re.findall(r"(\d\d):(\d\d):00 ", when)]
     yield "every ten minutes", {(b - a) % 1440 for a, b in zip(minutes, minutes[1:])}, {10}
@@ -744,12 +763,12 @@ def sweep_by_timer(room, commands):
     )
 
 
-def seen(room):
+def seen(room: Room) -> int:
     place = room(".faxpages-sweep/seen")
     return sum(line[:1].isdigit() for line in open(place, "rb")) if os.path.exists(place) else 0
 
 
-TESTS = {
+TESTS: Tests = {
     "Sort faxes as they come in": (["cmp", "tiffcp"], receive),
     "HylaFAX": (["tiff2pdf", f"{HYLAFAX}/bin/faxrcvd", tool_of("faxinfo") or "faxinfo"], hylafax),
     "Asterisk": ([], asterisk),

@@ -1,19 +1,23 @@
 """Recipes that make faxes of other files."""
 
+from __future__ import annotations
+
 import itertools
 import os
 import re
 import shutil
+from typing import Iterator
 
-import files
-import pages
-from room import HOSTILE, WIDTH, is_there
+from tests import Claim
+from tests.recipes.room import Room, Tests
+from tests.convert import files, pages
+from tests.recipes.room import HOSTILE, WIDTH, is_there
 
 # A module of a stranger, which lies where a script is called and must not run.
 STRANGER = b"open('ran', 'w').close()\nraise SystemExit('a stranger')\n"
 
 
-def pdf_of(room, name, count=2):
+def pdf_of(room: Room, name: str, count: int = 2) -> None:
     """A PDF of so many pages, made by img2pdf of a fax of 204 by 196 to the inch."""
     room.fax("source.tif", "mmr", "marks", 100)
     data = room.bash("img2pdf --pagesize letter " + "source.tif " * count)[1]
@@ -21,22 +25,22 @@ def pdf_of(room, name, count=2):
     os.remove(room("source.tif"))
 
 
-def listed(room, name):
+def listed(room: Room, name: str) -> list[list[str]]:
     return [line.split() for line in room.run("list", name=name)[1].decode().splitlines() if line.startswith("page ")]
 
 
-def from_pdf(room, commands):
+def from_pdf(room: Room, commands: str) -> Iterator[Claim]:
     pdf_of(room, "letter.pdf", 11)
     yield "run", room.bash(commands), (0, b"", "")
-    for words, name, lines, rows in (([], "fine.tif", 196, 2156), (["--standard"], "standard.tif", 98, 1078)):
+    for words, name, lines, rows in ((list[str](), "fine.tif", 196, 2156), (["--standard"], "standard.tif", 98, 1078)):
         form = ["1728", str(rows), "mh", "1", "0", "1", "204/1", f"{lines}/1", "2"]
         yield f"{name}: pages", [line[2:] for line in listed(room, name)], [form] * 11
         yield f"{name}: check", room.report(name), b"pages 11 rows %d\n" % (11 * rows)
         yield f"{name}: it is no white page", len(room.rows(name)[0].split()) > 12 * 11 * rows // 2, True
         for hostile in HOSTILE:
             pdf_of(room, f"{hostile}.pdf", 1)
-            status = room.call("faxpages-from-pdf", *words, "--replace", f"{hostile}.pdf", hostile)
-            yield f"{hostile!r}", status, (0, b"", "")
+            ran = room.call("faxpages-from-pdf", *words, "--replace", f"{hostile}.pdf", hostile)
+            yield f"{hostile!r}", ran, (0, b"", "")
             yield f"{hostile!r}: page", [line[2:] for line in listed(room, hostile)], [form]
     before = room.get("fine.tif")
     yield from not_written_over(room, "letter.pdf", "fine.tif")
@@ -57,12 +61,13 @@ exit 1
 """
 
 
-def bounded(room):
+def bounded(room: Room) -> Iterator[Claim]:
     """Memory and files of each program of poppler are bounded: one that takes more fails, and nothing is written."""
     programs = {name: shutil.which(name) for name in ("pdfinfo", "pdftoppm", "pdfimages")}
     python = shutil.which("python3")
     cases = {"little": (512, 1, 0), "much memory": (3072, 1, 1), "a large file": (512, 300, 1)}
-    for name, words in (("pdfinfo", []), ("pdftoppm", []), ("pdfimages", ["--as-is"])):
+    ways: list[tuple[str, list[str]]] = [("pdfinfo", []), ("pdftoppm", []), ("pdfimages", ["--as-is"])]
+    for name, words in ways:
         for case, (memory, size, wanted) in cases.items():
             room.tool(name, GREEDY.format(python=python, program=programs[name], memory=memory, file=size))
             pdf_of(room, "greedy.pdf", 1)
@@ -78,12 +83,12 @@ def bounded(room):
         os.remove(room(made))
 
 
-def temporary(room):
+def temporary(room: Room) -> list[object]:
     """The files that were to become a fax."""
     return [name for name in room.names() if re.search(r"\.tif\.\w{6}$", name)]
 
 
-def not_written_over(room, pdf, fax, *how):
+def not_written_over(room: Room, pdf: str, fax: str, *how: str) -> Iterator[Claim]:
     """A fax that is there stays, but with --replace; and the PDF stays, also by another name of it."""
     script, before = ["faxpages-from-pdf", *how], (room.get(pdf), room.get(fax))
     said = f"faxpages-from-pdf: {fax} is there already: --replace writes over it\n"
@@ -107,11 +112,14 @@ def not_written_over(room, pdf, fax, *how):
     for name in ("link.pdf", "hard.pdf", "broken.tif", "with-modes"):
         os.remove(room(name))
     os.rmdir(room("folder"))
-    for wrong in ([], [pdf], ["--replace", pdf], ["--as-is", "--standard", pdf, fax], [pdf, fax, fax]):
+    wrongs: list[list[str]] = [
+        [], [pdf], ["--replace", pdf], ["--as-is", "--standard", pdf, fax], [pdf, fax, fax],
+    ]
+    for wrong in wrongs:
         yield f"words {wrong}", room.call("faxpages-from-pdf", *wrong)[0], 2
 
 
-def out_of_pdf(room, commands):
+def out_of_pdf(room: Room, commands: str) -> Iterator[Claim]:
     """The PDFs that img2pdf, tiff2pdf and Ghostscript make of a fax, and ones made here with each coding; beside
     modules of a stranger."""
     for name in ("fractions", "ctypes", "struct", "os", "faxpages", "pikepdf"):
@@ -142,7 +150,7 @@ def out_of_pdf(room, commands):
     yield "nothing is left", (room.left(), temporary(room)), ([], [])
 
 
-def out_of_twelve_kinds(room):
+def out_of_twelve_kinds(room: Room) -> Iterator[Claim]:
     """The kinds of data that Ghostscript makes, in large images, which are objects of the PDF, and in small ones, which
     stand in the page's text: the pels are those that pdfimages shows. Four are refused by name."""
     room.fax("large.tif", "mmr", "marks", 100)
@@ -176,17 +184,17 @@ def out_of_twelve_kinds(room):
     yield "kinds that are taken", taken, 16
 
 
-def in_standard_resolution(room):
+def in_standard_resolution(room: Room) -> bytes:
     """A fax of four pages and more, whose second one is in standard resolution, and the third one in MR."""
     images = [pages.image(WIDTH, rows * 30) for rows in pages.draw_document(4, "marks", WIDTH)]
     images += [pages.image(WIDTH, rows * 30) for rows in pages.draw_document(5, "marks", WIDTH)] * 4
     for number, coding in enumerate(["mmr", "mh", "mr"] + ["mmr"] * (len(images) - 3)):
-        room.put(f"{number}.tif", pages.converted(room.program, ["-o", coding], images[number % len(images)]))
+        room.put(f"{number}.tif", pages.coded(room.program, ["-o", coding], images[number % len(images)]))
     room.bash("tiffset -s YResolution 98 1.tif && tiffcp [0-9].tif all.tif && rm [0-9].tif")
     return room.get("all.tif")
 
 
-def pdf_with(data, rows, parameters):
+def pdf_with(data: bytes, rows: int, parameters: bytes) -> bytes:
     """A PDF of one page with this data of T.4 or T.6."""
     size = (WIDTH, rows)
     shown = b"q %d 0 0 %d 0 0 cm /I Do Q" % size
@@ -206,17 +214,17 @@ def pdf_with(data, rows, parameters):
     return made + b"xref\n0 6\n0000000000 65535 f \n" + table + ends
 
 
-def raw(room, coding):
+def raw(room: Room, coding: str) -> tuple[bytes, int]:
     """The data of a page, as they stand in a strip, and how many rows it has."""
     image = pages.image(WIDTH, pages.draw_document(5, "marks", WIDTH)[0] * 30)
-    room.put("source.tif", pages.converted(room.program, ["-o", coding], image))
+    room.put("source.tif", pages.coded(room.program, ["-o", coding], image))
     data = room.get("source.tif")
     (fields,) = files.directories_of(data)
     (strip,) = files.strips_of(data, fields)
     return strip, fields[257][0]
 
 
-def out_of_each_coding(room, commands):
+def out_of_each_coding(room: Room, commands: str) -> Iterator[Claim]:
     for coding, parameters in (("mh", b"/K 0 /EndOfLine true"), ("mr", b"/K 4 /EndOfLine true"), ("mmr", b"/K -1")):
         strip, rows = raw(room, coding)
         room.put("fax.pdf", pdf_with(strip, rows, parameters))
@@ -240,7 +248,7 @@ def out_of_each_coding(room, commands):
         1, f"faxpages-from-pdf: page 1 shows {rows} rows, and its data have {rows - 1}\n", True)  # fmt: skip
 
 
-def not_out_of_pdf(room, commands):
+def not_out_of_pdf(room: Room, commands: str) -> Iterator[Claim]:
     """What is no PDF of a fax is refused, and the fax that is there stays."""
     before = room.get("fax.tif")
     pdf_of(room, "two.pdf", 2)
@@ -256,7 +264,7 @@ def not_out_of_pdf(room, commands):
         yield f"{name}", (status, said != "", room.get("fax.tif") == before), (1, True, True)
 
 
-def raw_data(room, commands):
+def raw_data(room: Room, commands: str) -> Iterator[Claim]:
     """Raw data with and without their end: neither a row too many nor too few."""
     forms = {"mh": "-3", "mr": "-3 -2", "mmr": "-4"}
     returns = {"mh": 6 * "000000000001", "mr": 6 * "0000000000011", "mmr": ""}  # RTC
@@ -271,15 +279,16 @@ def raw_data(room, commands):
         yield f"{coding}: too few rows", room.bash(given.replace(str(rows), str(rows + 900)))[0], 1
 
 
-def ended(strip, bits):
+def ended(strip: bytes, bits: str) -> bytes:
     """Data with these bits at their end."""
     return strip + int(bits.ljust(-len(bits) % 8 + len(bits), "0") or "0", 2).to_bytes((len(bits) + 7) // 8, "big")
 
 
-def ready(room, commands):
+def ready(room: Room, commands: str) -> Iterator[Claim]:
     room.fax("fax.tif", "mh", "all", 3)
     yield "ready", room.bash(commands)[::2], (0, "")
-    for coding, more in (("mr", []), ("mmr", []), ("mh", ["--strip", "1"])):
+    ways: list[tuple[str, list[str]]] = [("mr", []), ("mmr", []), ("mh", ["--strip", "1"])]
+    for coding, more in ways:
         room.fax("source.tif", "mh", "noise", 3)
         data = room.run("convert", "-o", coding, *more, name="source.tif")[1]
         room.put("fax.tif", data)
@@ -296,7 +305,7 @@ def ready(room, commands):
             yield f"{lines} lines", room.bash(commands)[0], wanted
 
 
-def others(room, commands):
+def others(room: Room, commands: str) -> Iterator[Claim]:
     """A BigTIFF file, one of tiles and one in another compression, as libtiff writes them: their faults, and the recipe."""
     room.others("plain.tif", 1)
     wanted = room.rows("plain.tif")
@@ -315,7 +324,7 @@ def others(room, commands):
         yield f"{kind}: rows", room.rows("fax.tif"), wanted
 
 
-TESTS = {
+TESTS: Tests = {
     "Send a PDF": (["pdftoppm", "img2pdf", "tiffset"], from_pdf),
     "A fax out of a PDF": (
         ["pdfimages", "pdftoppm", "tiffset", "tiffcp", "tiff2pdf", "img2pdf", "pnmtopng", "gs"],

@@ -1,16 +1,17 @@
 """faxpages-salvage over drawn damaged faxes: what it writes is what a plain reading of the fax says is left."""
 
+from __future__ import annotations
+
 import os
 import random
 import shutil
 import subprocess
-import sys
+from typing import Iterator
 
-sys.path.insert(0, os.path.join(os.path.dirname(os.path.abspath(__file__)), os.pardir, "plain"))
-
-import reading  # noqa: E402
-import salvaging  # noqa: E402
-import spoiling  # noqa: E402
+from tests import Claim
+from tests.plain.salvaging import Page
+from tests.recipes.room import Room
+from tests.plain import reading, salvaging, spoiling
 
 DRAWN = 60
 # The fewest pages that are whole, in part, and lost, in all faxes.
@@ -19,7 +20,7 @@ LEASTS = (20, 45, 25)
 BESIDE = ("not in pages.tif", "too large")
 
 
-def lost_of(data, pages):
+def lost_of(data: bytes, pages: list[Page]) -> Iterator[str]:
     """The lines of lost.txt about a fax."""
     for number, page in enumerate(pages):
         if page.form is None:
@@ -34,7 +35,7 @@ def lost_of(data, pages):
         yield f"page {len(pages)}: {' '.join(map(str, fault.args))}"
 
 
-def images_of(room, name):
+def images_of(room: Room, name: str) -> int:
     """How many images a PDF has; none where it is not there."""
     if not os.path.exists(room(name)):
         return 0
@@ -42,14 +43,14 @@ def images_of(room, name):
     return len(listed.splitlines()) - 2
 
 
-def runs_of(room, name):
+def runs_of(room: Room, name: str) -> list[list[str]]:
     """The runs of all rows of a fax; none where it is not there."""
     if not os.path.exists(room(name)):
         return []
     return [line.split()[3:] for line in room.rows(name)[0].decode().splitlines() if line.startswith("row ")]
 
 
-def written(room, data, pages):
+def written(room: Room, data: bytes, pages: list[Page]) -> Iterator[Claim]:
     """What faxpages-salvage writes of a fax, and what it has to."""
     status, _, said = room.call("faxpages-salvage", "drawn.tif", "drawn")
     lines = room.get("drawn/lost.txt").decode().splitlines()
@@ -58,7 +59,7 @@ def written(room, data, pages):
     whole = [number for number, page in enumerate(pages) if page.form and all(row.pels for row in page.rows)]
     found = [number for number, page in enumerate(pages) if any(row.pels for row in page.rows)]
     rows = [row.pels for number in whole if number not in apart for row in pages[number].rows]
-    runs = [list(map(str, reading.runs_of(row))) for row in rows]
+    runs = [list(map(str, reading.runs_of(row or ""))) for row in rows]
     yield "status", (status, said), (1 if lines else 0, "")
     yield "lost", [line for line in lines if line not in others], list(lost_of(data, pages))
     yield "whole pages", runs_of(room, "drawn/pages.tif"), runs
@@ -67,7 +68,7 @@ def written(room, data, pages):
     yield "pictures", sorted(name for name in room.names("drawn") if name.endswith(".png")), pictures
 
 
-def drawn(room):
+def drawn(room: Room) -> Iterator[Claim]:
     """Faxes with bits turned, put in and taken out, EOLs destroyed and made, pages refused, strips and chains cut."""
     counts = [0, 0, 0]
     for seed in range(DRAWN):

@@ -1,13 +1,13 @@
 """Which definitions of the specs each contract of the sources reaches, by the names that they use."""
 
+from __future__ import annotations
+
 import os
 import re
-import sys
+from typing import Iterator, Mapping, Union
 
-TOP = os.path.dirname(os.path.dirname(os.path.dirname(os.path.abspath(__file__))))
-sys.path.insert(0, os.path.join(TOP, "tests", "documents"))
-
-import contracts  # noqa: E402
+from tests import TOP
+from tests.documents import contracts
 
 CRATES = ["fax_bits", "fax_rows", "fax_page", "fax_files", "fax_walk", "fax_tool", "fax_c"]
 
@@ -28,7 +28,13 @@ USED = re.compile(rf"(?<![\w.])({NAME}(?:\.{NAME})*)")
 HEAD = re.compile(rf"^(?:unfoldable )?(?:abbrev )?(?:pub )?(?:record |data )?({NAME})(?= |$)")
 
 
-def used_names(line, found):
+# A definition: its module and its name.
+Definition = tuple[str, str]
+# What `use` lines bring in, by the name that stands for it: a module, and the name there or none.
+Uses = dict[str, tuple[str, Union[str, None]]]
+
+
+def used_names(line: str, found: Uses) -> None:
     """What one `use` line brings in: by the name that stands for it, the module and the name there, or the
     module alone."""
     line = line.strip().rstrip(";")
@@ -43,15 +49,15 @@ def used_names(line, found):
         found[whole.group(2) or whole.group(1).split(".")[-1]] = (whole.group(1), None)
 
 
-def uses_of(text):
-    found = {}
+def uses_of(text: str) -> Uses:
+    found: Uses = {}
     for line in text.split("\n"):
         if re.match(r"\s*(?:ghost |unfoldable |pub )*use ", line):
             used_names(line, found)
     return found
 
 
-def resolve(word, uses, module, own):
+def resolve(word: str, uses: Uses, module: str, own: Mapping[str, object]) -> Definition | None:
     """The definition that a word names: its module and its name."""
     parts = word.split(".")
     if parts[0] in own:
@@ -68,12 +74,12 @@ def resolve(word, uses, module, own):
 class Module:
     """A file of definitions."""
 
-    def __init__(self, name, path):
+    def __init__(self, name: str, path: str) -> None:
         self.name, self.path = name, path
         text = open(path, encoding="utf-8").read()
         self.uses = uses_of(text)
-        self.blocks = {}
-        self.public = set()
+        self.blocks: dict[str, list[str]] = {}
+        self.public: set[str] = set()
         current = None
         for line in text.split("\n"):
             if line.startswith(("use ", "pub use ", "unfoldable pub use ", "--", "pub mod ", "mod ")):
@@ -89,7 +95,7 @@ class Module:
             if current:
                 self.blocks[current].append(line)
 
-    def names_in(self, definition):
+    def names_in(self, definition: str) -> Iterator[Definition]:
         for line in self.blocks.get(definition, []):
             for word in USED.findall(line):
                 found = resolve(word, self.uses, self.name, self.blocks)
@@ -97,7 +103,7 @@ class Module:
                     yield found
 
 
-def modules(crates=CRATES):
+def modules(crates: list[str] = CRATES) -> dict[str, Module]:
     found = {}
     for crate in crates:
         folder = os.path.join(TOP, "crates", crate, "specs")
@@ -111,21 +117,22 @@ def modules(crates=CRATES):
     return found
 
 
-def clause_names(text, uses):
+def clause_names(text: str, uses: Uses) -> Iterator[Definition]:
     for word in USED.findall(text):
-        found = resolve(word, uses, None, {})
+        found = resolve(word, uses, "", {})
         if found:
             yield found
 
 
-def calls_from_c(paths):
+def calls_from_c(paths: list[str]) -> set[str]:
     """The calls that these sources export to C."""
     return {name for path in paths for name in re.findall(r'^pub extern "C" fn (\w+)', contracts.read(path), re.M)}
 
 
-def public_roots(crate):
+def public_roots(crate: str) -> tuple[set[Definition], set[Definition]]:
     """What the public contracts of a crate name, and how its public types are seen; and what its laws say."""
-    calls, laws = set(), set()
+    calls: set[Definition] = set()
+    laws: set[Definition] = set()
     if crate == PROGRAM:
         names = PROGRAM_CALLS
         paths = [os.path.join("crates", crate, "src", f"{file}.rt") for file in PROGRAM_FILES]
@@ -150,7 +157,7 @@ def public_roots(crate):
             where = laws if law else calls
             if law and re.match(r"pub fn ", line):
                 where.update(clause_names("\n".join(contracts.head(lines, at)), uses))
-            elif CALL.match(line) and CALL.match(line).group(1) in names:
+            elif (call := CALL.match(line)) and call.group(1) in names:
                 where.update(clause_names("\n".join(contracts.head(lines, at)), uses))
             elif owner in names and re.match(r"    (pub )?(?:const )?fn ", line) and ("pub" in line or is_trait):
                 where.update(clause_names("\n".join(contracts.head(lines, at)), uses))
@@ -161,9 +168,10 @@ def public_roots(crate):
     return calls, laws
 
 
-def reached(roots, all_modules):
+def reached(roots: set[Definition], all_modules: dict[str, Module]) -> set[Definition]:
     """All definitions that these names stand on."""
-    seen, due = set(), list(roots)
+    seen: set[Definition] = set()
+    due = list(roots)
     while due:
         at = due.pop()
         if at in seen or at[0] not in all_modules:
@@ -171,7 +179,7 @@ def reached(roots, all_modules):
         if at[1] not in all_modules[at[0]].blocks:
             again = all_modules[at[0]].uses.get(at[1])
             if again and again[1]:
-                due.append(again)
+                due.append((again[0], again[1]))
             continue
         seen.add(at)
         due.extend(all_modules[at[0]].names_in(at[1]))

@@ -8,9 +8,10 @@ import shutil
 import subprocess
 import urllib.parse
 
-import faxes
+from tests import TOP
+from tests.web import faxes
 
-SAMPLE = f"{faxes.TOP}/samples/three-pages.tif"
+SAMPLE = f"{TOP}/samples/three-pages.tif"
 # Each text whose contrast with what is below it is less than 4.5 to 1.
 FAINT = """(() => {
     const parse = (text) => text.match(/[\\d.]+/g).map(Number);
@@ -219,7 +220,7 @@ def nothing_is_asked(browser, address):
 
 def only_its_files(server):
     """A server of the folder was asked for files of the folder, and for nothing else."""
-    there = {f"/{name}" for name in os.listdir(os.path.join(faxes.TOP, "web"))}
+    there = {f"/{name}" for name in os.listdir(os.path.join(TOP, "web"))}
     asked = {urllib.parse.unquote(re.sub(r"\?.*", "", path)) for path in server.asked}
     yield "the server was asked for files of web/ alone", asked - there, set()
     yield "it was asked for the page", asked >= {"/index.html", "/faxpages.js", "/faxpages.wasm.js"}, True

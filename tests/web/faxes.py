@@ -5,16 +5,10 @@ import os
 import random
 import re
 import subprocess
-import sys
 
-HERE = os.path.dirname(os.path.abspath(__file__))
-TOP = os.path.dirname(os.path.dirname(HERE))
-sys.path.insert(0, os.path.join(TOP, "tests", "convert"))
-sys.path.append(os.path.join(TOP, "bench"))
-
-import pages  # noqa: E402
-import files as parts_of  # noqa: E402,F401
-from files import get, put  # noqa: E402,F401
+from tests import TOP
+from tests.convert import pages
+from tests.convert.files import put
 
 CODINGS = ["mh", "mr", "mmr"]
 DAMAGED = 40

@@ -4,9 +4,11 @@ import os
 import shutil
 import struct
 
-import faxes
+from tests.convert.files import put
+from tests.web import faxes
+
 import hostile
-import saving
+
 
 # Milliseconds of the processor that a task of the page may take, and how often that is tried: a garbage collection
 # falls where it will.
@@ -60,7 +62,7 @@ def answers(browser, path, until):
 def leaves(browser, _program, room):
     """A file that would take minutes is left: what was read stays, and its pages can still be looked at."""
     strip = bytes(4000000) + hostile.packed("000000000001" + "10011")
-    path = faxes.put(f"{room}/slow.tif", pages(60000, strip))
+    path = put(f"{room}/slow.tif", pages(60000, strip))
     took = answers(browser, path, 'app.fax && app.fax.state === "reads" && app.fax.page >= 3')
     yield f"it answers within {BOUND} ms while a slow file is read", took <= BOUND, True
     browser.until('!document.getElementById("stop").hidden')
@@ -83,7 +85,7 @@ def leaves(browser, _program, room):
 def many_pages(browser, program, room):
     """65,535 pages: the list has few elements, and the last page is reached by a key."""
     strip = hostile.packed("000000000001" + "10011")
-    path = faxes.put(f"{room}/pages.tif", pages(65535, strip))
+    path = put(f"{room}/pages.tif", pages(65535, strip))
     took = answers(browser, path, 'app.fax && app.fax.state === "done"')
     yield f"65,535 pages: it answers within {BOUND} ms", took <= BOUND, True
     yield "65,535 pages: it is whole", browser.run("app.fax.verdict()"), "This fax is whole: 65,535 pages, 65,535 rows."
@@ -126,7 +128,7 @@ def whole_memory(browser, program, room):
 
 def million_rows(browser, _program, room):
     """A page of a million rows: few canvases, and the end is drawn."""
-    path = faxes.put(f"{room}/rows.tif", hostile.tiff(1728, 1000000, hostile.MMR, b"\xff" * 125000))
+    path = put(f"{room}/rows.tif", hostile.tiff(1728, 1000000, hostile.MMR, b"\xff" * 125000))
     took = answers(browser, path, 'app.fax && app.fax.state === "done"')
     yield f"a million rows: it answers within {BOUND} ms", took <= BOUND, True
     yield "a million rows: they are counted", browser.run("app.fax.rows"), 1000000
@@ -139,7 +141,7 @@ def million_rows(browser, _program, room):
 def many_stretches(browser, program, room):
     """A page of which every second row is lost: each stretch is told, and some are listed."""
     strip = hostile.packed(("000000000001" + "10011" + "000000000001" + "111") * 20000)
-    path = faxes.put(f"{room}/stretches.tif", pages(1, strip, rows=40000))
+    path = put(f"{room}/stretches.tif", pages(1, strip, rows=40000))
     took = answers(browser, path, 'app.fax && app.fax.state === "done"')
     yield f"20,000 stretches: it answers within {BOUND} ms", took <= BOUND, True
     told = faxes.said(program, "salvage", path)
@@ -164,7 +166,7 @@ def many_stretches(browser, program, room):
 def many_notes(browser, program, room):
     """Of 30,000 notes the first are listed, the others are counted, and the report that is saved has all."""
     strip = hostile.packed("000000000001" + "10011" + "000000000001" * 6)
-    path = faxes.put(f"{room}/notes.tif", pages(30000, strip))
+    path = put(f"{room}/notes.tif", pages(30000, strip))
     browser.choose("#choose", path)
     browser.until('app.fax && app.fax.state === "done" && document.querySelectorAll("#findings li").length > 0')
     listed = browser.run('document.querySelectorAll("#findings li").length')
@@ -180,7 +182,7 @@ def many_notes(browser, program, room):
 
 def many_files(browser, program, room):
     """A hundred files at once: few keep a worker, and each can be gone back to."""
-    names = [faxes.put(f"{room}/file-{number}.tif", faxes.drawn(program, 3000 + number)) for number in range(100)]
+    names = [put(f"{room}/file-{number}.tif", faxes.drawn(program, 3000 + number)) for number in range(100)]
     browser.choose("#choose", *names)
     browser.until("app.faxes.length === 100 && app.faxes.every((fax) => fax.state === 'done')")
     browser.until("app.faxes.filter((fax) => fax.life.worker).length <= 6")

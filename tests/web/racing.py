@@ -7,8 +7,8 @@ import base64
 import os
 import time
 
-import faxes
-from saying import PELS
+from tests.web import faxes
+from tests.web.saying import PELS
 
 # So much patience has a claim that something comes; that it never comes is seen after this many seconds.
 SOON = 20
@@ -64,7 +64,7 @@ def close_all(browser):
 def thumbnails(browser, program, room):
     """Thumbnails of one fax that come late are not shown under the next one."""
     browser.run(WATCH)
-    black, white = (faxes.put(f"{room}/{name}.tif", plain(program, byte))
+    black, white = (put(f"{room}/{name}.tif", plain(program, byte))
                     for name, byte in (("black", 255), ("white", 0)))
     for one, other, wanted in ((black, white, 255), (white, black, 0)):
         browser.run('watched.hold = "small"')
@@ -80,7 +80,7 @@ def thumbnails(browser, program, room):
 def results(browser, program, room):
     """What is made of one fax is said under this one alone, also where another one is shown meanwhile."""
     browser.run(WATCH)
-    one, other = (faxes.put(f"{room}/{name}.tif", plain(program, 255)) for name in ("one", "other"))
+    one, other = (put(f"{room}/{name}.tif", plain(program, 255)) for name in ("one", "other"))
     opened(browser, one)
     opened(browser, other)
     browser.run("app.show(app.faxes[0])")
@@ -128,9 +128,9 @@ def bare_again(browser, program, room):
     browser.run(WATCH)
     image = faxes.image("marks", 30)
     data = faxes.convert(program, image, "-o", "mmr")
-    (strip,) = faxes.parts_of.strips_of(data, next(faxes.parts_of.directories_of(data)))
+    (strip,) = parts_of.strips_of(data, next(parts_of.directories_of(data)))
     turned = bytes(int(f"{byte:08b}"[::-1], 2) for byte in strip)
-    opened(browser, faxes.put(f"{room}/bare.g4", turned))
+    opened(browser, put(f"{room}/bare.g4", turned))
     pels = faxes.pels_of_pbm(image)[0][2]
     for turn in range(3):
         for order, right in (("1", False), ("2", True)):
@@ -154,7 +154,7 @@ def bare_again(browser, program, room):
 def gone(browser, program, room):
     """A file that is gone from the disk is said to be, and keeps no other one from being drawn."""
     browser.run(WATCH)
-    names = [faxes.put(f"{room}/gone-{number}.tif", faxes.drawn(program, 900 + number)) for number in range(8)]
+    names = [put(f"{room}/gone-{number}.tif", faxes.drawn(program, 900 + number)) for number in range(8)]
     browser.choose("#choose", *names)
     browser.until("app.faxes.length === 8 && app.faxes.every((fax) => fax.state === 'done')")
     browser.run("for (const fax of app.faxes.slice(1)) app.show(fax)")
@@ -175,7 +175,7 @@ def gone(browser, program, room):
 def crashes(browser, program, room):
     """A worker that breaks down while nobody asks it is said, and so is one that is asked then."""
     browser.run(WATCH)
-    names = [faxes.put(f"{room}/crash-{number}.tif", plain(program, 255)) for number in range(2)]
+    names = [put(f"{room}/crash-{number}.tif", plain(program, 255)) for number in range(2)]
     browser.choose("#choose", *names)
     browser.until(f"app.faxes.length === 2 && app.faxes.every((fax) => fax.state === 'done') && {DRAWN}")
     browser.run("""app.fax.life.worker.dispatchEvent(
@@ -200,7 +200,7 @@ def closing(browser, program, room):
     browser.run(WATCH)
     for hold in ("part", "small", "open"):
         browser.run(f'watched.hold = "{hold}"')
-        names = [faxes.put(f"{room}/closing-{number}.tif", plain(program, 255)) for number in range(6)]
+        names = [put(f"{room}/closing-{number}.tif", plain(program, 255)) for number in range(6)]
         browser.choose("#choose", *names)
         browser.until("watched.held.length > 0")
         browser.run("while (app.fax) app.close()")
@@ -213,13 +213,13 @@ def rewritten(browser, program, room):
     """A file that is written over on the disk is read anew, or said to be changed: it is never shown under the old
     words."""
     browser.run(WATCH)
-    names = [faxes.put(f"{room}/again-{number}.tif", plain(program, 255)) for number in range(8)]
+    names = [put(f"{room}/again-{number}.tif", plain(program, 255)) for number in range(8)]
     browser.choose("#choose", *names)
     browser.until("app.faxes.length === 8 && app.faxes.every((fax) => fax.state === 'done')")
     browser.run("for (const fax of app.faxes.slice(1)) app.show(fax)")
     browser.until("app.faxes.filter((fax) => fax.life.worker).length <= 5")
     at = browser.run("app.faxes.findIndex((fax) => !fax.life.worker)")
-    faxes.put(names[at], plain(program, 0, count=2, rows=30))
+    put(names[at], plain(program, 0, count=2, rows=30))
     os.utime(names[at], (10 ** 9, 10 ** 9))
     browser.run(f"app.show(app.faxes[{at}])")
     browser.until(f'/was changed/.test({VERDICT}) && !app.fax.isBusy()', SOON)

@@ -7,12 +7,11 @@ import re
 import shutil
 import struct
 import subprocess
-import sys
 
-import faxes
-
-sys.path.insert(0, os.path.join(faxes.TOP, "tests", "convert"))
-import files as parts_of  # noqa: E402
+from tests import TOP
+from tests.convert import files as parts_of
+from tests.convert.files import get, put
+from tests.web import faxes
 
 BLOB = """app.fax.making.blob.arrayBuffer().then((buffer) => {
     const bytes = new Uint8Array(buffer);
@@ -51,7 +50,7 @@ def whole(browser, program, room):
         data = faxes.drawn(program, 1000 + number)
         if size == "204/98":
             data = data.replace(struct.pack("<2I", 196, 1), struct.pack("<2I", 98, 1))
-        path = faxes.put(f"{room}/whole {number}.tif", data)
+        path = put(f"{room}/whole {number}.tif", data)
         opened(browser, path)
         for at, coding in enumerate(faxes.CODINGS, 1):
             got, name, said = made(browser, f"tiff{at}")
@@ -70,11 +69,11 @@ def as_pdf(pdf, image, room, size):
     if not shutil.which("pdfimages"):
         print("SKIPPED: PDFs of the page beside poppler (poppler-utils)")
         return
-    path = faxes.put(f"{room}/made.pdf", pdf)
+    path = put(f"{room}/made.pdf", pdf)
     subprocess.run(["pdfimages", path, f"{room}/image"], capture_output=True, check=True)
     names = sorted(name for name in os.listdir(room) if name.startswith("image-"))
     wanted = faxes.pels_of_pbm(image)
-    got = [faxes.pels_of_pbm(faxes.get(f"{room}/{name}"))[0] for name in names]
+    got = [faxes.pels_of_pbm(get(f"{room}/{name}"))[0] for name in names]
     yield f"{size}: images of the PDF", got == wanted, True
     sizes = [re.findall(r"[\d.]+", line) for line in subprocess.run(
         ["pdfinfo", "-l", "9", path], capture_output=True, check=True).stdout.decode().splitlines()
@@ -99,7 +98,7 @@ def damaged(browser, program, room):
         wanted = [line for at, page in enumerate(pages) for line in rows_of(program, path, page, at)]
         got, name, said = made(browser, "tiff3")
         if pages:
-            saved = faxes.put(f"{room}/saved.tif", got)
+            saved = put(f"{room}/saved.tif", got)
             yield f"{path}: rows", faxes.said(program, "rows", saved).splitlines(), [*wanted, "end"]
             yield f"{path}: it says how many", f"made of {len(pages)} of {count} page" in said, len(pages) < count
             tried += 1
@@ -181,10 +180,10 @@ def pictures(browser, program, room):
         print("SKIPPED: PNGs of the page beside faxpages-picture (netpbm)")
         return
     fine = faxes.drawn(program, 77)
-    tried = [f"{faxes.TOP}/samples/damaged-fourth-page.tif", faxes.put(f"{room}/fine.tif", fine)]
+    tried = [f"{TOP}/samples/damaged-fourth-page.tif", put(f"{room}/fine.tif", fine)]
     for lines in (98, 391, 49):
         data = fine.replace(struct.pack("<2I", 196, 1), struct.pack("<2I", lines, 1))
-        tried.append(faxes.put(f"{room}/{lines}.tif", data))
+        tried.append(put(f"{room}/{lines}.tif", data))
     for path in tried + faxes.damaged(program, room)[:8]:
         opened(browser, path)
         for page in range(min(4, browser.run("app.fax.pages"))):
@@ -200,13 +199,13 @@ def pictures(browser, program, room):
 def images(browser, program, room):
     """PBM is read as the program converts it; one that is cut is refused by name."""
     image = faxes.convert(program, faxes.drawn(program, 5), "-o", "pbm")
-    opened(browser, faxes.put(f"{room}/images.pbm", image))
-    fax = faxes.put(f"{room}/images.tif", faxes.convert(program, image, "-o", "mmr"))
+    opened(browser, put(f"{room}/images.pbm", image))
+    fax = put(f"{room}/images.tif", faxes.convert(program, image, "-o", "mmr"))
     yield "PBM: the list", browser.run("app.fax.text()").split("\n\n")[1] + "\n", faxes.said(program, "list", fax)
     yield "PBM: as PBM", made(browser, "pbm")[0] == image, True
     close_all(browser)
     for data, name in ((image[:-5], "Its rows are not all there."), (b"P4 x", "does not begin as raw PBM does")):
-        opened(browser, faxes.put(f"{room}/cut.pbm", data))
+        opened(browser, put(f"{room}/cut.pbm", data))
         fault = faxes.said(program, "convert", "-o", "mmr", f"{room}/cut.pbm")
         number = re.search(r"image (\d+):", fault).group(1)
         yield f"PBM: {fault}", name in browser.run("app.fax.verdict()"), True
@@ -217,7 +216,7 @@ def images(browser, program, room):
 def bare(browser, program, room):
     """Bare data, by the form: each coding and bit order, with and without EOLs, on bytes, cut, and counted."""
     image = faxes.image("marks", 30)
-    rows = faxes.said(program, "rows", faxes.put(f"{room}/rows.tif", faxes.convert(program, image, "-o", "mmr")))
+    rows = faxes.said(program, "rows", put(f"{room}/rows.tif", faxes.convert(program, image, "-o", "mmr")))
     for at, coding in enumerate(faxes.CODINGS, 1):
         for order in (1, 2):
             data = faxes.convert(program, image, "-o", coding, "--order", str(order))
@@ -252,7 +251,7 @@ def bare(browser, program, room):
 def as_bare(browser, program, room, data, words, rows, verdict):
     """Fills the form in, and compares the rows of the fax that it makes."""
     close_all(browser)
-    opened(browser, faxes.put(f"{room}/bare.g3", data))
+    opened(browser, put(f"{room}/bare.g3", data))
     name = f"bare {words}"
     browser.until('!document.getElementById("bare-open").hidden')
     browser.run('document.getElementById("bare-open").click()')
@@ -267,5 +266,5 @@ def as_bare(browser, program, room, data, words, rows, verdict):
     browser.until('app.fax.told && app.fax.state === "done"')
     yield f"{name}: what is said", verdict in browser.run("app.fax.verdict()"), True
     if rows:
-        saved = faxes.put(f"{room}/saved.tif", made(browser, "tiff3")[0])
+        saved = put(f"{room}/saved.tif", made(browser, "tiff3")[0])
         yield f"{name}: rows", faxes.said(program, "rows", saved), rows

@@ -3,11 +3,15 @@
 import base64
 import json
 import os
+import random
 import re
 import shutil
 import struct
 
-import faxes
+from tests import TOP
+from tests.convert import pages
+from tests.convert.files import get, put
+from tests.web import faxes
 
 # The pels of the page that is shown, from its canvases: 0, 1 or 2 a pel.
 PELS = """(() => {
@@ -102,7 +106,7 @@ def findings(browser, program, room):
         "one-mh-page.tif": ([], 0),
     }
     for name, (lines, page) in wanted.items():
-        browser.choose("#choose", f"{faxes.TOP}/samples/{name}")
+        browser.choose("#choose", f"{TOP}/samples/{name}")
         browser.until(f'app.fax && app.fax.state === "done" && document.getElementById("name").textContent === "{name}"'
                       f' && document.querySelectorAll("#findings li").length === {len(lines)}')
         yield f"{name}: findings", browser.run(FINDINGS), lines
@@ -138,14 +142,14 @@ def kinds(browser, _program, room):
         "tiles.tif": (picture_of((259, 3, 1, 3), (258, 3, 1, 1), *tiles), "a picture in tiles"),
     }
     for name, (data, kind) in tried.items():
-        browser.choose("#choose", faxes.put(f"{room}/{name}", data))
+        browser.choose("#choose", put(f"{room}/{name}", data))
         browser.until(f"""app.fax && app.fax.state === "done" && app.fax.file.name === "{name}" &&
             document.getElementById("verdict").textContent === app.fax.verdict()""")
         told = browser.run("""[document.getElementById("verdict").textContent.replace(/\\..*/, ""),
             document.getElementById("verdict").className, document.getElementById("bare").hidden, app.fax.isWhole()]""")
         yield f"{name}: what is said", told, [f"This is no fax that is read here, but {kind}", "left", True, False]
         yield f"{name}: in the list", browser.run("App.lookOf(app.fax)"), "other"
-    browser.choose("#choose", faxes.put(f"{room}/mixed.tif", b"\x00\x01\xfe" * 30))
+    browser.choose("#choose", put(f"{room}/mixed.tif", b"\x00\x01\xfe" * 30))
     browser.until('app.fax && app.fax.file.name === "mixed.tif" && app.fax.state === "done"')
     yield "other bytes are of no known kind", browser.run("app.fax.verdict()"), "This file cannot be read as a fax."
     close_all(browser)
@@ -153,19 +157,19 @@ def kinds(browser, _program, room):
 
 def canvases(browser, program, room):
     """The pels of canvases at a pel a pel, of whole and of damaged pages."""
-    wide = faxes.pages.image(3000, [faxes.pages.draw_row(faxes.random.Random(7), "noise", 3000, 0, 0)] * 5)
+    wide = pages.image(3000, [pages.draw_row(random.Random(7), "noise", 3000, 0, 0)] * 5)
     long = faxes.image("noise", 2500)
-    faxes.put(f"{room}/large.tif", faxes.convert(program, wide + long, "-o", "mmr"))
-    samples = f"{faxes.TOP}/samples"
+    put(f"{room}/large.tif", faxes.convert(program, wide + long, "-o", "mmr"))
+    samples = f"{TOP}/samples"
     whole = [f"{samples}/three-mmr-rows.tif", f"{samples}/return-to-control.tif", f"{room}/large.tif"]
     for path in whole:
-        images = faxes.pels_of_pbm(faxes.convert(program, faxes.get(path), "-o", "pbm"))
+        images = faxes.pels_of_pbm(faxes.convert(program, get(path), "-o", "pbm"))
         yield from shown(browser, path, enumerate(images))
     if not shutil.which("pngtopnm"):
         print("SKIPPED: pictures of damaged pages beside faxpages-picture (netpbm)")
         return
-    yield from shown(browser, f"{faxes.TOP}/samples/damaged-fourth-page.tif", [
-        (3, faxes.picture(program, f"{faxes.TOP}/samples/damaged-fourth-page.tif", 3)[:3])])
+    yield from shown(browser, f"{TOP}/samples/damaged-fourth-page.tif", [
+        (3, faxes.picture(program, f"{TOP}/samples/damaged-fourth-page.tif", 3)[:3])])
     for path in faxes.damaged(program, room)[:12]:
         drawn = [(page, faxes.picture(program, path, page)) for page in range(3)]
         yield from shown(browser, path, [(page, it[:3]) for page, it in drawn if it and it[3]][:1])

@@ -8,20 +8,21 @@ import re
 import shutil
 import subprocess
 
-import faxes
+from tests import TOP
+from tests.web import faxes
 
-WEB = os.path.join(faxes.TOP, "web")
+WEB = os.path.join(TOP, "web")
 MOST_LINES, MOST_COLUMNS = 800, 120
 NO_WORDS_OF_THE_PAGE = {"Open", "Read", "Write", "CursorOutside", "NotACursor"}
 
 
 def read(*name):
-    with open(os.path.join(faxes.TOP, *name), encoding="utf-8") as file:
+    with open(os.path.join(TOP, *name), encoding="utf-8") as file:
         return file.read()
 
 
 def printed(*words):
-    return subprocess.run(words, cwd=faxes.TOP, capture_output=True, check=False).stdout.decode().strip()
+    return subprocess.run(words, cwd=TOP, capture_output=True, check=False).stdout.decode().strip()
 
 
 def claims():

@@ -6,13 +6,10 @@ import os
 import sys
 from typing import List, Optional
 
-HERE = os.path.dirname(os.path.abspath(__file__))
-sys.path[:0] = [os.path.join(HERE, ".."), os.path.join(HERE, "..", "..")]
+from tests.archive import engines, room
+from tests.waiting import wait_for
 
-import engines  # noqa: E402
-import faxpages  # noqa: E402
-import room  # noqa: E402
-from waiting import wait_for  # noqa: E402
+import faxpages
 
 MODULE = os.path.dirname(os.path.dirname(os.path.abspath(faxpages.__file__)))
 

@@ -8,13 +8,15 @@ import re
 import zlib
 from typing import TYPE_CHECKING, Dict, List, Optional, Set, Tuple
 
-from contents import Verdict, digest
-from model import GOOD, NOT_READ, Fax, Job, Stood, Words, deleted_in, rows_of, see, status_of, where_in
-from playing import Ran, Trouble
-from world import Entry, World, folded, snapshot
+from tests.archive.drawn.contents import Verdict, digest
+from tests.archive.drawn.model import (
+    GOOD, NOT_READ, Fax, Job, Stood, Words, deleted_in, rows_of, see, status_of, where_in,
+)
+from tests.archive.drawn.playing import Ran, Trouble
+from tests.archive.drawn.world import Entry, World, folded, snapshot
 
 if TYPE_CHECKING:
-    from operating import Episode
+    from tests.archive.drawn.operating import Episode
 
 
 class Difference(Exception):

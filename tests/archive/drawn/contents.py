@@ -6,13 +6,9 @@ import os
 import re
 import struct
 import subprocess
-import sys
 from typing import FrozenSet, List, NamedTuple, Optional, Tuple
 
-HERE = os.path.dirname(os.path.abspath(__file__))
-sys.path[:0] = [os.path.join(HERE, ".."), os.path.join(HERE, "..", "..", "convert")]
-
-import pages  # noqa: E402
+from tests.convert import pages
 
 ENTRY = 12
 OTHER, OTHER_KINDS = 2, ("Unsupported", "Magic", "ByteOrder")

@@ -6,14 +6,12 @@ import tempfile
 import traceback
 from typing import Dict, Optional, Tuple
 
+from tests.archive.drawn import cluster, contents, folding
+from tests.archive.drawn.comparing import Difference
+from tests.archive.drawn.operating import DASK, FOLDED, PLAIN, SECOND, WORKERS, Episode
+
 import faxpages
 import faxpages.archive  # noqa: F401  so that each run has it already
-
-import cluster
-import contents
-import folding
-from comparing import Difference
-from operating import DASK, FOLDED, PLAIN, SECOND, WORKERS, Episode
 
 STEPS = 25
 # The most differences that are told, and of each the most lines of what was done before it.

@@ -11,9 +11,8 @@ import tempfile
 from typing import Dict
 
 HERE = os.path.dirname(os.path.abspath(__file__))
-sys.path.insert(0, os.path.join(HERE, "..", ".."))
 
-from waiting import PATIENCE, wait_for  # noqa: E402
+from tests.waiting import PATIENCE, wait_for  # noqa: E402
 
 TOOLS = ("cc", "unshare", "umount")
 OWN = "OWN_MOUNTS"

@@ -5,9 +5,9 @@ import os
 import shutil
 from typing import Set
 
-import playing
-from comparing import Comparison
-from world import snapshot
+from tests.archive.drawn import playing
+from tests.archive.drawn.comparing import Comparison
+from tests.archive.drawn.world import snapshot
 
 
 class Goes(playing.Event):

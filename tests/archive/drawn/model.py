@@ -8,8 +8,8 @@ import sqlite3
 import stat
 from typing import Dict, Iterable, List, NamedTuple, Optional, Set, Tuple
 
-from contents import OTHER, Teller, Verdict
-from world import Entry, World, folded
+from tests.archive.drawn.contents import OTHER, Teller, Verdict
+from tests.archive.drawn.world import Entry, World, folded
 
 ENDINGS = (b".tif", b".tiff")
 GOOD, FAULTY, NOT_READ = 0, 1, 3

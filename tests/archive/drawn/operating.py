@@ -10,16 +10,13 @@ import signal
 import time
 from typing import Callable, Dict, List, Set
 
-import cluster
-import folding
-import going
-import playing
-from comparing import Before, Comparison, Difference, compare_two, done_by
-from contents import Content, Teller
-from model import NOT_READ, Job, Model, Row, Words, rows_of, status_of, where_in
-from playing import INLINE, Engine, Event, Ran, Started, Trouble
-from waiting import there_in, wait_for
-from world import Entry, World, snapshot
+from tests.archive.drawn import cluster, folding, going, playing
+from tests.archive.drawn.comparing import Before, Comparison, Difference, compare_two, done_by
+from tests.archive.drawn.contents import Content, Teller
+from tests.archive.drawn.model import NOT_READ, Job, Model, Row, Words, rows_of, status_of, where_in
+from tests.archive.drawn.playing import INLINE, Engine, Event, Ran, Started, Trouble
+from tests.archive.drawn.world import Entry, World, snapshot
+from tests.waiting import there_in, wait_for
 
 _NONE = Entry("none", 0, (0, 0), 0, b"")
 # What does the faxes of an episode: this very process; real workers; Dask; or the first two, with a second run at once;

@@ -14,10 +14,7 @@ import time
 import traceback
 from typing import Callable, List, NamedTuple, Optional, Tuple
 
-HERE = os.path.dirname(os.path.abspath(__file__))
-sys.path.insert(0, os.path.join(HERE, "..", ".."))
-
-from waiting import PATIENCE  # noqa: E402
+from tests.waiting import PATIENCE
 
 # The calls that change something on the disk: where one is made a run may be killed, or be refused it.
 CALLS = ["open", "mkdir", "link", "replace", "unlink", "fsync", "utime", "fchmod", "setxattr", "removexattr", "write",
