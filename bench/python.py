@@ -7,11 +7,14 @@ FAXPAGES_LIBRARY names the library; Pillow and numpy have to be installed, and t
 the page: dense text of 1,728 by 2,292 pels. Each job is done for a fax of 20 pages in MMR, in turn by both, some times;
 the number is that of the best time, of the processor. Prints a line a job."""
 
+from __future__ import annotations
+
 import io
 import os
 import sys
 import tempfile
 import time
+from typing import Callable
 
 import numpy
 from PIL import Image, ImageSequence
@@ -21,10 +24,11 @@ import tests  # noqa: F401  which says where faxpages is
 import faxpages
 import measure
 
+Job = Callable[[], object]
 PAGES, TIMES, SEED = 20, 15, 1
 
 
-def draw():
+def draw() -> bytes:
     """The bytes of a page of text, as raw PBM."""
     with tempfile.TemporaryDirectory() as room:
         measure.draw(SEED, room)
@@ -32,19 +36,19 @@ def draw():
             return file.read()
 
 
-def written_by_pillow(images):
+def written_by_pillow(images: list[Image.Image]) -> bytes:
     """A file of images by Pillow, through libtiff."""
     out = io.BytesIO()
     images[0].save(out, format="TIFF", save_all=True, append_images=images[1:], compression="group4", dpi=(204, 196))
     return out.getvalue()
 
 
-def frames(data):
+def frames(data: bytes) -> list[Image.Image]:
     """The pages as images by Pillow."""
     return [frame.copy() for frame in ImageSequence.Iterator(Image.open(io.BytesIO(data), formats=["TIFF"]))]
 
 
-def jobs(data):
+def jobs(data: bytes) -> dict[str, tuple[Job, Job | None]]:
     """Each job by its name: what faxpages does, and what Pillow does, or None."""
     images = [page.image() for page in faxpages.open(data)]
     return {
@@ -59,14 +63,14 @@ def jobs(data):
     }
 
 
-def seconds(job):
+def seconds(job: Job) -> float:
     """The seconds of the processor that a job takes."""
     begin = time.process_time()
     job()
     return time.process_time() - begin
 
 
-def main():
+def main() -> None:
     data = faxpages.convert(PAGES * draw(), "mmr")
     print(f"pages a second    faxpages   Pillow {Image.__version__}")
     for name, ways in jobs(data).items():

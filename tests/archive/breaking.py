@@ -1,5 +1,7 @@
 """A copy of it whose workers break."""
 
+from __future__ import annotations
+
 import os
 import shutil
 
@@ -8,7 +10,7 @@ from tests import MODULE
 HERE = os.path.dirname(os.path.abspath(__file__))
 
 
-def broken_module(folder):
+def broken_module(folder: str) -> str:
     """A folder with a copy of the module whose workers break (broken.py)."""
     made = os.path.join(folder, "broken module")
     if not os.path.exists(made):

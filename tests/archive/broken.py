@@ -1,19 +1,23 @@
 """Has the workers of an archive break: each fax whose last bytes ask for it, by what BROKEN says. For tests
 alone, which add it to a copy of the module (Room.broken)."""
 
+from __future__ import annotations
+
 import contextlib
 import os
 import signal
 import sqlite3
 import time
+from typing import Callable
 
 import faxpages
 
 WAYS = os.environ.get("BROKEN", "").split()
-check, convert = faxpages.check, faxpages.convert
+check = faxpages.check
+convert: Callable[..., bytes] = faxpages.convert
 
 
-def wait_at_gate():
+def wait_at_gate() -> None:
     """Notes a fax in the file GATE, and waits as long as that file is there with more of them than AFTER says."""
     try:
         gate = os.open(os.environ["GATE"], os.O_WRONLY | os.O_APPEND)
@@ -25,7 +29,7 @@ def wait_at_gate():
         pass
 
 
-def note_nap():
+def note_nap() -> None:
     """Notes in the file NAPS which process begins to sleep, and how many rows the table TABLE has by then."""
     with contextlib.closing(sqlite3.connect(f"file:{os.environ['TABLE']}?mode=ro", uri=True)) as base:
         rows = base.execute("SELECT count(*) FROM faxes").fetchone()[0]
@@ -33,7 +37,7 @@ def note_nap():
         file.write(f"{os.getpid()} {rows}\n")
 
 
-def broken_check(data):
+def broken_check(data: bytes) -> faxpages.Report:
     if "slow" in WAYS:
         time.sleep(0.004)
     if "stops" in WAYS:
@@ -55,7 +59,7 @@ def broken_check(data):
     return check(data)
 
 
-def broken_convert(data, *words):
+def broken_convert(data: bytes, *words: str) -> bytes:
     """A row less, or more, of some faxes."""
     if "lies" in WAYS and data.endswith(b"lies"):
         with open(os.environ["OTHER"], "rb") as other:
@@ -64,7 +68,8 @@ def broken_convert(data, *words):
 
 
 if WAYS:
-    faxpages.check, faxpages.convert = broken_check, broken_convert
+    setattr(faxpages, "check", broken_check)
+    setattr(faxpages, "convert", broken_convert)
 if "minutes" in WAYS:
     import faxpages._archive_progress
 

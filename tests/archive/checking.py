@@ -1,5 +1,7 @@
 """Resumed runs, names of any bytes, faxes that break a worker, and words."""
 
+from __future__ import annotations
+
 import contextlib
 import json
 import os
@@ -9,7 +11,9 @@ import shutil
 import sqlite3
 import subprocess
 import sys
+from typing import Any, NamedTuple
 
+from tests.archive.room import Part, Room, Rows
 from tests import TOP
 from tests.archive import engines, made
 from tests.waiting import PATIENCE, wait_for
@@ -24,31 +28,31 @@ BROKEN = [("WorkerDied", ""), ("WorkerDied", "RuntimeError: broken for a test"),
 LARGEST = 268435456
 
 
-def few(room, name):
+def few(room: Room, name: str) -> list[bytes]:
     """A small tree, and the paths of its faxes."""
     import faxpages
 
     return made.make(faxpages, room(name), FEW, FEW)
 
 
-def ask(room, table, query):
+def ask(room: Room, table: str, query: str) -> list[Any]:
     with contextlib.closing(sqlite3.connect(room(table))) as base:
         return base.execute(query).fetchall()
 
 
-def since_in(room):
+def since_in(room: Room) -> dict[bytes, float]:
     """Since when each fax of the tree resumed is as it is, by its whole path."""
     tree = os.fsencode(room("resumed"))
     found = ask(room, "resumed.sqlite", "SELECT CAST(path AS BLOB), since FROM times")
     return {os.path.join(tree, path): since for path, since in found}
 
 
-def add(path, data):
+def add(path: bytes, data: bytes) -> None:
     with open(path, "ab") as file:
         file.write(data)
 
 
-def resumed(room, *_):
+def resumed(room: Room, *_given: object) -> None:
     """New, changed and gone faxes, and those that are asked for again."""
     paths = few(room, "resumed")
     words = ["check", "resumed", "--table", "resumed.sqlite"]
@@ -81,7 +85,7 @@ def resumed(room, *_):
     room.claim("which are faulty now, since when", ask(room, "resumed.sqlite", query), [("ShortHeader", 1)])
 
 
-def names(room, paths, reference):
+def names(room: Room, paths: list[bytes], reference: Rows) -> None:
     """CSV and JSON have each name, with all its bytes."""
     status, out, _ = room.run("table", "one.sqlite", "--json")
     lines = [json.loads(line) for line in out.decode("ascii").splitlines()]
@@ -106,7 +110,7 @@ def names(room, paths, reference):
     room.claim("a pipe that closes", (closed.stderr, closed.stdout.decode().strip()), (b"", wanted.replace(" ", ",")))
 
 
-def broken(room, *_):
+def broken(room: Room, *_given: object) -> None:
     """A fax that breaks a worker, hangs, or cannot be read is a row; all others are as before."""
     paths = few(room, "broken")
     room.run("check", "broken", "--table", "whole.sqlite")
@@ -140,7 +144,7 @@ def broken(room, *_):
         room.claim(f"{name}: and then are as ever", room.rows(table) == room.rows("added.sqlite"))
 
 
-def closed(room, *_):
+def closed(room: Room, *_given: object) -> None:
     """A fax that cannot be opened. Root opens each, so there the command runs as another user, with copies of the
     module and of the library that this user can read."""
     paths = few(room, "closed/tree")
@@ -149,17 +153,18 @@ def closed(room, *_):
     shutil.copy(room.library, room("closed/libfaxpages.so.1"))
     told = dict(os.environ, PYTHONPATH=room("closed/python"), FAXPAGES_LIBRARY=room("closed/libfaxpages.so.1"),
                 PYTHONDONTWRITEBYTECODE="1", HOME="/")
-    as_user = {"cwd": room("closed"), "env": told, "capture_output": True, "check": False}
+    user = None
     if os.geteuid() == 0:
         os.chmod(room.folder, 0o755)
         os.chown(room("closed"), OTHER_USER, OTHER_USER)
-        as_user.update(user=OTHER_USER, group=OTHER_USER, extra_groups=[])
-    python = next(filter(lambda it: runs_as(it, as_user), dict.fromkeys([sys.executable, "/usr/bin/python3"])), None)
+        user = OTHER_USER
+    other = Caller(room("closed"), told, user)
+    python = other.python()
     if python is None:
         print("SKIPPED: another user cannot call Python here, so: no fax that cannot be opened is tried")
         return
     words = [python, "-m", "faxpages.archive", "check", "tree", "--table", "closed.sqlite"]
-    ran = subprocess.run(words, **as_user)
+    ran = other.run(words)
     room.claim("a fax that cannot be opened: status", (ran.returncode, ran.stderr), (3, b""))
     rows = room.rows("closed/closed.sqlite")
     room.claim("a fax that cannot be opened", [path for path in paths if rows[path]["fault"] == "Open"], [paths[20]])
@@ -168,15 +173,31 @@ def closed(room, *_):
     room.claim("it is done once it can be", again[1].partition("; ")[2], f"1 done now, {FEW - 1} before, 0 gone")
 
 
-def runs_as(python, as_user):
-    """Whether a user can call the module by this Python."""
-    try:
-        return subprocess.run([python, "-c", "import sqlite3, faxpages.archive"], **as_user).returncode == 0
-    except OSError:
-        return False
+class Caller(NamedTuple):
+    """Who calls the command: where, with which variables, and as another user or as this one."""
+
+    folder: str
+    environment: dict[str, str]
+    user: int | None
+
+    def run(self, words: list[str]) -> subprocess.CompletedProcess[bytes]:
+        """Runs a program."""
+        return subprocess.run(words, cwd=self.folder, env=self.environment, user=self.user, group=self.user,
+                              extra_groups=None if self.user is None else [], capture_output=True, check=False)
+
+    def python(self) -> str | None:
+        """A Python by which the module can be called, if there is one."""
+        return next((it for it in dict.fromkeys([sys.executable, "/usr/bin/python3"]) if self.has_module(it)), None)
+
+    def has_module(self, python: str) -> bool:
+        """Whether the module can be called by this Python."""
+        try:
+            return self.run([python, "-c", "import sqlite3, faxpages.archive"]).returncode == 0
+        except OSError:
+            return False
 
 
-def orphaned(room, *_):
+def orphaned(room: Room, *_given: object) -> None:
     """A worker that hangs ends by itself where the run was killed."""
     paths = few(room, "orphaned")
     add(paths[0], b"hangs")
@@ -196,12 +217,12 @@ def orphaned(room, *_):
     room.claim("no worker is left that hangs", engines.left_in(room.folder), [])
 
 
-def wrong(room, *_):
+def wrong(room: Room, *_given: object) -> None:
     """Words that are refused, and tables that are none."""
     few(room, "wrong")
     check = ["check", "wrong", "--table", "wrong.sqlite"]
     room.run(*check)
-    for words in ([], ["chek"], ["check", "wrong"], [*check, "--processes", "0"], [*check, "--timeout", "-1"],
+    for words in (check[:0], ["chek"], ["check", "wrong"], [*check, "--processes", "0"], [*check, "--timeout", "-1"],
                   [*check, "--dask", "--scheduler", "x"], [*check, "--share", "3/3"], [*check, "--proc", "2"],
                   ["table", "wrong.sqlite"], ["table", "wrong.sqlite", "--csv", "--json"], ["merge", "new.sqlite"],
                   [*check, "--scheduler", "tcp://127.0.0.1:1", "--processes", "2"], [*check, "--share", "0/2"],
@@ -232,11 +253,11 @@ def wrong(room, *_):
     room.claim("one run at a time", (status, "another run" in error), (3, True))
 
 
-def documented(room, *_):
+def documented(room: Room, *_given: object) -> None:
     """faxpages-archive(1) has the options and columns of the command, and no other option."""
     with open(os.path.join(made.HERE, "..", "..", "man", "faxpages-archive.1"), encoding="utf-8") as file:
         manual = file.read()
-    commands = ([], ["check"], ["convert"], ["table"], ["merge"])
+    commands: list[list[str]] = [[], ["check"], ["convert"], ["table"], ["merge"]]
     said = "".join(room.run(*command, "--help")[1].decode() for command in commands)
     options = set(re.findall(r"--[a-z]+(?:-[a-z]+)*", said)) - {"--help"}
     found = {f"-{it}" for it in re.findall(r"(?:Fl |\| )(-[a-z]+(?:-[a-z]+)*)", manual)}
@@ -250,7 +271,7 @@ def documented(room, *_):
         room.claim(f"the manual page has the column {column}", column in listed)
 
 
-def read_terminal(ours):
+def read_terminal(ours: int) -> bytes:
     """What a terminal shows next; nothing once nobody writes to it."""
     try:
         return os.read(ours, 65536)
@@ -258,7 +279,7 @@ def read_terminal(ours):
         return b""
 
 
-def progress(room, paths, _):
+def progress(room: Room, paths: list[bytes], _: dict[bytes, dict[str, str]]) -> None:
     """A line now and then, or a bar on a terminal."""
     error = room.run("check", "tree", "--table", "said.sqlite", "--processes", "4", broken="slow minutes")[2]
     room.claim("a line a minute", f" of {len(paths)} faxes, " in error and " minutes left" in error)
@@ -277,4 +298,4 @@ def progress(room, paths, _):
     room.claim("a bar with the rate", f"{FEW}/{FEW}" in said and " faxes/s" in said)
 
 
-PARTS = [resumed, names, broken, closed, orphaned, wrong, documented, progress]
+PARTS: list[Part] = [resumed, names, broken, closed, orphaned, wrong, documented, progress]

@@ -1,16 +1,19 @@
 """An archive that is converted: each copy has the rows of its fax, none is of a faulty one, and none is half."""
 
+from __future__ import annotations
+
 import os
 import shutil
 import signal
 import subprocess
 
+from tests.archive.room import Part, Room, Rows
 from tests.archive import made
 
-OPTIONS = {"mmr": [], "mr": ["--k", "2", "--strip", "3", "--order", "2"], "mh": ["--align"], "pbm": []}
+OPTIONS: dict[str, list[str]] = {"mmr": [], "mr": ["--k", "2", "--strip", "3", "--order", "2"], "mh": ["--align"], "pbm": []}
 
 
-def files_below(folder):
+def files_below(folder: str) -> dict[bytes, bytes]:
     """All files below a folder, by their names there, with their bytes."""
     found = {}
     for base, _, names in os.walk(os.fsencode(folder)):
@@ -21,7 +24,7 @@ def files_below(folder):
     return found
 
 
-def wanted(room, tree, paths, rows, to):
+def wanted(room: Room, tree: str, paths: list[bytes], rows: Rows, to: str) -> dict[bytes, bytes]:
     """The copies as the program writes them."""
     found = {}
     for path in paths:
@@ -33,7 +36,7 @@ def wanted(room, tree, paths, rows, to):
     return found
 
 
-def converted(room, *_):
+def converted(room: Room, *_given: object) -> None:
     """In each coding, and then resumed."""
     import faxpages
 
@@ -56,12 +59,12 @@ def converted(room, *_):
         room, "mmr.sqlite") == room.rows("given.sqlite"))
 
 
-def without_lacks(room, table):
+def without_lacks(room: Room, table: str) -> dict[bytes, dict[str, str]]:
     """The rows of a conversion, but for what the copies lack, which a check does not ask."""
     return {path: dict(row, lacks="") for path, row in room.rows(table).items()}
 
 
-def lied(room, *_):
+def lied(room: Room, *_given: object) -> None:
     """A copy with other rows is not written."""
     import faxpages
 
@@ -87,7 +90,7 @@ def lied(room, *_):
     room.claim("where nothing can be written", faults >= {"Write"})
 
 
-def deleted(room, *_):
+def deleted(room: Room, *_given: object) -> None:
     """Faxes are deleted once all are copied and compared, and none before."""
     import faxpages
 
@@ -119,7 +122,7 @@ def deleted(room, *_):
     taken(room, words, good, copies)
 
 
-def taken(room, words, good, copies):
+def taken(room: Room, words: list[str], good: list[bytes], copies: dict[bytes, bytes]) -> None:
     """Another fax comes under the name of a deleted one: the copy that is there is not written over."""
     with open(good[4], "wb") as file:
         file.write(made.other())
@@ -130,7 +133,7 @@ def taken(room, words, good, copies):
                (True, True))
 
 
-def followed(room, *_):
+def followed(room: Room, *_given: object) -> None:
     """Links lead on, but not to a folder above them, nor into the copies; one that leads nowhere cannot be read."""
     import faxpages
 
@@ -165,7 +168,7 @@ def followed(room, *_):
     room.claim("without --follow no link is gone through", set(room.rows("unlinked.sqlite")), set(paths))
 
 
-def with_fields(room, *_):
+def with_fields(room: Room, *_given: object) -> None:
     """The fields of a fax are beside its copy, as tiffdump prints them, or as what stands for it here."""
     import faxpages
 
@@ -195,7 +198,7 @@ def with_fields(room, *_):
     really_dumped(room, good)
 
 
-def really_dumped(room, good):
+def really_dumped(room: Room, good: list[bytes]) -> None:
     if not shutil.which("tiffdump"):
         print("SKIPPED: tiffdump (libtiff-tools) is not installed, so: its own fields are not looked at")
         return
@@ -206,7 +209,7 @@ def really_dumped(room, good):
     room.claim("fields by tiffdump", {name: told.get(name) for name in wanted}, wanted)
 
 
-def interrupted(room, paths, reference):
+def interrupted(room: Room, paths: list[bytes], reference: Rows) -> None:
     """Killed in the middle: each file is whole, and in the end all are there."""
     words = ["convert", "tree", "copies", "--to", "mmr", "--table", "copies.sqlite", "--processes", "3"]
     for number in (signal.SIGKILL, signal.SIGTERM):
@@ -222,10 +225,10 @@ def interrupted(room, paths, reference):
     room.claim("the table is that of a check", without_lacks(room, "copies.sqlite") == reference)
 
 
-def whole(copy):
+def whole(copy: bytes) -> bool:
     import faxpages
 
     return faxpages.check(copy).ok
 
 
-PARTS = [converted, lied, deleted, followed, with_fields, interrupted]
+PARTS: list[Part] = [converted, lied, deleted, followed, with_fields, interrupted]

@@ -1,6 +1,8 @@
 """What is never lost: what a copy does not have, what is not ours, what stands elsewhere, modes and times; and that no
 module of the current folder runs."""
 
+from __future__ import annotations
+
 import contextlib
 import fcntl
 import hashlib
@@ -12,7 +14,9 @@ import sqlite3
 import stat
 import subprocess
 import sys
+from unittest import mock
 
+from tests.archive.room import Part, Room
 from tests import MODULE
 from tests.archive import made
 from tests.archive.converting import files_below
@@ -25,7 +29,7 @@ CALLS = 130
 TIME = 1_560_000_000_123_456_789
 
 
-def put(path, data, mode=0o644, mtime=None):
+def put(path: str, data: bytes, mode: int = 0o644, mtime: int | None = None) -> None:
     os.makedirs(os.path.dirname(path), exist_ok=True)
     with open(path, "wb") as file:
         file.write(data)
@@ -34,23 +38,23 @@ def put(path, data, mode=0o644, mtime=None):
         os.utime(path, ns=(mtime, mtime))
 
 
-def drawn():
+def drawn() -> dict[str, bytes]:
     """Faxes by what their copies lack."""
     import faxpages
 
-    found = {}
+    found: dict[str, bytes] = {}
     for content in contents.drawn(faxpages, 1):
         found.setdefault(" ".join(sorted(content.lacks)), content.data)
     return found
 
 
-def convert(room, name, *words, **more):
+def convert(room: Room, name: str, *words: str, **more: str) -> tuple[int, bytes, str]:
     """Converts the tree of this name; the status, the output and the error stream."""
     return room.run("convert", f"{name}/tree", f"{name}/copies", "--to",
                     "mmr", "--table", f"{name}/t.sqlite", *words, **more)
 
 
-def lacking(room, *_):
+def lacking(room: Room, *_given: object) -> None:
     """A fax stays whose copy lacks something, unless that is given up."""
     faxes = drawn()
     names = {"data": "DataAfterEnd", "fields": "Fields", "private": "PrivateFields", "bytes": "OtherBytes",
@@ -88,7 +92,7 @@ def lacking(room, *_):
     room.claim("fields that are beside the copy", (status, os.listdir(room("lacking-dumped/tree"))), (0, []))
 
 
-def not_ours(room, *_):
+def not_ours(room: Room, *_given: object) -> None:
     """What is in the place of a copy, or of its fields, and is not ours is left: a file, a link, a pipe."""
     fax = drawn()[""]
     for kind in ("a.tif", "a.tif.fields"):
@@ -115,7 +119,7 @@ def not_ours(room, *_):
                 stat.S_IFMT(before.st_mode), True, before.st_ino, b"somebody's"))
 
 
-def mirrored(room, *_):
+def mirrored(room: Room, *_given: object) -> None:
     """A mirror follows its faxes: good, faulty, good again with other content; and after a kill between the copy and
     the row. Two trees that are converted into one folder do not write over one another."""
     import faxpages
@@ -151,7 +155,7 @@ def mirrored(room, *_):
     room.claim("it is made once the place is free", convert(room, "mirrored")[0], 0)
 
 
-def two_writers(room, *_):
+def two_writers(room: Room, *_given: object) -> None:
     """A copy that another run is writing is left, and told; what a run has left that was killed goes. At whatever call
     another run takes the place of what is written, what comes of it is no copy."""
     fax, copies = drawn()[""], room("writers/copies")
@@ -170,32 +174,30 @@ def two_writers(room, *_):
     others_come(room, fax, part)
 
 
-def taken_away(room, fax, part):
+def taken_away(room: Room, fax: bytes, part: str) -> None:
     """Another run takes what is begun for something that a run has left, before the run that begins it holds it."""
     import faxpages
     from faxpages import _archive_fax
 
     put(room("taken/tree/a.tif"), fax)
     os.mkdir(room("taken/copies"))
-    flock, taken = fcntl.flock, []
+    flock, taken = fcntl.flock, list[str]()
 
-    def late(file, way):
+    def late(file: int, way: int) -> None:
         if not taken:
-            taken.append(os.unlink(room(f"taken/copies/{part}")))
-        return flock(file, way)
+            taken.append(part)
+            os.unlink(room(f"taken/copies/{part}"))
+        flock(file, way)
 
     job = _archive_fax.Job(os.fsencode(room("taken/tree")), os.fsencode(room("taken/copies")))
-    fcntl.flock = late
-    try:
+    with mock.patch.object(fcntl, "flock", late):
         done = job.do(_archive_fax.Waiting(b"a.tif", len(fax), os.stat(room("taken/tree/a.tif")).st_mtime))
-    finally:
-        fcntl.flock = flock
     room.claim("a copy that is taken away before it is held is begun again",
                (len(taken), done.found.status, files_below(room("taken/copies"))),
                (1, 0, {b"a.tif": faxpages.convert(fax, "mmr")}))
 
 
-def others_come(room, fax, part):
+def others_come(room: Room, fax: bytes, part: str) -> None:
     """Another run begins a copy at each call of the one that writes it."""
     import faxpages
 
@@ -217,7 +219,7 @@ def others_come(room, fax, part):
     room.claim("another run begins the copy at each call", wrong[1:], [])
 
 
-def one_in_the_other(room, *_):
+def one_in_the_other(room: Room, *_given: object) -> None:
     """Below TARGET no link is followed, and TREE and TARGET that hold one another are refused."""
     fax = drawn()["data"]
     put(room("links/tree/sub/a.tif"), fax)
@@ -237,7 +239,7 @@ def one_in_the_other(room, *_):
     room.claim("nothing is written", files_below(room("links/tree")), {b"sub/a.tif": fax, b"b.tif": fax})
 
 
-def attributes(room, *_):
+def attributes(room: Room, *_given: object) -> None:
     """A copy has the mode, the time and the owner of its fax, and so has its folder, but for the time; after --delete
     the table has the time still."""
     fax = drawn()[""]
@@ -256,7 +258,7 @@ def attributes(room, *_):
                    [("closed/a.tif", was.st_mtime)])
 
 
-def outside(room, *_):
+def outside(room: Room, *_given: object) -> None:
     """--follow --delete deletes what stands in the tree, and nothing that a linked folder leads to."""
     fax = drawn()[""]
     put(room("outside/tree/a.tif"), fax)
@@ -271,7 +273,7 @@ def outside(room, *_):
     room.claim("what stands elsewhere is there", left, [False, False, True, True])
 
 
-def changed_copies(room, *_):
+def changed_copies(room: Room, *_given: object) -> None:
     """A copy that was cut later is made again; one that was changed is told; one that rotted is found by --again
     copies."""
     fax = drawn()[""]
@@ -297,7 +299,7 @@ def changed_copies(room, *_):
     changed_before_it_is_read(room)
 
 
-def changed_before_it_is_read(room):
+def changed_before_it_is_read(room: Room) -> None:
     """A fax that changes after it was found and before it is read: its copy is not that of the fax as it was."""
     import faxpages
     from faxpages import _archive_fax
@@ -309,6 +311,7 @@ def changed_before_it_is_read(room):
     found = _archive_fax.Waiting(b"a.tif", len(one), os.stat(room("late/tree/a.tif")).st_mtime)
     done = job.do(found)
     put(room("late/tree/a.tif"), two, 0o644, TIME)
+    assert done.copy is not None
     job.do(found._replace(copy=done.copy.digest, proven=True))
     with open(room("late/copies/a.tif"), "rb") as file:
         room.claim("a fax that changed before it was read", file.read(), faxpages.convert(two, "mmr"))
@@ -320,7 +323,7 @@ raise SystemExit("planted")
 """
 
 
-def planted(room, *_):
+def planted(room: Room, *_given: object) -> None:
     """Modules of the current folder run nowhere: in the command, its workers, Dask's, and in a task of an array."""
     put(room("planted/tree/a.tif"), drawn()[""])
     for name in ("fractions", "faxpages", "sqlite3", "pickle", "signal", "distributed", "tqdm", "_planted"):
@@ -340,7 +343,8 @@ if __name__ == "__main__":
             "HOME": room.folder, "TMPDIR": room.folder, "PYTHONDONTWRITEBYTECODE": "1", CONNECT: os.environ[CONNECT]}
     array = {f"SLURM_ARRAY_TASK_{name}": value for name, value in (
         ("ID", "0"), ("COUNT", "1"), ("MIN", "0"), ("STEP", "1"))}
-    calls = [("the command and its workers", [script], [], {}), ("a task of an array", [script], [], array)]
+    calls: list[tuple[str, list[str], list[str], dict[str, str]]] = [
+        ("the command and its workers", [script], [], {}), ("a task of an array", [script], [], array)]
     if room.dask:
         calls.append(("Dask's workers", [room.dask, script], ["--dask", "--processes", "1"], {}))
     else:
@@ -357,7 +361,7 @@ if __name__ == "__main__":
     room.claim("by python3 -m elsewhere", ran.returncode, 0)
 
 
-def two_faxes(place, data):
+def two_faxes(place: str, data: bytes) -> None:
     """A new tree of two faxes."""
     shutil.rmtree(place, ignore_errors=True)
     for name in ("a.tif", "b.tif"):
@@ -365,7 +369,7 @@ def two_faxes(place, data):
     os.chmod(f"{place}/tree/a.tif", 0o400)
 
 
-def at_each_call(room, *_):
+def at_each_call(room: Room, *_given: object) -> None:
     """A run that copies and deletes two faxes is killed at each of its calls of the system, and given again; and at
     each call a fax changes, which then stays, or has a copy of what it became."""
     import faxpages
@@ -389,14 +393,14 @@ def at_each_call(room, *_):
             two_faxes(place, one)
             playing.run(words, place, playing.Trouble(at, kill=signal.SIGKILL))
             status = playing.run(words, place, playing.Trouble()).status
-            there = files_below(f"{place}/tree"), files_below(f"{place}/copies")
-            if (status, *there) != (0, {}, {b"a.tif": copies[one], b"b.tif": copies[one]}):
-                left.append((at, status, there))
+            both = files_below(f"{place}/tree"), files_below(f"{place}/copies")
+            if (status, *both) != (0, {}, {b"a.tif": copies[one], b"b.tif": copies[one]}):
+                left.append((at, status, both))
     room.claim(f"all {at - 1} calls are met", 30 < at < CALLS - 1)
     room.claim("killed at each call: the next run does what is left", left, [])
     # The instant between the last look at a fax and its deletion is one call.
     room.claim("changed at each call: no fax is lost", lost[1:], [])
 
 
-PARTS = [at_each_call, lacking, not_ours, two_writers, mirrored, one_in_the_other, attributes, outside, changed_copies,
+PARTS: list[Part] = [at_each_call, lacking, not_ours, two_writers, mirrored, one_in_the_other, attributes, outside, changed_copies,
          planted]

@@ -1,5 +1,7 @@
 """Sound files that are no faxes read here: nobody calls them faulty, and a table of an older version that did is mended."""
 
+from __future__ import annotations
+
 import contextlib
 import json
 import os
@@ -10,6 +12,7 @@ import subprocess
 from tests import TOP
 from tests.archive.checking import ask
 from tests.archive.keeping import drawn, put
+from tests.archive.room import Part, Room
 
 SAMPLE = os.path.join(TOP, "samples", "one-mh-page.tif")
 # How each is made of a sample, and what is said of it.
@@ -24,7 +27,7 @@ OLD = ("path, size, mtime, status, pages, rows, width, x, y, codings, notes, fau
        "lacks, seconds")
 
 
-def make(room):
+def make(room: Room) -> dict[str, str]:
     """A tree of all of them, with a good fax and a faulty one; what is said of each."""
     said = {}
     os.makedirs(room("kinds/tree"))
@@ -38,7 +41,7 @@ def make(room):
     return {**said, "pdf": "a PDF", "text": "no TIFF file"}
 
 
-def kinds(room, *_):
+def kinds(room: Room, *_given: object) -> None:
     """They have a status and a count of their own, and the table says what they are."""
     if not shutil.which("tiffcp"):
         print("SKIPPED: tiffcp (libtiff-tools) is not installed, so: no TIFF files of other kinds are looked at")
@@ -61,7 +64,7 @@ def kinds(room, *_):
     older(room, check, rows)
 
 
-def told(room, said):
+def told(room: Room, said: dict[str, str]) -> None:
     """What a summary and Prometheus have of them."""
     summary = json.loads(room.run("table", "kinds/t.sqlite", "--summary")[1])
     counts = {kind: list(said.values()).count(kind) for kind in said.values()}
@@ -73,7 +76,7 @@ def told(room, said):
         ['"good"} 1', '"faulty"} 1', f'"other"}} {len(said)}', '"not_read"} 0'], False))  # fmt: skip
 
 
-def kept(room, said):
+def kept(room: Room, said: dict[str, str]) -> None:
     """They are not copied, and nothing is deleted beside them."""
     before = sorted(os.listdir(room("kinds/tree")))
     os.rename(room("kinds/tree/faulty.tif"), room("kinds/faulty.tif"))
@@ -85,7 +88,7 @@ def kept(room, said):
     room.claim("other kinds: they are not copied", there, (before, ["good.tif"]))
 
 
-def older(room, check, rows):
+def older(room: Room, check: list[str], rows: dict[str, dict[str, str]]) -> None:
     """A table of version 1.5, which called them faulty, is read, and goes on."""
     with contextlib.closing(sqlite3.connect(room("kinds/t.sqlite"))) as base:
         base.execute("ALTER TABLE faxes RENAME TO new")
@@ -105,8 +108,8 @@ def older(room, check, rows):
         out = room.run(*check)[1].decode()
         room.claim(f"a table of 1.5, {way}: goes on", f"; 0 done now, {len(rows)} before, 0 gone" in out)
     room.run(*check, "--again", "faulty")
-    found = {os.path.basename(path).decode()[:-4]: dict(row) for path, row in room.rows("kinds/t.sqlite").items()}
-    room.claim("a table of 1.5: looked at again", found, rows)
+    whole = {os.path.basename(path).decode()[:-4]: dict(row) for path, row in room.rows("kinds/t.sqlite").items()}
+    room.claim("a table of 1.5: looked at again", whole, rows)
 
 
-PARTS = [kinds]
+PARTS: list[Part] = [kinds]

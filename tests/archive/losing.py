@@ -1,5 +1,7 @@
 """--lost: how many rows of a faulty fax are left, and lost, as the program's salvage has it."""
 
+from __future__ import annotations
+
 import json
 import os
 import shutil
@@ -7,12 +9,13 @@ import subprocess
 
 from tests import TOP
 from tests.archive.keeping import drawn, put
+from tests.archive.room import Part, Room
 
 SAMPLES = ["damaged-fourth-page.tif", "received/over-a-noisy-line.tif", "second-row-missing.tif", "three-pages.tif",
            "return-to-control.tif"]  # fmt: skip
 
 
-def by_program(room, path):
+def by_program(room: Room, path: bytes) -> tuple[int, int]:
     """The rows that are found and lost, by the program's lines."""
     with open(path, "rb") as file:
         ran = subprocess.run([room.program, "salvage"], stdin=file, capture_output=True, check=False)
@@ -20,7 +23,7 @@ def by_program(room, path):
     return (sum(line[0] == "row" for line in lines), sum(int(line[3]) for line in lines if line[0] == "lost" and len(line) == 5))
 
 
-def lost(room, *_):
+def lost(room: Room, *_given: object) -> None:
     """Faulty faxes have both numbers, and no others; those that were checked before are counted too, once."""
     for name in SAMPLES:
         put(room(f"lost/tree/{os.path.basename(name)}"), open(os.path.join(TOP, "samples", name), "rb").read())
@@ -33,14 +36,15 @@ def lost(room, *_):
     room.run(*words)
     before = room.rows("lost/t.sqlite")
     room.claim("without --lost nothing is counted", {(row["found"], row["lost"]) for row in before.values()}, {("", "")})
-    faulty = [path for path, row in before.items() if row["status"] == "1"]
+    faulty = [it for it, row in before.items() if row["status"] == "1"]
     status, out, error = room.run(*words, "--lost", "--names", **path)
     room.claim("--lost counts what was checked before", (status, f"; {len(faulty)} done now, " in out.decode()), (1, True))
     rows = room.rows("lost/t.sqlite")
-    wanted = {path: by_program(room, path) if path in faulty else ("", "") for path in rows}
-    got = {path: (row["found"], row["lost"]) for path, row in rows.items()}
-    room.claim("found and lost, as by salvage", got, {path: tuple(map(str, it)) for path, it in wanted.items()})
-    room.claim("all else is as before", {path: dict(row, found="", lost="") for path, row in rows.items()} == before)
+    wanted = {it: by_program(room, it) for it in faulty}
+    got = {it: (row["found"], row["lost"]) for it, row in rows.items()}
+    room.claim("found and lost, as by salvage", got, {
+        it: tuple(map(str, wanted[it])) if it in wanted else ("", "") for it in rows})  # fmt: skip
+    room.claim("all else is as before", {it: dict(row, found="", lost="") for it, row in rows.items()} == before)
     room.claim("--names says them", all(f"; {wanted[it][0]} rows are left, {wanted[it][1]} are lost\n" in error for it in faulty))
     room.claim("no fax is counted twice", "; 0 done now, " in room.run(*words, "--lost", **path)[1].decode())
     summary = json.loads(room.run("table", "lost/t.sqlite", "--summary")[1])
@@ -54,7 +58,7 @@ def lost(room, *_):
     not_counted(room, words, path)
 
 
-def not_counted(room, words, path):
+def not_counted(room: Room, words: list[str], path: dict[str, str]) -> None:
     """Where there is no program that is said at once; where it fails, in the rows."""
     if not shutil.which("faxpages"):
         status, _, error = room.run(*words, "--lost")
@@ -66,4 +70,4 @@ def not_counted(room, words, path):
     room.claim("a program that fails", (status, told), (1, {("", "`faxpages salvage` ended with status 3")}))
 
 
-PARTS = [lost]
+PARTS: list[Part] = [lost]

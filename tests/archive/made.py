@@ -1,10 +1,14 @@
 """Makes a tree of faxes for the tests of archives, some with names that are no UTF-8, a tenth of them damaged."""
 
+from __future__ import annotations
+
 import glob
 import os
 import random
 import struct
 import sys
+from typing import Iterator
+from types import ModuleType
 
 HERE = os.path.dirname(os.path.abspath(__file__))
 
@@ -14,7 +18,7 @@ HOSTILE = [b"caf\xe9.tif", b"a\nline.tif", b"a 'quote\", and more.TIFF", b"-o.ti
            "päge.tif".encode()]
 
 
-def originals(faxpages, count):
+def originals(faxpages: ModuleType, count: int) -> Iterator[bytes]:
     """Some drawn faxes, in each coding and fill order, of one page and of five, and damaged ones."""
     rng = pages.seeded("archive")
     for number in range(count):
@@ -26,7 +30,7 @@ def originals(faxpages, count):
         yield damaged(rng, fax) if number % 10 == 9 else fax
 
 
-def damaged(rng, fax):
+def damaged(rng: random.Random, fax: bytes) -> bytes:
     """A fax with a bit changed, or cut."""
     if rng.random() < 0.3:
         return fax[:rng.randrange(len(fax))]
@@ -34,40 +38,41 @@ def damaged(rng, fax):
     return fax[:at] + bytes([fax[at] ^ 1 << rng.randrange(8)]) + fax[at + 1:]
 
 
-def centimetres(fax):
+def centimetres(fax: bytes) -> bytes:
     """A fax of little-endian bytes, whose resolution is to the centimetre."""
     unit = struct.pack("<HHIH", 296, 3, 1, 2)
     assert unit in fax
     return fax.replace(unit, struct.pack("<HHIH", 296, 3, 1, 3))
 
 
-def other():
+def other() -> bytes:
     """A sample that is none of the drawn faxes."""
     with open(os.path.join(HERE, "..", "..", "samples", "row-begins-black.tif"), "rb") as file:
         return file.read()
 
 
-def inputs():
+def inputs() -> Iterator[bytes]:
     """The files that the runs of the program are tried with."""
     for name in sorted(glob.glob(os.path.join(HERE, "..", "runs", "inputs", "*.tif"))):
         with open(name, "rb") as file:
             yield file.read()
 
 
-def make(faxpages, tree, count, of=300, first=()):
+def make(faxpages: ModuleType, tree: str, count: int, of: int = 300,
+         first: list[bytes] | tuple[()] = ()) -> list[bytes]:
     """Writes so many faxes into folders below the tree, first these, and what is none. The paths of the faxes."""
-    tree, paths = os.fsencode(tree), []
+    top, paths = os.fsencode(tree), list[bytes]()
     kinds = [*first, *originals(faxpages, of)]
     for number in range(count):
-        folder = os.path.join(tree, b"%d" % (number % 7), b"sub" * (number % 3) or b".")
+        folder = os.path.join(top, b"%d" % (number % 7), b"sub" * (number % 3) or b".")
         name = HOSTILE[number] if number < len(HOSTILE) else b"%d.tif" % number
         paths.append(os.path.normpath(os.path.join(folder, name)))
         os.makedirs(folder, exist_ok=True)
         with open(paths[-1], "wb") as file:
             file.write(kinds[number % len(kinds)])
-    os.symlink(paths[0], os.path.join(tree, b"link.tif"))
-    os.makedirs(os.path.join(tree, b"folder.tif"))
-    with open(os.path.join(tree, b"other.txt"), "wb") as file:
+    os.symlink(paths[0], os.path.join(top, b"link.tif"))
+    os.makedirs(os.path.join(top, b"folder.tif"))
+    with open(os.path.join(top, b"other.txt"), "wb") as file:
         file.write(b"no fax")
     return paths
 

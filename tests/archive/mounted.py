@@ -1,5 +1,7 @@
 """Folders that are mounted in one another, and a folder that folds case, where root may mount."""
 
+from __future__ import annotations
+
 import os
 import shutil
 import subprocess
@@ -7,16 +9,17 @@ import sys
 
 from tests import MODULE
 from tests.archive.keeping import drawn, put
+from tests.archive.room import Part, Room
 
 
-def may_mount():
+def may_mount() -> bool:
     """Whether a folder can be mounted in a namespace of its own."""
     able = os.geteuid() == 0 and shutil.which("unshare") and shutil.which("mount")
     return bool(able) and subprocess.run(["unshare", "-m", "--propagation", "private", "mount", "-t", "tmpfs", "none",
                                           "/mnt"], capture_output=True, check=False).returncode == 0
 
 
-def run(room, mounts, *words):
+def run(room: Room, mounts: list[str], *words: str) -> tuple[int, str]:
     """Runs the command among mounts of its own: the status, and what it says."""
     told = dict(os.environ, FAXPAGES_LIBRARY=room.library, PYTHONPATH=MODULE, PYTHONDONTWRITEBYTECODE="1")
     script = " && ".join([*mounts, f'exec {sys.executable} -m faxpages.archive "$@"'])
@@ -25,7 +28,7 @@ def run(room, mounts, *words):
     return ran.returncode, ran.stderr
 
 
-def mounted(room, *_):
+def mounted(room: Room, *_given: object) -> None:
     """TREE and TARGET that hold one another by mounts are refused, whatever is mounted where."""
     if not may_mount():
         print("SKIPPED: nothing can be mounted here, so: no folder is mounted in another one")
@@ -37,7 +40,7 @@ def mounted(room, *_):
     os.symlink("../far", room("mounts/tree/link"))
     words = ["convert", "mounts/tree", "mounts/copies", "--to", "mmr", "--table", "mounts/t.sqlite"]
     bind = f"mount --bind {room('mounts')}/{{}} {room('mounts')}/{{}}"
-    cases = {
+    cases: dict[str, tuple[list[str], list[str], int]] = {
         "a folder of TARGET in TREE": ([bind.format("copies/sub", "tree/point")], [], 2),
         "TARGET in TREE": ([bind.format("copies", "tree/point")], [], 2),
         "a folder of TREE in TARGET": ([bind.format("tree/sub", "copies/point")], [], 2),
@@ -55,4 +58,4 @@ def mounted(room, *_):
         room.claim(f"{name}: {said}", status, wanted)
 
 
-PARTS = [mounted]
+PARTS: list[Part] = [mounted]

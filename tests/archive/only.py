@@ -1,6 +1,8 @@
 """The only copies of faxes: what --delete leaves is never replaced, whatever a table says; and a fax goes only where its
 copy stands right before."""
 
+from __future__ import annotations
+
 import contextlib
 import errno
 import fcntl
@@ -10,33 +12,37 @@ import re
 import shutil
 import sqlite3
 import subprocess
+from unittest import mock
+from typing import Iterator
 
 from tests.archive.converting import files_below
 from tests.archive.drawn import going, playing
 from tests.archive.keeping import CALLS, drawn, put
+from tests.archive.room import Part, Room
 
 # At two calls for each of three faxes, TARGET gone and renamed, a fax may go with its copy.
 LEAST = 12
 MARKS = ("setxattr", "getxattr", "removexattr")
 
 
-def two():
+def two() -> tuple[bytes, bytes]:
     """Two faxes with other rows."""
     import faxpages
 
-    return [faxpages.convert(b"P4 8 %d\n" % rows + bytes([24]) * rows, "mh") for rows in (1, 2)]
+    one, other = (faxpages.convert(b"P4 8 %d\n" % rows + bytes([24]) * rows, "mh") for rows in (1, 2))
+    return one, other
 
 
-def words_of(place, *more):
+def words_of(place: str, *more: str) -> list[str]:
     return ["convert", f"{place}/tree", f"{place}/copies", "--to", "mmr", "--table", f"{place}/t.sqlite", "--gone", *more]
 
 
 @contextlib.contextmanager
-def refused(error, *names):
+def refused(error: int, *names: str) -> Iterator[None]:
     """Calls of the system that are refused in runs that are begun now."""
     kept = {name: getattr(os, name) for name in names}
 
-    def refuse(*_, **__):
+    def refuse(*_given: object) -> None:
         raise OSError(error, os.strerror(error))
 
     try:
@@ -48,12 +54,12 @@ def refused(error, *names):
             setattr(os, name, call)
 
 
-def backup(room, *_):
+def backup(room: Room, *_given: object) -> None:
     """A table out of a backup does not have the only copies be written over, with attributes and without."""
     one, other = two()
     for way, error in (("with attributes", None), ("without attributes", errno.ENOTSUP)):
         place = room(f"backup-{error}")
-        for fields in ([], ["--fields"]):
+        for fields in (list[str](), ["--fields"]):
             shutil.rmtree(place, ignore_errors=True)
             put(f"{place}/tree/a.tif", one)
             put(f"{place}/tree/b.tif", one)
@@ -74,7 +80,7 @@ def backup(room, *_):
     gone_by_hand(room, one, other)
 
 
-def gone_by_hand(room, one, other):
+def gone_by_hand(room: Room, one: bytes, other: bytes) -> None:
     """The same where somebody else deleted the fax."""
     place = room("gone-by-hand")
     put(f"{place}/tree/a.tif", one)
@@ -86,7 +92,7 @@ def gone_by_hand(room, one, other):
     copy_stays(room, "a fax that somebody deleted", place, other)
 
 
-def copy_stays(room, name, place, other):
+def copy_stays(room: Room, name: str, place: str, other: bytes) -> None:
     """Where a fax with other rows comes under an old name the copy that is there is not replaced, and that is told."""
     before = files_below(f"{place}/copies")
     put(f"{place}/tree/a.tif", other)
@@ -94,7 +100,7 @@ def copy_stays(room, name, place, other):
     room.claim(name, (ran.status, files_below(f"{place}/copies") == before), (3, True))
 
 
-def adopted(room, *_):
+def adopted(room: Room, *_given: object) -> None:
     """Two tables with one TARGET: what one has adopted, and deleted the faxes of, the other does not replace."""
     one, other = two()
     place = room("adopted")
@@ -110,7 +116,7 @@ def adopted(room, *_):
     copy_stays(room, "is not replaced", place, other)
 
 
-def merged(room, *_):
+def merged(room: Room, *_given: object) -> None:
     """The copies of parts are those of the table that is merged of them."""
     one, other = two()
     place = room("merged-copies")
@@ -128,7 +134,7 @@ def merged(room, *_):
     room.claim("a merged table follows its faxes", (ran.status, len(set(files_below(f"{place}/copies").values()))), (0, 1))
 
 
-def target_goes(room, *_):
+def target_goes(room: Room, *_given: object) -> None:
     """TARGET goes at each call of a run that deletes: all faxes that are left then stay, but for one, whose copy went in
     the instant after the last look at it, which is two calls of the system."""
     fax, place, lost = drawn()[""], room("target-goes"), []
@@ -140,7 +146,7 @@ def target_goes(room, *_):
         for at in range(1, 2 * CALLS):
             shutil.rmtree(place, ignore_errors=True)
             shutil.copytree(f"{place}-before", place)
-            event = going.Goes(*(os.fsencode(f"{place}/{name}") for name in ("copies", "tree")), replaces)
+            event = going.Goes(os.fsencode(f"{place}/copies"), os.fsencode(f"{place}/tree"), replaces)
             playing.run(words_of(place, "--delete"), place, playing.Trouble(at, event=event))
             if not os.path.exists(f"{place}/amid"):
                 break
@@ -155,7 +161,7 @@ def target_goes(room, *_):
         [it for it in lost if len(it[1]) > 1], lost[LEAST:]), ([], []))  # fmt: skip
 
 
-def other_names(room, *_):
+def other_names(room: Room, *_given: object) -> None:
     """A folder that folds case leads by two names to one copy, as hard links do: the second fax is told, each time."""
     one, other = two()
     place = room("folded")
@@ -171,7 +177,7 @@ def other_names(room, *_):
             3, {b"a.tif": "", b"A.TIF": "the copy of a fax with another name"}, True))  # fmt: skip
 
 
-def linked(room, *_):
+def linked(room: Room, *_given: object) -> None:
     """Hard links of a fax go by one run, and so do links to faxes of the tree, which never lead nowhere."""
     one, _ = two()
     place = room("hard")
@@ -200,13 +206,13 @@ def linked(room, *_):
         room.claim(f"what a link leads to that stays: {ran.error}", (ran.status, left), (3, ["a.tif", "z.tif"]))
 
 
-def odd(room, *_):
+def odd(room: Room, *_given: object) -> None:
     """A fax of a year that no table of before could keep; a copy that is the fax; and what cannot be deleted."""
     one, _ = two()
     place = room("late-year")
     put(f"{place}/tree/a.tif", one, mtime=10_000_000_000 * 10**9)
     if os.stat(f"{place}/tree/a.tif").st_mtime_ns >= 1 << 63:
-        for more in ([], ["--again", "copies"], ["--delete"]):
+        for more in (list[str](), ["--again", "copies"], ["--delete"]):
             ran = playing.run(words_of(place, *more), place, playing.Trouble())
             room.claim(f"the year 2286 {more}: {ran.error}", ran.status, 0)
     else:
@@ -223,23 +229,20 @@ def odd(room, *_):
     not_deleted(room, one)
 
 
-def not_deleted(room, one):
+def not_deleted(room: Room, one: bytes) -> None:
     """What cannot be deleted is told, and is not counted as deleted."""
     place = room("not-deleted")
     for name in "ab":
         put(f"{place}/tree/{name}.tif", one)
     unlink = os.unlink
 
-    def refuse(path, **more):
+    def refuse(path: bytes, dir_fd: int | None = None) -> None:
         if path == b"b.tif":
             raise OSError(errno.EROFS, os.strerror(errno.EROFS))
-        return unlink(path, **more)
+        unlink(path, dir_fd=dir_fd)
 
-    os.unlink = refuse
-    try:
+    with mock.patch.object(os, "unlink", refuse):
         ran = playing.run(words_of(place, "--delete"), place, playing.Trouble())
-    finally:
-        os.unlink = unlink
     room.claim("what cannot be deleted", (ran.status, "NotDeleted: b.tif: Read-only file system" in ran.error,
                                           "deleted 1 faxes" in ran.out), (3, True, True))  # fmt: skip
     for wanted in (1, 2):
@@ -252,7 +255,7 @@ def not_deleted(room, one):
     killed_amid(room, one)
 
 
-def killed_amid(room, one):
+def killed_amid(room: Room, one: bytes) -> None:
     """Faxes that were deleted by a run that was killed then are counted by the next one."""
     place = room("killed-amid")
     put(f"{place}/tree/a.tif", one)
@@ -265,7 +268,7 @@ def killed_amid(room, one):
     room.claim("deleted by a run that was killed", told["deleted"], 1)
 
 
-def foreign(room, *_):
+def foreign(room: Room, *_given: object) -> None:
     """A database of another program is no table, and stays as it is, byte for byte."""
     put(room("foreign/tree/a.tif"), drawn()[""])
     cases = {"tables": "CREATE TABLE faxes (number)", "a view": "CREATE VIEW job AS SELECT 1",
@@ -286,7 +289,7 @@ def foreign(room, *_):
             room.claim(f"a database with {name}: {words[0]}", (status, "of another program" in error, same), (3, True, True))
 
 
-def parts(room, *_):
+def parts(room: Room, *_given: object) -> None:
     """Parts of arrays of different sizes, or of different trees, are refused, and the table stays."""
     for tree in ("one", "two"):
         for number in range(6):
@@ -308,7 +311,7 @@ def parts(room, *_):
     room.claim("a table by two names has one lock", (status, "another run writes to" in error), (3, True))
 
 
-def figures(room, *_):
+def figures(room: Room, *_given: object) -> None:
     """What is told to Prometheus is what it reads, whatever the tree is called."""
     for number, name in enumerate(("p\u00e4ge", 'a "quote\\"', "a\nline", b"\xff".decode("utf-8", "surrogateescape"))):
         put(room(f"figures/{number}/{name}/a.tif"), drawn()[""])
@@ -318,9 +321,9 @@ def figures(room, *_):
         room.claim(f"figures of {name!a}", (status, escapes <= {b'"', b"\\", b"n"}), (0, True))
         if shutil.which("promtool"):
             ran = subprocess.run(["promtool", "check", "metrics"], input=out, capture_output=True, check=False)
-            room.claim(f"promtool reads {name!a}: {ran.stderr[-200:]}", ran.returncode in (0, 3))
+            room.claim(f"promtool reads {name!a}: {ran.stderr[-200:]!r}", ran.returncode in (0, 3))
     if not shutil.which("promtool"):
         print("SKIPPED: promtool (prometheus) is not installed, so: it does not read the figures of an archive")
 
 
-PARTS = [parts, figures, foreign, backup, adopted, merged, target_goes, other_names, linked, odd]
+PARTS: list[Part] = [parts, figures, foreign, backup, adopted, merged, target_goes, other_names, linked, odd]

@@ -1,6 +1,8 @@
 """What a run and a table say: whether a run has finished, which tree and share a table is of, what is gone or cannot be
 read, and why; readers that pause; full disks; time that passes while processes are stopped."""
 
+from __future__ import annotations
+
 import contextlib
 import csv
 import io
@@ -17,20 +19,20 @@ import time
 
 from tests import MODULE
 from tests.archive import made
-from tests.archive.checking import OTHER_USER, add, few, runs_as
+from tests.archive.checking import OTHER_USER, Caller, add, few
 from tests.archive.keeping import convert, drawn, put
-from tests.archive.room import CONNECT, count
+from tests.archive.room import CONNECT, Part, Room, Rows, count
 from tests.waiting import wait_for
 
 
-def change(room, table, *statements):
+def change(room: Room, table: str, *statements: str) -> None:
     with contextlib.closing(sqlite3.connect(room(table))) as base:
         for statement in statements:
             base.execute(statement)
         base.commit()
 
 
-def unfinished(room, paths, reference):
+def unfinished(room: Room, paths: list[bytes], reference: Rows) -> None:
     """A table whose run was stopped says so; merge takes nothing out for it, and names it."""
     parts = ["part-0.sqlite", "part-1.sqlite"]
     for number, part in enumerate(parts):
@@ -60,7 +62,7 @@ def unfinished(room, paths, reference):
     room.claim("the summary says tree, share and when", re.search(wanted, out.decode()) is not None)
 
 
-def clocks(room, *_):
+def clocks(room: Room, *_given: object) -> None:
     """Which row is newer is no matter of the clock: a part that was checked under next year's clock hides no fault."""
     paths = few(room, "clocks")
     for number in range(2):
@@ -79,7 +81,7 @@ def clocks(room, *_):
     room.claim("a fault that is found later stands", room.rows("clock.sqlite")[path]["fault"], "ByteOrder")
 
 
-def gone(room, *_):
+def gone(room: Room, *_given: object) -> None:
     """Where more than a tenth is gone nothing is changed; a tree without a fax is told; a moved tree is the same
     job."""
     paths = few(room, "mounted")
@@ -107,7 +109,7 @@ def gone(room, *_):
     room.claim("but by --gone", summary[1].endswith(f"0 done now, {len(paths) - 8} before, 4 gone"))
 
 
-def closed_folders(room, *_):
+def closed_folders(room: Room, *_given: object) -> None:
     """Folders that cannot be read are told, also behind links and before TARGET is there, and nothing is deleted."""
     import faxpages  # noqa: F401
 
@@ -118,29 +120,30 @@ def closed_folders(room, *_):
     shutil.copy(room.library, room("shut/libfaxpages.so.1"))
     told = dict(os.environ, PYTHONPATH=room("shut/python"), FAXPAGES_LIBRARY=room("shut/libfaxpages.so.1"), HOME="/",
                 PYTHONDONTWRITEBYTECODE="1")
-    as_user = {"cwd": room("shut"), "env": told, "capture_output": True, "check": False}
+    user = None
     if os.geteuid() == 0:
         os.chmod(room.folder, 0o755)
         for folder, _, names in os.walk(room("shut")):
             for name in (".", *names):
                 os.chown(os.path.join(folder, name), OTHER_USER, OTHER_USER, follow_symlinks=False)
-        as_user.update(user=OTHER_USER, group=OTHER_USER, extra_groups=[])
+        user = OTHER_USER
     os.chmod(room("shut/disk"), 0)
-    python = next(filter(lambda it: runs_as(it, as_user), dict.fromkeys([sys.executable, "/usr/bin/python3"])), None)
+    other = Caller(room("shut"), told, user)
+    python = other.python()
     if python is None:
         print("SKIPPED: another user cannot call Python here, so: no folder that cannot be read is tried")
         return
     words = [python, "-m", "faxpages.archive", "convert", "tree", "copies", "--to", "mmr", "--table", "t.sqlite",
              "--follow", "--delete"]
-    ran = subprocess.run(words, **as_user)
+    ran = other.run(words)
     said = b"not read: " in ran.stderr, os.path.exists(room("shut/tree/a.tif"))
     room.claim("a folder behind a link", (ran.returncode, *said), (3, True, True))
     os.chmod(room("shut/disk"), 0o755)
-    ran = subprocess.run(words, **as_user)
+    ran = other.run(words)
     room.claim("status 3 goes with its cause", (ran.returncode, os.path.exists(room("shut/tree/a.tif"))), (0, False))
 
 
-def again(room, paths, _):
+def again(room: Room, paths: list[bytes], _: Rows) -> None:
     """--again all goes on where it was stopped."""
     words = ["check", "tree", "--table", "again.sqlite"]
     room.run(*words)
@@ -148,7 +151,10 @@ def again(room, paths, _):
     with open(gate, "wb"):
         pass
     process = room.start(*words, "--again", "all", broken="stops", GATE=gate, AFTER="400")
-    looked = lambda: ask_count(room, "SELECT count(*) FROM times WHERE run > 1")  # noqa: E731
+
+    def looked() -> int:
+        return ask_count(room, "SELECT count(*) FROM times WHERE run > 1")
+
     wait_for(lambda: looked() or process.poll() is not None)
     process.kill()
     process.communicate()
@@ -161,22 +167,24 @@ def again(room, paths, _):
         f"; {len(paths)} done now, 0 before, 0 gone"))
 
 
-def ask_count(room, query):
+def ask_count(room: Room, query: str) -> int:
     with contextlib.suppress(sqlite3.Error):
         with contextlib.closing(sqlite3.connect(f"file:{room('again.sqlite')}?mode=ro", uri=True)) as base:
-            return base.execute(query).fetchone()[0]
+            return int(base.execute(query).fetchone()[0])
     return 0
 
 
-def pausing(room, paths, reference):
+def pausing(room: Room, paths: list[bytes], reference: Rows) -> None:
     """Readers that pause do not end a run: table that nobody reads on, and another program with a query open."""
     room.run("check", "tree", "--table", "read.sqlite")
     reader = room.start("table", "read.sqlite", "--json")
+    assert reader.stdout is not None
     reader.stdout.read(1)
     with contextlib.closing(sqlite3.connect(room("read.sqlite"))) as base:
         cursor = base.execute("SELECT * FROM faxes")  # it holds the table until it is closed
         cursor.fetchone()
         process = room.start("check", "tree", "--table", "read.sqlite", "--again", "all")
+        assert process.stderr is not None
         said = next((line for line in process.stderr if b"another program reads" in line), b"")
         time.sleep(1)
         room.claim("a run waits for another program", (process.poll(), said != b""), (None, True))
@@ -191,7 +199,7 @@ def pausing(room, paths, reference):
     reader.communicate()
 
 
-def in_time(room, *_):
+def in_time(room: Room, *_given: object) -> None:
     """Slow faxes go to all workers, and what is done is in the table soon; a worker that is stopped is not late."""
     for number in range(8):
         put(room(f"slow/tree/{number}.tif"), drawn()[""] + b"naps")
@@ -223,7 +231,7 @@ def in_time(room, *_):
     room.claim("who was stopped is not late", faults, {""})
 
 
-def one_line(room, *_):
+def one_line(room: Room, *_given: object) -> None:
     """Whatever goes wrong is a line, and status 3: a full disk, a damaged table, a closed output, no scheduler."""
     few(room, "line")
     room.run("check", "line", "--table", "line.sqlite")
@@ -239,9 +247,9 @@ def one_line(room, *_):
         room.claim(what, (ran.returncode, ran.stderr.count("\n"), named in ran.stderr), (3, 1 if named else 0, True))
     shutil.copy(room("line.sqlite"), room("hurt.sqlite"))
     change(room, "hurt.sqlite", "UPDATE job SET value = 'no JSON'")
-    for command in (["table", "hurt.sqlite", "--summary"], ["check", "line", "--table", "hurt.sqlite"]):
-        status, _, error = room.run(*command)
-        room.claim(f"a damaged table: {command[0]}", (status, error.count("\n")), (3, 1))
+    for asked in (["table", "hurt.sqlite", "--summary"], ["check", "line", "--table", "hurt.sqlite"]):
+        status, _, error = room.run(*asked)
+        room.claim(f"a damaged table: {asked[0]}", (status, error.count("\n")), (3, 1))
     with open(room("line.sqlite"), "r+b") as file:
         file.seek(8192)
         file.write(b"\xff" * 20000)
@@ -260,7 +268,7 @@ def one_line(room, *_):
     room.claim("a dead scheduler", (status, error.count("\n")), (3, 1))
 
 
-def told(room, *_):
+def told(room: Room, *_given: object) -> None:
     """Names and reasons: --names, table --faulty, tags, what the system said, CSV of any name, Prometheus,
     --version."""
     import faxpages
@@ -290,16 +298,16 @@ def told(room, *_):
     room.claim("a target that is a file", (status, error.count("\n")), (3, 1))
 
 
-def contents_with_tag():
+def contents_with_tag() -> bytes:
     """A fax whose compression is none."""
     from tests.archive.drawn import contents
     import faxpages
 
-    return next(it.data for it in contents.drawn(faxpages, 1) if b"II" == it.data[:2] and (
-        faxpages.check(it.data).fault is not None and faxpages.check(it.data).fault.tag == 259))
+    faults = ((it.data, faxpages.check(it.data).fault) for it in contents.drawn(faxpages, 1) if b"II" == it.data[:2])
+    return next(data for data, fault in faults if fault is not None and fault.tag == 259)
 
 
-def upgraded(room, *_):
+def upgraded(room: Room, *_given: object) -> None:
     """A table of version 1.4 becomes one of this version, with all that it knew."""
     paths = few(room, "older")
     room.run("check", "older", "--table", "new.sqlite")
@@ -324,7 +332,7 @@ def upgraded(room, *_):
     room.claim("an older table's rows", got == {path: dict(row, fault_tag="") for path, row in wanted.items()})
 
 
-def seed_of_these_files():
+def seed_of_these_files() -> str:
     """The commit, or the version where git does not know it: each has draws of its own, and the same ones again."""
     ran = subprocess.run(["git", "-C", made.HERE, "rev-parse", "--short=12", "HEAD"], capture_output=True, text=True,
                          check=False)
@@ -334,7 +342,7 @@ def seed_of_these_files():
         return file.read().strip()
 
 
-def operated(room, *_):
+def operated(room: Room, *_given: object) -> None:
     """Some hundred steps of the drawn operator, by a seed that is printed; some of them by Dask, and some with a second
     run at once, of which the first ones may have none."""
     seed = seed_of_these_files()
@@ -351,4 +359,4 @@ def operated(room, *_):
         room.claim(f"the drawn operator: {' '.join(words)}", ran.returncode, 0)
 
 
-PARTS = [operated, unfinished, clocks, gone, closed_folders, again, pausing, in_time, one_line, told, upgraded]
+PARTS: list[Part] = [operated, unfinished, clocks, gone, closed_folders, again, pausing, in_time, one_line, told, upgraded]

@@ -5,17 +5,21 @@
 starts: at times from its first instant on, also while Python itself starts. loads: while it loads modules, as pip's own
 commands can have it. Ends with status 0 where each run has ended so, and an interrupt has met each kind of time."""
 
+from __future__ import annotations
+
 import os
 import signal
 import subprocess
 import sys
 import time
+from functools import partial
+from typing import Callable
 
 RUNS = 60
 PATIENCE = 900
 
 
-def maps(process):
+def maps(process: subprocess.Popen[str]) -> str:
     """What the process has loaded; nothing where it has ended."""
     try:
         with open(f"/proc/{process.pid}/maps", encoding="utf-8", errors="replace") as file:
@@ -24,22 +28,27 @@ def maps(process):
         return ""
 
 
-def interrupted(command, when):
+def interrupted(command: str, when: Callable[[subprocess.Popen[str]], object]) -> tuple[int, str]:
     """The status of a run that is interrupted at some time, and what it says."""
     process = subprocess.Popen([command, "--help"], stdin=subprocess.DEVNULL, stdout=subprocess.DEVNULL,
                                stderr=subprocess.PIPE, text=True)
     when(process)
     process.send_signal(signal.SIGINT)
-    return process.wait(PATIENCE), process.stderr.read()
+    return process.wait(PATIENCE), process.communicate()[1]
 
 
-def loading(process):
+def loading(process: subprocess.Popen[str]) -> None:
     """Waits until a module is loaded, before which the command's first line has run."""
     while process.poll() is None and "/_ctypes." not in maps(process):
         pass
 
 
-def seconds_of(command):
+def sleeping(seconds: float, _: subprocess.Popen[str]) -> None:
+    """Waits for so long."""
+    time.sleep(seconds)
+
+
+def seconds_of(command: str) -> float:
     """How long a whole run takes, the least of three."""
     found = []
     for _ in range(3):
@@ -49,11 +58,13 @@ def seconds_of(command):
     return min(found)
 
 
-def main():
+def main() -> int:
     way, command = sys.argv[1], os.path.abspath(sys.argv[2])
     whole = seconds_of(command)
-    got = [interrupted(command, loading if way == "loads" else lambda _, at=at: time.sleep(whole * at / RUNS))
-           for at in range(RUNS)]  # fmt: skip
+    if way == "loads":
+        got = [interrupted(command, loading) for _ in range(RUNS)]
+    else:
+        got = [interrupted(command, partial(sleeping, whole * at / RUNS)) for at in range(RUNS)]
     # One that comes after its end finds it ended; so does one that has nothing to be printed any more.
     wrong = [it for it in got if it not in ((-signal.SIGINT, ""), (0, ""))]
     ended = sum(status == -signal.SIGINT for status, _ in got)

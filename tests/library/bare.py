@@ -5,9 +5,15 @@
 
 FAXPAGES_LIBRARY names the library. Ends with 'bare: N passed, N failed'."""
 
+from __future__ import annotations
+
+import ctypes
 import random
 import sys
+from functools import partial
+from typing import Any, Callable, NamedTuple
 
+from tests.library.counted import Claims
 from tests import TOP
 from tests.calls import plain
 from tests.library.counted import Claims, until_fault
@@ -21,12 +27,20 @@ DRAWN = 1500
 MOST_ROWS = 1000000
 
 
-def packed(rows):
+class Words(NamedTuple):
+    """How a strip is read."""
+
+    width: int
+    coding: str
+    order: int
+
+
+def packed(rows: list[str]) -> bytes:
     """The packed bytes of rows of W and B."""
     return b"".join(plain.to_bytes(row.replace("W", "0").replace("B", "1")) for row in rows)
 
 
-def draw_rows(rng, width):
+def draw_rows(rng: random.Random, width: int) -> list[str]:
     """Some rows, each near the one before."""
     rows, row = [], "W" * width
     for _ in range(rng.randrange(1, 9)):
@@ -35,7 +49,7 @@ def draw_rows(rng, width):
     return rows
 
 
-def draw(rng):
+def draw(rng: random.Random) -> tuple[str, int, int, int, bytes]:
     """A strip: its coding, fill order, width, rows and bytes; some have a bit flipped, and some are cut."""
     coding, order, width = rng.choice(["mh", "mr", "mmr"]), rng.choice([1, 2]), drawing.draw_width(rng)
     rows = draw_rows(rng, width)
@@ -48,28 +62,29 @@ def draw(rng):
     return coding, order, width, len(rows), drawing.to_bytes(bits, order)
 
 
-def by_plain(coding, order, width, rows, data):
+def by_plain(coding: str, order: int, width: int, rows: int | None, data: bytes) -> tuple[list[str], str | None]:
     """The rows by the plain reader, and the name of the fault that ends them, or None."""
     if rows is None:
         lines, end = uncounted.read_rows(coding, width, bits_of(data, order))
         return [row for row, _ in lines], None if end in (uncounted.MARKED, uncounted.DATA_END) else end
     lines, fault = read_lines(coding, 0, rows, "W" * width, bits_of(data, order), 0)
-    return [row for row, _ in lines], fault and str(fault)
+    return [row for row, _ in lines], str(fault) if fault else None
 
 
-def agrees(raster, rows, fault):
+def agrees(raster: faxpages.Raster, rows: list[str], fault: str | None) -> bool:
     """Whether a raster has these rows, and this fault at the one after them."""
     told = raster.fault and (raster.fault.name, raster.fault.page, raster.fault.row)
     return raster.packed == packed(rows) and raster.rows == len(rows) and told == (fault and (fault, 0, len(rows)))
 
 
-def taken(reader):
+def taken(reader: faxpages.StripReader) -> tuple[list[faxpages.Row], tuple[str, int] | None]:
     """The rows that a reader gives, and its fault."""
     rows, fault = until_fault(reader)
-    return rows, fault and (fault.name, fault.row)
+    return rows, (fault.name, fault.row) if fault else None
 
 
-def in_pieces(rng, data, reader):
+def in_pieces(rng: random.Random, data: bytes,
+              reader: faxpages.StripReader) -> tuple[list[faxpages.Row], dict[int, int], tuple[str, int] | None]:
     """The rows of data that comes in pieces, how many were there by each of its lengths, and the fault."""
     rows, counts, at = [], {}, 0
     most = rng.choice([1, 3, 50, len(data) + 1])
@@ -87,20 +102,20 @@ def in_pieces(rng, data, reader):
     return rows + more, counts, fault
 
 
-def drawn_strips(claims):
+def drawn_strips(claims: Claims) -> None:
     """Drawn strips, whole, cut and damaged, in each way of reading."""
     rng = random.Random(64)
     for number in range(DRAWN):
         coding, order, width, count, data = draw(rng)
-        words = {"width": width, "coding": coding, "order": order}
+        words = Words(width, coding, order)
         found = by_plain(coding, order, width, count, data)
-        raster = faxpages.strip(data, rows=count, partial=True, **words)
+        raster = faxpages.strip(data, width, count, coding, order, partial=True)
         claims.see(f"strip {number}", agrees(raster, *found) and raster.lost == count - raster.rows)
         every = by_plain(coding, order, width, None, data)
-        raster = faxpages.strip(data, partial=True, **words)
+        raster = faxpages.strip(data, width, None, coding, order, partial=True)
         claims.see(f"strip {number} up to its end", agrees(raster, *every) and raster.lost == 0)
         for rows, wanted in ((count, found), (None, every)):
-            reader = faxpages.StripReader(rows=rows, **words)
+            reader = faxpages.StripReader(width, coding, order, rows)
             got, counts, why = in_pieces(rng, data, reader)
             claims.see(f"strip {number} in pieces, {rows}",
                        b"".join(row.packed for row in got) == packed(wanted[0]) and reader.rows == len(got)
@@ -113,22 +128,23 @@ def drawn_strips(claims):
         checked(claims, number, words, None, data, every)
 
 
-def checked(claims, number, words, count, data, found):
+def checked(claims: Claims, number: int, words: Words, count: int | None, data: bytes,
+            found: tuple[list[str], str | None]) -> None:
     """What a check of a strip reports."""
-    report = faxpages.check_strip(data, rows=count, **words)
+    report = faxpages.check_strip(data, words.width, count, words.coding, words.order)
     count = len(found[0]) if count is None else count
     if found[1]:
         claims.see(f"report on strip {number}", not report.ok and not report.end_mark and report.notes == ()
-                   and (report.rows, report.fault.name, report.fault.row) == (len(found[0]), found[1], len(found[0])))
+                   and report.fault is not None and (report.rows, report.fault.name, report.fault.row) == (len(found[0]), found[1], len(found[0])))
         return
-    wanted = notes.notes_of_strip(words["coding"], words["order"], words["width"], count, data)
+    wanted = notes.notes_of_strip(words.coding, words.order, words.width, count, data)
     claims.see(f"report on strip {number}", report.ok and report.rows == count
                and [note.name for note in report.notes] == [name.split()[-1] for name in wanted]
-               and report.end_mark == ("NoEndOfBlock" not in str(wanted) if words["coding"] == "mmr"
+               and report.end_mark == ("NoEndOfBlock" not in str(wanted) if words.coding == "mmr"
                                        else "ReturnToControl" in str(wanted)))
 
 
-def counted_rows(claims):
+def counted_rows(claims: Claims) -> None:
     """A check of a strip whose rows are not known."""
     for coding in ("mh", "mr", "mmr"):
         rows = ["WBBW" * 5, "W" * 20, "B" * 20]
@@ -144,7 +160,7 @@ def counted_rows(claims):
     claims.see("a row that is cut", (cut.rows, cut.fault) == (1, faxpages.DataEnds("DataEnds", 0, 1)))
 
 
-def coded(claims):
+def coded(claims: Claims) -> None:
     """Strips that are coded are those of the plain coder."""
     rng = random.Random(65)
     for number in range(DRAWN // 3):
@@ -159,7 +175,7 @@ def coded(claims):
         claims.see(f"coded strip {number}, read", faxpages.strip(made, width, coding=coding, order=order) == raster)
 
 
-def at_bytes(claims):
+def at_bytes(claims: Claims) -> None:
     """Rows that begin on a byte boundary, and rows that have no EOLs."""
     rng = random.Random(66)
     for number in range(DRAWN // 5):
@@ -186,39 +202,41 @@ def at_bytes(claims):
             raster = faxpages.strip(data[:-1], width, len(rows) + 1, name, order, partial=True, **words)
             claims.see(f"rows {number} in {name} {words}, too few",
                        raster.rows <= len(rows) and packed(rows).startswith(raster.packed)
-                       and raster.lost == len(rows) + 1 - raster.rows and raster.fault.row == raster.rows)
+                       and raster.lost == len(rows) + 1 - raster.rows
+                       and raster.fault is not None and raster.fault.row == raster.rows)
 
 
 class Lengths:
     """A library that adds up how many bytes it is handed."""
 
-    def __init__(self, library):
+    def __init__(self, library: ctypes.CDLL) -> None:
         self.library, self.total, self.calls = library, 0, 0
 
-    def __getattr__(self, name):
+    def __getattr__(self, name: str) -> Any:
         call = getattr(self.library, name)
 
-        def counting(data, length, *words):
+        def counting(data: bytes, length: int, *words: object) -> Any:
             self.total, self.calls = self.total + length, self.calls + 1
             return call(data, length, *words)
 
         return counting if name in ("faxpages_strip_rows", "faxpages_strip_part") else call
 
 
-def many_pieces(claims):
+def many_pieces(claims: Claims) -> None:
     """Bytes that come one by one are read in a time in proportion to their number: fill, and ordinary rows."""
     library = faxpages._c.library
     row = EOL + plain.one_dimensional("WB" * 8)
     for name, data, most in (
             ("fill", bytes(60000) + plain.to_bytes(row), 20 << 20), ("rows", plain.to_bytes(row * 2000), 4 << 20)):
-        faxpages._c.library = counting = Lengths(library)
+        counting = Lengths(library)
+        setattr(faxpages._c, "library", counting)
         reader, rows = faxpages.StripReader(16, "mh"), 0
         for byte in data:
             reader.feed(bytes([byte]))
             rows += sum(1 for _ in reader)
         reader.close()
         rows += sum(1 for _ in reader)
-        faxpages._c.library = library
+        setattr(faxpages._c, "library", library)
         claims.see(f"{name} byte by byte: {counting.total} bytes are read", rows == (2000 if name == "rows" else 1)
                    and counting.total < most)
     reader, whole = faxpages.StripReader(16, "mh"), []
@@ -232,7 +250,7 @@ def many_pieces(claims):
     claims.see("many rows at once", sum(1 for _ in reader) == 400000 and len(reader._fed) == 0 and not reader.ended)
 
 
-def ends_of_readers(claims):
+def ends_of_readers(claims: Claims) -> None:
     """A reader after its end, after its fault, and rows that are left."""
     reader = faxpages.StripReader(8, rows=2)
     reader.feed(b"\xff\xff")
@@ -250,25 +268,29 @@ def ends_of_readers(claims):
     claims.see("it has not ended", not reader.ended and reader.rows == 1)
 
 
-def refused(claims):
+def refused(claims: Claims) -> None:
     """Numbers that are out of range."""
-    for words in ({"width": 0}, {"width": 65536}, {"rows": 0}, {"rows": MOST_ROWS + 1}, {"order": 0}, {"order": 3},
-                  {"coding": "pbm"}, {"width": -2 ** 70}):
-        for call in (faxpages.strip, faxpages.check_strip):
-            claims.raises(f"{call.__name__} {words}", ValueError, lambda call=call, words=words: call(b"\xff", **words))
-        claims.raises(f"a reader {words}", ValueError, lambda words=words: faxpages.StripReader(**words))
-    for words in ({"width": "8"}, {"rows": 1.5}, {"order": None}):
-        claims.raises(f"a strip {words}", TypeError, lambda words=words: faxpages.strip(b"\xff", **words))
+    reads: list[Callable[..., object]] = [faxpages.strip, faxpages.check_strip]
+    wrong: list[dict[str, Any]] = [
+        {"width": 0}, {"width": 65536}, {"rows": 0}, {"rows": MOST_ROWS + 1}, {"order": 0}, {"order": 3},
+        {"coding": "pbm"}, {"width": -2 ** 70}]
+    for words in wrong:
+        for call in reads:
+            claims.raises(f"{call.__name__} {words}", ValueError, partial(call, b"\xff", **words))
+        claims.raises(f"a reader {words}", ValueError, partial(faxpages.StripReader, **words))
+    of_other_types: list[dict[str, Any]] = [{"width": "8"}, {"rows": 1.5}, {"order": None}]
+    for words in of_other_types:
+        claims.raises(f"a strip {words}", TypeError, partial(faxpages.strip, b"\xff", **words))
     claims.raises("rows without EOLs in mmr", ValueError, lambda: faxpages.strip(b"\xff", 8, eols=False))
     reader = faxpages.StripReader(8, rows=2)
     reader.feed(memoryview(b"\xff\x00\xff")[::2])
     claims.see("bytes that lie apart", [row.packed for row in reader] == [b"\0", b"\0"])
     for data in ("text", 1, None, [255]):
-        claims.raises(f"the strip {data!r}", TypeError, lambda data=data: faxpages.strip(data, 8))
-        claims.raises(f"the piece {data!r}", TypeError, lambda data=data: faxpages.StripReader(8).feed(data))
+        claims.raises(f"the strip {data!r}", TypeError, partial(faxpages.strip, data, 8))
+        claims.raises(f"the piece {data!r}", TypeError, partial(faxpages.StripReader(8).feed, data))
 
 
-def main():
+def main() -> int:
     claims = Claims()
     for part in (drawn_strips, counted_rows, coded, at_bytes, many_pieces, ends_of_readers, refused):
         part(claims)

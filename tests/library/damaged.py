@@ -58,7 +58,7 @@ def file_lines(rng: random.Random) -> Iterator[str]:
         if page.form is None:
             yield f"refused {number} {FIELD_FAULTS[page.refused.split()[0]]} {digits(data)}"
             continue
-        width = page.form["width"]
+        width = page.form.width
         yield " ".join([f"page {number} {width} {len(page.rows)} {digits(data)}", *left_words(width, page.rows)])
 
 

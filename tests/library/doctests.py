@@ -6,13 +6,18 @@
 FAXPAGES_LIBRARY names the library. Examples that make images or arrays are left out where Pillow or numpy is not
 installed, which is said. Ends with 'doctests: N passed, N failed'."""
 
+from __future__ import annotations
+
 import doctest
 import importlib
 import importlib.util
 import inspect
 import os
 import sys
+from typing import Callable, Iterator
+from types import ModuleType
 
+from tests.library.counted import Claims
 from tests import TOP
 from tests.library.counted import Claims
 
@@ -26,7 +31,7 @@ IMPORTS = {"_tiff": "PIL", "_pdf": "pikepdf", "_cups_pdf": "pikepdf"}
 TYPES = {"Source", "Writable"}
 
 
-def modules():
+def modules() -> Iterator[ModuleType]:
     """The modules of the package, but for the command for archives, and for those that import what is not installed."""
     folder = os.path.join(TOP, "python", "faxpages")
     left_out = ("_archive", "archive", "__", *(name for name in IMPORTS if not importlib.util.find_spec(IMPORTS[name])))
@@ -36,13 +41,13 @@ def modules():
     yield faxpages
 
 
-def is_there(name):
+def is_there(name: str) -> bool:
     """Whether what an example needs is installed."""
     needed = next((needed for ending, needed in NEEDS.items() if name.endswith(ending)), None)
     return needed is None or importlib.util.find_spec(needed) is not None
 
 
-def run_all(claims):
+def run_all(claims: Claims) -> dict[str, int]:
     """Runs each docstring's examples, and answers how many there are by the name of what they are of."""
     runner, finder = doctest.DocTestRunner(), doctest.DocTestFinder(exclude_empty=True)
     counts = {}
@@ -58,7 +63,8 @@ def run_all(claims):
     return counts
 
 
-def members(name, thing):
+def members(name: str,
+            thing: Callable[..., object] | type[faxpages.Cursor | faxpages.Fax | faxpages._fax.Page | faxpages.Raster | faxpages._report.Note | faxpages.Report | faxpages.Row | faxpages._salvaged.Salvaged | faxpages._salvaged.Stretch | faxpages.StripReader | faxpages._strips.StripReport | faxpages.faults.BadCode | faxpages.faults.BadField | faxpages.faults.ByteOrder | faxpages.faults.ConversionError | faxpages.faults.DataEnds | faxpages.faults.DirectoryLoop | faxpages.faults.DirectoryOutside | faxpages.faults.EndMarker | faxpages.faults.Extension | faxpages.faults.Fault | faxpages.faults.FaxError | faxpages.faults.FileFault | faxpages.faults.Magic | faxpages.faults.MissingEol | faxpages.faults.MissingField | faxpages.faults.NoDirectory | faxpages.faults.NotACursorError | faxpages.faults.OutOfLimits | faxpages.faults.OutOfRow | faxpages.faults.OutputTooLarge | faxpages.faults.OutsideError | faxpages.faults.PbmFault | faxpages.faults.RunTooLong | faxpages.faults.ShortHeader | faxpages.faults.StripFault | faxpages.faults.StripOutside | faxpages.faults.TooManyRows | faxpages.faults.UnknownInput | faxpages.faults.Unsupported]) -> Iterator[str]:
     """A public name, and of a class the public ones that stand in it."""
     yield name
     if inspect.isclass(thing) and not issubclass(thing, BaseException):
@@ -67,7 +73,7 @@ def members(name, thing):
                 yield f"{name}.{member}"
 
 
-def main():
+def main() -> int:
     os.chdir(TOP)
     claims = Claims()
     counts = run_all(claims)

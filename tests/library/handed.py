@@ -7,6 +7,9 @@ numbers, what is of the wrong type and what is said of it; and the types and the
 Those of numpy are tried where it is installed. FAXPAGES_LIBRARY names the library. Ends with
 'handed: N passed, N failed'."""
 
+from __future__ import annotations
+
+import operator
 import importlib.util
 import inspect
 import io
@@ -17,7 +20,10 @@ import sys
 import tempfile
 import threading
 import typing
+from typing import Any, BinaryIO, Callable
+from functools import partial
 
+from tests.library.counted import Claims
 from tests import TOP
 from tests.library.counted import Claims
 
@@ -33,11 +39,11 @@ STRANGER = 'open("ran", "w").close()\nraise SystemExit("a stranger")\n'
 class Slow(io.RawIOBase):
     """An unbuffered file that takes a few bytes at a time, and then none."""
 
-    def __init__(self, most, answers_none=None):
+    def __init__(self, most: int, answers_none: int | None = None) -> None:
         super().__init__()
         self.most, self.answers_none, self.got = most, answers_none, b""
 
-    def write(self, data):
+    def write(self, data: Any) -> int | None:
         if self.answers_none is not None and len(self.got) >= self.answers_none:
             return None
         taken = bytes(data[:self.most])
@@ -48,18 +54,18 @@ class Slow(io.RawIOBase):
 class Silent:
     """A file whose write says nothing, or what is no number of bytes."""
 
-    def __init__(self, answer):
+    def __init__(self, answer: bool | str | None) -> None:
         self.answer, self.got = answer, b""
 
-    def write(self, data):
+    def write(self, data: bytes) -> bool | str | None:
         self.got += data
         return self.answer
 
 
-def through_pipe(data_of):
+def through_pipe(data_of: Callable[[BinaryIO], object]) -> bytes:
     """What is read of a pipe that is not buffered."""
     reader, writer = os.pipe()
-    got = []
+    got: list[bytes] = []
     with os.fdopen(reader, "rb") as source:
         thread = threading.Thread(target=lambda: got.append(source.read()))
         thread.start()
@@ -69,7 +75,7 @@ def through_pipe(data_of):
     return got[0]
 
 
-def written(claims):
+def written(claims: Claims) -> None:
     """All bytes are written, or it is said."""
     wanted = faxpages.encode([LARGE])
     claims.see("through a pipe", through_pipe(lambda out: faxpages.write([LARGE], out)) == wanted)
@@ -78,9 +84,9 @@ def written(claims):
         faxpages.write([LARGE], file)
         claims.see(f"{most} bytes at a time", file.got == wanted)
     for answer in (None, True, "all"):
-        file = Silent(answer)
-        faxpages.write([LARGE], file)
-        claims.see(f"a file that answers {answer}", file.got == wanted)
+        silent = Silent(answer)
+        faxpages.write([LARGE], silent)
+        claims.see(f"a file that answers {answer}", silent.got == wanted)
     for file in (Slow(0), Slow(1000, 3000), Slow(1000, 0)):
         try:
             faxpages.write([LARGE], file)
@@ -97,24 +103,24 @@ def written(claims):
 class Liar(bytes):
     """Bytes that say another length."""
 
-    def __len__(self):
+    def __len__(self) -> int:
         return 1 << 40
 
-    def __bytes__(self):
+    def __bytes__(self) -> bytes:
         return self
 
 
 class Huge(int):
     """A number that says that it is in any range."""
 
-    def __le__(self, other):
+    def __le__(self, other: object) -> bool:
         return True
 
-    def __ge__(self, other):
+    def __ge__(self, other: object) -> bool:
         return True
 
 
-def of_other_types(claims):
+def of_other_types(claims: Claims) -> None:
     """Types that are made of bytes and numbers are taken as these."""
     with open(f"{TOP}/samples/three-pages.tif", "rb") as file:
         data = file.read()
@@ -137,18 +143,19 @@ def of_other_types(claims):
 class Lender:
     """A file that reads this."""
 
-    def __init__(self, data):
+    def __init__(self, data: Liar) -> None:
         self.data = data
 
-    def read(self):
+    def read(self) -> Liar:
         return self.data
 
 
-def of_numpy(claims):
+def of_numpy(claims: Claims) -> None:
     """Numbers and arrays of numpy."""
     import numpy  # pylint: disable=import-outside-toplevel
 
-    raster = faxpages.Raster(numpy.int64(8), numpy.uint16(2), b"\1\2", unit=numpy.int8(2))
+    numbers: list[Any] = [numpy.int64(8), numpy.uint16(2), numpy.int8(2)]
+    raster = faxpages.Raster(numbers[0], numbers[1], b"\1\2", unit=numbers[2])
     claims.see("a strip of a raster of numbers of numpy",
                faxpages.strip(faxpages.encode_strip(raster), numpy.int32(8), numpy.int64(2)) == raster)
     page = faxpages.open(f"{TOP}/samples/three-pages.tif")[1]
@@ -161,7 +168,7 @@ def of_numpy(claims):
     claims.raises("a damaged page as an array", faxpages.DataEnds, lambda: numpy.asarray(damaged))
 
 
-def bools(claims):
+def bools(claims: Claims) -> None:
     """What is not 0 is a black pel, with numpy and without."""
     items = bytes(range(256)) + bytes(8)
     view = memoryview(items).cast("B").cast("?", (2, 132))
@@ -170,12 +177,12 @@ def bools(claims):
     claims.see("bools of a memoryview", [[bool(pel) for pel in bits_of(row)] for row in found] == wanted)
 
 
-def bits_of(row):
+def bits_of(row: faxpages.Row) -> list[int]:
     """The pels of a row."""
     return [row.packed[at // 8] >> 7 - at % 8 & 1 for at in range(row.width)]
 
 
-def words(claims, name, kind, text, work):
+def words(claims: Claims, name: str, kind: type[Exception], text: str, work: Callable[[], object]) -> None:
     """An exception of a kind that says this."""
     try:
         work()
@@ -184,34 +191,37 @@ def words(claims, name, kind, text, work):
         claims.see(f"{name}: {error!r}", isinstance(error, kind) and re.search(text, str(error)) is not None)
 
 
-def wrong(claims):
+def wrong(claims: Claims) -> None:
     """What is wrong is told in words for who has called."""
     fax = faxpages.open(f"{TOP}/samples/three-pages.tif")
-    for cursor in ("1:0:0", 0, b"", (1, 2)):
-        words(claims, f"rows from {cursor!r}", TypeError, "^a cursor is a Cursor", lambda it=cursor: fax.rows(it))
-        words(claims, f"a batch from {cursor!r}", TypeError, "^a cursor is a Cursor",
-              lambda it=cursor: fax.read_rows(it, 1))
-    for file in (1, None, [1], object(), io.StringIO()):
+    cursors: list[Any] = ["1:0:0", 0, b"", (1, 2)]
+    for cursor in cursors:
+        words(claims, f"rows from {cursor!r}", TypeError, "^a cursor is a Cursor", partial(fax.rows, cursor))
+        words(claims, f"a batch from {cursor!r}", TypeError, "^a cursor is a Cursor", partial(fax.read_rows, cursor, 1))
+    files: list[Any] = [1, None, [1], object(), io.StringIO()]
+    for file in files:
         words(claims, f"written to {file!r:.10}", TypeError, "^a file is a path, or a file object that is open for",
-              lambda it=file: faxpages.write([fax[0]], it))
+              partial(faxpages.write, [fax[0]], file))
+    calls: list[Callable[[Any], object]] = [faxpages.open, faxpages.check, lambda it: faxpages.convert(it, "mr")]
     for source in (1, None, [1], object()):
-        for call in (faxpages.open, faxpages.check, lambda it: faxpages.convert(it, "mr")):
-            words(claims, f"opened {source!r:.10}", TypeError, "^a file is its path, its bytes",
-                  lambda it=source, call=call: call(it))
+        for call in calls:
+            words(claims, f"opened {source!r:.10}", TypeError, "^a file is its path, its bytes", partial(call, source))
     for number in (3, 4, 5, 1000):
-        words(claims, f"fax[{number}]", IndexError, f"^the file has no page {number}$", lambda it=number: fax[it])
+        words(claims, f"fax[{number}]", IndexError, f"^the file has no page {number}$", partial(operator.getitem, fax, number))
     choices = "^no coding: 'MMR'; there are mh, mr, mmr$"
-    for call in (lambda: faxpages.encode([fax[0]], "MMR"), lambda: faxpages.encode_strip(fax[0], "MMR"),
-                 lambda: faxpages.strip(b"", coding="MMR"), lambda: faxpages.check_strip(b"", coding="MMR"),
-                 lambda: faxpages.StripReader(coding="MMR")):
-        words(claims, "no coding", ValueError, choices, call)
+    works: list[Callable[[], object]] = [
+        lambda: faxpages.encode([fax[0]], "MMR"), lambda: faxpages.encode_strip(fax[0], "MMR"),
+        lambda: faxpages.strip(b"", coding="MMR"), lambda: faxpages.check_strip(b"", coding="MMR"),
+        lambda: faxpages.StripReader(coding="MMR")]
+    for work in works:
+        words(claims, "no coding", ValueError, choices, work)
     words(claims, "no target", ValueError, "^no target: 'tiff'; there are pbm, mh, mr, mmr$",
           lambda: fax.convert("tiff"))
     text = repr(LARGE)
     claims.see(f"a short text of a raster: {text:.200}", len(text) < 300 and "width=8000, rows=1000" in text)
 
 
-def hints(claims):
+def hints(claims: Claims) -> None:
     """The types of all that is public can be asked for at run time."""
     for name in faxpages.__all__:
         thing = getattr(faxpages, name)
@@ -228,7 +238,7 @@ def hints(claims):
     claims.see("a file's types", "source" in typing.get_type_hints(faxpages.open))
 
 
-def versions(claims, version):
+def versions(claims: Claims, version: str) -> None:
     """The version of the module, and a stranger's modules that do not run."""
     claims.see("__version__", faxpages.__version__ == version)
     with tempfile.TemporaryDirectory() as folder:
@@ -246,7 +256,7 @@ def versions(claims, version):
                or sys.version_info < (3, 11))
 
 
-def main():
+def main() -> int:
     claims = Claims()
     for part in (written, of_other_types, bools, wrong, hints):
         part(claims)

@@ -6,6 +6,9 @@
 What is not installed is named and left out. FAXPAGES_LIBRARY names the library. Ends with 'images: N passed, N failed'.
 """
 
+from __future__ import annotations
+
+import contextlib
 import io
 import itertools
 import os
@@ -13,6 +16,8 @@ import pickle
 import struct
 import sys
 import warnings
+from functools import partial
+from typing import Any, Callable
 
 from tests import TOP
 from tests.library.counted import SMALL, Claims
@@ -20,26 +25,22 @@ from tests.plain.strips import file_of
 
 import faxpages
 
-try:
+with contextlib.suppress(ImportError):
     import numpy
-except ImportError:
-    numpy = None
-try:
+with contextlib.suppress(ImportError):
     from PIL import Image, ImageFile, ImageSequence, TiffImagePlugin
-except ImportError:
-    Image = None
 
 
 # Files that libtiff 4.5 cannot read, so that Pillow says.
 NOT_BY_LIBTIFF = ("image-width-twice.tif", "rows-mr-zero-length-run.tif")
 
 
-def pages_of(data):
+def pages_of(data: bytes) -> list[faxpages.Page]:
     """The pages of a file that are whole."""
     return list(itertools.islice(faxpages.open(data), faxpages.check(data).pages))
 
 
-def arrays(claims, name, data):
+def arrays(claims: Claims, name: str, data: bytes) -> None:
     """A page as an array is its rows, and no copy of them; and an array of its pels is written as the page."""
     for page in pages_of(data):
         raster = page.raster()
@@ -53,14 +54,15 @@ def arrays(claims, name, data):
         for written in (pels, numpy.asfortranarray(pels), pels[:, ::-1][:, ::-1]):
             claims.see(f"an array of pels of {name}",
                        faxpages.open(faxpages.encode([written]))[0].packed() == raster.packed)
-    for wrong in (numpy.zeros((2, 2), numpy.uint8), numpy.zeros((2, 2)), numpy.zeros((2, 2, 2), bool),
-                  numpy.zeros(8, bool)):
-        claims.raises(f"an array {wrong.shape} {wrong.dtype}", TypeError, lambda wrong=wrong: faxpages.encode([wrong]))
+    wrongs: list[Any] = [numpy.zeros((2, 2), numpy.uint8), numpy.zeros((2, 2)), numpy.zeros((2, 2, 2), bool),
+                         numpy.zeros(8, bool)]
+    for wrong in wrongs:
+        claims.raises(f"an array {wrong.shape} {wrong.dtype}", TypeError, partial(faxpages.encode, [wrong]))
     for wrong in (numpy.zeros((0, 8), bool), numpy.zeros((8, 0), bool)):
-        claims.raises(f"an array {wrong.shape}", ValueError, lambda wrong=wrong: faxpages.encode([wrong]))
+        claims.raises(f"an array {wrong.shape}", ValueError, partial(faxpages.encode, [wrong]))
 
 
-def images(claims, name, data):
+def images(claims: Claims, name: str, data: bytes) -> None:
     """A page as an image has its pels and its resolution, and the image is written as the page."""
     pages = pages_of(data)
     for page in pages:
@@ -73,7 +75,7 @@ def images(claims, name, data):
                    and all(one.dpi in (None, other.dpi) for one, other in zip(pages, again)))
 
 
-def partial(claims):
+def partial_pages(claims: Claims) -> None:
     """A damaged page as an image has its rows before the fault."""
     page = faxpages.open(f"{TOP}/samples/damaged-fourth-page.tif")[3]
     claims.raises("a damaged page", faxpages.OutOfRow, page.image)
@@ -83,7 +85,7 @@ def partial(claims):
     claims.see("no rows", none.image(partial=True).size == (8, 0) and none.image(partial=True).info["lost"] == 3)
 
 
-def other_images(claims):
+def other_images(claims: Claims) -> None:
     """Images with another resolution, or none, and of another mode."""
     for dpi, wanted in (((100, 100), (100, 100)), (None, (204, 196)), ((0, 0), (204, 196)), ("72", (204, 196))):
         image = Image.new("1", (9, 2), 1)
@@ -94,10 +96,10 @@ def other_images(claims):
     claims.see("another resolution", faxpages.open(faxpages.encode([image], dpi=300))[0].dpi == (300, 300))
     for mode in ("L", "RGB"):
         claims.raises(f"an image of mode {mode}", ValueError,
-                      lambda mode=mode: faxpages.encode([Image.new(mode, (8, 8))]))
+                      partial(faxpages.encode, [Image.new(mode, (8, 8))]))
 
 
-def opened(data):
+def opened(data: bytes) -> tuple[Any, Any]:
     """The file by Pillow: its format and its frames, or the error."""
     warnings.simplefilter("ignore")
     try:
@@ -109,7 +111,7 @@ def opened(data):
         return "another error", str(error)
 
 
-def by_pillow(claims, name, data):
+def by_pillow(claims: Claims, name: str, data: bytes) -> None:
     """Pillow's reader has the rows of a fax, or none, and refuses a damaged one."""
     report, found = faxpages.check(data), opened(data)
     if report.ok:
@@ -120,7 +122,7 @@ def by_pillow(claims, name, data):
         claims.see(f"{name} by Pillow is refused: {found}", found in (("error", str(report.fault)), ("error", "-2")))
 
 
-def plugin(claims):
+def plugin(claims: Claims) -> None:
     """What a fax is as an image of Pillow, and where damage is refused."""
     name = f"{TOP}/tests/runs/inputs/three-whole-pages.tif"
     fax = faxpages.open(name)
@@ -142,7 +144,7 @@ def plugin(claims):
     claims.see("Pillow's own", TiffImagePlugin.TiffImageFile(damaged.filename).verify() is None)
 
 
-def links(data):
+def links(data: bytes) -> list[int]:
     """Where a file says the places of its directories, the last of which is 0."""
     found, at = [4], struct.unpack_from("<L", data, 4)[0]
     while at:
@@ -151,7 +153,12 @@ def links(data):
     return found
 
 
-def directories(claims):
+def all_frames(image: Image.Image) -> list[Image.Image]:
+    """The frames of an image."""
+    return list(ImageSequence.Iterator(image))
+
+
+def directories(claims: Claims) -> None:
     """A fax whose directories do not end is refused where a frame after them is asked for; those before are read."""
     with open(f"{TOP}/tests/runs/inputs/three-whole-pages.tif", "rb") as file:
         data = file.read()
@@ -161,16 +168,16 @@ def directories(claims):
         damaged = data[:at] + place + data[at + 4:]
         image = Image.open(io.BytesIO(damaged))
         for _ in range(2):
-            claims.raises(f"{name}: how many frames", OSError, lambda image=image: image.n_frames)
-            claims.raises(f"{name}: one frame more", OSError, lambda image=image, frames=frames: image.seek(frames))
+            claims.raises(f"{name}: how many frames", OSError, partial(getattr, image, "n_frames"))
+            claims.raises(f"{name}: one frame more", OSError, partial(image.seek, frames))
         image.seek(frames - 1)
         image.seek(0)
         claims.see(f"{name}: the first frame", image.tobytes("raw", "1;I") == wanted)
-        claims.raises(f"{name}: all frames", OSError, lambda image=image: list(ImageSequence.Iterator(image)))
+        claims.raises(f"{name}: all frames", OSError, partial(all_frames, image))
         claims.raises(f"{name}: verify", OSError, Image.open(io.BytesIO(damaged)).verify)
 
 
-def fields(claims):
+def fields(claims: Claims) -> None:
     """A fax whose strips cannot be found by its fields is refused; Pillow reads numbers below 0 too."""
     with open(f"{TOP}/samples/one-mh-page.tif", "rb") as file:
         data = file.read()
@@ -181,12 +188,12 @@ def fields(claims):
             ("error", f"page 0 row 0: BadField {tag}"), ("error", "page 0 row 0: StripOutside")))
 
 
-def in_pieces(claims):
+def in_pieces(claims: Claims) -> None:
     """Pillow's Parser, which gets the bytes in pieces or at once, refuses damage too."""
     for name, size in itertools.product(("three-mmr-rows", "second-row-missing"), (100, 1 << 20)):
         parser = ImageFile.Parser()
         with open(f"{TOP}/samples/{name}.tif", "rb") as file:
-            for piece in iter(lambda file=file, size=size: file.read(size), b""):
+            for piece in iter(partial(file.read, size), b""):
                 parser.feed(piece)
         if name == "second-row-missing":
             claims.raises(f"{name} by {size} bytes", OSError, parser.close)
@@ -195,13 +202,15 @@ def in_pieces(claims):
                        faxpages.open(f"{TOP}/samples/{name}.tif")[0].packed())
 
 
-def main():
-    claims, files = Claims(), {}
+def main() -> int:
+    claims, files = Claims(), dict[str, bytes]()
     for name in sys.argv[1:]:
         with open(name, "rb") as file:
             files[os.path.basename(name)] = file.read()
-    for what, module, parts in (("numpy", numpy, [arrays]), ("Pillow", Image, [images, by_pillow])):
-        if module is None:
+    tests: list[tuple[str, str, list[Callable[[Claims, str, bytes], None]]]] = [
+        ("numpy", "numpy", [arrays]), ("Pillow", "PIL", [images, by_pillow])]
+    for what, module, parts in tests:
+        if module not in sys.modules:
             print(f"SKIPPED: {what} is not installed, so: {', '.join(part.__name__ for part in parts)}")
             continue
         for part in parts:
@@ -210,9 +219,9 @@ def main():
                     faxpages.register()
             for name, data in files.items():
                 part(claims, name, data)
-    if Image is not None:
-        for part in (partial, other_images, plugin, directories, fields, in_pieces):
-            part(claims)
+    if "PIL" in sys.modules:
+        for of_pillow in (partial_pages, other_images, plugin, directories, fields, in_pieces):
+            of_pillow(claims)
     return claims.ends("images")
 
 

@@ -5,11 +5,15 @@
 
 FAXPAGES_LIBRARY names the library. Ends with 'module: N passed, N failed'."""
 
+from __future__ import annotations
+
+import ctypes
 import concurrent.futures
 import os
 import random
 import subprocess
 import sys
+from typing import Callable, Iterable, Iterator, TypeVar
 
 from tests import TOP
 
@@ -20,16 +24,16 @@ PROGRAM = sys.argv[1]
 DAMAGED = 2000
 # How many pages a file of many has.
 MANY = 10000
-TARGETS = [("pbm", []), ("mh", ["--order", "2"]), ("mr", ["--k", "2", "--strip", "3"]), ("mmr", [])]
+TARGETS: list[tuple[str, list[str]]] = [("pbm", []), ("mh", ["--order", "2"]), ("mr", ["--k", "2", "--strip", "3"]), ("mmr", [])]
 
 
-def said(*words, data):
+def said(*words: str, data: bytes) -> tuple[bytes, str, int]:
     """What the program says: its output, its error stream, its status."""
     ran = subprocess.run([PROGRAM, *words], input=data, capture_output=True, check=False, timeout=900)
     return ran.stdout, ran.stderr.decode(), ran.returncode
 
 
-def rows_by_module(data):
+def rows_by_module(data: bytes) -> tuple[bytes, str, int]:
     """The same by the module."""
     lines, error, last = [], "", faxpages.Cursor()
     try:
@@ -43,7 +47,7 @@ def rows_by_module(data):
     return "".join(lines).encode(), error, 1 if error else 0
 
 
-def pages_by_module(data):
+def pages_by_module(data: bytes) -> tuple[list[str], str]:
     """The rows, by pages one after another, and each once more by itself."""
     fax, lines, error = faxpages.open(data), [], ""
     try:
@@ -51,13 +55,13 @@ def pages_by_module(data):
             once = [f"row {row.page} {row.number} {' '.join(map(str, row.runs()))}\n" for row in page]
             lines += once
             if len(once) != page.rows or list(fax.page(page.number)) != list(page):
-                return ["another page"]
+                return ["another page"], ""
     except faxpages.Fault as fault:
         error = f"fault {fault}\n"
     return lines, error
 
 
-def check_by_module(data):
+def check_by_module(data: bytes) -> tuple[bytes, str, int]:
     """The report, as the program prints it."""
     report = faxpages.check(data)
     lines = [f"note {note}\n" for note in report.notes] + [f"pages {report.pages} rows {report.rows}\n"]
@@ -65,7 +69,7 @@ def check_by_module(data):
     return "".join(lines).encode(), error, 0 if report.ok else 1
 
 
-def is_converted(data, target, words):
+def is_converted(data: bytes, target: str, words: list[str]) -> bool:
     """Whether the module converts as the program does, or refuses where it does."""
     output, error, status = said("convert", "-o", target, *words, data=data)
     options = dict(zip(words[::2], words[1::2]))
@@ -78,9 +82,9 @@ def is_converted(data, target, words):
     return status == 0 and made == output
 
 
-def batches(data):
+def batches(data: bytes) -> list[faxpages.Row]:
     """All rows in batches of three, each from the cursor of the one before, through its text."""
-    fax, cursor, found = faxpages.open(data), faxpages.Cursor(), []
+    fax, cursor, found = faxpages.open(data), faxpages.Cursor(), list[faxpages.Row]()
     try:
         while True:
             rows, cursor = fax.read_rows(faxpages.Cursor.parse(str(cursor)), 3)
@@ -91,7 +95,7 @@ def batches(data):
         return found
 
 
-def claims(name, data):
+def claims(name: str, data: bytes) -> Iterator[tuple[str, bool]]:
     """What is claimed of a file: whether it is so, and a name."""
     wanted = said("rows", data=data)
     yield f"rows of {name}", rows_by_module(data) == wanted
@@ -104,32 +108,35 @@ def claims(name, data):
 class Counted:
     """A library whose calls are counted."""
 
-    def __init__(self, library):
+    def __init__(self, library: ctypes.CDLL) -> None:
         self.library, self.calls = library, 0
 
-    def __getattr__(self, name):
+    def __getattr__(self, name: str) -> object:
         self.calls += 1
         return getattr(self.library, name)
 
 
-def in_threads(work):
+Item = TypeVar("Item")
+
+
+def in_threads(work: Callable[[], int]) -> int:
     """What four threads find together, each of which does the same."""
     return by_pool(lambda _: work(), range(4))
 
 
-def by_pool(work, items):
+def by_pool(work: Callable[[Item], int], items: Iterable[Item]) -> int:
     """What four threads find together, which share the items."""
     with concurrent.futures.ThreadPoolExecutor(4) as pool:
         return sum(pool.map(work, items))
 
 
-def many_pages():
+def many_pages() -> Iterator[tuple[str, bool]]:
     """All pages of a file of many, and their rows, are read by few calls, each by its number too; pages that are read
     in part, or two at once, are the same."""
     small = b"P4\n64 8\n" + bytes([0x0F, 0xF0, 0, 0, 0xFF, 0, 0xFF, 0]) * 8
     fax = faxpages.open(faxpages.convert(small * MANY, "mmr"))
     library = faxpages._c.library
-    ways = {
+    ways: dict[str, Callable[[], int]] = {
         "forms": lambda: sum(page.rows for page in fax.pages),
         "forms by number": lambda: sum(fax.page(number).rows for number in range(MANY)),
         "rows of pages": lambda: sum(1 for page in fax.pages for row in page),
@@ -143,9 +150,10 @@ def many_pages():
         "numbers for four threads": lambda: 4 * by_pool(lambda at: sum(1 for row in fax.page(at)), range(MANY)),
     }
     for name, way in ways.items():
-        faxpages._c.library = counted = Counted(library)
+        counted = Counted(library)
+        setattr(faxpages._c, "library", counted)
         found = way()
-        faxpages._c.library = library
+        setattr(faxpages._c, "library", library)
         times = 4 if "four" in name else 1
         fine = found == times * 8 * MANY and counted.calls < times * 64
         yield f"{MANY} pages: {name} by {counted.calls} calls", fine
@@ -154,7 +162,7 @@ def many_pages():
     yield "two pages at once", [row for row, _ in both] == list(first) and [row for _, row in both] == list(second)
 
 
-def long_page():
+def long_page() -> Iterator[tuple[str, bool]]:
     """A page whose rows pass the room of a call several times is read whole, in each way."""
     raster = (bytes(240) + b"fax") * 6200
     raster = raster[:250 * 6000]
@@ -165,7 +173,7 @@ def long_page():
     yield "a long page in two", b"".join(row.packed for row in first + list(fax.rows(after))) == raster
 
 
-def damaged(files):
+def damaged(files: list[bytes]) -> Iterator[tuple[str, bytes]]:
     """Files with a few bytes changed, or cut."""
     draw = random.Random(47)
     for number in range(DAMAGED):
@@ -176,11 +184,11 @@ def damaged(files):
         yield f"damaged file {number}", bytes(data[:draw.randrange(len(data) + 1)] if draw.randrange(4) == 0 else data)
 
 
-def main():
+def main() -> int:
     files = {name: open(name, "rb").read() for name in sys.argv[2:]}
     passed, failed = 0, 0
 
-    def see(name, fine):
+    def see(name: str, fine: bool) -> None:
         nonlocal passed, failed
         passed, failed = passed + fine, failed + (not fine)
         if not fine:

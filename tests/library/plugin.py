@@ -9,6 +9,8 @@ nothing differs, but that damage is refused.
 Needs Pillow; img2pdf is tried where it is installed. FAXPAGES_LIBRARY names the library. Ends with
 'plugin: N passed, N failed'."""
 
+from __future__ import annotations
+
 import copy
 import hashlib
 import importlib.util
@@ -24,6 +26,7 @@ import subprocess
 import sys
 import tempfile
 import warnings
+from typing import Any, Callable, Iterator, TextIO
 
 from tests import TOP
 from tests.library.counted import Claims
@@ -47,18 +50,18 @@ class Reads(io.FileIO):
 
     count = 0
 
-    def readinto(self, buffer):
+    def readinto(self, buffer: Any) -> int | None:
         read = super().readinto(buffer)
-        self.count += read
+        self.count += read or 0
         return read
 
-    def read(self, size=-1):
-        data = super().read(size)
+    def read(self, size: int | None = -1) -> bytes:
+        data = super().read(-1 if size is None else size)
         self.count += len(data)
         return data
 
 
-def said(work, *words):
+def said(work: Callable[..., object], *words: object) -> str:
     """What a call answers as text: its value, or its exception, without places in memory."""
     try:
         text = repr(work(*words))
@@ -67,29 +70,29 @@ def said(work, *words):
     return re.sub(" at 0x[0-9a-f]+", "", text)
 
 
-def digest(data):
+def digest(data: bytes) -> str:
     return hashlib.sha256(data).hexdigest()[:16]
 
 
-def pels(image):
+def pels(image: Image.Image) -> tuple[str, tuple[int, int], str]:
     return image.mode, image.size, digest(image.tobytes())
 
 
-def facts(image):
+def facts(image: Image.Image) -> tuple[object, ...]:
     """What an image tells that is not loaded."""
     tags = sorted((tag, repr(value)) for tag, value in image.tag_v2.items())
     return (image.format, image.format_description, image.mode, image.size, sorted(map(repr, image.info.items())), tags,
             bool(image.tile), image.is_animated, image.tell(), image.get_format_mimetype(), dict(image.getexif()))
 
 
-def opened(name):
+def opened(name: str) -> tuple[tuple[object, ...], int]:
     """An image that is opened, and what is read of the file until then."""
     with Reads(name) as file:
         image = Image.open(file)
         return facts(image), file.count
 
 
-def moved(name):
+def moved(name: str) -> tuple[object, ...]:
     """Goes to frames that are there, and to others."""
     image = Image.open(name)
     count = said(lambda: image.n_frames)
@@ -97,19 +100,19 @@ def moved(name):
     return count, found, pels(image), said(lambda: image.n_frames) == count
 
 
-def verified(name):
+def verified(name: str) -> bool:
     image = Image.open(name)
     image.verify()
-    return image.fp is None
+    return bool(image.fp is None)
 
 
-def pickled(image, protocol):
+def pickled(image: Image.Image, protocol: int) -> tuple[object, ...]:
     """What comes back of an image that is pickled."""
     again = pickle.loads(pickle.dumps(image, protocol))
     return type(again).__module__, type(again).__name__, pels(again), sorted(map(repr, again.info.items()))
 
 
-def kept(name, **words):
+def kept(name: str, **words: object) -> tuple[object, ...]:
     """What is saved of a file: how many bytes, and what they are. Pillow writes a page's number as no number."""
     out = io.BytesIO()
     with Image.open(name) as image:
@@ -119,7 +122,7 @@ def kept(name, **words):
     return len(out.getvalue()), sorted(tags), sorted(map(repr, again.info.items())), pels(again)
 
 
-def changed(name):
+def changed(name: str) -> list[object]:
     """What is made of an image."""
     image = Image.open(name)
     small = image.copy()
@@ -127,7 +130,7 @@ def changed(name):
     return [pels(it) for it in (small, image.crop((0, 0, 2, 2)), image.rotate(90, expand=True), copy.deepcopy(image))]
 
 
-def parsed(name):
+def parsed(name: str) -> tuple[str, tuple[int, int], str]:
     """What Pillow's Parser makes of all bytes at once."""
     parser = ImageFile.Parser()
     with open(name, "rb") as file:
@@ -135,7 +138,7 @@ def parsed(name):
     return pels(parser.close())
 
 
-def in_pdf(name):
+def in_pdf(name: str) -> str:
     """The PDF that img2pdf makes."""
     import img2pdf  # pylint: disable=import-outside-toplevel
 
@@ -143,7 +146,7 @@ def in_pdf(name):
     return digest(re.sub(rb"/ID *\[.*?\]", b"", made, flags=re.S))
 
 
-def closed(name):
+def closed(name: str) -> tuple[object, ...]:
     """Whether a file is closed after it was loaded, and what comes then."""
     with Image.open(name) as image:
         file = image.fp
@@ -152,16 +155,16 @@ def closed(name):
     return left, said(image.load), file.closed, said(Image.open(name).load) == said(Image.open(name).load)
 
 
-def frames(name):
+def frames(name: str) -> Iterator[object]:
     """Each frame: its pels, and what is pickled."""
     image = Image.open(name)
     for frame in ImageSequence.Iterator(image):
         yield facts(frame), said(pels, frame), [said(pickled, frame, protocol) for protocol in (0, 2, 5)]
 
 
-def by_frames(name):
+def by_frames(name: str) -> list[object]:
     """The same as a list, up to an error, which is told."""
-    found = []
+    found: list[object] = []
     try:
         found.extend(frames(name))
     except Exception as error:  # pylint: disable=broad-except
@@ -169,10 +172,11 @@ def by_frames(name):
     return found
 
 
-def look(folder, out):
+def look(folder: str, out: TextIO) -> None:
     """Writes what comes of each file of a folder, in each way, as lines of JSON."""
     warnings.simplefilter("ignore")
-    ways = {"open": opened, "frames": by_frames, "seek": moved, "verify": verified, "change": changed, "parse": parsed,
+    ways: dict[str, Callable[[str], object]] = {
+            "open": opened, "frames": by_frames, "seek": moved, "verify": verified, "change": changed, "parse": parsed,
             "close": closed, "save as TIFF": lambda name: kept(name, format="TIFF"),
             "save as LZW": lambda name: kept(name, format="TIFF", compression="tiff_lzw"),
             "save as PNG": lambda name: kept(name, format="PNG"),
@@ -184,7 +188,7 @@ def look(folder, out):
             print(json.dumps([name, way, said(work, f"{folder}/{name}")]), file=out)
 
 
-def put_frames(name, *saved):
+def put_frames(name: str, *saved: tuple[Image.Image, dict[str, object]]) -> None:
     """Writes a file of several frames, each an image and how it is saved."""
     with TiffImagePlugin.AppendingTiffWriter(name, True) as out:
         for image, words in saved:
@@ -192,7 +196,7 @@ def put_frames(name, *saved):
             out.newFrame()
 
 
-def put_others(folder):
+def put_others(folder: str) -> None:
     """Writes files by Pillow: faxes in each of its compressions and out of the module's limits, and other TIFFs."""
     draw = random.Random(72)
     page = Image.frombytes("1", (1728, 300), bytes(draw.choice([0, 0, 255, draw.randrange(256)]) for _ in range(64800)))
@@ -204,7 +208,7 @@ def put_others(folder):
     colours.save(f"{folder}/jpeg.tif", compression="jpeg")
     Image.new("1", (70000, 3), 1).save(f"{folder}/wide.tif", compression="group4")
     Image.new("1", (8, 1000001), 1).save(f"{folder}/high.tif", compression="group4", tiffinfo={278: 1000001})
-    as_fax = {"compression": "group4", "dpi": (200, 100)}
+    as_fax: dict[str, object] = {"compression": "group4", "dpi": (200, 100)}
     put_frames(f"{folder}/mixed.tif", (page, as_fax), (colours, {"compression": "tiff_lzw"}), (page, as_fax))
     put_frames(f"{folder}/mixed-colours-first.tif", (colours, {}), (page, as_fax))
     if shutil.which("tiffcp"):
@@ -213,7 +217,7 @@ def put_others(folder):
             subprocess.run(["tiffcp", *words, f"{folder}/page-group4.tif", f"{folder}/tiffcp-{name}.tif"], check=True)
 
 
-def put_damaged(folder):
+def put_damaged(folder: str) -> None:
     """Writes damaged faxes: bytes are changed, or the end is cut."""
     draw, names = random.Random(720), sorted(name for name in os.listdir(folder) if not name.startswith("high"))
     for number in range(DAMAGED):
@@ -228,7 +232,7 @@ def put_damaged(folder):
             file.write(data)
 
 
-def by_other_process(how, folder):
+def by_other_process(how: str, folder: str) -> dict[tuple[str, str], str]:
     """What another process looks at, by file and way."""
     with tempfile.NamedTemporaryFile() as out:
         words = [sys.executable, "-W", "ignore", __file__, how, folder, out.name]
@@ -238,7 +242,7 @@ def by_other_process(how, folder):
         return {(name, way): text for name, way, text in map(json.loads, out.read().decode().splitlines())}
 
 
-def faults_of(name):
+def faults_of(name: str) -> list[faxpages.Fault]:
     """The faults of the first pages of a file, and whether it has any at all."""
     found, fax = [], faxpages.open(name)
     for number in range(20):
@@ -251,14 +255,14 @@ def faults_of(name):
     return found
 
 
-def is_refusal(name, way, one, other):
+def is_refusal(name: str, way: str, one: str, other: str) -> bool:
     """Whether what comes with the plugin is a refusal of a file that is damaged, where Pillow alone gave something."""
     if way == "parse" and one.startswith("OSError") and other.startswith("OSError"):
         return True
     return REFUSED.search(other) is not None and faults_of(name) != []
 
 
-def compare(claims, folder):
+def compare(claims: Claims, folder: str) -> None:
     """What differs is a refusal, of a file that is damaged; and each damaged row is refused."""
     plain, registered = by_other_process("plain", folder), by_other_process("register", folder)
     refusals = 0
@@ -277,7 +281,7 @@ def compare(claims, folder):
                 claims.see(f"{name} is refused by {fault}: {found}", str(fault) in found or "Error: " in found)
 
 
-def in_other_processes(claims, folder):
+def in_other_processes(claims: Claims, folder: str) -> None:
     """Images of the plugin go through processes."""
     with multiprocessing.get_context("spawn").Pool(2) as pool:
         faxpages.register()
@@ -301,7 +305,7 @@ print(image.size, count, re.search("VmHWM: *([0-9]+)", open("/proc/self/status")
 """
 
 
-def large(claims, folder):
+def large(claims: Claims, folder: str) -> None:
     """A large file is not read whole, whether its frame is a fax or not."""
     for name in ("page-group4.tif", "mode-RGB.tif"):
         shutil.copy(f"{folder}/{name}", f"{folder}/large-{name}")
@@ -314,7 +318,7 @@ def large(claims, folder):
                    and int(found["register"][3]) < LITTLE)
 
 
-def main():
+def main() -> int:
     claims = Claims()
     with tempfile.TemporaryDirectory() as folder:
         for name in sys.argv[1:]:

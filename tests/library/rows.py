@@ -3,6 +3,8 @@
 
     rows.py LIBRARY FILE.."""
 
+from __future__ import annotations
+
 import ctypes
 import sys
 
@@ -27,14 +29,14 @@ class Place(ctypes.Structure):
     _fields_ = [(name, U32) for name in ("page", "row", "bits", "runs")]
 
 
-def name_of(library, number):
+def name_of(library: ctypes.CDLL, number: int) -> str:
     """The name of a fault."""
     name = ctypes.create_string_buffer(16)
     count = library.faxpages_fault_name(U32(number), name, SIZE(16))
     return name.raw[:count].decode()
 
 
-def print_rows(library, data):
+def print_rows(library: ctypes.CDLL, data: bytes) -> int:
     """Prints the runs of all rows, some rows a call, and answers a status."""
     rows, out, told, place = (Row * ROWS)(), (U32 * ROOM)(), Told(), Place()
     runs = (U32 * 65536)()
@@ -57,7 +59,7 @@ def print_rows(library, data):
     return 1
 
 
-def main():
+def main() -> None:
     library = ctypes.CDLL(sys.argv[1])
     library.faxpages_fault_name.restype = SIZE
     with open(sys.argv[2], "rb") as file:

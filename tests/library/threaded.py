@@ -7,11 +7,16 @@ Each thread has to find what one alone finds, and memory stays whole: one that i
 iterator that is shared too may raise a ValueError, and hands out no wrong row. FAXPAGES_LIBRARY names the library. Ends
 with 'threaded: N passed, N failed'."""
 
+from __future__ import annotations
+
 import itertools
 import sys
 import threading
 import time
+from typing import Any, Callable, Dict, Iterator, List, Sequence
+from functools import partial
 
+from tests.library.counted import Claims
 from tests import TOP
 from tests.library.counted import Claims, until_fault
 
@@ -23,20 +28,20 @@ HEIGHTS, BATCH = [8, 5, 11] * 20, 7
 DAMAGED = "damaged-fourth-page.tif"
 
 
-def open_samples():
+def open_samples() -> list[faxpages.Fax]:
     """A fax of many small pages, and a damaged one, of which nothing is kept yet."""
     images = [b"P4\n64 %d\n" % rows + bytes(range(8 * rows)) for rows in HEIGHTS]
     return [faxpages.open(faxpages.convert(b"".join(images), "mmr")), faxpages.open(f"{TOP}/samples/{DAMAGED}")]
 
 
-def by_pages(fax):
+def by_pages(fax: faxpages.Fax) -> tuple[list[faxpages.Row], faxpages.Fault | None]:
     """The rows of pages in order."""
     return until_fault(row for page in fax.pages for row in page)
 
 
-def by_rasters(fax):
+def by_rasters(fax: faxpages.Fax) -> tuple[list[faxpages.Row], faxpages.Fault | None]:
     """The rows of pages in one piece."""
-    def rows():
+    def rows() -> Iterator[faxpages.Row]:
         for page in fax:
             raster = page.raster(partial=True)
             for at in range(raster.rows):
@@ -46,9 +51,9 @@ def by_rasters(fax):
     return until_fault(rows())
 
 
-def by_numbers(fax):
+def by_numbers(fax: faxpages.Fax) -> tuple[list[faxpages.Row], faxpages.Fault | None]:
     """The forms and the rows of pages by their numbers."""
-    def rows():
+    def rows() -> Iterator[faxpages.Row]:
         for number in itertools.count():
             try:
                 page = fax.page(number)
@@ -58,14 +63,14 @@ def by_numbers(fax):
     return until_fault(rows())
 
 
-def by_rows(fax):
+def by_rows(fax: faxpages.Fax) -> tuple[list[faxpages.Row], faxpages.Fault | None]:
     """The rows of all pages."""
     return until_fault(fax.rows())
 
 
-def by_batches(fax):
+def by_batches(fax: faxpages.Fax) -> tuple[list[faxpages.Row], faxpages.Fault | None]:
     """The rows by cursors that went through their text."""
-    def rows():
+    def rows() -> Iterator[faxpages.Row]:
         cursor = faxpages.Cursor()
         while True:
             found, after = fax.read_rows(cursor, BATCH)
@@ -76,24 +81,26 @@ def by_batches(fax):
     return until_fault(rows())
 
 
-def by_calls(fax):
+def by_calls(fax: faxpages.Fax) -> tuple[faxpages.Report, bytes | faxpages.Fault]:
     """A check, and a conversion."""
     try:
-        made = fax.convert("mr", k=2, strip=3)
+        return fax.check(), fax.convert("mr", k=2, strip=3)
     except faxpages.Fault as fault:
-        made = fault
-    return fax.check(), made
+        return fax.check(), fault
 
 
-WAYS = [by_pages, by_rasters, by_numbers, by_rows, by_batches, by_calls]
+Way = Callable[[faxpages.Fax], Any]
+# What each way has of each sample.
+Wanted = Dict[Way, List[Any]]
+WAYS: list[Way] = [by_pages, by_rasters, by_numbers, by_rows, by_batches, by_calls]
 
 
-def together(works):
+def together(works: Sequence[Callable[[], Any]]) -> list[Any]:
     """Does each work in a thread of its own, at the same time, and answers what they gave or raised."""
-    found = [None] * len(works)
+    found: list[Any] = [None] * len(works)
     begin = threading.Barrier(len(works))
 
-    def work(number):
+    def work(number: int) -> None:
         begin.wait()
         try:
             found[number] = works[number]()
@@ -108,18 +115,18 @@ def together(works):
     return found
 
 
-def share_faxes(claims, wanted):
+def share_faxes(claims: Claims, wanted: Wanted) -> None:
     """Threads that each go over one fax, in the same way, and in several."""
     for way in WAYS:
         for fax, right in zip(open_samples(), wanted[way]):
-            found = together([lambda fax=fax, way=way: way(fax)] * THREADS)
+            found = together([partial(way, fax)] * THREADS)
             claims.see(f"a fax that is shared, {way.__name__}", found == [right] * THREADS)
     for number, fax in enumerate(open_samples()):
-        found = together([lambda fax=fax, way=way: way(fax) for way in WAYS])
+        found = together([partial(way, fax) for way in WAYS])
         claims.see("a fax that is shared, in all ways", found == [wanted[way][number] for way in WAYS])
 
 
-def share_pages(claims, wanted):
+def share_pages(claims: Claims, wanted: Wanted) -> None:
     """Threads that share pages and a cursor, each with an iterator of its own."""
     rows = wanted[by_pages][0][0]
     fax = open_samples()[0]
@@ -131,20 +138,23 @@ def share_pages(claims, wanted):
     claims.see("a cursor that is shared", found == [rows[BATCH:]] * THREADS)
 
 
-def share_iterators(claims, wanted):
+def take_all(shared: Iterator[Any], found: list[Any], count: int) -> None:
+    """Takes so many items of an iterator that others take of too."""
+    for _ in range(count):
+        try:
+            found.append(next(shared))
+        except (ValueError, StopIteration):
+            pass
+
+
+def share_iterators(claims: Claims, wanted: Wanted) -> None:
     """Threads that share an iterator: each row is right, and none is handed out twice."""
     rows = wanted[by_pages][0][0]
-    for name, make in (("rows", lambda fax: fax.rows()), ("pages", lambda fax: fax.pages)):
-        shared, found = make(open_samples()[0]), []
-
-        def work(shared=shared, found=found):
-            for _ in range(len(rows)):
-                try:
-                    found.append(next(shared))
-                except (ValueError, StopIteration):
-                    pass
-
-        ended = together([work] * THREADS)
+    for name in ("rows", "pages"):
+        fax = open_samples()[0]
+        shared: Iterator[Any] = fax.rows() if name == "rows" else fax.pages
+        found: list[Any] = []
+        ended = together([partial(take_all, shared, found, len(rows))] * THREADS)
         if name == "pages":
             numbers = [page.number for page in found]
             fine = all(page.rows == HEIGHTS[page.number] for page in found) and len(numbers) == len(set(numbers))
@@ -153,7 +163,7 @@ def share_iterators(claims, wanted):
         claims.see(f"an iterator of {name} that is shared", fine and ended == [None] * THREADS)
 
 
-def take_turns(claims):
+def take_turns(claims: Claims) -> None:
     """An iterator goes on where it was, after others have read other pages: also in a page that was read in part."""
     fax = open_samples()[0]
     pages = list(fax.pages)
@@ -165,8 +175,9 @@ def take_turns(claims):
             claims.see(f"page {page.number} in turns", found == whole[:1] + list(fax.page(0)) + whole[1:])
 
 
-def main():
-    claims, wanted = Claims(), {way: [way(fax) for fax in open_samples()] for way in WAYS}
+def main() -> int:
+    claims = Claims()
+    wanted: Wanted = {way: [way(fax) for fax in open_samples()] for way in WAYS}
     claims.see("the ways are one", all(wanted[way][0] == wanted[by_pages][0] for way in WAYS[:5]))
     claims.see("rows are there", len(wanted[by_pages][0][0]) == sum(HEIGHTS) and wanted[by_rows][1][1] is not None)
     take_turns(claims)

@@ -1,6 +1,8 @@
 """The recipe for Slurm under a real slurmctld and slurmd of this machine, on loopback ports, with a munged, settings
 and folders of their own. Each call of sbatch has a folder of its own."""
 
+from __future__ import annotations
+
 import contextlib
 import getpass
 import os
@@ -9,7 +11,9 @@ import signal
 import socket
 import sqlite3
 import subprocess
+from typing import Iterator
 
+from tests import Claim
 from tests.archive.breaking import broken_module
 from tests.convert import files
 from tests.recipes.archive import COMMAND
@@ -58,16 +62,16 @@ PartitionName=all Nodes=ALL Default=YES MaxTime=INFINITE State=UP
 HEADING = "A Slurm array"
 
 
-def found(name):
+def found(name: str) -> str | None:
     """Where a server is."""
     return shutil.which(name, path="/usr/sbin:/usr/local/sbin:" + os.environ["PATH"])
 
 
-def library_beside(program):
+def library_beside(program: str) -> str:
     return os.path.join(os.path.dirname(os.path.realpath(program)), "libfaxpages.so.1")
 
 
-def lacking(program):
+def lacking(program: str) -> str:
     """Why nothing can be tested, or nothing."""
     names = [name for name in TOOLS if not shutil.which(name)] + [name for name in SERVERS if not found(name)]
     if names:
@@ -78,8 +82,9 @@ def lacking(program):
 class Cluster:
     """A cluster of one machine, which runs as long as this is used by `with`."""
 
-    def __init__(self, path, program, processors=16):
-        self.path, self.program, self.servers = path, program, []
+    def __init__(self, path: str, program: str, processors: int = 16) -> None:
+        self.path, self.program = path, program
+        self.servers: list[subprocess.Popen[bytes]] = []
         for name in ("bin", "state", "spool"):
             os.makedirs(f"{path}/{name}")
         os.symlink(program, f"{path}/bin/faxpages")
@@ -93,7 +98,7 @@ class Cluster:
         self.told = {name: value for name, value in os.environ.items() if not name.startswith(("SLURM", "SBATCH"))}
         self.told.update(PATH=f"{path}/bin:{os.environ['PATH']}", SLURM_CONF=f"{path}/slurm.conf", LC_ALL="C")
 
-    def __enter__(self):
+    def __enter__(self) -> Cluster:
         with open(f"{self.path}/key", "wb") as key:
             key.write(os.urandom(128))
         os.chmod(f"{self.path}/key", 0o400)
@@ -103,7 +108,7 @@ class Cluster:
         words = {"munged": ["--force", "--foreground", *munged], "slurmctld": ["-D", "-c"], "slurmd": ["-D"]}
         try:
             for name in SERVERS:
-                self.start([found(name), *words[name]], f"{at}/{name}.said")
+                self.start([found(name) or name, *words[name]], f"{at}/{name}.said")
                 if name == "munged":
                     wait_for(lambda: os.path.exists(f"{at}/munge") or self.servers[0].poll() is not None)
         except OSError:
@@ -111,13 +116,13 @@ class Cluster:
             raise
         return self
 
-    def start(self, words, name):
+    def start(self, words: list[str], name: str) -> None:
         """Starts a server, whose words go to a file."""
         with open(name, "w") as said:
             self.servers.append(subprocess.Popen(words, env=self.told, stdin=subprocess.DEVNULL, stdout=said,
                                                  stderr=said, cwd="/"))  # fmt: skip
 
-    def __exit__(self, *_):
+    def __exit__(self, *_: None) -> None:
         if self.runs():
             subprocess.run(["scancel", "--user", getpass.getuser()], env=self.told, capture_output=True)
             wait_for(lambda: not self.runs() or not self.ask("squeue", "-h"))
@@ -132,19 +137,19 @@ class Cluster:
             with contextlib.suppress(ProcessLookupError):
                 os.kill(process, signal.SIGKILL)
 
-    def runs(self):
+    def runs(self) -> bool:
         """Whether all servers run."""
         return len(self.servers) == len(SERVERS) and all(server.poll() is None for server in self.servers)
 
-    def ask(self, *words):
+    def ask(self, *words: str) -> str:
         return subprocess.run(words, env=self.told, capture_output=True, text=True).stdout.strip()
 
-    def is_up(self):
+    def is_up(self) -> bool:
         """Whether the machine is idle, once it is known to the cluster."""
         wait_for(lambda: not self.runs() or self.ask("sinfo", "-h", "-o", "%T") == "idle", UP)
         return self.runs() and self.ask("sinfo", "-h", "-o", "%T") == "idle"
 
-    def folder(self, name):
+    def folder(self, name: str) -> str:
         """A folder from which sbatch is called, with faxes."""
         place = f"{self.path}/{name}"
         os.makedirs(f"{place}/faxes")
@@ -153,25 +158,25 @@ class Cluster:
             shutil.copy(f"{ROOT}/samples/{sample}", f"{place}/faxes/{number} fax.tif")
         return place
 
-    def give(self, place, commands, **more):
+    def give(self, place: str, commands: str, **more: str) -> tuple[int, str, str]:
         """Gives commands in a folder: their status, their output and their error stream."""
         ran = subprocess.run(["bash", "-c", commands], cwd=place, env=dict(self.told, **more), stdin=subprocess.DEVNULL,
                              capture_output=True, timeout=PATIENCE)  # fmt: skip
         return ran.returncode, ran.stdout.decode(), ran.stderr.decode(errors="replace")
 
-    def table(self, place):
+    def table(self, place: str) -> list[str]:
         """The lines of the table there, but for the seconds and the folder."""
         printed = self.give(place, "faxpages-archive table faxes.sqlite --csv")[1]
         return [line.rpartition(",")[0].removeprefix(f"{place}/") for line in printed.splitlines()[1:]]
 
 
-def free_port():
+def free_port() -> int:
     with socket.socket() as asked:
         asked.bind(("127.0.0.1", 0))
-        return asked.getsockname()[1]
+        return int(asked.getsockname()[1])
 
 
-def leaders_in(room):
+def leaders_in(room: str) -> list[int]:
     """The processes there that lead workers."""
     found = []
     for process in there_in(room):
@@ -181,7 +186,7 @@ def leaders_in(room):
     return found
 
 
-def compare(cluster):
+def compare(cluster: Cluster) -> Iterator[Claim]:
     """The recipe as it stands, and in other ranges; a list, which is none; and tasks that are ended meanwhile."""
     recipe = recipes()[HEADING]
     place = cluster.folder("whole")
@@ -200,17 +205,17 @@ def compare(cluster):
     yield from ended(cluster, recipe, wanted)
 
 
-def with_array(recipe, array):
+def with_array(recipe: str, array: str | None) -> str:
     """The recipe with another array."""
     return recipe if array is None else recipe.replace("sbatch ", f"sbatch --array={array} ")
 
 
-def without(rows):
+def without(rows: list[list[str]]) -> list[list[str]]:
     """Rows without the times of their files."""
     return [row[:2] + row[3:] for row in rows]
 
 
-def ended(cluster, recipe, wanted):
+def ended(cluster: Cluster, recipe: str, wanted: list[list[str]]) -> Iterator[Claim]:
     """Tasks that scancel ends in the middle, and the recipe given again."""
     place, gate = cluster.folder("ended"), f"{cluster.path}/gate"
     files.put(gate, b"")
@@ -235,7 +240,7 @@ def ended(cluster, recipe, wanted):
     yield "Slurm: ended: what was done is not done again", said_before(place), before
 
 
-def count(place):
+def count(place: str) -> int:
     """How many rows the tables of the tasks have."""
     found = 0
     for name in os.listdir(f"{place}/parts") if os.path.isdir(f"{place}/parts") else []:
@@ -246,14 +251,14 @@ def count(place):
     return found
 
 
-def said_before(place):
+def said_before(place: str) -> int:
     """How many faxes were done before, as the tasks sum up."""
     texts = [files.get(f"{place}/{name}").decode() for name in os.listdir(place) if name.startswith("slurm-")]
     sums = [line for text in texts for line in text.splitlines() if line.startswith("faxes ")]
     return sum(int(line.split(" done now, ")[1].split()[0]) for line in sums)
 
 
-def outcomes(cluster):
+def outcomes(cluster: Cluster) -> Iterator[Claim]:
     """What came of it all, an error among it."""
     try:
         yield from compare(cluster)

@@ -265,7 +265,7 @@ def what_it_is(room: Room) -> None:
     with open(room.made("picture.tif"), "wb") as file:
         subprocess.run("pbmmake 60 40 | ppmchange white red | pnmtotiff", shell=True, check=True, stdout=file,
                        stderr=subprocess.DEVNULL)  # fmt: skip
-    named, alone = ["-o", "document-format=image/tiff"], list[str]()
+    named = ["-o", "document-format=image/tiff"]
     told, got = sent(room, [
         ("text", [], room.made("fax.txt")), ("spoiled", [], room.made("spoiled.jpg")),
         ("other", [], room.made("text.tif")), ("picture", [], room.made("picture.tif")),

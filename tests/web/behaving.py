@@ -1,5 +1,7 @@
 """How the page behaves: keys, names for screen readers, narrow and dark screens, and no request to anywhere."""
 
+from __future__ import annotations
+
 import base64
 import json
 import os
@@ -7,9 +9,12 @@ import re
 import shutil
 import subprocess
 import urllib.parse
+from typing import Generator
 
-from tests import TOP
-from tests.web import faxes
+from tests import TOP, Claim
+from tests.convert.files import put
+from tests.finding import found
+from tests.web.browser import Browser
 
 SAMPLE = f"{TOP}/samples/three-pages.tif"
 # Each text whose contrast with what is below it is less than 4.5 to 1.
@@ -34,14 +39,14 @@ FAINT = """(() => {
 })()"""
 
 
-def opened(browser):
+def opened(browser: Browser) -> None:
     browser.run("while (app.fax) app.close()")
     browser.choose("#choose", SAMPLE)
     browser.until('app.fax && app.fax.state === "done" && app.view.fax === app.fax && app.view.form')
     browser.run("document.activeElement.blur()")
 
 
-def keys(browser, _program, _room):
+def keys(browser: Browser, _program: str, _room: str) -> Generator[Claim, None, None]:
     """Pages are gone through by keys, and to what is wrong."""
     opened(browser)
     for key, page in (("n", 1), ("n", 2), ("n", 2), ("p", 1), ("Home", 0), ("End", 2), ("p", 1), ("f", 2), ("Home", 0),
@@ -70,7 +75,7 @@ def keys(browser, _program, _room):
     yield "all is reached by the Tab key", wanted - set(seen), set()
 
 
-def zoom(browser, _program, _room):
+def zoom(browser: Browser, _program: str, _room: str) -> Generator[Claim, None, None]:
     """Zoomed and turned by keys and buttons; a page is as high as its resolution says."""
     opened(browser)
     size = "[app.view.sheet.clientWidth, app.view.sheet.clientHeight]"
@@ -96,7 +101,7 @@ def zoom(browser, _program, _room):
     yield "0: the whole page", browser.run("app.view.zoom"), "whole"
 
 
-def names(browser, _program, _room):
+def names(browser: Browser, _program: str, _room: str) -> Generator[Claim, None, None]:
     """All that can be used has a name and a role in the tree of accessibility."""
     opened(browser)
     browser.call("Accessibility.enable")
@@ -115,7 +120,7 @@ def names(browser, _program, _room):
     browser.call("Accessibility.disable")
 
 
-def narrow(browser, _program, _room):
+def narrow(browser: Browser, _program: str, _room: str) -> Generator[Claim, None, None]:
     """On a narrow screen nothing is wider than it; light and dark, each text stands out."""
     opened(browser)
     for width in (1280, 360):
@@ -131,7 +136,7 @@ def narrow(browser, _program, _room):
     browser.call("Emulation.setEmulatedMedia", features=[])
 
 
-def page_first(browser, _program, _room):
+def page_first(browser: Browser, _program: str, _room: str) -> Generator[Claim, None, None]:
     """On a phone, and at 200 percent, the page begins in the first screen: all else is folded, and can be opened."""
     opened(browser)
     top = 'Math.round(document.getElementById("view").getBoundingClientRect().top + scrollY)'
@@ -151,20 +156,20 @@ def page_first(browser, _program, _room):
     yield "what is not drawn is not white", paper != "rgb(255, 255, 255)", True
 
 
-def printed(browser, _program, room):
+def printed(browser: Browser, _program: str, room: str) -> Generator[Claim, None, None]:
     """What is printed is the page alone, in its size."""
     if not shutil.which("pdftotext"):
         print("SKIPPED: what is printed of the page (poppler-utils)")
         return
     browser.run("while (app.fax) app.close()")
-    browser.choose("#choose", f"{faxes.TOP}/samples/received/over-a-noisy-line.tif")
+    browser.choose("#choose", f"{TOP}/samples/received/over-a-noisy-line.tif")
     browser.until('app.fax && app.fax.state === "done" && document.querySelector("#paper canvas[data-drawn]")')
     data = base64.b64decode(browser.call("Page.printToPDF", printBackground=True)["data"])
-    made = faxes.put(f"{room}/printed.pdf", data)
+    made = put(f"{room}/printed.pdf", data)
     words = subprocess.run(["pdftotext", made, "-"], capture_output=True, check=True).stdout.decode().split()
     yield "no word of the page is printed", words, []
     told = subprocess.run(["pdfinfo", made], capture_output=True, check=True).stdout.decode()
-    yield "one sheet", re.search(r"Pages: +(\d+)", told)[1], "1"
+    yield "one sheet", found(r"Pages: +(\d+)", told)[1], "1"
     browser.call("Emulation.setEmulatedMedia", media="print")
     wide = browser.run('document.getElementById("sheet").getBoundingClientRect().width / 96')
     browser.call("Emulation.setEmulatedMedia", media="")
@@ -172,7 +177,7 @@ def printed(browser, _program, room):
         wide * browser.run("app.view.printScale()") - 1728 / 204) < 0.05, True
 
 
-def refusals(browser, _program, _room):
+def refusals(browser: Browser, _program: str, _room: str) -> Generator[Claim, None, None]:
     """The page's own policy refuses requests, code from texts, and frames."""
     refused = browser.run("""(async () => {
         const seen = [];
@@ -205,7 +210,7 @@ def refusals(browser, _program, _room):
     yield "each by the policy", refused[1], ["connect-src", "frame-src", "img-src", "script-src", "script-src-elem"]
 
 
-def nothing_is_asked(browser, address):
+def nothing_is_asked(browser: Browser, address: str) -> Generator[Claim, None, None]:
     """Whatever was done, the page asked for its own files alone, and keeps nothing."""
     folder = address.rsplit("/", 1)[0] + "/"
     asked = [it["params"]["request"]["url"] for it in browser.events if it["method"] == "Network.requestWillBeSent"]
@@ -218,9 +223,9 @@ def nothing_is_asked(browser, address):
     yield f"{address}: no error", [json.dumps(it)[:300] for it in errors], []
 
 
-def only_its_files(server):
+def only_its_files(asked_for: list[str]) -> Generator[Claim, None, None]:
     """A server of the folder was asked for files of the folder, and for nothing else."""
     there = {f"/{name}" for name in os.listdir(os.path.join(TOP, "web"))}
-    asked = {urllib.parse.unquote(re.sub(r"\?.*", "", path)) for path in server.asked}
+    asked = {urllib.parse.unquote(re.sub(r"\?.*", "", path)) for path in asked_for}
     yield "the server was asked for files of web/ alone", asked - there, set()
     yield "it was asked for the page", asked >= {"/index.html", "/faxpages.js", "/faxpages.wasm.js"}, True

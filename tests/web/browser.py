@@ -1,6 +1,8 @@
 """Chromium without a window, over its own protocol by two pipes: nothing listens on a port. Nothing waits for a fixed
 time: an event, an answer or a state of the page is waited for, at most some minutes."""
 
+from __future__ import annotations
+
 import base64
 import json
 import os
@@ -11,6 +13,7 @@ import subprocess
 import tempfile
 import threading
 import time
+from typing import Any, Callable
 
 # Seconds, on a machine that has much else to do.
 MOST = 900
@@ -29,7 +32,7 @@ class Failed(Exception):
 class Browser:
     """One browser with one page."""
 
-    def __init__(self, size=(1280, 900)):
+    def __init__(self, size: tuple[int, int] = (1280, 900)) -> None:
         for left in (2, 1, 0):
             self._start(size)
             try:
@@ -43,7 +46,7 @@ class Browser:
                 if not left:
                     raise Failed(f"chromium does not start: {error}: {why}") from error
 
-    def _start(self, size):
+    def _start(self, size: tuple[int, int]) -> None:
         """Starts the browser, with a pipe to it and one from it."""
         self._folder = tempfile.mkdtemp()
         to_it, mine = os.pipe()
@@ -59,12 +62,13 @@ class Browser:
         os.close(from_it)
         self._to = mine
         self._number = 0
-        self._answers, self._session = {}, None
+        self._answers: dict[int | None, Any] = {}
+        self._session: str | None = None
         self._came = threading.Condition()
-        self.events = []
+        self.events: list[Any] = []
         threading.Thread(target=self._read, args=(mine_too, self._answers), daemon=True).start()
 
-    def _attach(self, size):
+    def _attach(self, size: tuple[int, int]) -> None:
         """Takes a page of the browser's."""
         target = self.call("Target.createTarget", url="about:blank")["targetId"]
         self._session = self.call("Target.attachToTarget", targetId=target, flatten=True)["sessionId"]
@@ -72,11 +76,11 @@ class Browser:
             self.call(f"{domain}.enable")
         self.resize(*size)
 
-    def resize(self, width, height):
+    def resize(self, width: int, height: int) -> None:
         """Gives the page a window of another size."""
         self.call("Emulation.setDeviceMetricsOverride", width=width, height=height, deviceScaleFactor=1, mobile=False)
 
-    def _read(self, said, answers):
+    def _read(self, said: int, answers: dict[int | None, Any]) -> None:
         """Takes in what the browser says, until it ends."""
         left = b""
         while True:
@@ -95,7 +99,7 @@ class Browser:
                 os.close(said)
                 return
 
-    def call(self, method, **words):
+    def call(self, method: str, **words: object) -> Any:
         """Calls a method of the protocol, and answers its result."""
         self._number += 1
         number = self._number
@@ -113,14 +117,14 @@ class Browser:
             raise Failed(f"{method}: {answer['error']}")
         return answer["result"]
 
-    def run(self, script):
+    def run(self, script: str) -> Any:
         """The value of an expression in the page; of a promise, what it gives."""
         told = self.call("Runtime.evaluate", expression=script, awaitPromise=True, returnByValue=True)
         if "exceptionDetails" in told:
             raise Failed(f"{script}: {told['exceptionDetails'].get('exception', told['exceptionDetails'])}")
         return told["result"].get("value")
 
-    def until(self, script, most=MOST):
+    def until(self, script: str, most: int = MOST) -> Any:
         """Waits until an expression is true in the page, and answers its value: the page looks at each of its pictures
         and timers."""
         return self.run(f"""new Promise((resolve, reject) => {{
@@ -135,7 +139,7 @@ class Browser:
             look();
         }})""")
 
-    def longest_task(self, does):
+    def longest_task(self, does: Callable[[], object]) -> float:
         """The most milliseconds of the processor that a task of the page's own thread took while something was done:
         so long it did not answer. Time in which other programs had the processor is none of it."""
         first = len(self.events)
@@ -155,9 +159,9 @@ class Browser:
                  (it["pid"], it["tid"]) in mine]
         if not tasks:
             raise Failed("no task was told")
-        return max(tasks) / 1000
+        return float(max(tasks)) / 1000
 
-    def most_memory(self):
+    def most_memory(self) -> int:
         """The most bytes that a process of the page had at once, so far."""
         session, self._session = self._session, None
         told = self.call("SystemInfo.getProcessInfo")["processInfo"]
@@ -169,24 +173,24 @@ class Browser:
                     most = max(most, *(1024 * int(line.split()[1]) for line in status if line.startswith("VmHWM:")))
         return most
 
-    def go(self, address):
+    def go(self, address: str) -> None:
         self.call("Page.navigate", url=address)
         self.until(f"location.href === {json.dumps(address)} && document.readyState === 'complete' "
                    "&& typeof app !== 'undefined'")
 
-    def choose(self, selector, *files):
+    def choose(self, selector: str, *files: str) -> None:
         """Chooses files in an input of the page."""
         root = self.call("DOM.getDocument")["root"]["nodeId"]
         node = self.call("DOM.querySelector", nodeId=root, selector=selector)["nodeId"]
         self.call("DOM.setFileInputFiles", nodeId=node, files=[os.path.abspath(file) for file in files])
 
-    def drop(self, *files, x=600, y=400):
+    def drop(self, *files: str, x: int = 600, y: int = 400) -> None:
         """Drops files onto the page."""
         data = {"items": [], "files": [os.path.abspath(file) for file in files], "dragOperationsMask": 1}
         for kind in ("dragEnter", "dragOver", "drop"):
             self.call("Input.dispatchDragEvent", type=kind, x=x, y=y, data=data)
 
-    def press(self, key, code="", number=0, shift=False):
+    def press(self, key: str, code: str = "", number: int = 0, shift: bool = False) -> None:
         """Presses a key and lets it go."""
         text = key if len(key) == 1 else ""
         words = {"key": key, "code": code or key, "windowsVirtualKeyCode": number or (ord(key.upper()) if text else 0),
@@ -194,11 +198,11 @@ class Browser:
         self.call("Input.dispatchKeyEvent", type="keyDown", text=text, **words)
         self.call("Input.dispatchKeyEvent", type="keyUp", **words)
 
-    def picture(self, file):
+    def picture(self, file: str) -> None:
         with open(file, "wb") as out:
             out.write(base64.b64decode(self.call("Page.captureScreenshot", format="png")["data"]))
 
-    def close(self):
+    def close(self) -> None:
         try:
             self._session = None
             self.call("Browser.close")
@@ -216,8 +220,8 @@ class Browser:
                 break
             time.sleep(0.1)
 
-    def __enter__(self):
+    def __enter__(self) -> Browser:
         return self
 
-    def __exit__(self, *_):
+    def __exit__(self, *_: None) -> None:
         self.close()

@@ -1,14 +1,19 @@
 """Large and hostile files: the page answers while they are read, they can be left, and what was read stays."""
 
+from __future__ import annotations
+
+import math
 import os
 import shutil
 import struct
+from typing import Generator
 
+from tests import Claim
 from tests.convert.files import put
-from tests.web import faxes
+from tests.web import faxes, saving
+from tests.web.browser import Browser
 
 import hostile
-
 
 # Milliseconds of the processor that a task of the page may take, and how often that is tried: a garbage collection
 # falls where it will.
@@ -18,11 +23,11 @@ TRIES = 3
 SPARE = 64 * 2 ** 20
 
 
-def close_all(browser):
+def close_all(browser: Browser) -> None:
     browser.run("while (app.fax) app.close()")
 
 
-def directory(at, last, place, size, width, rows):
+def directory(at: int, last: bool, place: int, size: int, width: int, rows: int) -> bytes:
     """A directory of one page of MH at a place of the file, with its strip elsewhere; and where the next one is."""
     fields = [(256, 4, width), (257, 4, rows), (258, 3, 1), (259, 3, 3), (262, 3, 0), (266, 3, 1), (273, 4, place),
               (277, 3, 1), (278, 4, rows), (279, 4, size)]
@@ -32,7 +37,7 @@ def directory(at, last, place, size, width, rows):
     return data + struct.pack("<I", 0 if last else at + length)
 
 
-def pages(count, strip, width=8, rows=1):
+def pages(count: int, strip: bytes, width: int = 8, rows: int = 1) -> bytes:
     """A file of so many pages, which share one strip."""
     at = 8 + len(strip) + len(strip) % 2
     head = b"II" + struct.pack("<HI", 42, at) + strip + bytes(len(strip) % 2)
@@ -41,25 +46,25 @@ def pages(count, strip, width=8, rows=1):
                            for number in range(count))
 
 
-def answers(browser, path, until):
+def answers(browser: Browser, path: str, until: str) -> float:
     """How long the page did not answer while a file was opened and read, the best of some tries."""
-    best = None
+    best = math.inf
     for _ in range(TRIES):
         close_all(browser)
 
-        def opened():
+        def opened() -> None:
             browser.choose("#choose", path)
             browser.until(until)
 
         took = browser.longest_task(opened)
-        best = took if best is None else min(best, took)
+        best = min(best, took)
         if best <= BOUND:
             break
     print(f"({os.path.basename(path)}: {best:.0f} ms)")
     return best
 
 
-def leaves(browser, _program, room):
+def leaves(browser: Browser, _program: str, room: str) -> Generator[Claim, None, None]:
     """A file that would take minutes is left: what was read stays, and its pages can still be looked at."""
     strip = bytes(4000000) + hostile.packed("000000000001" + "10011")
     path = put(f"{room}/slow.tif", pages(60000, strip))
@@ -82,7 +87,7 @@ def leaves(browser, _program, room):
     close_all(browser)
 
 
-def many_pages(browser, program, room):
+def many_pages(browser: Browser, program: str, room: str) -> Generator[Claim, None, None]:
     """65,535 pages: the list has few elements, and the last page is reached by a key."""
     strip = hostile.packed("000000000001" + "10011")
     path = put(f"{room}/pages.tif", pages(65535, strip))
@@ -101,7 +106,7 @@ def many_pages(browser, program, room):
     close_all(browser)
 
 
-def whole_memory(browser, program, room):
+def whole_memory(browser: Browser, program: str, room: str) -> Generator[Claim, None, None]:
     """A file of 256 MB, the first that the browser reads: it is in memory once, and is read as the program reads it."""
     at = 2 ** 28 - 200
     with open(f"{room}/large.tif", "wb") as file:
@@ -112,9 +117,9 @@ def whole_memory(browser, program, room):
     before = browser.most_memory()
     browser.choose("#choose", f"{room}/large.tif")
     browser.until('app.fax && app.fax.state === "done"')
-    took = browser.most_memory() - before
-    print(f"(256 MB: {took / 2 ** 20:.0f} MB of memory)")
-    yield "256 MB: it is in memory once", 2 ** 27 < took < 2 ** 28 + SPARE, True
+    grown = browser.most_memory() - before
+    print(f"(256 MB: {grown / 2 ** 20:.0f} MB of memory)")
+    yield "256 MB: it is in memory once", 2 ** 27 < grown < 2 ** 28 + SPARE, True
     if browser.run("app.fax.isLong"):
         browser.until('!document.getElementById("notes").hidden')
         browser.run('document.getElementById("notes").click()')
@@ -126,7 +131,7 @@ def whole_memory(browser, program, room):
     close_all(browser)
 
 
-def million_rows(browser, _program, room):
+def million_rows(browser: Browser, _program: str, room: str) -> Generator[Claim, None, None]:
     """A page of a million rows: few canvases, and the end is drawn."""
     path = put(f"{room}/rows.tif", hostile.tiff(1728, 1000000, hostile.MMR, b"\xff" * 125000))
     took = answers(browser, path, 'app.fax && app.fax.state === "done"')
@@ -138,7 +143,7 @@ def million_rows(browser, _program, room):
     close_all(browser)
 
 
-def many_stretches(browser, program, room):
+def many_stretches(browser: Browser, program: str, room: str) -> Generator[Claim, None, None]:
     """A page of which every second row is lost: each stretch is told, and some are listed."""
     strip = hostile.packed(("000000000001" + "10011" + "000000000001" + "111") * 20000)
     path = put(f"{room}/stretches.tif", pages(1, strip, rows=40000))
@@ -156,14 +161,14 @@ def many_stretches(browser, program, room):
     if shutil.which("pngtopnm"):
         got = saving.made(browser, "png")[0]
         is_lost = [bytes(pels) == bytes([2] * 8) for pels in zip(*[iter(faxes.pels_of_png(got)[2])] * 8)]
-        wanted = [False] * 40000
+        grey = [False] * 40000
         for line in lines:
-            wanted[int(line[2]):int(line[2]) + int(line[3])] = [True] * int(line[3])
-        yield "20,000 stretches: the picture has the same rows grey", is_lost == wanted, True
+            grey[int(line[2]):int(line[2]) + int(line[3])] = [True] * int(line[3])
+        yield "20,000 stretches: the picture has the same rows grey", is_lost == grey, True
     close_all(browser)
 
 
-def many_notes(browser, program, room):
+def many_notes(browser: Browser, program: str, room: str) -> Generator[Claim, None, None]:
     """Of 30,000 notes the first are listed, the others are counted, and the report that is saved has all."""
     strip = hostile.packed("000000000001" + "10011" + "000000000001" * 6)
     path = put(f"{room}/notes.tif", pages(30000, strip))
@@ -180,7 +185,7 @@ def many_notes(browser, program, room):
     close_all(browser)
 
 
-def many_files(browser, program, room):
+def many_files(browser: Browser, program: str, room: str) -> Generator[Claim, None, None]:
     """A hundred files at once: few keep a worker, and each can be gone back to."""
     names = [put(f"{room}/file-{number}.tif", faxes.drawn(program, 3000 + number)) for number in range(100)]
     browser.choose("#choose", *names)
@@ -194,7 +199,7 @@ def many_files(browser, program, room):
     close_all(browser)
 
 
-def too_large(browser, _program, room):
+def too_large(browser: Browser, _program: str, room: str) -> Generator[Claim, None, None]:
     """A file of more bytes than are read is refused, and takes nothing of the browser's memory."""
     with open(f"{room}/too-large.tif", "wb") as file:
         file.truncate(268435457)

@@ -1,23 +1,27 @@
 """Fax pages of letters, whose words a browser draws."""
 
+from __future__ import annotations
+
 import base64
 import json
 import random
 import struct
 import subprocess
 
+from tests.web.browser import Browser
+
 WIDTH = 1728
 LETTERS = "eeettaaooiinnssrrhhlldcumfpgwybvk"
 
 
-def lines_of(seed, count):
+def lines_of(seed: int, count: int) -> list[str]:
     """Lines of words that nobody wrote."""
     chosen = random.Random(seed)
     words = ["".join(chosen.choices(LETTERS, k=chosen.randint(2, 9))) for _ in range(8 * count)]
     return [" ".join(words[8 * line:8 * line + 8]) for line in range(count)]
 
 
-def drawn(browser, head, lines, rows):
+def drawn(browser: Browser, head: str, lines: list[str], rows: int) -> bytes:
     """A raw PBM of a letter: a head, and lines below it; where a page has half the rows, its pels are twice as high."""
     packed = browser.run(f"""(() => {{
         const canvas = document.createElement("canvas");
@@ -45,11 +49,11 @@ def drawn(browser, head, lines, rows):
     return b"P4\n%d %d\n" % (WIDTH, rows) + base64.b64decode(packed)
 
 
-def fax(program, images, words):
+def fax(program: str, images: bytes, words: list[str]) -> bytes:
     """The images as TIFF-F, by the program."""
     return subprocess.run([program, "convert", *words], input=images, capture_output=True, check=True).stdout
 
 
-def standard(data):
+def standard(data: bytes) -> bytes:
     """The same pages with 98 rows to the inch."""
     return data.replace(struct.pack("<2I", 196, 1), struct.pack("<2I", 98, 1))

@@ -3,13 +3,22 @@ becomes of a worker or of a file is said, and keeps no other fax from being draw
 
 The page is watched from below: what it sends to workers can be held back, and workers are counted."""
 
+from __future__ import annotations
+
 import base64
 import os
 import time
+from typing import Callable, Generator
 
+from tests import Claim
+from tests.convert import files as parts_of
+from tests.convert.files import put
 from tests.web import faxes
+from tests.web.browser import Browser
 from tests.web.saying import PELS
 
+# What is claimed of a page in a browser, by a program and in a room.
+Part = Callable[[Browser, str, str], Generator[Claim, None, None]]
 # So much patience has a claim that something comes; that it never comes is seen after this many seconds.
 SOON = 20
 WATCH = """(() => {
@@ -45,23 +54,23 @@ SAID = 'document.getElementById("saved").textContent'
 VERDICT = 'document.getElementById("verdict").textContent'
 
 
-def plain(program, byte, count=3, rows=40):
+def plain(program: str, byte: int, count: int = 3, rows: int = 40) -> bytes:
     """A fax of pages that are black or white."""
     return faxes.convert(program, (b"P4\n64 %d\n" % rows + bytes([byte]) * (8 * rows)) * count, "-o", "mmr")
 
 
-def opened(browser, path):
+def opened(browser: Browser, path: str) -> None:
     """Opens a file, and waits until it was read."""
     name = os.path.basename(path)
     browser.choose("#choose", path)
     browser.until(f'app.fax && app.fax.file.name === "{name}" && app.fax.state === "done"')
 
 
-def close_all(browser):
+def close_all(browser: Browser) -> None:
     browser.run("while (app.fax) app.close()")
 
 
-def thumbnails(browser, program, room):
+def thumbnails(browser: Browser, program: str, room: str) -> Generator[Claim, None, None]:
     """Thumbnails of one fax that come late are not shown under the next one."""
     browser.run(WATCH)
     black, white = (put(f"{room}/{name}.tif", plain(program, byte))
@@ -77,7 +86,7 @@ def thumbnails(browser, program, room):
         close_all(browser)
 
 
-def results(browser, program, room):
+def results(browser: Browser, program: str, room: str) -> Generator[Claim, None, None]:
     """What is made of one fax is said under this one alone, also where another one is shown meanwhile."""
     browser.run(WATCH)
     one, other = (put(f"{room}/{name}.tif", plain(program, 255)) for name in ("one", "other"))
@@ -102,7 +111,7 @@ def results(browser, program, room):
     yield from addresses(browser)
 
 
-def cancelled(browser):
+def cancelled(browser: Browser) -> Generator[Claim, None, None]:
     """What is being made can be cancelled, and then another be made."""
     browser.run('watched.hold = "save"; document.querySelector("#save button").click()')
     browser.until('watched.held.length === 1 && !document.getElementById("save-cancel").hidden')
@@ -112,7 +121,7 @@ def cancelled(browser):
     yield "after a cancel another is made", browser.until(f'{SAID}.includes("was made")'), True
 
 
-def addresses(browser):
+def addresses(browser: Browser) -> Generator[Claim, None, None]:
     """Addresses of what was made are given back: by the next one, and where the fax is closed."""
     before = browser.run("watched.urls.size")
     for _ in range(3):
@@ -123,7 +132,7 @@ def addresses(browser):
     yield "none once all are closed", browser.run("watched.urls.size"), 0
 
 
-def bare_again(browser, program, room):
+def bare_again(browser: Browser, program: str, room: str) -> Generator[Claim, None, None]:
     """Bare data that are read again in another way have the new picture."""
     browser.run(WATCH)
     image = faxes.image("marks", 30)
@@ -151,7 +160,7 @@ def bare_again(browser, program, room):
     close_all(browser)
 
 
-def gone(browser, program, room):
+def gone(browser: Browser, program: str, room: str) -> Generator[Claim, None, None]:
     """A file that is gone from the disk is said to be, and keeps no other one from being drawn."""
     browser.run(WATCH)
     names = [put(f"{room}/gone-{number}.tif", faxes.drawn(program, 900 + number)) for number in range(8)]
@@ -172,7 +181,7 @@ def gone(browser, program, room):
     yield "no worker is left", browser.run("watched.live.size"), 0
 
 
-def crashes(browser, program, room):
+def crashes(browser: Browser, program: str, room: str) -> Generator[Claim, None, None]:
     """A worker that breaks down while nobody asks it is said, and so is one that is asked then."""
     browser.run(WATCH)
     names = [put(f"{room}/crash-{number}.tif", plain(program, 255)) for number in range(2)]
@@ -195,7 +204,7 @@ def crashes(browser, program, room):
     close_all(browser)
 
 
-def closing(browser, program, room):
+def closing(browser: Browser, program: str, room: str) -> Generator[Claim, None, None]:
     """Files that are closed while they are drawn or read start no worker again."""
     browser.run(WATCH)
     for hold in ("part", "small", "open"):
@@ -209,7 +218,7 @@ def closing(browser, program, room):
         yield f"closed while {hold} is asked for: no worker", browser.run("watched.live.size"), 0
 
 
-def rewritten(browser, program, room):
+def rewritten(browser: Browser, program: str, room: str) -> Generator[Claim, None, None]:
     """A file that is written over on the disk is read anew, or said to be changed: it is never shown under the old
     words."""
     browser.run(WATCH)
@@ -231,4 +240,4 @@ def rewritten(browser, program, room):
     close_all(browser)
 
 
-PARTS = [thumbnails, results, bare_again, gone, crashes, closing, rewritten]
+PARTS: list[Part] = [thumbnails, results, bare_again, gone, crashes, closing, rewritten]

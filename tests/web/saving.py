@@ -1,5 +1,7 @@
 """What the page saves is what the program makes, and shows what the program shows."""
 
+from __future__ import annotations
+
 import base64
 import json
 import os
@@ -7,7 +9,11 @@ import re
 import shutil
 import struct
 import subprocess
+from typing import Generator
 
+from tests import Claim
+from tests.finding import found
+from tests.web.browser import Browser
 from tests import TOP
 from tests.convert import files as parts_of
 from tests.convert.files import get, put
@@ -21,13 +27,13 @@ BLOB = """app.fax.making.blob.arrayBuffer().then((buffer) => {
 })"""
 
 
-def opened(browser, path):
+def opened(browser: Browser, path: str) -> None:
     """Opens a file, and waits until it was read."""
     browser.choose("#choose", path)
     browser.until(f'app.fax && app.fax.state === "done" && app.fax.file.name === {json.dumps(os.path.basename(path))}')
 
 
-def made(browser, kind):
+def made(browser: Browser, kind: str) -> tuple[bytes, str, str]:
     """Has the page make a file, and takes it, with its name and what is said."""
     browser.until('!document.getElementById("save-make").disabled')
     browser.run(f"""app.fax.setMaking(null); document.getElementById("save").elements.kind.value = "{kind}";
@@ -36,15 +42,15 @@ def made(browser, kind):
     browser.until('document.getElementById("saved").textContent.startsWith(app.fax.making.said)')
     said = browser.run('document.getElementById("saved").textContent')
     if browser.run("app.fax.making.state") != "ready":
-        return None, None, said
+        return b"", "", said
     return base64.b64decode(browser.run(BLOB)), browser.run("app.fax.making.name"), said
 
 
-def close_all(browser):
+def close_all(browser: Browser) -> None:
     browser.run("while (app.fax) app.close()")
 
 
-def whole(browser, program, room):
+def whole(browser: Browser, program: str, room: str) -> Generator[Claim, None, None]:
     """Of a whole fax: as TIFF-F and PBM byte for byte what the program converts, as PDF image for image."""
     for number, size in enumerate(("204/196", "204/98", "none")):
         data = faxes.drawn(program, 1000 + number)
@@ -64,7 +70,7 @@ def whole(browser, program, room):
         close_all(browser)
 
 
-def as_pdf(pdf, image, room, size):
+def as_pdf(pdf: bytes, image: bytes, room: str, size: str) -> Generator[Claim, None, None]:
     """A PDF, as poppler reads it: its images, and how large its pages are."""
     if not shutil.which("pdfimages"):
         print("SKIPPED: PDFs of the page beside poppler (poppler-utils)")
@@ -85,7 +91,7 @@ def as_pdf(pdf, image, room, size):
         os.remove(f"{room}/{name}")
 
 
-def damaged(browser, program, room):
+def damaged(browser: Browser, program: str, room: str) -> Generator[Claim, None, None]:
     """Of damaged faxes: the pages that can be read wholly, row for row, and how many they are."""
     tried = 0
     for path in faxes.damaged(program, room)[:15]:
@@ -103,12 +109,12 @@ def damaged(browser, program, room):
             yield f"{path}: it says how many", f"made of {len(pages)} of {count} page" in said, len(pages) < count
             tried += 1
         else:
-            yield f"{path}: nothing is made", (got, "nothing to save" in said), (None, True)
+            yield f"{path}: nothing is made", (got, name, "nothing to save" in said), (b"", "", True)
         close_all(browser)
     yield "some have pages that can be read", tried > 5, True
 
 
-def greys(browser, program, room):
+def greys(browser: Browser, program: str, room: str) -> Generator[Claim, None, None]:
     """A PDF has all pages, and rows that are lost are grey, as in faxpages-picture; and it is turned as the page is."""
     if not shutil.which("pngtopnm") or not shutil.which("pdftoppm"):
         print("SKIPPED: damaged pages in PDFs beside faxpages-picture (netpbm, poppler-utils)")
@@ -116,19 +122,19 @@ def greys(browser, program, room):
     count = 0
     for path in faxes.damaged(program, room)[:25]:
         # At 72 pels to the inch a pel of the PDF is a pel of the picture.
-        data = faxes.get(path)
+        data = get(path)
         data = data.replace(struct.pack("<2I", 204, 1), struct.pack("<2I", 72, 1))
         data = data.replace(struct.pack("<2I", 196, 1), struct.pack("<2I", 72, 1))
-        opened(browser, faxes.put(f"{room}/grey.tif", data))
+        opened(browser, put(f"{room}/grey.tif", data))
         shown = browser.run("app.fax.shownPages()")
         drawn = [faxes.picture(program, f"{room}/grey.tif", page) for page in shown]
         if drawn and all(drawn) and browser.run("app.fax.lost.size") and not browser.run("app.fax.end"):
-            pdf = faxes.put(f"{room}/grey.pdf", made(browser, "pdf")[0])
+            pdf = put(f"{room}/grey.pdf", made(browser, "pdf")[0])
             pages = subprocess.run(["pdftoppm", "-gray", "-r", "72", "-aa", "no", "-aaVector", "no", pdf],
                                    capture_output=True, check=True).stdout
             # Poppler shades images as it draws them, but no masks.
             for page, got, wanted in zip(shown, greys_of(pages), drawn):
-                if browser.run(f"app.fax.lost.has({page})"):
+                if wanted and browser.run(f"app.fax.lost.has({page})"):
                     yield f"{os.path.basename(path)}: page {page} of the PDF", got == wanted[:3], True
             yield f"{os.path.basename(path)}: all pages", len(greys_of(pages)), len(drawn)
             count += 1
@@ -137,13 +143,13 @@ def greys(browser, program, room):
     yield from turned(browser, room)
 
 
-def turned(browser, room):
+def turned(browser: Browser, room: str) -> Generator[Claim, None, None]:
     """The PDF of a page that was turned says so, and the one to be printed is opened and not saved."""
-    opened(browser, f"{faxes.TOP}/samples/three-mmr-rows.tif")
+    opened(browser, f"{TOP}/samples/three-mmr-rows.tif")
     browser.run("app.view.turn(1)")
-    faxes.put(f"{room}/turned.pdf", made(browser, "pdf")[0])
+    put(f"{room}/turned.pdf", made(browser, "pdf")[0])
     said = subprocess.run(["pdfinfo", f"{room}/turned.pdf"], capture_output=True, check=True).stdout.decode()
-    yield "turned right", re.search(r"Page rot: +(\d+)", said)[1], "90"
+    yield "turned right", found(r"Page rot: +(\d+)", said)[1], "90"
     browser.run("app.view.turn(-1); app.fax.setMaking(null)")
     browser.run('document.getElementById("print").click()')
     browser.until("""app.fax.making?.place &&
@@ -155,26 +161,26 @@ def turned(browser, room):
     close_all(browser)
 
 
-def greys_of(data):
+def greys_of(data: bytes) -> list[tuple[int, int, bytes]]:
     """The width, the height and the pels of each picture of a raw PGM: 0 white, 1 black, 2 grey."""
-    found = []
+    images = []
     while data:
-        head = re.match(rb"P5\n(\d+) (\d+)\n255\n", data)
+        head = found(rb"\AP5\n(\d+) (\d+)\n255\n", data)
         width, height = map(int, head.groups())
         raster = data[head.end():head.end() + width * height]
-        found.append((width, height, bytes({0: 1, 255: 0}.get(value, 2) for value in raster)))
+        images.append((width, height, bytes({0: 1, 255: 0}.get(value, 2) for value in raster)))
         data = data[head.end() + width * height:]
-    return found
+    return images
 
 
-def rows_of(program, path, page, number):
+def rows_of(program: str, path: str, page: int, number: int) -> list[str]:
     """The rows of a page, as those of a page with this number."""
     form = faxes.said(program, "list", "--cursor", f"1:{page}:0", "--max", "1", path).split()
     lines = faxes.said(program, "rows", "--cursor", f"1:{page}:0", "--max", form[3], path).splitlines()
     return [re.sub(r"^row \d+", f"row {number}", line) for line in lines if line.startswith("row ")]
 
 
-def pictures(browser, program, room):
+def pictures(browser: Browser, program: str, room: str) -> Generator[Claim, None, None]:
     """PNGs are what faxpages-picture draws, grey rows and repeated ones among them."""
     if not shutil.which("pngtopnm"):
         print("SKIPPED: PNGs of the page beside faxpages-picture (netpbm)")
@@ -196,7 +202,7 @@ def pictures(browser, program, room):
         close_all(browser)
 
 
-def images(browser, program, room):
+def images(browser: Browser, program: str, room: str) -> Generator[Claim, None, None]:
     """PBM is read as the program converts it; one that is cut is refused by name."""
     image = faxes.convert(program, faxes.drawn(program, 5), "-o", "pbm")
     opened(browser, put(f"{room}/images.pbm", image))
@@ -207,13 +213,13 @@ def images(browser, program, room):
     for data, name in ((image[:-5], "Its rows are not all there."), (b"P4 x", "does not begin as raw PBM does")):
         opened(browser, put(f"{room}/cut.pbm", data))
         fault = faxes.said(program, "convert", "-o", "mmr", f"{room}/cut.pbm")
-        number = re.search(r"image (\d+):", fault).group(1)
+        number = found(r"image (\d+):", fault).group(1)
         yield f"PBM: {fault}", name in browser.run("app.fax.verdict()"), True
         yield f"PBM: {fault}: the image", f"Image {int(number) + 1} " in browser.run("app.fax.verdict()"), True
         close_all(browser)
 
 
-def bare(browser, program, room):
+def bare(browser: Browser, program: str, room: str) -> Generator[Claim, None, None]:
     """Bare data, by the form: each coding and bit order, with and without EOLs, on bytes, cut, and counted."""
     image = faxes.image("marks", 30)
     rows = faxes.said(program, "rows", put(f"{room}/rows.tif", faxes.convert(program, image, "-o", "mmr")))
@@ -221,7 +227,7 @@ def bare(browser, program, room):
         for order in (1, 2):
             data = faxes.convert(program, image, "-o", coding, "--order", str(order))
             (strip,) = parts_of.strips_of(data, next(parts_of.directories_of(data)))
-            words = {"coding": at, "order": order, "width": 40, "rows": 0}
+            words: dict[str, int] = {"coding": at, "order": order, "width": 40, "rows": 0}
             for number in (0, 30):
                 yield from as_bare(browser, program, room, strip, {**words, "rows": number}, rows,
                                    "read to their end: 30 rows")
@@ -248,7 +254,8 @@ def bare(browser, program, room):
     close_all(browser)
 
 
-def as_bare(browser, program, room, data, words, rows, verdict):
+def as_bare(browser: Browser, program: str, room: str, data: bytes, words: dict[str, int], rows: str | None,
+            verdict: str) -> Generator[Claim, None, None]:
     """Fills the form in, and compares the rows of the fax that it makes."""
     close_all(browser)
     opened(browser, put(f"{room}/bare.g3", data))

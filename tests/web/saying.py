@@ -1,5 +1,7 @@
 """What the page says of files is what the program says of each; and what canvases show is what the program converts."""
 
+from __future__ import annotations
+
 import base64
 import json
 import os
@@ -7,11 +9,13 @@ import random
 import re
 import shutil
 import struct
+from typing import Generator, Iterable
 
-from tests import TOP
+from tests import TOP, Claim
 from tests.convert import pages
 from tests.convert.files import get, put
 from tests.web import faxes
+from tests.web.browser import Browser
 
 # The pels of the page that is shown, from its canvases: 0, 1 or 2 a pel.
 PELS = """(() => {
@@ -38,11 +42,11 @@ DRAWN = """app.fax.state === "done" && app.view.page === {} && app.view.form && 
 FINDINGS = '[...document.querySelectorAll("#findings li button")].map((it) => it.textContent)'
 
 
-def close_all(browser):
+def close_all(browser: Browser) -> None:
     browser.run("while (app.fax) app.close()")
 
 
-def texts(browser, program, room):
+def texts(browser: Browser, program: str, room: str) -> Generator[Claim, None, None]:
     """Of each file: the list of pages, what check says, and that the page as a whole says whether it is damaged."""
     names = faxes.all_files(program, room)
     browser.drop(*names)
@@ -63,7 +67,7 @@ def texts(browser, program, room):
     close_all(browser)
 
 
-def lost(browser, program, room):
+def lost(browser: Browser, program: str, room: str) -> Generator[Claim, None, None]:
     """The rows that are lost are those that `faxpages salvage` finds lost, in the words of faxpages-picture."""
     if not shutil.which("pngtopnm"):
         print("SKIPPED: lost rows beside faxpages-picture (netpbm)")
@@ -81,14 +85,14 @@ def lost(browser, program, room):
     close_all(browser)
 
 
-def parts(text):
+def parts(text: str) -> list[str]:
     """The list, the lines of check, and the rows that are lost, of a report."""
     _, _, rest = text.partition("\n\n")
     listed, checked, lost = (f"{rest}\n\n\n".split("\n\n") + ["", ""])[:3]
     return [listed + "\n", checked.strip("\n") + "\n", lost.strip("\n")]
 
 
-def first_part(listed):
+def first_part(listed: str) -> str:
     """The lines up to the first fault, as the program lists them."""
     lines = listed.splitlines(keepends=True)
     for at, line in enumerate(lines):
@@ -97,9 +101,9 @@ def first_part(listed):
     return listed
 
 
-def findings(browser, program, room):
+def findings(browser: Browser, program: str, room: str) -> Generator[Claim, None, None]:
     """The faults, the notes and their words stand in the page, each once, and lead to where they are."""
-    wanted = {
+    wanted: dict[str, tuple[list[str], int]] = {
         "damaged-fourth-page.tif": (["Page 4, rows 5 to 10 cannot be read: OutOfRow"], 3),
         "return-to-control.tif": (["Page 1, strip 0: ReturnToControl"], 0),
         "three-pages.tif": (["Page 3, row 1 cannot be read: DataEnds"], 2),
@@ -121,14 +125,14 @@ def findings(browser, program, room):
     close_all(browser)
 
 
-def picture_of(*fields):
+def picture_of(*fields: tuple[int, int, int, int]) -> bytes:
     """A TIFF file of one page with these fields, each a tag, a type, a count and a value."""
     told = sorted([(256, 3, 1, 8), (257, 3, 1, 1), (262, 3, 1, 0), (277, 3, 1, 1), *fields])
     data = b"".join(struct.pack("<HHII", *it) for it in told)
     return struct.pack("<2sHIH", b"II", 42, 8, len(told)) + data + bytes(8)
 
 
-def kinds(browser, _program, room):
+def kinds(browser: Browser, _program: str, room: str) -> Generator[Claim, None, None]:
     """What is no fax that is read here is called so, by its name, and not damaged; the form for bare data waits."""
     strips = [(273, 4, 1, 8), (278, 3, 1, 1), (279, 4, 1, 1)]
     tiles = [(322, 3, 1, 16), (323, 3, 1, 16), (324, 4, 1, 8), (325, 4, 1, 1)]
@@ -155,7 +159,7 @@ def kinds(browser, _program, room):
     close_all(browser)
 
 
-def canvases(browser, program, room):
+def canvases(browser: Browser, program: str, room: str) -> Generator[Claim, None, None]:
     """The pels of canvases at a pel a pel, of whole and of damaged pages."""
     wide = pages.image(3000, [pages.draw_row(random.Random(7), "noise", 3000, 0, 0)] * 5)
     long = faxes.image("noise", 2500)
@@ -168,14 +172,16 @@ def canvases(browser, program, room):
     if not shutil.which("pngtopnm"):
         print("SKIPPED: pictures of damaged pages beside faxpages-picture (netpbm)")
         return
-    yield from shown(browser, f"{TOP}/samples/damaged-fourth-page.tif", [
-        (3, faxes.picture(program, f"{TOP}/samples/damaged-fourth-page.tif", 3)[:3])])
+    picture = faxes.picture(program, f"{TOP}/samples/damaged-fourth-page.tif", 3)
+    yield from shown(browser, f"{TOP}/samples/damaged-fourth-page.tif", [(3, picture[:3])] if picture else [])
+    yield "damaged-fourth-page.tif: a picture", picture is not None, True
     for path in faxes.damaged(program, room)[:12]:
         drawn = [(page, faxes.picture(program, path, page)) for page in range(3)]
         yield from shown(browser, path, [(page, it[:3]) for page, it in drawn if it and it[3]][:1])
 
 
-def shown(browser, path, wanted):
+def shown(browser: Browser, path: str,
+          wanted: Iterable[tuple[int, tuple[int, int, bytes]]]) -> Generator[Claim, None, None]:
     """The pels of pages of a file."""
     name = os.path.basename(path)
     browser.choose("#choose", path)

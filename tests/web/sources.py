@@ -1,14 +1,19 @@
 """The sources of the page: the library inside is of these sources, the words are those of TROUBLESHOOTING, and nothing
 names another place."""
 
+from __future__ import annotations
+
 import base64
 import glob
 import os
 import re
 import shutil
 import subprocess
+from typing import Generator
 
+from tests import Claim
 from tests import TOP
+from tests.finding import found
 from tests.web import faxes
 
 WEB = os.path.join(TOP, "web")
@@ -16,35 +21,35 @@ MOST_LINES, MOST_COLUMNS = 800, 120
 NO_WORDS_OF_THE_PAGE = {"Open", "Read", "Write", "CursorOutside", "NotACursor"}
 
 
-def read(*name):
+def read(*name: str) -> str:
     with open(os.path.join(TOP, *name), encoding="utf-8") as file:
         return file.read()
 
 
-def printed(*words):
+def printed(*words: str) -> str:
     return subprocess.run(words, cwd=TOP, capture_output=True, check=False).stdout.decode().strip()
 
 
-def claims():
+def claims() -> Generator[Claim, None, None]:
     yield from module_is_of_these_sources()
     yield from words_are_those_of_troubleshooting()
     yield from sources_are_in_form()
 
 
-def module_is_of_these_sources():
+def module_is_of_these_sources() -> Generator[Claim, None, None]:
     """The module was built of the sources as they stand: tools/build-web makes it anew."""
     head = dict(re.findall(r"^// (version|rustc|sources|module) (\S+)$", read("web", "faxpages.wasm.js"), re.M))
     yield "web/faxpages.wasm.js: its version", head.get("version"), read("VERSION").strip()
     yield "web/faxpages.wasm.js: its sources (tools/build-web makes it anew)", head.get("sources"), printed(
         "tools/build-web", "--sources")
-    text = re.search(r"^const FAXPAGES_WASM = `\n([^`]*)`;$", read("web", "faxpages.wasm.js"), re.M)
+    text = found(r"^const FAXPAGES_WASM = `\n([^`]*)`;$", read("web", "faxpages.wasm.js"), re.M)
     module = base64.b64decode(text[1])
     yield "web/faxpages.wasm.js: it is a module", module[:8], b"\0asm\1\0\0\0"
     yield "web/faxpages.wasm.js: no path of a machine", re.findall(rb"/(?:usr|tmp|root|home|work|var)/", module), []
     yield "web/faxpages.wasm.js: its module", head.get("module"), printed("tools/build-web", "--digest")
 
 
-def words_are_those_of_troubleshooting():
+def words_are_those_of_troubleshooting() -> Generator[Claim, None, None]:
     """Each fault and note of TROUBLESHOOTING has words in the page, and what they mean stands there too."""
     document = re.sub(r"\[([^\]]*)\]\([^)]*\)", r"\1", read("docs", "TROUBLESHOOTING.md")).replace("`", "")
     names = set(re.findall(r"^\| (?:N\d )?(?:fault: )?([A-Z]\w+)(?: \d+)? \|", document, re.M)) - NO_WORDS_OF_THE_PAGE
@@ -58,7 +63,7 @@ def words_are_those_of_troubleshooting():
             yield f"{name}: what it means stands in TROUBLESHOOTING: {means}", means.lower() in document.lower(), True
 
 
-def sources_are_in_form():
+def sources_are_in_form() -> Generator[Claim, None, None]:
     """Scripts parse; no file is long, no line wide; and nothing names a place elsewhere."""
     scripts = [name for name in sorted(glob.glob(f"{WEB}/*.js")) if not name.endswith("wasm.js")]
     yield "there are scripts", len(scripts) >= 8, True

@@ -370,7 +370,8 @@ class Comparison:
             if its == path:
                 there, owned = self.before.target.get(name), self.model.owned(self.job, name)
                 stands = there and (there.kind, digest(there.data))
-                lines.append(f"\n    {name!r}: wanted {digest(data)}, there {stands}, ours {owned and digest(owned)}")
+                lines.append(f"\n    {name!r}: wanted {digest(data)}, there {stands}, ours "
+                             f"{digest(owned) if owned else owned!r}")
         return "".join(lines)
 
     def _is_amid(self, path: bytes) -> bool:

@@ -6,9 +6,11 @@ import os
 import re
 import struct
 import subprocess
-from typing import FrozenSet, List, NamedTuple, Optional, Tuple
+from typing import FrozenSet, Iterable, List, NamedTuple, Optional, Tuple
+from types import ModuleType
 
 from tests.convert import pages
+from tests.finding import found
 
 ENTRY = 12
 OTHER, OTHER_KINDS = 2, ("Unsupported", "Magic", "ByteOrder")
@@ -48,7 +50,7 @@ def with_field(fax: bytes, tag: int, value: bytes) -> bytes:
     return bytes(whole + struct.pack("<H", count + 1) + b"".join(entries) + bytes(4))
 
 
-def with_value(fax: bytes, tags, value: int) -> bytes:
+def with_value(fax: bytes, tags: Iterable[int], value: int) -> bytes:
     """A fax of one page whose fields of these tags have another value."""
     whole = bytearray(fax)
     (at,) = struct.unpack_from("<I", fax, 4)
@@ -72,7 +74,7 @@ def without_resolution(fax: bytes) -> bytes:
     return bytes(whole)
 
 
-def drawn(faxpages, seed: int) -> List[Content]:
+def drawn(faxpages: ModuleType, seed: int) -> List[Content]:
     """Some faxes: good ones in each coding, some with what a copy lacks, and damaged ones."""
     rng = pages.seeded("operator", seed)
     image = pages.image(40, [pages.draw_row(rng, "noise", 40, number, 0) for number in range(8)])
@@ -97,7 +99,7 @@ def drawn(faxpages, seed: int) -> List[Content]:
 class Teller:
     """What the program and the library say of bytes, each asked once."""
 
-    def __init__(self, faxpages, program: str) -> None:
+    def __init__(self, faxpages: ModuleType, program: str) -> None:
         self._faxpages, self._program = faxpages, program
         self.verdict = functools.lru_cache(maxsize=None)(self._verdict)
         self.copy = functools.lru_cache(maxsize=4096)(self._copy)
@@ -107,7 +109,7 @@ class Teller:
         ran = subprocess.run([self._program, "check"], input=data, capture_output=True, check=False)
         if ran.returncode == 0:
             return Verdict(0)
-        page, row, name, _, tag = re.match(r"fault page (\d+) row (\d+): (\w+)( (\d+))?", ran.stderr.decode()).groups()
+        page, row, name, _, tag = found(r"\Afault page (\d+) row (\d+): (\w+)( (\d+))?", ran.stderr.decode()).groups()
         status = OTHER if name in OTHER_KINDS and ran.returncode == 1 else ran.returncode
         return Verdict(status, name, int(page), int(row), int(tag) if tag else None)
 

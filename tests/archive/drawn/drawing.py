@@ -1,5 +1,7 @@
 """Draws episodes until so many steps are done."""
 
+from __future__ import annotations
+
 import os
 import random
 import tempfile
@@ -63,7 +65,7 @@ def _kind(number: int, shares: Dict[str, int]) -> str:
     return PLAIN
 
 
-def _episode(teller: contents.Teller, faxes, name: str, shares: Dict[str, int],
+def _episode(teller: contents.Teller, faxes: list[contents.Content], name: str, shares: Dict[str, int],
              tells: bool) -> Tuple[int, Optional[str]]:
     """How many steps of an episode were right, and what was not."""
     rng = random.Random(name)

@@ -89,7 +89,7 @@ def see(world: World, job: Job, other_user: bool) -> Seen:
     faxes: Dict[bytes, Fax] = {}
     failed, into = 0, False
     target = os.path.realpath(world.target)
-    waiting: List[Tuple[bytes, List[str], bool]] = [(b"", [], True)]
+    waiting: List[Tuple[bytes, List[bytes], bool]] = [(b"", [], True)]
     while waiting:
         folder, above, inside = waiting.pop()
         whole = os.path.join(world.tree, folder)
@@ -137,8 +137,13 @@ def _fax(path: bytes, kind: str, other_user: bool, inside: bool) -> Fax:
                stat.S_IMODE(told.st_mode), (told.st_uid, told.st_gid), inside)
 
 
-def rows_of(table: str) -> Tuple[Dict[bytes, Row], Optional[Tuple[int, str, bool]]]:
-    """The rows of a table by their paths, and its last run: its number, its words, and whether it has finished."""
+# The rows of a table by their paths, and its last run: its number, its words, whether all was read by then, and whether it
+# has ended.
+Table = Tuple[Dict[bytes, Row], Optional[Tuple[int, str, bool, bool]]]
+
+
+def rows_of(table: str) -> Table:
+    """What a table says."""
     if not os.path.exists(table):
         return {}, None
     with contextlib.closing(sqlite3.connect(table)) as base:

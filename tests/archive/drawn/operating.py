@@ -13,7 +13,7 @@ from typing import Callable, Dict, List, Set
 from tests.archive.drawn import cluster, folding, going, playing
 from tests.archive.drawn.comparing import Before, Comparison, Difference, compare_two, done_by
 from tests.archive.drawn.contents import Content, Teller
-from tests.archive.drawn.model import NOT_READ, Job, Model, Row, Words, rows_of, status_of, where_in
+from tests.archive.drawn.model import NOT_READ, Job, Model, Row, Table, Words, rows_of, status_of, where_in
 from tests.archive.drawn.playing import INLINE, Engine, Event, Ran, Started, Trouble
 from tests.archive.drawn.world import Entry, World, snapshot
 from tests.waiting import there_in, wait_for
@@ -310,10 +310,10 @@ class Episode:
         if ran.status != NOT_READ or ran.out or rows_of(merged) != before:
             raise Difference(f"merge of parts of other sizes: status {ran.status}")
 
-    def _compare_merge(self, before, after, parts: List[str], count: int, ran: Ran) -> None:
+    def _compare_merge(self, before: Dict[bytes, Row], after: Table, parts: List[str], count: int, ran: Ran) -> None:
         rows, _ = after
         tables = [rows_of(part) for part in parts]
-        whole = len(parts) == count and all(last[2] for _, last in tables)
+        whole = len(parts) == count and all(last is not None and last[2] for _, last in tables)
         all_rows: Dict[bytes, Row] = {}
         for part_rows, _ in tables:
             all_rows.update(part_rows)

@@ -1,6 +1,8 @@
 """Runs faxpages-archive in a forked process, whose calls of the system can be ended, refused, or have something happen
 amid them."""
 
+from __future__ import annotations
+
 import contextlib
 import errno
 import importlib
@@ -12,7 +14,7 @@ import signal
 import sys
 import time
 import traceback
-from typing import Callable, List, NamedTuple, Optional, Tuple
+from typing import Callable, Iterator, List, NamedTuple, Optional, Tuple
 
 from tests.waiting import PATIENCE
 
@@ -118,14 +120,18 @@ def _hook(trouble: Trouble, room: str) -> None:
     import faxpages._archive_files as files
     import faxpages._archive_marks as marks
 
-    files.os = marks.os = Hooked()  # type: ignore[assignment]
+    hooked = Hooked()
+    setattr(files, "os", hooked)
+    setattr(marks, "os", hooked)
 
 
 def _inline() -> None:
     """Has faxes be done in this very process, which is fast."""
     import faxpages._archive_engine as engine
+    from faxpages import _archive_fax
 
-    def by_this(job, timeout, batches, count):
+    def by_this(job: _archive_fax.Job, _timeout: object, batches: engine.Batches,
+                _count: object) -> Iterator[list[_archive_fax.Done]]:
         while True:
             batch = batches.next()
             if batch is None:
@@ -134,7 +140,7 @@ def _inline() -> None:
             batches.measured(done)
             yield done
 
-    engine.by_processes = by_this
+    setattr(engine, "by_processes", by_this)
 
 
 class Started:
