@@ -24,14 +24,28 @@ class App {
         this.page = 0;
         this.isDue = false;
         this.makings = new Makings({ said: the("saved"), submit: the("save-make"), cancel: the("save-cancel"),
-            progress: the("save-progress") }, () => this.changed());
+            progress: the("save-progress") }, () => this.changed(), (text) => this.announce(text));
+        /** What was said last of a file that is read. */
+        this.settled = "";
         this.found = "";
         this.view = new View(the("view"), the("sheet"), the("paper"));
         this.thumbs = new Thumbs(the("thumbs"), the("thumbs-all"), (page) => this.goTo(page));
+        App.fillTexts();
         this.listen();
         this.listenForFiles();
         this.fold();
         this.render();
+    }
+
+    /** Puts the words into the page, which has none of its own. */
+    static fillTexts() {
+        const texts = /** @type {Record<string, string>} */ (TEXTS.page);
+        document.querySelectorAll("[data-text]").forEach((element) => {
+            element.textContent = texts[/** @type {HTMLElement} */ (element).dataset.text ?? ""];
+        });
+        document.querySelectorAll("[data-label]").forEach((element) => {
+            element.setAttribute("aria-label", texts[/** @type {HTMLElement} */ (element).dataset.label ?? ""]);
+        });
     }
 
     /** What buttons do. */
@@ -103,7 +117,7 @@ class App {
         this.faxes.push(...faxes);
         if (faxes.length > 0) {
             this.show(faxes[0]);
-            this.announce(say(TEXTS.announce.opened, faxes.map((fax) => fax.file.name).join(", ")));
+            this.announce(say(TEXTS.announce.opened, faxes.map((fax) => sayName(fax.file.name)).join(", ")));
         }
         this.startNext();
     }
@@ -138,7 +152,7 @@ class App {
             const at = this.faxes.indexOf(fax);
             this.faxes.splice(at, 1);
             this.show(this.faxes[Math.min(at, this.faxes.length - 1)] ?? null);
-            this.announce(say(TEXTS.announce.closed, fax.file.name));
+            this.announce(say(TEXTS.announce.closed, sayName(fax.file.name)));
             this.startNext();
             (this.fax ? the("close") : the("choose")).focus();
         }
@@ -193,7 +207,7 @@ class App {
         const { fax } = this;
         the("welcome").hidden = Boolean(fax);
         the("fax").hidden = !fax;
-        document.title = fax ? `${fax.file.name}: ${TEXTS.title}` : TEXTS.title;
+        document.title = fax ? `${sayName(fax.file.name)}: ${TEXTS.title}` : TEXTS.title;
         this.renderFiles();
         if (fax) {
             this.renderAbout(fax);
@@ -203,6 +217,17 @@ class App {
         this.thumbs.show(fax, this.page);
         this.view.show(fax, this.page);
         this.makings.show(fax);
+        this.settle(fax);
+    }
+
+    /** Says aloud how a file is, once that is settled, and not at each step.
+     * @param {Fax | null} fax */
+    settle(fax) {
+        const key = fax ? [fax.number, fax.reading, fax.state, fax.failure].join(" ") : "";
+        if (fax && !fax.isBusy() && key !== this.settled) {
+            this.announce(`${sayName(fax.file.name)}: ${fax.verdict()}`);
+        }
+        this.settled = fax?.isBusy() ? "" : key;
     }
 
     renderFiles() {
@@ -211,6 +236,10 @@ class App {
         const buttons = faxes.map((fax) => {
             const button = the(`file-${fax.number}`) ?? this.fileButton(fax);
             button.className = App.lookOf(fax);
+            const state = `, ${TEXTS.looks[App.lookOf(fax)]}`;
+            if (button.lastChild.textContent !== state) {
+                button.lastChild.textContent = state;
+            }
             button.setAttribute("aria-pressed", String(fax === this.fax));
             return button;
         });
@@ -220,7 +249,7 @@ class App {
     }
 
     /** What a file looks like in the list.
-     * @param {Fax} fax */
+     * @param {Fax} fax @returns {"failed" | "busy" | "other" | "whole" | "damaged"} */
     static lookOf(fax) {
         return fax.failure ? "failed" : fax.isBusy() ? "busy" : fax.otherKind() ? "other"
             : fax.isWhole() ? "whole" : "damaged";
@@ -231,7 +260,11 @@ class App {
         const button = document.createElement("button");
         button.type = "button";
         button.id = `file-${fax.number}`;
-        button.textContent = fax.file.name;
+        const name = document.createElement("bdi");
+        const state = document.createElement("span");
+        name.textContent = sayName(fax.file.name);
+        state.className = "unseen";
+        button.append(name, state);
         button.addEventListener("click", () => this.show(fax));
         return button;
     }
@@ -243,7 +276,7 @@ class App {
                 the(id).textContent = text;
             }
         };
-        put("name", fax.file.name);
+        put("name", sayName(fax.file.name));
         put("verdict", fax.verdict());
         const isReading = fax.isBusy() && fax.state !== "waits";
         const state = fax.failure || fax.state !== "done" || fax.otherKind() ? "left"
@@ -374,6 +407,9 @@ class App {
     key(event) {
         const target = /** @type {HTMLElement} */ (event.target);
         if (event.ctrlKey || event.metaKey || event.altKey || target.closest("input, select, textarea")) {
+            return;
+        }
+        if (event.key.length === 1 && !the("letters").checked) {
             return;
         }
         if (event.key === "o") {

@@ -12,7 +12,7 @@ class Making {
         this.percent = 0;
         /** Whether it is opened to be printed, and not saved. */
         this.isToPrint = false;
-        this.said = say(TEXTS.saving.works, name, 0);
+        this.said = say(TEXTS.saving.works, sayName(name), 0);
         /** @type {Blob | null} */
         this.blob = null;
         this.place = "";
@@ -21,7 +21,7 @@ class Making {
     /** @param {number} done @param {number} all */
     tell(done, all) {
         this.percent = Math.floor((100 * done) / all);
-        this.said = say(TEXTS.saving.works, this.name, this.percent);
+        this.said = say(TEXTS.saving.works, sayName(this.name), this.percent);
         this.changed();
     }
 
@@ -56,11 +56,12 @@ class Makings {
     /**
      * @param {{ said: HTMLElement, submit: HTMLButtonElement, cancel: HTMLElement, progress: HTMLProgressElement }}
      *     parts
-     * @param {() => void} changed
+     * @param {() => void} changed @param {(text: string) => void} announce
      */
-    constructor(parts, changed) {
+    constructor(parts, changed, announce) {
         this.parts = parts;
         this.changed = changed;
+        this.announce = announce;
         /** The fax of which a file is made now.
          * @type {Fax | null} */
         this.working = null;
@@ -91,12 +92,12 @@ class Makings {
             const blob = kind === "text" ? await fax.textBlob() : await fax.ask("save", words, tell);
             // What is made of an earlier reading, or of a file that was closed, is nobody's.
             if (fax.making === making) {
-                making.end(blob, Makings.saidOf(fax, kind, making.name, pages.length));
+                making.end(blob, Makings.saidOf(fax, kind, sayName(making.name), pages.length));
             }
         } catch (error) {
             const isStopped = error instanceof Stopped || error instanceof Closed;
-            making.fail(isStopped ? say(TEXTS.saving.cancelled, making.name)
-                : say(TEXTS.saving.failed, making.name, /** @type {Error} */ (error).message));
+            making.fail(isStopped ? say(TEXTS.saving.cancelled, sayName(making.name))
+                : say(TEXTS.saving.failed, sayName(making.name), /** @type {Error} */ (error).message));
         } finally {
             this.working = null;
             this.changed();
@@ -138,11 +139,14 @@ class Makings {
         if (key !== this.shown) {
             this.shown = key;
             said.replaceChildren(making?.said ?? "");
+            if (making && making.state !== "works") {
+                this.announce(making.said);
+            }
             if (making?.place) {
                 const link = document.createElement("a");
                 link.className = "button";
                 link.href = making.place;
-                link.textContent = say(making.isToPrint ? TEXTS.saving.print : TEXTS.saving.link, making.name);
+                link.textContent = say(making.isToPrint ? TEXTS.saving.print : TEXTS.saving.link, sayName(making.name));
                 if (making.isToPrint) {
                     link.target = "_blank";
                 } else {

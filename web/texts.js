@@ -3,6 +3,78 @@
 /** What the page says, all of it. */
 const TEXTS = {
     title: "Fax pages",
+    /** What stands in index.html, by its data-text and data-label. */
+    page: {
+        skip: "Go to the page",
+        head: "Fax pages",
+        motto: "Shows a fax, and says what is wrong with it. Nothing leaves this computer.",
+        open: "Open files…",
+        welcome: "Drop faxes here, or choose them by Open files…",
+        welcomeMore: "TIFF files from fax servers, raw PBM, and bare T.4 or T.6 data. Damaged ones too: what " +
+            "can be read is shown, and what cannot is named.",
+        stop: "Stop reading",
+        notes: "Look for notes",
+        bareOpen: "It is bare fax data…",
+        again: "Read it again",
+        print: "Print…",
+        close: "Close",
+        more: "What is wrong, saving, report",
+        findings: "What is wrong",
+        bare: "Bare fax data: how are they coded?",
+        coding: "Coding",
+        mh: "MH (T.4, one-dimensional)",
+        mr: "MR (T.4, two-dimensional)",
+        mmr: "MMR (T.6)",
+        width: "Width in dots",
+        rows: "Rows, 0 if nobody counted them",
+        order: "First bit of a byte",
+        highest: "the highest",
+        lowest: "the lowest",
+        resolution: "Resolution",
+        fine: "204 by 196 to the inch (fine)",
+        standard: "204 by 98 to the inch (standard)",
+        eols: "An EOL stands before each row (MH)",
+        aligned: "Each row begins on a byte",
+        read: "Read",
+        saveHead: "Save",
+        saveAs: "Save as",
+        pdf: "PDF",
+        tiffMmr: "TIFF in MMR",
+        tiffMr: "TIFF in MR",
+        tiffMh: "TIFF in MH",
+        pbm: "PBM",
+        png: "PNG of this page",
+        text: "Report as text",
+        saveMake: "Save",
+        cancel: "Cancel",
+        hint: "A PDF and a PNG have all that can be read, with lost rows grey; TIFF and PBM have the " +
+            "pages that can be read wholly.",
+        report: "Report",
+        keys: "Keys",
+        letters: "Single letters, numbers and signs are keys",
+        keyPages: "the next page, the one before",
+        keyEnds: "the first page, the last",
+        keyZoom: "larger, smaller",
+        keySizes: "the whole page, its width, a dot as a dot",
+        keyTurn: "turn right, turn left",
+        keyFinding: "the next place where something is wrong",
+        keyOpen: "open files",
+        page: "Page",
+        whole: "Whole page",
+        wide: "Width",
+        files: "Open files",
+        about: "About this fax",
+        reading: "Reading",
+        making: "Making",
+        pages: "Pages",
+        before: "Page before",
+        next: "Next page",
+        smaller: "Smaller",
+        larger: "Larger",
+        left: "Turn left",
+        right: "Turn right",
+        view: "Picture of the page",
+    },
     /** What a fault means, in the words of docs/TROUBLESHOOTING.md, and what to do about it. */
     faults: {
         ShortHeader: ["The file has fewer than eight bytes.", "It was cut, or is empty. Ask for it again."],
@@ -137,7 +209,7 @@ const TEXTS = {
     pages: {
         label: "Page {0} of {1}",
         of: "of {0}",
-        form: "{0} by {1} pels, {2}, {3}",
+        form: "{0} by {1} dots, {2}, {3}",
         resolution: "{0} by {1} to the {2}",
         noResolution: "no resolution",
         whole: "whole",
@@ -161,6 +233,10 @@ const TEXTS = {
     bare: {
         refused: "Say a width from 1 to 65,535 and a number of rows up to 1,000,000.",
     },
+    /** What a file of the list is like, for who hears it. */
+    looks: {
+        failed: "cannot be read any more", busy: "is read", other: "no fax", whole: "whole", damaged: "damaged",
+    },
     announce: { page: "Page {0}, {1}.", closed: "Closed {0}.", opened: "Opened {0}." },
 };
 
@@ -171,6 +247,13 @@ function say(text, ...values) {
         const value = values[Number(at)];
         return typeof value === "number" ? value.toLocaleString("en-US") : value;
     });
+}
+
+/** The name of a file as text: what turns text round, and is not seen, is shown.
+ * @param {string} name */
+function sayName(name) {
+    return name.replace(/[\u0000-\u001f\u007f-\u009f\u061c\u200b-\u200f\u2028-\u202e\u2060-\u2069\ufeff]/g, (letter) =>
+        `\u27e8U+${letter.charCodeAt(0).toString(16).toUpperCase().padStart(4, "0")}\u27e9`);
 }
 
 /** The number of a page as people count, from 1; the program and the report count from 0.

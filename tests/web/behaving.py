@@ -116,8 +116,45 @@ def names(browser: Browser, _program: str, _room: str) -> Generator[Claim, None,
     yield "roles", wanted - roles, set()
     image = [it["name"]["value"] for it in nodes if it["role"]["value"] == "image" and "Picture" in it["name"]["value"]]
     yield "the picture says what it is", image, ["Picture of page 1: whole"]
-    yield "the verdict is told", browser.run('document.getElementById("verdict").getAttribute("role")'), "status"
+    buttons = [it["name"]["value"] for it in nodes if it["role"]["value"] == "button" and not it.get("ignored")]
     browser.call("Accessibility.disable")
+    yield "no button is called by its number", [it for it in buttons if it.startswith("file-")], []
+
+
+def heard(browser, program, room):
+    """What is read aloud is what is settled, once; the list of files says which are damaged; letters can be off."""
+    browser.run("while (app.fax) app.close()")
+    browser.run("""window.heard = [];
+        new MutationObserver(() => heard.push(document.getElementById("said").textContent))
+            .observe(document.getElementById("said"), { childList: true, characterData: true, subtree: true })""")
+    path = faxes.put(f"{room}/many.tif", faxes.convert(program, faxes.image("noise", 2500) * 40, "-o", "mh"))
+    browser.choose("#choose", path, SAMPLE)
+    browser.until("app.faxes.length === 2 && app.faxes.every((fax) => fax.state === 'done')")
+    browser.until("heard.some((text) => text.includes('This fax is whole'))")
+    yield "two things are heard of a fax", browser.run("heard"), [
+        "Opened many.tif, three-pages.tif.", "many.tif: This fax is whole: 40 pages, 100,000 rows."]
+    yield "the list says which is damaged", browser.run(
+        '[...document.querySelectorAll("#files button")].map((it) => it.textContent)'), [
+            "many.tif, whole", "three-pages.tif, damaged"]
+    browser.run("document.activeElement.blur(); document.getElementById('letters').checked = false")
+    browser.press("n")
+    yield "letters are put off", browser.run("app.page"), 0
+    browser.run("document.getElementById('letters').checked = true")
+    browser.press("n")
+    yield "and are keys again", browser.run("app.page"), 1
+    browser.run("while (app.fax) app.close()")
+
+
+def odd_names(browser, program, room):
+    """What turns a name round is shown, and a name turns nothing else round."""
+    name = "fax\u202egpj.tif"
+    browser.choose("#choose", faxes.put(f"{room}/{name}", faxes.drawn(program, 4)))
+    browser.until("app.fax && app.fax.state === 'done'")
+    wanted = "fax\u27e8U+202E\u27e9gpj.tif"
+    browser.until(f'document.getElementById("name").textContent === "{wanted}"')
+    yield "it is shown", browser.run("document.title"), f"{wanted}: Fax pages"
+    yield "the name stands by itself", browser.run('document.getElementById("name").tagName'), "BDI"
+    browser.run("while (app.fax) app.close()")
 
 
 def narrow(browser: Browser, _program: str, _room: str) -> Generator[Claim, None, None]:

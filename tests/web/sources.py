@@ -90,6 +90,12 @@ def sources_are_in_form() -> Generator[Claim, None, None]:
     policy = re.search(r'Content-Security-Policy" content="([^"]*)"', page)
     yield "the policy", policy is not None and {"default-src 'none'", "connect-src 'none'", "base-uri 'none'"} <= set(
         policy.group(1).split("; ")), True
+    words = re.findall(r">\s*([^<>]*[A-Za-z][^<>]*)<", re.sub(r"<(title|noscript|kbd)>.*?</\1>", "", page))
+    yield "the page has no words of its own: they are in texts.js", words, []
+    told = read("web", "texts.js").partition("    page: {")[2].partition("\n    },")[0]
+    keys = set(re.findall(r"^        (\w+):", told, re.M))
+    yield "each word of the page is one of texts.js", keys, set(re.findall(r'data-(?:text|label)="(\w+)"', page))
+    yield "and no name is another", re.findall(r'aria-label="[^"]+"', page), []
     named = set(re.findall(r'(?:src|href)="([^":#,]+)"', page))
     there = {os.path.basename(name) for name in glob.glob(f"{WEB}/*")}
     yield "the page names what is there", named, there - {"index.html"}
