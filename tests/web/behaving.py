@@ -14,6 +14,7 @@ from typing import Generator
 from tests import TOP, Claim
 from tests.convert.files import put
 from tests.finding import found
+from tests.web import faxes
 from tests.web.browser import Browser
 
 SAMPLE = f"{TOP}/samples/three-pages.tif"
@@ -121,13 +122,13 @@ def names(browser: Browser, _program: str, _room: str) -> Generator[Claim, None,
     yield "no button is called by its number", [it for it in buttons if it.startswith("file-")], []
 
 
-def heard(browser, program, room):
+def heard(browser: Browser, program: str, room: str) -> Generator[Claim, None, None]:
     """What is read aloud is what is settled, once; the list of files says which are damaged; letters can be off."""
     browser.run("while (app.fax) app.close()")
     browser.run("""window.heard = [];
         new MutationObserver(() => heard.push(document.getElementById("said").textContent))
             .observe(document.getElementById("said"), { childList: true, characterData: true, subtree: true })""")
-    path = faxes.put(f"{room}/many.tif", faxes.convert(program, faxes.image("noise", 2500) * 40, "-o", "mh"))
+    path = put(f"{room}/many.tif", faxes.convert(program, faxes.image("noise", 2500) * 40, "-o", "mh"))
     browser.choose("#choose", path, SAMPLE)
     browser.until("app.faxes.length === 2 && app.faxes.every((fax) => fax.state === 'done')")
     browser.until("heard.some((text) => text.includes('This fax is whole'))")
@@ -145,10 +146,10 @@ def heard(browser, program, room):
     browser.run("while (app.fax) app.close()")
 
 
-def odd_names(browser, program, room):
+def odd_names(browser: Browser, program: str, room: str) -> Generator[Claim, None, None]:
     """What turns a name round is shown, and a name turns nothing else round."""
     name = "fax\u202egpj.tif"
-    browser.choose("#choose", faxes.put(f"{room}/{name}", faxes.drawn(program, 4)))
+    browser.choose("#choose", put(f"{room}/{name}", faxes.drawn(program, 4)))
     browser.until("app.fax && app.fax.state === 'done'")
     wanted = "fax\u27e8U+202E\u27e9gpj.tif"
     browser.until(f'document.getElementById("name").textContent === "{wanted}"')
