@@ -3,7 +3,7 @@
 
 A script is run by its path, as tests/plain/compare: then Python looks for modules in the folder of the script. There
 stands a link, tests.py, that leads here. This is the only place where Python is told of other folders: of the module,
-which is the one of these sources, or the one that OPERATED names, and of what measures, in bench."""
+which is the one of these sources, or the one that OPERATED names, of that of CUPS, and of what measures, in bench."""
 
 import os
 import sys
@@ -18,4 +18,4 @@ Claim = tuple[str, object, object]
 # It is a package by whichever of its names it was found.
 __path__ = [HERE]
 sys.path[1:1] = [MODULE]
-sys.path.append(os.path.join(TOP, "bench"))
+sys.path += [os.path.join(TOP, "cups"), os.path.join(TOP, "bench")]

@@ -71,6 +71,6 @@ if WAYS:
     setattr(faxpages, "check", broken_check)
     setattr(faxpages, "convert", broken_convert)
 if "minutes" in WAYS:
-    import faxpages._archive_progress
+    import faxpages.archive._progress
 
-    faxpages._archive_progress._MINUTE = 0.2
+    faxpages.archive._progress._MINUTE = 0.2

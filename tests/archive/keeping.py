@@ -177,7 +177,7 @@ def two_writers(room: Room, *_given: object) -> None:
 def taken_away(room: Room, fax: bytes, part: str) -> None:
     """Another run takes what is begun for something that a run has left, before the run that begins it holds it."""
     import faxpages
-    from faxpages import _archive_fax
+    from faxpages.archive import _fax
 
     put(room("taken/tree/a.tif"), fax)
     os.mkdir(room("taken/copies"))
@@ -189,9 +189,9 @@ def taken_away(room: Room, fax: bytes, part: str) -> None:
             os.unlink(room(f"taken/copies/{part}"))
         flock(file, way)
 
-    job = _archive_fax.Job(os.fsencode(room("taken/tree")), os.fsencode(room("taken/copies")))
+    job = _fax.Job(os.fsencode(room("taken/tree")), os.fsencode(room("taken/copies")))
     with mock.patch.object(fcntl, "flock", late):
-        done = job.do(_archive_fax.Waiting(b"a.tif", len(fax), os.stat(room("taken/tree/a.tif")).st_mtime))
+        done = job.do(_fax.Waiting(b"a.tif", len(fax), os.stat(room("taken/tree/a.tif")).st_mtime))
     room.claim("a copy that is taken away before it is held is begun again",
                (len(taken), done.found.status, files_below(room("taken/copies"))),
                (1, 0, {b"a.tif": faxpages.convert(fax, "mmr")}))
@@ -302,13 +302,13 @@ def changed_copies(room: Room, *_given: object) -> None:
 def changed_before_it_is_read(room: Room) -> None:
     """A fax that changes after it was found and before it is read: its copy is not that of the fax as it was."""
     import faxpages
-    from faxpages import _archive_fax
+    from faxpages.archive import _fax
 
     one, two = (faxpages.convert(b"P4 8 %d\n" % rows + bytes([24]) * rows, "mh") for rows in (1, 2))
     put(room("late/tree/a.tif"), one)
-    job = _archive_fax.Job(os.fsencode(room("late/tree")), os.fsencode(room("late/copies")))
+    job = _fax.Job(os.fsencode(room("late/tree")), os.fsencode(room("late/copies")))
     os.mkdir(room("late/copies"))
-    found = _archive_fax.Waiting(b"a.tif", len(one), os.stat(room("late/tree/a.tif")).st_mtime)
+    found = _fax.Waiting(b"a.tif", len(one), os.stat(room("late/tree/a.tif")).st_mtime)
     done = job.do(found)
     put(room("late/tree/a.tif"), two, 0o644, TIME)
     assert done.copy is not None

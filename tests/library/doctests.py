@@ -26,15 +26,16 @@ import faxpages
 # What an example needs, by the ending of its name.
 NEEDS = {".image": "PIL", ".array": "numpy", ".mask": "numpy", ".register": "PIL"}
 # Modules that import what need not be installed.
-IMPORTS = {"_tiff": "PIL", "_pdf": "pikepdf", "_cups_pdf": "pikepdf"}
+IMPORTS = {"_tiff": "PIL", "_pdf": "pikepdf"}
 # Names of types that are written out, and so have no docstring.
 TYPES = {"Source", "Writable"}
 
 
 def modules() -> Iterator[ModuleType]:
-    """The modules of the package, but for the command for archives, and for those that import what is not installed."""
+    """The modules of the package, but for those of the command for archives, and for those that import what is not
+    installed."""
     folder = os.path.join(TOP, "python", "faxpages")
-    left_out = ("_archive", "archive", "__", *(name for name in IMPORTS if not importlib.util.find_spec(IMPORTS[name])))
+    left_out = ("__", *(name for name in IMPORTS if not importlib.util.find_spec(IMPORTS[name])))
     for name in sorted(os.listdir(folder)):
         if name.endswith(".py") and not name.startswith(left_out):
             yield importlib.import_module(f"faxpages.{name[:-3]}")

@@ -16,7 +16,7 @@ import signal
 import sys
 from typing import Callable
 
-from faxpages import _cups, _spool
+from faxpages_cups import _job, _spool
 
 CALLS = ["open", "link", "rename", "unlink", "fsync", "mkdir", "fchmod", "close"]
 # Calls for which a disk has no room; others free some, or need none.
@@ -56,7 +56,7 @@ def in_child(folder: str, name: str, at: int | None, how: str) -> int:
         with _spool.Spool(folder, name, f"older-{name}") as spool:
             if not spool.is_done():
                 spool.put(f"fax {name}".encode(), {"number": "1", "fax": f"{name}.tif"})
-    except _cups.Refused as refused:
+    except _job.Refused as refused:
         return 4 if "may be on its way" in str(refused) else 3
     except OSError:
         return 3

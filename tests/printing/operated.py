@@ -269,7 +269,7 @@ def is_of_filter(process: int, title: str) -> bool:
     with contextlib.suppress(OSError):
         with open(f"/proc/{process}/cmdline", "rb") as file:
             told = file.read()
-            return title.encode() in told and (b"/filter/faxtopdf" in told or b"_cups_pdf" in told)
+            return title.encode() in told and (b"/filter/faxtopdf" in told or b"faxpages_cups._pdf" in told)
     return False
 
 

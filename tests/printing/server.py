@@ -150,8 +150,9 @@ class Server:
         os.chmod(place, 0o755)
 
     def _copy_module(self, library: str) -> None:
-        shutil.copytree(f"{TOP}/python/faxpages", f"{self.folder}/module/faxpages",
-                        ignore=shutil.ignore_patterns("__pycache__"))  # fmt: skip
+        for name in ("python/faxpages", "cups/faxpages_cups"):
+            shutil.copytree(f"{TOP}/{name}", f"{self.folder}/module/{os.path.basename(name)}",
+                            ignore=shutil.ignore_patterns("__pycache__"))  # fmt: skip
         shutil.copy(library, f"{self.folder}/module/libfaxpages.so.1")
 
     def _write(self, name: str, text: str) -> None:

@@ -13,7 +13,7 @@ from tests.archive.drawn.comparing import Difference
 from tests.archive.drawn.operating import DASK, FOLDED, PLAIN, SECOND, WORKERS, Episode
 
 import faxpages
-import faxpages.archive  # noqa: F401  so that each run has it already
+import faxpages.archive._main  # noqa: F401  so that each run has it already
 
 STEPS = 25
 # The most differences that are told, and of each the most lines of what was done before it.

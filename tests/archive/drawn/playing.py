@@ -30,9 +30,10 @@ import signal, sys, time, types
 signal.signal(signal.SIGINT, signal.SIG_DFL)
 signal.pthread_sigmask(signal.SIG_UNBLOCK, [signal.SIGINT])
 sys.path.insert(0, sys.argv[2])
-from faxpages import _archive_table, archive
+from faxpages import archive
+from faxpages.archive import _table
 jump = float(sys.argv[1])
-_archive_table.time = types.SimpleNamespace(time=lambda: time.time() + jump, monotonic=time.monotonic)
+_table.time = types.SimpleNamespace(time=lambda: time.time() + jump, monotonic=time.monotonic)
 sys.exit(archive.main(sys.argv[3:]))
 """
 
@@ -117,8 +118,8 @@ def _hook(trouble: Trouble, room: str) -> None:
             found = getattr(os, name)
             return wrapped(found) if name in CALLS else found
 
-    import faxpages._archive_files as files
-    import faxpages._archive_marks as marks
+    import faxpages.archive._files as files
+    import faxpages.archive._marks as marks
 
     hooked = Hooked()
     setattr(files, "os", hooked)
@@ -127,11 +128,11 @@ def _hook(trouble: Trouble, room: str) -> None:
 
 def _inline() -> None:
     """Has faxes be done in this very process, which is fast."""
-    import faxpages._archive_engine as engine
-    from faxpages import _archive_fax
+    import faxpages.archive._engine as engine
+    from faxpages.archive import _fax
 
-    def by_this(job: _archive_fax.Job, _timeout: object, batches: engine.Batches,
-                _count: object) -> Iterator[list[_archive_fax.Done]]:
+    def by_this(job: _fax.Job, _timeout: object, batches: engine.Batches,
+                _count: object) -> Iterator[list[_fax.Done]]:
         while True:
             batch = batches.next()
             if batch is None:
@@ -189,7 +190,7 @@ def _child(words: List[str], room: str, names: List[str], trouble: Trouble, engi
         os.chdir(room)
         signal.alarm(PATIENCE)
         # What the command loads only where it needs it another user may not read.
-        for name in ("csv", "faxpages._archive_engine", "faxpages._archive_merge"):
+        for name in ("csv", "faxpages.archive._engine", "faxpages.archive._merge"):
             importlib.import_module(name)
         if trouble.other_user:
             os.setgroups([])
@@ -214,7 +215,7 @@ def _main(words: List[str], clock: float, engine: Engine) -> None:
     from faxpages import archive
 
     if engine.python is not None:
-        module = os.path.dirname(os.path.dirname(os.path.abspath(archive.__file__)))
+        module = os.path.dirname(os.path.dirname(os.path.dirname(os.path.abspath(archive.__file__))))
         # By this all that it starts is known as the cluster's.
         os.environ["CLUSTER"] = os.path.join(os.getcwd(), "dask")
         os.execv(engine.python, [engine.python, "-I", "-c", _BY_DASK, str(clock), module, *words])

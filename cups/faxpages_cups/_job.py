@@ -1,5 +1,5 @@
 """What the filter and the backend for CUPS share: their job, the lines that CUPS reads, and the bounds on what
-strangers send. Only these two, in cups/, import this."""
+strangers send. Only these two import this."""
 
 from __future__ import annotations
 

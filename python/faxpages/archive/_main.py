@@ -1,15 +1,4 @@
-"""Checks, or converts, all faxes of an archive, and keeps what it found in a table of SQLite:
-
-    faxpages-archive check TREE --table TABLE.sqlite [--processes N | --dask | --scheduler ADDRESS]
-        [--timeout SECONDS] [--again unread | faulty | all] [--share I/N] [--follow] [--gone] [--names] [--faults-ok]
-        [--lost]
-    faxpages-archive convert TREE TARGET --to pbm | mh | mr | mmr --table TABLE.sqlite [..] [--again copies]
-        [--order 1 | 2] [--k K] [--strip ROWS] [--align] [--fields] [--adopt] [--delete [--give-up WHAT]]
-    faxpages-archive table TABLE.sqlite --csv | --json | --summary | --prometheus | --faulty
-    faxpages-archive merge TABLE.sqlite PART.sqlite..
-
-Also as python3 -I -m faxpages.archive. Status: 0 all faxes are good; 1 one has a fault; 2 the words are not understood;
-3 something could not be read or written, or has not finished. faxpages-archive(1) tells more."""
+"""What faxpages-archive does, by its words."""
 
 from __future__ import annotations
 
@@ -22,13 +11,13 @@ import sqlite3
 import sys
 from typing import Callable, Dict, Iterable, List, Optional
 
-from . import _archive_files as files
-from . import _archive_walk as walk
-from ._archive_fax import GOOD, NOT_READ, Found, Job, NoEngine, NoWorker
-from ._archive_marks import Owner
-from ._archive_run import Run, Stopped, say, shown, signals, state_of, told
-from ._archive_table import COLUMNS, Table, TableError, WrongTable, job_of, text_of, where_of
-from ._archive_words import words_of
+from . import _files as files
+from . import _walk as walk
+from ._fax import GOOD, NOT_READ, Found, Job, NoEngine, NoWorker
+from ._marks import Owner
+from ._run import Run, Stopped, say, shown, signals, state_of, told
+from ._table import COLUMNS, Table, TableError, WrongTable, job_of, text_of, where_of
+from ._words import words_of
 
 WORDS = 2
 
@@ -63,7 +52,7 @@ def _do_table(words: argparse.Namespace) -> int:
         last = table.last_run()
         out = io.TextIOWrapper(sys.stdout.buffer, "utf-8", "surrogateescape", newline="", write_through=False)
         if words.summary or words.prometheus:
-            from . import _archive_merge as merging  # nothing else needs it
+            from . import _merge as merging  # nothing else needs it
 
             found = merging.summary(table)
             out.write(json.dumps(found) + "\n" if words.summary else merging.prometheus(found))
@@ -98,7 +87,7 @@ def _print_rows(words: argparse.Namespace, out: io.TextIOWrapper, rows: Iterable
 
 def _do_merge(words: argparse.Namespace) -> int:
     """merge."""
-    from . import _archive_merge as merging  # nothing else needs it
+    from . import _merge as merging  # nothing else needs it
 
     return merging.merge(words)
 
@@ -178,7 +167,3 @@ def _status(words: argparse.Namespace) -> int:
         return _said(error, NOT_READ)
     except Exception as error:  # a table that is damaged, or what else was not thought of
         return _said(f"{type(error).__name__}: {error}", NOT_READ)
-
-
-if __name__ == "__main__":
-    sys.exit(main())

@@ -7,8 +7,8 @@ import stat
 import zlib
 from typing import Callable, FrozenSet, Iterator, List, Mapping, NamedTuple, Optional, Tuple
 
-from . import _archive_mounts as mounts
-from ._archive_fax import Waiting
+from . import _mounts as mounts
+from ._fax import Waiting
 
 _ENDINGS = (b".tif", b".tiff")
 Share = Tuple[int, int]

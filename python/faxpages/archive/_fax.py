@@ -15,12 +15,12 @@ from typing import Any, Dict, Iterator, List, NamedTuple, Optional, Tuple
 
 import faxpages
 
-from . import _archive_files as files
-from . import _library as _c
-from ._archive_files import Seen, Stood
-from ._archive_lacks import PRINTED, lacks
-from ._archive_marks import Owner, Place
-from ._directory import kind_of
+from . import _files as files
+from .. import _library as _c
+from ._files import Seen, Stood
+from ._lacks import PRINTED, lacks
+from ._marks import Owner, Place
+from .._directory import kind_of
 
 # The largest fax, as of the program faxpages; a copy may have as much again, and what stands before its rows.
 _MOST = 268435456
@@ -285,7 +285,7 @@ def _checked(data: bytes, fax: Waiting) -> Found:
 def _counted(data: bytes, found: Found) -> Found:
     """The row of a faulty fax, with how many of its rows are left, and lost; or why that is not known."""
     # What this loads takes as long as some hundred faxes, and most runs do not ask for it.
-    from ._rows_left import NotSalvaged, rows_left
+    from .._rows_left import NotSalvaged, rows_left
 
     try:
         left, lost = rows_left(data)

@@ -1,4 +1,4 @@
-"""Ends the filters before the backend for CUPS, where one of them never ends by itself. Only _cups_fax imports this."""
+"""Ends the filters before the backend for CUPS, where one of them never ends by itself. Only _fax imports this."""
 
 from __future__ import annotations
 

@@ -16,7 +16,7 @@ import time
 from multiprocessing.connection import Connection, Pipe
 from typing import Any, List, Optional, Tuple
 
-from ._archive_fax import Done, Found, Job, NoWorker, Waiting, not_read
+from ._fax import Done, Found, Job, NoWorker, Waiting, not_read
 
 # The seconds in which a worker has to start, also on a machine that has much else to do, since one that fails ends at
 # once; and in which one that is killed has to end.
@@ -30,8 +30,8 @@ import importlib.util, sys
 spec = importlib.util.spec_from_file_location("faxpages", sys.argv[1])
 sys.modules["faxpages"] = module = importlib.util.module_from_spec(spec)
 spec.loader.exec_module(module)
-from faxpages import _archive_worker
-_archive_worker.main(int(sys.argv[2]))
+from faxpages.archive import _worker
+_worker.main(int(sys.argv[2]))
 """
 
 
@@ -118,7 +118,7 @@ class Worker:
         if self._pipe is not None:
             return self._pipe
         pipe, its = Pipe()
-        package = os.path.join(os.path.dirname(os.path.abspath(__file__)), "__init__.py")
+        package = os.path.join(os.path.dirname(os.path.dirname(os.path.abspath(__file__))), "__init__.py")
         with its:
             self._process = subprocess.Popen(
                 [sys.executable, "-I", "-c", _CODE, package, str(its.fileno())], stdin=subprocess.DEVNULL,

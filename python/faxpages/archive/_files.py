@@ -2,7 +2,7 @@
 other module of the package does that.
 
 Below TARGET no link is followed, and what stands there and is not ours is left. A file is ours where its mark says so
-(_archive_marks.py), and its bytes are those that the mark or the table knows; without a mark, where they are those of
+(_marks.py), and its bytes are those that the mark or the table knows; without a mark, where they are those of
 the table. In doubt a file is left."""
 
 from __future__ import annotations
@@ -16,7 +16,7 @@ import stat
 import time
 from typing import BinaryIO, Callable, Dict, Iterator, NamedTuple, Optional, Tuple
 
-from ._archive_marks import Mark, Owner, Place, is_only, mark_of, name_of, only_of, put_mark, put_only, take_only
+from ._marks import Mark, Owner, Place, is_only, mark_of, name_of, only_of, put_mark, put_only, take_only
 
 _FOLDER = os.O_RDONLY | os.O_DIRECTORY | os.O_CLOEXEC
 # A name that is a link is refused, and one that is a pipe is not waited for.

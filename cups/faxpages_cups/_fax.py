@@ -11,14 +11,13 @@ import sys
 from typing import Dict, Iterator, List, NamedTuple, NoReturn, Optional, Sequence
 from urllib.parse import unquote
 
-from ._cups import InDoubt, Job, Refused, one_line, say, seconds_of, within
-from ._cups_documents import count_of, documents_of
-from ._cups_ending import end_filters
-from ._fax import Fax, Page
-from ._report import check
+from faxpages import Fax, Page, check, write
+
+from ._documents import count_of, documents_of
+from ._ending import end_filters
+from ._job import InDoubt, Job, Refused, one_line, say, seconds_of, within
 from ._scratch import scratch
 from ._spool import Spool
-from ._writing import write
 
 # What CUPS does after a backend ended with this status: it holds the job.
 HOLD = 3

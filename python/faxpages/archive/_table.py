@@ -11,10 +11,10 @@ import time
 import urllib.parse
 from typing import Any, Callable, Dict, Iterator, List, NamedTuple, Optional, Tuple, Union
 
-from . import _archive_files as files
-from ._archive_fax import FAULTY, GOOD, NOT_READ, OTHER, Done, Found, Job, Waiting
-from ._archive_files import Seen, Stood
-from ._archive_marks import Owner
+from . import _files as files
+from ._fax import FAULTY, GOOD, NOT_READ, OTHER, Done, Found, Job, Waiting
+from ._files import Seen, Stood
+from ._marks import Owner
 
 COLUMNS = Found._fields
 # A commit waits for the disk: at most one a second.

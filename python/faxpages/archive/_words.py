@@ -6,9 +6,9 @@ import argparse
 import os
 from typing import Callable, List, Optional
 
-from . import _archive_walk as walk
-from . import version
-from ._archive_lacks import NAMES
+from . import _walk as walk
+from .. import version
+from ._lacks import NAMES
 
 
 def _at_least(kind: Callable[[str], float], least: float) -> Callable[[str], float]:

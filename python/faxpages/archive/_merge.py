@@ -8,10 +8,10 @@ import json
 import os
 from typing import Any, Dict, List, Optional, Set, Tuple
 
-from . import _archive_walk as walk
-from ._archive_fax import FAULTY, GOOD, NOT_READ, OTHER, Found
-from ._archive_run import counted, say, shown, state_of
-from ._archive_table import Look, Table, TableError
+from . import _walk as walk
+from ._fax import FAULTY, GOOD, NOT_READ, OTHER, Found
+from ._run import counted, say, shown, state_of
+from ._table import Look, Table, TableError
 
 # How many rows are taken over at a time.
 _BATCH = 1000

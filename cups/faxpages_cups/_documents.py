@@ -1,5 +1,5 @@
 """The documents of a job for the backend: CUPS starts one backend for all files of a job, and hands it their PDFs one
-after another. Only _cups_fax imports this."""
+after another. Only _fax imports this."""
 
 from __future__ import annotations
 
@@ -7,7 +7,7 @@ import importlib
 import re
 from typing import Any, List
 
-from ._cups import Job, Refused
+from ._job import Job, Refused
 
 # Where one PDF ends and the next one begins.
 _BETWEEN = re.compile(rb"%%EOF[\0\t\n\f\r ]*(?=%PDF-)")

@@ -10,8 +10,8 @@ import threading
 from concurrent.futures import FIRST_COMPLETED, Executor, Future, ThreadPoolExecutor, wait
 from typing import Any, Callable, Dict, Iterator, List, Optional, Tuple
 
-from ._archive_fax import Done, Found, Job, NoEngine, NoWorker, Waiting
-from ._archive_worker import Worker
+from ._fax import Done, Found, Job, NoEngine, NoWorker, Waiting
+from ._worker import Worker
 
 # Every so many seconds the run has its turn, whether something has come or not.
 _TURN = 1.0

@@ -15,14 +15,10 @@ from typing import IO, Any, Iterator, List, NamedTuple, Sequence, Tuple, Union
 
 import pikepdf
 
-from ._cups import Job, Other, Refused, say, seconds_of, within
-from ._directory import kind_of
-from ._fax import Fax, Page
-from ._raster import Raster
-from ._report import check
-from ._salvaged import Stretch
-from ._writing import encode_strip
-from .faults import Fault, OutsideError
+from faxpages import Fault, Fax, OutsideError, Page, Raster, Stretch, check, encode_strip
+from faxpages._directory import kind_of
+
+from ._job import Job, Other, Refused, say, seconds_of, within
 
 # The most seconds, pages, and pels of a page and of all.
 SECONDS, PAGES, PELS, ALL_PELS = 120, 5000, 100_000_000, 40_000_000_000

@@ -16,7 +16,7 @@ import stat
 from types import TracebackType
 from typing import Callable, Dict, List, Optional, Sequence, Tuple, Type
 
-from ._cups import InDoubt, Refused, one_line
+from ._job import InDoubt, Refused, one_line
 
 _KEPT = ".faxpages"
 # A document of a job that is kept: the job's name, and the number of the document if there are several.

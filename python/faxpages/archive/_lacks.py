@@ -5,7 +5,7 @@ from __future__ import annotations
 import struct
 from typing import Dict, List, Tuple
 
-from ._directory import RESOLUTIONS, SHORT, SIZES, UNIT, Directories, Entry, first_of
+from .._directory import RESOLUTIONS, SHORT, SIZES, UNIT, Directories, Entry, first_of
 
 # What can be given up, by the word for it and the name in the table.
 NAMES = {"data": "DataAfterEnd", "fields": "Fields", "private": "PrivateFields", "bytes": "OtherBytes",

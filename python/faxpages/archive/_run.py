@@ -11,13 +11,13 @@ import sys
 import time
 from typing import Any, Dict, Iterator, List, Optional, Set, Tuple
 
-from . import _archive_files as files
-from . import _archive_walk as walk
-from ._archive_fax import FAULTY, FIELDS, GOOD, NOT_READ, OTHER, Done, Found, Job, Waiting
-from ._archive_files import Seen, Stood
-from ._archive_lacks import NAMES
-from ._archive_progress import Gathering, Progress
-from ._archive_table import Compared, Copied, Known, Table, text_of
+from . import _files as files
+from . import _walk as walk
+from ._fax import FAULTY, FIELDS, GOOD, NOT_READ, OTHER, Done, Found, Job, Waiting
+from ._files import Seen, Stood
+from ._lacks import NAMES
+from ._progress import Gathering, Progress
+from ._table import Compared, Copied, Known, Table, text_of
 
 # Of how many rows one may be gone at once.
 _TENTH = 10
@@ -266,7 +266,7 @@ class Run:
     def _done(self) -> Iterator[List[Done]]:
         """What comes of the faxes that are due, by the engine that was chosen."""
         # What it loads takes as long as a hundred faxes to check, and a run where nothing is due does without it.
-        from . import _archive_engine as engine
+        from . import _engine as engine
 
         words = self._words
         batches = engine.Batches(self._table.taker())
