@@ -2,7 +2,8 @@
 
        peak COMMAND..
 
-   Linux counts for a process what the program held that began it. So this one is small, as Python is not. */
+   Linux counts for a process what the program held that began it. So this one is small, below 1 MB, as Python is not,
+   which holds more than most runs do. */
 #include <fcntl.h>
 #include <stdio.h>
 #include <sys/resource.h>
