@@ -2,7 +2,7 @@
 `from tests.plain import drawing`.
 
 A script is run by its path, as tests/plain/compare: then Python looks for modules in the folder of the script. There
-stands a link, tests.py, that leads here. This is the only place where Python is told of other folders: of the module,
+stands tests.py, the same in each folder, that leads here. This is the only place where Python is told of other folders: of the module,
 which is the one of these sources, or the one that OPERATED names, of that of CUPS, and of what measures, in bench."""
 
 import os
