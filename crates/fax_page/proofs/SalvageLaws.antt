@@ -30,7 +30,7 @@ which_fault Mr i b fault (inr (inl cut)) = inr cut.1
 which_fault Mr i b fault (inr (inr missing)) = inl missing.1
 which_fault Mmr i b fault none = absurd none
 
-some_sought : (coding : Coding) (i : ℕ) (b : List Bool) → (from : List Bool) × IsSoughtFrom coding i b from
+pub some_sought : (coding : Coding) (i : ℕ) (b : List Bool) → (from : List Bool) × IsSoughtFrom coding i b from
 some_sought coding i b = elim (start_or_fault coding i b) [
   | inl begun ↦ (begun.1, inl (begun.0, start_is coding i b begun.0 begun.1 begun.2))
   | inr stop ↦ elim (which_fault coding i b stop.0 stop.1) [
@@ -46,7 +46,7 @@ some_sought coding i b = elim (start_or_fault coding i b) [
 ]
 
 -- a row that begins has no fault there
-begins_or_not : (coding : Coding) (i : ℕ) (b : List Bool) (dimension : Dimension) (codes : List Bool)
+pub begins_or_not : (coding : Coding) (i : ℕ) (b : List Bool) (dimension : Dimension) (codes : List Bool)
     (fault : StripFault) → IsStart coding i b (Ok (dimension, codes)) → IsStart coding i b (Err fault) → ⊥
 begins_or_not coding i b dimension codes fault begun stop =
     start_has_no_fault coding i b dimension codes fault (started coding i b dimension codes begun)
@@ -58,7 +58,7 @@ missing_or_end coding i b missing ends =
     let same = one_start_fault coding i b MissingEol DataEnds (start_fault coding i b MissingEol missing)
     (start_fault coding i b DataEnds ends) in cc
 
-one_sought : (coding : Coding) (i : ℕ) (b from other : List Bool) → IsSoughtFrom coding i b from
+pub one_sought : (coding : Coding) (i : ℕ) (b from other : List Bool) → IsSoughtFrom coding i b from
     → IsSoughtFrom coding i b other → from ≡ other
 one_sought coding i b from other (inl first) (inl second) =
     (one_start coding i b first.0 second.0 from other (started coding i b first.0 from first.1)
@@ -108,10 +108,10 @@ alone coding i b codes TwoDimensional begun not_two = absurd (not_two (codes, be
 
 -- ---- whether an EOL is missing after a row
 
-abbrev LacksEol : StripForm → ℕ → List Bool → Type 0
+abbrev pub LacksEol : StripForm → ℕ → List Bool → Type 0
 LacksEol form i rest = IsEolDue form i × BeginsBelowEleven rest
 
-lacks_or_not : (form : StripForm) (i : ℕ) (rest : List Bool) → LacksEol form i rest ⊎ (LacksEol form i rest → ⊥)
+pub lacks_or_not : (form : StripForm) (i : ℕ) (rest : List Bool) → LacksEol form i rest ⊎ (LacksEol form i rest → ⊥)
 lacks_or_not form i rest = by_coding form.coding refl
   where
     at_place : (form.coding ≢ Mmr) → LacksEol form i rest ⊎ (LacksEol form i rest → ⊥)
@@ -134,16 +134,16 @@ module _ (reads : (form : StripForm) (i : ℕ) (reference : List Colour) → Rea
   -- ---- one row
 
   -- a row that is read is not one that cannot be read
-  read_is_not_lost : (form : StripForm) (i : ℕ) (before : Option StripFault) (reference : List Colour) (b : List Bool)
-      (row : List Colour) (rest : List Bool) (fault : StripFault) → IsReadOver form i before reference b row rest
-      → IsLostFor form i before reference b fault → ⊥
+  pub read_is_not_lost : (form : StripForm) (i : ℕ) (before : Option StripFault) (reference : List Colour)
+      (b : List Bool) (row : List Colour) (rest : List Bool) (fault : StripFault)
+      → IsReadOver form i before reference b row rest → IsLostFor form i before reference b fault → ⊥
   read_is_not_lost form i before reference b row rest fault over (inl (is, two)) =
       two_is_not_one form.coding i b over.line.codes over.line.dimension over.line.start
       (over.alone (λ none. let both = sym none ∙ is in cc)) two
   read_is_not_lost form i before reference b row rest fault over (inr (_, cause)) =
       (reads form i reference).line.answer_has_no_fault b row rest fault over.line cause
 
-  one_lost : (form : StripForm) (i : ℕ) (before : Option StripFault) (reference : List Colour) (b : List Bool)
+  pub one_lost : (form : StripForm) (i : ℕ) (before : Option StripFault) (reference : List Colour) (b : List Bool)
       (fault other : StripFault) → IsLostFor form i before reference b fault
       → IsLostFor form i before reference b other → fault ≡ other
   one_lost form i before reference b fault other (inl (is, two)) (inl (is', two')) = let both = sym is ∙ is' in cc
@@ -156,14 +156,14 @@ module _ (reads : (form : StripForm) (i : ℕ) (reference : List Colour) → Rea
   one_lost form i before reference b fault other (inr (_, cause)) (inr (_, cause')) =
       (reads form i reference).line.one_fault b fault other cause cause'
 
-  one_row : (form : StripForm) (i : ℕ) (before : Option StripFault) (reference : List Colour) (b : List Bool)
+  pub one_row : (form : StripForm) (i : ℕ) (before : Option StripFault) (reference : List Colour) (b : List Bool)
       (row other : List Colour) (rest after : List Bool) → IsReadOver form i before reference b row rest
       → IsReadOver form i before reference b other after → (row ≡ other) × (rest ≡ after)
   one_row form i before reference b row other rest after first second =
       (reads form i reference).line.one_answer b row other rest after first.line second.line
 
   -- a row is read, or cannot be
-  data ReadOrLost (form : StripForm) (i : ℕ) (before : Option StripFault) (reference : List Colour) (b : List Bool)
+  pub data ReadOrLost (form : StripForm) (i : ℕ) (before : Option StripFault) (reference : List Colour) (b : List Bool)
       : Type 0 where
     is_read : (row : List Colour) (rest : List Bool) → IsReadOver form i before reference b row rest
         → ReadOrLost form i before reference b
@@ -181,7 +181,7 @@ module _ (reads : (form : StripForm) (i : ℕ) (reference : List Colour) → Rea
       coded line lost_before (inl none) = absurd (lost_before none)
       coded line lost_before (inr not_two) = alone form.coding i b line.codes line.dimension line.start not_two
 
-  read_or_lost : (form : StripForm) (i : ℕ) (before : Option StripFault) (reference : List Colour) (b : List Bool)
+  pub read_or_lost : (form : StripForm) (i : ℕ) (before : Option StripFault) (reference : List Colour) (b : List Bool)
       → ReadOrLost form i before reference b
   read_or_lost form i None reference b = by_bits form i None reference b (inl refl)
   read_or_lost form i (Some fault) reference b = elim (begins_two_or_not form.coding i b) [

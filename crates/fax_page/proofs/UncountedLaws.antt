@@ -77,13 +77,13 @@ has_front (false ∷ front) (false ∷ b) =
       | inr none ↦ inr (λ has. let is = has.1 in none (has.0, cc))
     ]
 
-mark_or_none : (coding : Coding) (b : List Bool) → IsOrNot (HasEndMark coding b)
+pub mark_or_none : (coding : Coding) (b : List Bool) → IsOrNot (HasEndMark coding b)
 mark_or_none Mh b = has_eols Mh 6 b
 mark_or_none Mr b = has_eols Mr 6 b
 mark_or_none Mmr b = has_front (end_bits Mmr) b
 
 -- a 1 is in each end mark
-mark_is_not_zeros : (coding : Coding) (b : List Bool) → HasEndMark coding b → IsAllZeros b → ⊥
+pub mark_is_not_zeros : (coding : Coding) (b : List Bool) → HasEndMark coding b → IsAllZeros b → ⊥
 mark_is_not_zeros Mh b mark all = eol_is_not_zeros b mark.1.0 mark.1.1 all
 mark_is_not_zeros Mr b mark all = eol_is_not_zeros b (true ∷ mark.1.0) mark.1.1 all
 mark_is_not_zeros Mmr b mark all = no_one 11 all.0 (end_of_line ++ mark.0) (sym mark.1 ∙ all.1)
@@ -99,7 +99,7 @@ zeros_or_not b =
       | inr ahead ↦ inr (one_is_not_zeros b ahead.0 ahead.1)
     ]
 
-data_end_or_not : (row : ℕ) (b : List Bool) → IsOrNot (HasDataEnd row b)
+pub data_end_or_not : (row : ℕ) (b : List Bool) → IsOrNot (HasDataEnd row b)
 data_end_or_not zero b = inr (λ has. omega (arith, has.0))
 data_end_or_not (suc row) b =
     elim (zeros_or_not b) [
@@ -127,7 +127,7 @@ some_end coding row left stop =
     ]
 
 -- and in one way
-one_end : (coding : Coding) (row : ℕ) (left : List Bool) (stop : Option StripFault) (end other : RowsEnd)
+pub one_end : (coding : Coding) (row : ℕ) (left : List Bool) (stop : Option StripFault) (end other : RowsEnd)
     → EndsSo coding row left stop end
     → EndsSo coding row left stop other → end ≡ other
 one_end coding row left stop Marked Marked first second = refl

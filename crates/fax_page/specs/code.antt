@@ -6,3 +6,4 @@ pub mod Reader
 pub mod Writer
 pub mod Notes
 pub mod Salvage
+pub mod LeftUncounted

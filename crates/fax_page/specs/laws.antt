@@ -4,3 +4,4 @@ pub mod Writer
 pub mod Uncounted
 pub mod Following
 pub mod Salvage
+pub mod LeftUncounted

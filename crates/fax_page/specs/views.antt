@@ -3,3 +3,4 @@ pub mod Writer
 pub mod NextRow
 pub mod Strip
 pub mod Salvage
+pub mod LeftUncounted

@@ -4,6 +4,7 @@ ghost use Rattle.fax_bits.specs.declared.Colour.{Colour};
 ghost use Rattle.fax_page.specs.declared.StripForm.{StripForm};
 ghost use Rattle.fax_page.specs.laws.Strips as Law;
 ghost use Rattle.fax_page.specs.laws.Following as Following;
+ghost use Rattle.fax_page.specs.laws.LeftUncounted.{LeavesUncounted};
 ghost use Rattle.fax_page.specs.laws.Reader.{ReadsRowByRow, ReadsOn};
 ghost use Rattle.fax_page.specs.laws.Salvage as Salvage;
 ghost use Rattle.fax_page.specs.laws.Uncounted as Uncounted;
@@ -156,3 +157,13 @@ pub fn lost_bits_do_not_matter()
 pub fn whole_strips_are_found()
     ensures { Salvage.FindsWholeStrips }
 {}
+
+/// What is left of rows that nobody counted is found and lost in one way, from any row on, in any
+/// coding: one list and one end. It is what is left of the first rows of a strip with as many as there
+/// may be, and where the rows are read to an end mark, or to the end of the data, all are found.
+pub fn uncounted_rows_are_left_in_one_way()
+    ensures { LeavesUncounted }
+{
+    lines_are_read_in_one_way();
+    strips_are_salvaged_in_one_way();
+}

@@ -321,12 +321,10 @@ impl<'a> StripReader<'a> {
         }
     }
 
-    /// How rows end that nobody counted, where the reader is past the last of them: its form has
-    /// the most rows that a strip has, `MOST_ROWS`, and `advance` answered a fault, or that there is
-    /// no more row.
+    /// How rows that nobody counted end before the row that is due, whose form has the most rows that
+    /// a strip has, `MOST_ROWS`: after a fault with that one, if not well.
     #[cold]
     pub fn uncounted_end(&self) -> RowsEnd
-        requires over { self.now.fault ≡ None → self.now.row ≡ self.now.form.rows }
         ensures { EndsSo self.now.form.coding self.now.row (bits_left self.now) self.now.fault
             result }
     {

@@ -2,7 +2,7 @@
 ghost use Rattle.std.specs.Prelude.{◌≤◌, length};
 
 use crate::reader::StripReader;
-use crate::{StripFault, StripForm};
+use crate::{RowsEnd, StripFault, StripForm};
 use fax_rows::{Memory, Row};
 use std::alloc::Global;
 use std::marker::Model;
@@ -50,9 +50,10 @@ impl<'a> Model for SalvageReader<'a> {
 }
 
 impl<'a> SalvageReader<'a> {
-    ghost use Rattle.std.specs.Prelude.{◌≡◌, ◌<◌, IfOk};
+    ghost use Rattle.std.specs.Prelude.{◌≡◌, ◌<◌, IfOk, None};
     ghost use Rattle.fax_bits.specs.Bits.{bits};
     ghost use Rattle.fax_page.specs.Strip.{most_rows};
+    ghost use Rattle.fax_page.specs.Uncounted.{EndsSo};
     ghost use Rattle.fax_page.specs.code.Salvage.{IsOverLost};
     ghost use Rattle.fax_page.specs.views.Salvage.{IsSalvageStep, salvage_beginning};
     ghost use Rattle.fax_page.specs.views.Strip.{IsStripForm};
@@ -130,6 +131,14 @@ impl<'a> SalvageReader<'a> {
         } else {
             None
         }
+    }
+
+    /// How rows that nobody counted end before the row that is due, or that they do not, `TooMany`.
+    #[inline(always)]
+    pub(crate) fn rows_end(&self) -> RowsEnd
+        ensures { EndsSo self.now.form.coding self.now.row self.now.due None result }
+    {
+        self.reader.uncounted_end()
     }
 
     /// The row that was found last, or a white one: the reference of the row that is due.

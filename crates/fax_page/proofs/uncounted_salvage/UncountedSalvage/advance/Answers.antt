@@ -1,0 +1,23 @@
+use Rattle.std.proofs.Common.{sym}
+use Rattle.fax_page.proofs.LeftUncountedLemmas.{is_due, passes_so, same_after, still_going}
+use Rattle.fax_page.proofs.uncounted_salvage.UncountedSalvage.advance.Goals as goal
+
+pub invariant_of-self-2 : goal.invariant_of-self-2
+invariant_of-self-2 c =
+    let row_is = c.self.invariant.due c.in_default.is in
+    let due = is_due c.self.inside.reader c.in-Some-advance.salvaged c.advance.new.self c.rows_end.result
+    c.rows_end.ensures c.in-TooMany.is c.in-Some-advance.ensures in
+    still_going c.self.inside.reader c.advance.new.self c.self.inside.row c.in-Some-advance.salvaged
+    c.over_after-self-inside.result c.self.invariant.most row_is c.in-Some-advance.ensures
+    (same_after c.self.inside.reader c.advance.new.self c.self.inside.row c.over_after-self-inside.result row_is
+    c.self.invariant.most due c.in-Some-advance.salvaged c.in-Some-advance.ensures)
+    due.0 c.over_after-self-inside.ensures
+
+pub returns : goal.returns
+returns c =
+    let row_is = c.self.invariant.due c.in_default.is in
+    let due = is_due c.self.inside.reader c.in-Some-advance.salvaged c.advance.new.self c.rows_end.result
+    c.rows_end.ensures c.in-TooMany.is c.in-Some-advance.ensures in
+    passes_so c.self.inside.reader c.advance.new.self c.self.inside.row c.over_after-self-inside.result row_is
+    c.self.invariant.most due c.args.self.now c.self.inside.over c.alone.result c.in-Some-advance.salvaged
+    (sym c.self.view_is) c.in_default.is c.alone.ensures c.in-Some-advance.ensures c.over_after-self-inside.ensures

@@ -1,0 +1,157 @@
+//! What is left of rows that nobody counted, where they are damaged.
+ghost use Rattle.std.specs.Prelude.{◌≡◌, ◌≤◌, length, IfOk};
+ghost use Rattle.fax_bits.specs.Bits.{bits};
+ghost use Rattle.fax_page.specs.Strip.{most_rows};
+ghost use Rattle.fax_page.specs.code.LeftUncounted as Code;
+ghost use Rattle.fax_page.specs.views.LeftUncounted.{IsUncountedStep, PassesAll};
+ghost use Rattle.fax_page.specs.views.LeftUncounted.{uncounted_beginning};
+ghost use Rattle.fax_page.specs.views.Strip.{IsStripForm};
+
+use crate::salvage::{SalvageReader, Salvaged};
+use crate::{MOST_ROWS, RowsEnd, StripFault, StripForm};
+use fax_rows::{Memory, Row};
+use std::alloc::Global;
+use std::marker::Model;
+
+/// Goes through rows that nobody counted, and that may be damaged, row by row, up to their end.
+/// Contracts see how far they are gone through.
+#[derive(Drop)]
+pub struct UncountedSalvage<'a> {
+    reader: SalvageReader<'a>,
+    /// How many rows were passed.
+    row: u32,
+    /// The fault with which the rows end, once a row was lost after which none is due.
+    over: Option<StripFault>,
+}
+
+impl<'a> Model for UncountedSalvage<'a> {
+    ghost use Rattle.fax_page.specs.code.LeftUncounted.{IsGoingThrough};
+    ghost use Rattle.fax_page.specs.views.LeftUncounted.{UncountedState};
+
+    ghost Value = { UncountedState };
+
+    ghost view = { λ s. record { strip = s.reader; row = s.row; over = s.over } };
+
+    ghost invariant = { λ s. IsGoingThrough s.reader s.row s.over };
+}
+
+/// What became of a row, and of no other, of those that are lost with it.
+fn alone(salvaged: Salvaged) -> Salvaged
+    ensures { result ≡ Code.alone salvaged }
+{
+    match salvaged {
+        Salvaged::Found => Salvaged::Found,
+        Salvaged::Lost { fault, .. } => Salvaged::Lost { fault, rows: 1 },
+        Salvaged::Unended { .. } => Salvaged::Unended { rows: 1 },
+    }
+}
+
+/// Why a row is lost, if it is.
+fn fault_of(salvaged: Salvaged) -> Option<StripFault>
+    ensures { result ≡ Code.fault_of salvaged }
+{
+    match salvaged {
+        Salvaged::Found => None,
+        Salvaged::Lost { fault, .. } => Some(fault),
+        Salvaged::Unended { .. } => Some(StripFault::MissingEol),
+    }
+}
+
+/// The fault with which the rows end after one that was passed, where there may be no more.
+fn over_after(reader: &SalvageReader, salvaged: Salvaged) -> Option<StripFault>
+    ensures { Code.IsOverAfter reader.now salvaged result }
+{
+    if reader.row() == MOST_ROWS {
+        fault_of(salvaged)
+    } else {
+        None
+    }
+}
+
+impl<'a> UncountedSalvage<'a> {
+    /// Before the first row of at most 4,294,967,295 bytes. It takes all the memory that rows of this
+    /// width need. How many rows the form says does not matter.
+    ///
+    /// # Errors
+    ///
+    /// `Memory` where a growth was refused.
+    pub fn new(alloc: Global, bytes: &'a [u8], form: StripForm) -> Result<Self, Memory>
+        requires count { length bytes.now ≤ 4294967295 }
+        requires limits { IsStripForm form }
+        ensures { IfOk result (λ s. s ≡ uncounted_beginning form (bits form.order bytes.now)) }
+    {
+        let most = StripForm {
+            rows: MOST_ROWS,
+            ..form
+        };
+        let reader = SalvageReader::new(alloc, bytes, most)?;
+        Ok(UncountedSalvage {
+            reader,
+            row: 0,
+            over: None,
+        })
+    }
+
+    /// Goes before the first row of other bytes, at most 4,294,967,295, with rows of the same coding,
+    /// order and width. It takes no memory.
+    pub fn restart(&mut self, bytes: &'a [u8])
+        requires { length bytes.now ≤ 4294967295 }
+        ensures { self.new ≡ uncounted_beginning self.old.strip.form
+            (bits self.old.strip.form.order bytes.now) }
+    {
+        self.reader.restart(bytes, MOST_ROWS);
+        self.row = 0;
+        self.over = None;
+    }
+
+    /// What became of the row that is due. It takes no memory. A row that is found is the reference
+    /// then. Each lost row is answered alone.
+    ///
+    /// # Errors
+    ///
+    /// How the rows end, where none is due. Each later call answers the same.
+    pub fn advance(&mut self) -> Result<Salvaged, RowsEnd>
+        ensures { IsUncountedStep self.old result self.new }
+    {
+        if let Some(fault) = self.over {
+            return Err(RowsEnd::Fault(fault));
+        }
+        match self.reader.rows_end() {
+            RowsEnd::TooMany => {}
+            end => return Err(end),
+        }
+        let Some(salvaged) = self.reader.advance() else {
+            return Err(RowsEnd::TooMany);
+        };
+        self.row += 1;
+        self.over = over_after(&self.reader, salvaged);
+        Ok(alone(salvaged))
+    }
+
+    /// Passes all rows that are left, and answers how they end. It takes no memory.
+    pub fn pass_all(&mut self) -> RowsEnd
+        ensures { PassesAll self.old result self.new }
+    {
+        'rows: loop {
+            if let Err(end) = self.advance() {
+                return end;
+            }
+        }
+    }
+
+    /// The row that was found last, or a white one.
+    pub fn reference(&self) -> &Row
+        ensures pels { result.now ≡ self.now.strip.reference }
+        ensures width { length result.now ≡ self.now.strip.form.width }
+    {
+        self.reader.reference()
+    }
+
+    /// How many rows were passed, at most 1,000,000.
+    pub fn row(&self) -> u32
+        ensures row { result ≡ self.now.row }
+        ensures few { result ≤ most_rows }
+    {
+        self.row
+    }
+}
