@@ -91,9 +91,13 @@ module _ (file : List ℕ) (at : Cursor) where
       its_file : due.chain.tiff.file ≡ file
       its_file = its.after.file_is ∙ named.0
 
-      pub enters_next : HasPage due.chain.tiff.file due.chain.given → EntersFirst file (At at)
-      enters_next there =
-          (Ok (page_with due.directory due.form), named.3, inr (rw (its_file, its.after.given, named.1) at there))
+      pub enters_next : due.form.rows ≤ at.row → HasPage due.chain.tiff.file due.chain.given → EntersFirst file (At at)
+      enters_next past there =
+          let within = named.2 in (
+            Ok (page_with due.directory due.form),
+            named.3,
+            inr (refl, omega (arith, past, within), rw (its_file, its.after.given, named.1) at there),
+          )
 
       pub refused_next : due.form.rows ≤ at.row → (result : Result PageState OpenFault)
           → IfErr result (IsRefusal (λ end. IsRow due.chain.tiff.file (first_at due.chain.given 0) (ends_as end)))

@@ -1,12 +1,11 @@
 -- The rows that are left of a page or a strip, one after another.
 use Rattle.std.proofs.Common.{◌≡◌, ℕ, zero, suc, ◌+◌, ◌-◌, ◌<◌, ◌≤◌, List, [], ◌∷◌, ◌++◌, map, replicate, length, drop}
 use Rattle.std.proofs.Common.{Bool, true, Option, Some, None, Ok, Err, refl, sym, ap, ◌∙◌, arith, append_assoc}
-use Rattle.std.proofs.Common.{append-nil, length-append, subst}
+use Rattle.std.proofs.Common.{append-nil, length-append}
 use Rattle.std.specs.Prelude.{MatchOption, flat_map}
 use Rattle.std.specs.Borrow.{Bor}
-use Rattle.std.proofs.lemmas.List.{length-replicate, map-append}
+use Rattle.std.proofs.lemmas.List.{length-map, length-replicate, map-append}
 use Rattle.fax_bits.specs.Bits.{bits}
-use Rattle.fax_rows.specs.Rows.{Colour}
 use Rattle.fax_page.specs.declared.StripFault.{StripFault}
 use Rattle.fax_page.specs.declared.StripFault.TheVariants.{MissingEol}
 use Rattle.fax_page.specs.declared.StripForm.{StripForm}
@@ -15,29 +14,36 @@ use Rattle.fax_page.specs.declared.salvage.Salvaged.TheVariants as in_strip
 use Rattle.fax_page.specs.Lines.{white_row}
 use Rattle.fax_page.specs.Salvage.{SalvagedRow, found, lost, unended, AreSalvaged, next_due}
 use Rattle.fax_page.specs.views.Salvage.{SalvageState, IsSalvageStep, IsAfterLost}
+use Rattle.fax_page.specs.LeftUncounted.{AreLeftUncounted}
+use Rattle.fax_page.specs.Strip.{most_rows}
+use Rattle.fax_page.specs.declared.RowsEnd.{RowsEnd}
+use Rattle.fax_page.specs.declared.RowsEnd.TheVariants.{Fault}
+use Rattle.fax_page.specs.Uncounted.{uncounted}
+use Rattle.fax_page.specs.views.LeftUncounted.{IsUncountedStep, PassesAll, PassesUncounted, UncountedState}
+use Rattle.fax_page.specs.views.LeftUncounted.{uncounted_beginning}
+use Rattle.fax_page.specs.laws.LeftUncounted.{LeavesUncounted}
 use Rattle.fax_page.specs.laws.Salvage.{SalvagesStripsOneWay}
 use Rattle.fax_files.specs.declared.PageForm.{PageForm}
 use Rattle.fax_files.specs.views.Tiff.{TiffDirectory}
 use Rattle.fax_walk.specs.declared.rows_left.Left.{Left}
-use Rattle.fax_walk.specs.declared.rows_left.Left.TheVariants.{Page, Strip as Strip_}
+use Rattle.fax_walk.specs.declared.rows_left.Left.TheVariants.{Page, Strip as Strip_, Uncounted}
 use Rattle.fax_walk.specs.declared.salvage_rows.PagePart.{PagePart}
 use Rattle.fax_walk.specs.declared.salvage_rows.PagePart.TheVariants.{Found, Lost}
-use Rattle.fax_walk.specs.Pages.{Strip}
-use Rattle.fax_walk.specs.Items.{exchanged}
+use Rattle.fax_walk.specs.Pages.{Cause, Strip}
 use Rattle.fax_walk.specs.Salvaged.{PageRow, strip_row}
 use Rattle.fax_walk.specs.laws.RowsLeft.{AreLeftOneWay}
-use Rattle.fax_walk.specs.views.RowsLeft.{LeftOf, of_page, of_strip, AreRowsOf, RowsView, IsNextPart, PassesRows}
-use Rattle.fax_walk.specs.code.Opening.{page_with}
-use Rattle.fax_walk.specs.code.Salvage.{AreRowsLeft, IsBeforeRows, IsPart, RowsState, StaysOnPage, part_of, row_due}
+use Rattle.fax_walk.specs.views.RowsLeft.{LeftOf, of_page, of_strip, of_uncounted, AreRowsOf}
+use Rattle.fax_walk.specs.views.RowsLeft.{IsNextPart, IsUncountedStart, PassesRows}
+use Rattle.fax_walk.specs.code.Salvage.{AreRowsLeft, IsBeforeRows, IsPart, StaysOnPage, part_of, row_due}
 use Rattle.fax_walk.specs.code.ShownRows.{ShownState, IsShownPart}
-use Rattle.fax_walk.specs.code.RowsLeft.{AreLeftNow, IsGoneOver, GoesOver, GoesOverPart, IsNextOf}
-use Rattle.fax_walk.specs.code.RowsLeft.{its_of, row_of, rows_of, last_of, width_of, view_of}
+use Rattle.fax_walk.specs.code.RowsLeft.{AreLeftNow, IsCountOf, IsGoneOver, GoesOver, GoesOverPart, IsNextOf}
+use Rattle.fax_walk.specs.code.RowsLeft.{its_of, row_of, rows_of, last_of, view_of}
 use Rattle.fax_walk.proofs.SalvageLawLemmas.{strips_left, one_strips}
 use Rattle.fax_walk.proofs.SalvageRowLemmas.{map_same, none_after, step_form}
 
 -- they are one list
-pub rows_left : SalvagesStripsOneWay → (its : LeftOf) → AreLeftOneWay its
-rows_left salvages (of_page file here) =
+pub rows_left : SalvagesStripsOneWay → LeavesUncounted → (its : LeftOf) → AreLeftOneWay its
+rows_left salvages leaves (of_page file here) =
     let strips = strips_left salvages file here here.form.strips 0 (omega arith) in
     record {
       rows = flat_map (λ rows. rows) strips.0;
@@ -46,12 +52,19 @@ rows_left salvages (of_page file here) =
           ∙ ap (λ (l : List (List PageRow)). flat_map (λ rows. rows) l)
           (one_strips salvages file here 0 is.0 strips.0 is.1 strips.1);
     }
-rows_left salvages (of_strip form b) =
+rows_left salvages leaves (of_strip form b) =
     let own = salvages form 0 None (white_row form.width) b (omega arith) in
     record {
       rows = map strip_row own.rows;
       are = (own.rows, own.are, refl);
       one = λ others is. is.2 ∙ ap (map strip_row) (own.one is.0 is.1);
+    }
+rows_left salvages leaves (of_uncounted form b) =
+    let own = leaves.one form 0 None (white_row form.width) b (omega arith) in
+    record {
+      rows = map strip_row own.rows;
+      are = (own.end, (own.rows, own.are, refl));
+      one = λ others is. is.1.2 ∙ ap (map strip_row) (own.one is.1.0 is.0 is.1.1).0;
     }
 
 -- what stands after so many items
@@ -64,9 +77,10 @@ drop_past (x ∷ done) rest (suc n) len = drop_past done rest n (omega (arith, l
 module _ (old new : Left) (sound : IsGoneOver old) where
   module _ (over : List PageRow) (goes : GoesOver old over new) (same : its_of new ≡ its_of old) where
     -- what is left follows what was passed
-    gone_over : IsGoneOver new
-    gone_over = record {
+    gone_over : rows_of new ≡ rows_of old → IsGoneOver new
+    gone_over same_rows = record {
       within = goes.within;
+      counted = rw (same, same_rows) sound.counted;
       passed = λ rows is.
           let before = sound.passed (over ++ rows) (goes.followed rows is) in (
             before.0 ++ over,
@@ -111,9 +125,10 @@ module _ (old new : Left) (sound : IsGoneOver old) where
 
   -- what a call for the next rows leaves
   pub next_gone : (part : Option PagePart) → IsNextOf old part new → IsGoneOver new
-  next_gone None next = gone_over [] next.over.0 next.same_its
-  next_gone (Some Found) next = gone_over (Ok (last_of new) ∷ []) next.over next.same_its
-  next_gone (Some (Lost rows cause)) next = gone_over (replicate rows (Err cause)) next.over.1 next.same_its
+  next_gone None next = gone_over [] next.over.0 next.same_its next.same_rows
+  next_gone (Some Found) next = gone_over (Ok (last_of new) ∷ []) next.over next.same_its next.same_rows
+  next_gone (Some (Lost rows cause)) next =
+      gone_over (replicate rows (Err cause)) next.over.1 next.same_its next.same_rows
 
   -- and answers
   pub next_seen : (one : AreLeftOneWay (its_of old)) → (part : Option PagePart) → IsNextOf old part new
@@ -337,10 +352,185 @@ module _ (salvages : SalvagesStripsOneWay) (old new : SalvageState) (bytes : Bor
         rest = ([], ([], none, refl));
       }
 
+-- what a call for the next rows answers, of those that nobody counted
+module _ (leaves : LeavesUncounted) (old new : UncountedState) (bytes : Bor (List ℕ)) (count : ℕ)
+    (sound : IsGoneOver (Uncounted old bytes count)) where
+  abbrev OldLeft : Left
+  OldLeft = Uncounted old bytes count
+
+  abbrev NewLeft : Left
+  NewLeft = Uncounted new bytes count
+
+  -- there is something left
+  rest_left : new.row ≤ new.strip.form.rows → (rows : List PageRow) × AreLeftNow NewLeft rows
+  rest_left within = by_over new.over
+      (λ fault. ([], Fault fault, (refl, refl)))
+      (let own = leaves.one new.strip.form new.row new.strip.before new.strip.reference new.strip.due within in
+      (own.rows, own.end, own.are))
+    where
+      Left_ : Option StripFault → Type 0
+      Left_ over =
+          (own : List SalvagedRow) × (end : RowsEnd)
+          × MatchOption over
+          (AreLeftUncounted new.strip.form new.row new.strip.before new.strip.reference new.strip.due own end)
+          (λ fault. (own ≡ []) × (end ≡ Fault fault))
+
+      by_over : (over : Option StripFault) → ((fault : StripFault) → Left_ (Some fault)) → Left_ None
+          → (rows : List PageRow)
+          × ((own : List SalvagedRow) × (end : RowsEnd)
+          × MatchOption over
+          (AreLeftUncounted new.strip.form new.row new.strip.before new.strip.reference new.strip.due own end)
+          (λ fault. (own ≡ []) × (end ≡ Fault fault))
+          × (rows ≡ map strip_row own))
+      by_over None over none = (map strip_row none.0, (none.0, none.1, none.2, refl))
+      by_over (Some fault) over none =
+          let own = over fault in (map strip_row own.0, (own.0, own.1, own.2, refl))
+
+  -- one row is passed
+  one_over : (row : SalvagedRow) (its : PageRow) → strip_row row ≡ its → PassesUncounted old row new
+      → GoesOver OldLeft (its ∷ []) NewLeft
+  one_over row its is passes =
+      record { next = passes.next; within = within (rest_left passes.within); followed = followed }
+    where
+      followed : (rows : List PageRow) → AreLeftNow NewLeft rows → AreLeftNow OldLeft (its ∷ rows)
+      followed rows (own, end, are, rows_are) = (
+        row ∷ own,
+        end,
+        passes.followed own end are,
+        ap (λ (l : List PageRow). its ∷ l) rows_are ∙ ap (λ (r : PageRow). r ∷ map strip_row own) (sym is),
+      )
+
+      within : (rows : List PageRow) × AreLeftNow NewLeft rows → new.row ≤ count
+      within (rows, are) =
+          let before = sound.passed (its ∷ rows) (followed rows are) in
+          let all : length (before.0 ++ its ∷ rows) ≡ count = sound.counted (before.0 ++ its ∷ rows) before.2 in
+          let sum : length (before.0 ++ its ∷ rows) ≡ length before.0 + suc (length rows) =
+          length-append before.0 (its ∷ rows) in
+          omega (arith, all, sum, before.1, passes.next)
+
+  its_same : new.strip.form ≡ old.strip.form → its_of NewLeft ≡ its_of OldLeft
+  its_same same = rw same refl
+
+  next_is : (part : PagePart) (row : SalvagedRow) → PassesUncounted old row new
+      → GoesOverPart OldLeft (Some part) NewLeft → IsNextOf OldLeft (Some part) NewLeft
+  next_is part row passes over = record {
+    same_its = its_same passes.same_form;
+    same_rows = refl;
+    same_width = ap (λ (f : StripForm). f.width) passes.same_form;
+    over = over;
+    rest = rest_left passes.within;
+  }
+
+  lost_alone : (rows : ℕ) (cause : Cause) (row : SalvagedRow) → strip_row row ≡ Err cause → rows ≡ 1
+      → PassesUncounted old row new → GoesOverPart OldLeft (Some (Lost rows cause)) NewLeft
+  lost_alone rows cause row is one passes =
+      rw one (omega arith, one_over row (Err cause) is passes)
+
+  pub uncounted_next : (salvaged : Salvaged) → IsUncountedStep old (Ok salvaged) new
+      → IsNextOf OldLeft (Some (part_of salvaged true)) NewLeft
+  uncounted_next in_strip.Found passes =
+      next_is Found (found new.strip.reference) passes
+      (one_over (found new.strip.reference) (Ok new.strip.reference) refl passes)
+  uncounted_next (in_strip.Lost fault rows) (one, passes) =
+      next_is (Lost rows (Strip fault)) (lost fault) passes
+      (lost_alone rows (Strip fault) (lost fault) refl one passes)
+  uncounted_next (in_strip.Unended rows) (pels, one, passes) =
+      next_is (Lost rows (Strip MissingEol)) (unended pels) passes
+      (lost_alone rows (Strip MissingEol) (unended pels) refl one passes)
+
+  pub uncounted_ended : (end : RowsEnd) → IsUncountedStep old (Err end) new → IsNextOf OldLeft None NewLeft
+  uncounted_ended end (are, same) = record {
+    same_its = rw same refl;
+    same_rows = refl;
+    same_width = rw same refl;
+    over = (
+      record {
+        next = rw same (omega arith);
+        within = rw same sound.within;
+        followed = λ rows left. rw same at left;
+      },
+      rw same all_passed_,
+      rw same none,
+    );
+    rest = ([], rw same none);
+  }
+    where
+      none : AreLeftNow OldLeft []
+      none = ([], end, are, refl)
+
+      all_passed_ : old.row ≡ count
+      all_passed_ =
+          let before = sound.passed [] none in
+          let all : length (before.0 ++ []) ≡ count = sound.counted (before.0 ++ []) before.2 in
+          let same_len : length (before.0 ++ []) ≡ length before.0 =
+          ap (λ (l : List PageRow). length l) (append-nil before.0) in
+          omega (arith, all, same_len, before.1)
+
+-- before the first of rows that nobody counted
+module _ (form : StripForm) (bytes : Bor (List ℕ)) (end : RowsEnd) (start passed : UncountedState) (count : ℕ)
+    (start_is : start ≡ uncounted_beginning form (bits form.order bytes.now)) (all : PassesAll start end passed)
+    (count_is : count ≡ passed.row) (few : count ≤ most_rows) (leaves : LeavesUncounted) where
+  abbrev Begun : Left
+  Begun = Uncounted start bytes count
+
+  own_left : AreLeftUncounted (uncounted form) 0 None (white_row form.width) (bits form.order bytes.now) all.rows end
+  own_left = rw start_is at all.are
+
+  many : length (map strip_row all.rows) ≡ count
+  many =
+      let none : start.row ≡ 0 = ap (λ (s : UncountedState). s.row) start_is in
+      let len : length (map strip_row all.rows) ≡ length all.rows = length-map all.rows strip_row in
+      omega (arith, count_is, all.count, none, len)
+
+  pub uncounted_begun : IsGoneOver Begun
+  uncounted_begun = record {
+    within = rw start_is (omega arith);
+    counted = rw start_is counted;
+    passed = λ rows is. ([], rw start_is refl, rw start_is (shown rows (rw start_is at is)));
+  }
+    where
+      counted : IsCountOf (of_uncounted (uncounted form) (bits form.order bytes.now)) count
+      counted rows (end', (own', is', rows_are)) =
+          let white = white_row form.width in
+          let one = leaves.one (uncounted form) 0 None white (bits form.order bytes.now) (omega arith) in
+          let same = (one.one own' end' is').0 ∙ sym (one.one all.rows end own_left).0 in
+          ap (λ (l : List PageRow). length l) (rows_are ∙ ap (map strip_row) same) ∙ many
+
+      shown : (rows : List PageRow)
+          → AreLeftNow (Uncounted (uncounted_beginning form (bits form.order bytes.now)) bytes count) rows
+          → AreRowsOf (of_uncounted (uncounted form) (bits form.order bytes.now)) rows
+      shown rows (own, end', are, rows_are) = (end', (own, are, rows_are))
+
+  pub uncounted_started : IsUncountedStart form (bits form.order bytes.now) (view_of Begun) count end
+  uncounted_started = record {
+    all = map strip_row all.rows;
+    are = (all.rows, own_left, refl);
+    count_is = sym many;
+    few = few;
+    start = record {
+      its_is = rw start_is refl;
+      none_passed = rw start_is refl;
+      rows_are = refl;
+      width_is = rw start_is refl;
+    };
+  }
+
+-- the reader is taken to the first row again
+pub begun_again : (form : StripForm) (bytes : Bor (List ℕ)) (start passed new : UncountedState)
+    → start ≡ uncounted_beginning form (bits form.order bytes.now) → passed.strip.form ≡ start.strip.form
+    → new ≡ uncounted_beginning passed.strip.form (bits passed.strip.form.order bytes.now) → new ≡ start
+begun_again form bytes start passed new start_is same new_is =
+    let form_is : passed.strip.form ≡ uncounted form =
+    same ∙ ap (λ (s : UncountedState). s.strip.form) start_is in
+    new_is
+    ∙ ap (λ (f : StripForm). uncounted_beginning f (bits f.order bytes.now)) form_is
+    ∙ sym start_is
+
 -- before the first row of a page
 pub page_begun : (directory : TiffDirectory) (form : PageForm) (its : ShownState)
     → IsBeforeRows directory form its.rows → IsGoneOver (Page its)
 page_begun directory form its begun = record {
   within = omega (arith, begun.first);
+  counted = tt;
   passed = λ rows is. ([], sym begun.first, rw (begun.directory_is, begun.form_is) (begun.all rows is));
 }

@@ -270,6 +270,10 @@ module _ (file : List ℕ) (begun : Begun) where
       → IsBegunOn file (At at) here (starts first n) → (first ≡ first_at (at.page + 1) 0) × (n ≡ 0)
   begun_past at here first n past begins = grind arith
 
+  begun_last : (at : Cursor) (here : FilePage) (first : RowPlace) (n : ℕ) → here.form.rows ≤ at.row
+      → IsBegunOn file (At at) here (starts first n) → at.row ≡ here.form.rows
+  begun_last at here first n past begins = grind arith
+
   -- a page is read whole, and none of its rows was handed out: the walk began on it, or before it
   enters_first : (from : Begun) (page n : ℕ) (first : RowPlace) (found : Result FilePage End)
       → IsPageAt file (begun_cursor from) found
@@ -281,7 +285,7 @@ module _ (file : List ℕ) (begun : Begun) where
     | inr past ↦
         let begin = begun_past at here first n past begins in
         let next : page + 1 ≡ at.page + 1 = ap (λ (p : RowPlace). p.page) (same begin.1 ∙ begin.0) in
-        (Ok here, is, inr (subst (HasPage file) next there))
+        (Ok here, is, inr (refl, begun_last at here first n past begins, subst (HasPage file) next there))
   ]
   enters_first (Inside place) page n first (Ok here) is (inl (inner, begins)) same there = (Ok here, is, inl inner.row)
   enters_first (Inside place) page n first (Ok here) is (inr (not, begins)) same there = grind arith

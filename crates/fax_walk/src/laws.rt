@@ -220,5 +220,6 @@ pub fn rows_are_left_in_one_way()
     ensures pages { PagesAreLeft }
 {
     fax_page::laws::strips_are_salvaged_in_one_way();
+    fax_page::laws::uncounted_rows_are_left_in_one_way();
     fax_files::laws::files_have_one_chain();
 }

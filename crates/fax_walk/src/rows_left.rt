@@ -10,7 +10,7 @@ use crate::shown_rows::ShownRows;
 use crate::{Cursor, End};
 use fax_bits::Memory;
 use fax_files::PageForm;
-use fax_page::{SalvageReader, StripForm};
+use fax_page::{RowsEnd, SalvageReader, StripForm, UncountedSalvage};
 use fax_rows::Row;
 use std::alloc::Global;
 use std::marker::Model;
@@ -21,6 +21,8 @@ enum Left<'a> {
     Page(ShownRows<'a>),
     /// A strip of these bytes.
     Strip(SalvageReader<'a>, &'a [u8]),
+    /// Rows of these bytes that nobody counted, and how many they are.
+    Uncounted(UncountedSalvage<'a>, &'a [u8], u32),
 }
 
 /// What becomes of the row that is due, or `None` after the last one.
@@ -29,6 +31,7 @@ fn next_of(left: &mut Left) -> Option<PagePart>
     ensures { Spec.IsNextOf left.old result left.new }
 {
     fax_page::laws::strips_are_salvaged_in_one_way();
+    fax_page::laws::uncounted_rows_are_left_in_one_way();
     match left {
         Left::Page(its) => {
             let part = its.next_part();
@@ -38,6 +41,10 @@ fn next_of(left: &mut Left) -> Option<PagePart>
         Left::Strip(reader, _) => match reader.advance() {
             Some(salvaged) => Some(part_of(salvaged, true)),
             None => None,
+        },
+        Left::Uncounted(reader, _, _) => match reader.advance() {
+            Ok(salvaged) => Some(part_of(salvaged, true)),
+            Err(_end) => None,
         },
     }
 }
@@ -112,6 +119,17 @@ pub struct RowsLeft<'a> {
     left: Left<'a>,
 }
 
+/// What is left of rows that nobody counted.
+#[derive(Drop)]
+pub struct UncountedLeft<'a> {
+    /// The reader, before the first row.
+    pub rows_left: RowsLeft<'a>,
+    /// How many rows they are, found or lost, at most 1,000,000.
+    pub rows: u32,
+    /// How they end.
+    pub end: RowsEnd,
+}
+
 impl<'a> Model for RowsLeft<'a> {
     ghost use Rattle.fax_walk.specs.code.RowsLeft.{IsGoneOver, view_of};
     ghost use Rattle.fax_walk.specs.views.RowsLeft.{RowsView};
@@ -126,7 +144,8 @@ impl<'a> Model for RowsLeft<'a> {
 impl<'a> RowsLeft<'a> {
     ghost use Rattle.fax_bits.specs.Bits.{bits};
     ghost use Rattle.fax_page.specs.views.Strip.{IsStripForm};
-    ghost use Rattle.fax_walk.specs.views.RowsLeft.{IsNextPart, IsRowsStart, of_strip};
+    ghost use Rattle.fax_walk.specs.views.RowsLeft.{IsNextPart, IsRowsStart, IsUncountedStart};
+    ghost use Rattle.fax_walk.specs.views.RowsLeft.{of_strip};
 
     /// Before the first row of a strip in at most 4,294,967,295 bytes. It takes all the memory that
     /// the strip needs.
@@ -143,6 +162,36 @@ impl<'a> RowsLeft<'a> {
         let reader = SalvageReader::new(alloc, bytes, form)?;
         Ok(RowsLeft {
             left: Left::Strip(reader, bytes),
+        })
+    }
+
+    /// Before the first of the rows in at most 4,294,967,295 bytes that nobody counted, with their
+    /// number and their end. How many rows the form says does not matter. It takes all the memory that rows of this width
+    /// need, and goes through the rows once to count them.
+    ///
+    /// # Errors
+    ///
+    /// `Memory` where a growth was refused.
+    pub fn of_uncounted(
+        alloc: Global,
+        bytes: &'a [u8],
+        form: StripForm,
+    ) -> Result<UncountedLeft<'a>, Memory>
+        requires count { length bytes.now ≤ 4294967295 }
+        requires limits { IsStripForm form }
+        ensures { IfOk result (λ found. IsUncountedStart form (bits form.order bytes.now)
+            found.rows_left found.rows found.end) }
+    {
+        fax_page::laws::uncounted_rows_are_left_in_one_way();
+        let mut reader = UncountedSalvage::new(alloc, bytes, form)?;
+        let end = reader.pass_all();
+        let rows = reader.row();
+        reader.restart(bytes);
+        let left = Left::Uncounted(reader, bytes, rows);
+        Ok(UncountedLeft {
+            rows_left: RowsLeft { left },
+            rows,
+            end,
         })
     }
 
@@ -163,6 +212,7 @@ impl<'a> RowsLeft<'a> {
         match &self.left {
             Left::Page(its) => its.row(),
             Left::Strip(reader, _) => reader.reference(),
+            Left::Uncounted(reader, _, _) => reader.reference(),
         }
     }
 }

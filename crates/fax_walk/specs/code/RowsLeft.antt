@@ -1,41 +1,50 @@
 -- How the rows that are left of a page or a strip are gone through.
 use Rattle.std.specs.Prelude.{◌≡◌, ℕ, ◌+◌, ◌<◌, ◌≤◌, List, [], ◌∷◌, ◌++◌, length, map, replicate}
-use Rattle.std.specs.Prelude.{Option, Some, None, Ok, Err}
+use Rattle.std.specs.Prelude.{Option, Some, None, Ok, Err, ⊤}
 use Rattle.fax_bits.specs.Bits.{bits}
 use Rattle.fax_rows.specs.Rows.{Colour}
 use Rattle.fax_page.specs.Salvage.{SalvagedRow, AreSalvaged}
+use Rattle.fax_page.specs.declared.RowsEnd.{RowsEnd}
+use Rattle.fax_page.specs.views.LeftUncounted.{AreLeftFrom}
 use Rattle.fax_walk.specs.declared.rows_left.Left.{Left}
-use Rattle.fax_walk.specs.declared.rows_left.Left.TheVariants.{Page, Strip}
+use Rattle.fax_walk.specs.declared.rows_left.Left.TheVariants.{Page, Strip, Uncounted}
 use Rattle.fax_walk.specs.declared.salvage_rows.PagePart.{PagePart}
 use Rattle.fax_walk.specs.declared.salvage_rows.PagePart.TheVariants.{Found, Lost}
 use Rattle.fax_walk.specs.Salvaged.{PageRow, strip_row}
 use Rattle.fax_walk.specs.code.Opening.{page_with}
 use Rattle.fax_walk.specs.code.Salvage.{AreRowsLeft, row_due}
-use Rattle.fax_walk.specs.views.RowsLeft.{LeftOf, of_page, of_strip, AreRowsOf, RowsView}
+use Rattle.fax_walk.specs.views.RowsLeft.{LeftOf, of_page, of_strip, of_uncounted, AreRowsOf}
+use Rattle.fax_walk.specs.views.RowsLeft.{RowsView}
 
 -- what is gone through
 abbrev pub its_of : Left → LeftOf
 its_of (Page its) =
     of_page its.rows.directory.file (page_with its.rows.directory its.rows.form)
 its_of (Strip reader bytes) = of_strip reader.form (bits reader.form.order bytes.now)
+its_of (Uncounted reader bytes count) =
+    of_uncounted reader.strip.form (bits reader.strip.form.order bytes.now)
 
 -- how many rows of it were passed, of how many, with how many pels
 abbrev pub row_of : Left → ℕ
 row_of (Page its) = row_due its.rows
 row_of (Strip reader bytes) = reader.row
+row_of (Uncounted reader bytes count) = reader.row
 
 abbrev pub rows_of : Left → ℕ
 rows_of (Page its) = its.rows.form.rows
 rows_of (Strip reader bytes) = reader.form.rows
+rows_of (Uncounted reader bytes count) = count
 
 abbrev pub width_of : Left → ℕ
 width_of (Page its) = its.rows.form.width
 width_of (Strip reader bytes) = reader.form.width
+width_of (Uncounted reader bytes count) = reader.strip.form.width
 
 -- the row that was found last
 abbrev pub last_of : Left → List Colour
 last_of (Page its) = its.shown
 last_of (Strip reader bytes) = reader.reference
+last_of (Uncounted reader bytes count) = reader.strip.reference
 
 -- as contracts see it
 abbrev pub view_of : Left → RowsView
@@ -54,10 +63,20 @@ AreLeftNow (Strip reader bytes) rows =
     (own : List SalvagedRow)
     × AreSalvaged reader.form reader.row reader.before reader.reference reader.due own
     × (rows ≡ map strip_row own)
+AreLeftNow (Uncounted reader bytes count) rows =
+    (own : List SalvagedRow) × (end : RowsEnd) × AreLeftFrom reader own end
+    × (rows ≡ map strip_row own)
+
+-- of rows that nobody counted there are so many
+abbrev pub IsCountOf : LeftOf → ℕ → Type 0
+IsCountOf (of_uncounted form b) count =
+    (rows : List PageRow) → AreRowsOf (of_uncounted form b) rows → length rows ≡ count
+IsCountOf its count = ⊤
 
 -- what is left follows the rows that were passed
 pub record IsGoneOver (left : Left) : Type 0 where
   pub within : row_of left ≤ rows_of left
+  pub counted : IsCountOf (its_of left) (rows_of left)
   pub passed : (rows : List PageRow) → AreLeftNow left rows
       → (done : List PageRow) × (length done ≡ row_of left) × AreRowsOf (its_of left) (done ++ rows)
 

@@ -1,22 +1,35 @@
 -- The rows that are left of a page or a strip, gone through one after another.
 use Rattle.std.specs.Prelude.{◌≡◌, ℕ, ◌+◌, ◌<◌, ◌≤◌, Bool, List, [], ◌∷◌, ◌++◌, length, drop}
-use Rattle.std.specs.Prelude.{replicate, Option, Some, None, Ok, Err}
+use Rattle.std.specs.Prelude.{map, replicate, Option, Some, None, Ok, Err}
 use Rattle.fax_rows.specs.Rows.{Colour}
 use Rattle.fax_page.specs.declared.StripForm.{StripForm}
+use Rattle.fax_page.specs.Strip.{most_rows}
+use Rattle.fax_page.specs.Salvage.{SalvagedRow}
+use Rattle.fax_page.specs.LeftUncounted.{IsLeftUncounted}
+use Rattle.fax_page.specs.declared.RowsEnd.{RowsEnd}
+use Rattle.fax_page.specs.Uncounted.{uncounted}
 use Rattle.fax_walk.specs.declared.salvage_rows.PagePart.{PagePart}
 use Rattle.fax_walk.specs.declared.salvage_rows.PagePart.TheVariants.{Found, Lost}
 use Rattle.fax_walk.specs.Pages.{FilePage, IsPageAt}
-use Rattle.fax_walk.specs.Salvaged.{PageRow, AreRowsOfPage, AreRowsOfStrip}
+use Rattle.fax_walk.specs.Salvaged.{PageRow, AreRowsOfPage, AreRowsOfStrip, strip_row}
 
--- what rows are left of: a page of a file, or a strip of these bits with no file around it
+-- what rows are left of: a page of a file, or a strip of these bits with no file around it, whose
+-- rows are counted, or such as nobody counted
 pub data LeftOf : Type 0 where
   of_page : List ℕ → FilePage → LeftOf
   of_strip : StripForm → List Bool → LeftOf
+  of_uncounted : StripForm → List Bool → LeftOf
+
+-- the rows that are left of those that nobody counted, with no file around them, and how they end
+abbrev pub AreRowsUncounted : StripForm → List Bool → List PageRow → RowsEnd → Type 0
+AreRowsUncounted form b rows end =
+    (own : List SalvagedRow) × IsLeftUncounted form b own end × (rows ≡ map strip_row own)
 
 -- the rows that are left of it, found or lost
 abbrev pub AreRowsOf : LeftOf → List PageRow → Type 0
 AreRowsOf (of_page file here) rows = AreRowsOfPage file here rows
 AreRowsOf (of_strip form b) rows = AreRowsOfStrip form b rows
+AreRowsOf (of_uncounted form b) rows = (end : RowsEnd) × AreRowsUncounted form b rows end
 
 -- a page that was found in a file
 pub record FoundPage : Type 0 where
@@ -43,6 +56,15 @@ pub record IsRowsStart (its : LeftOf) (rows width : ℕ) (view : RowsView) : Typ
   pub none_passed : view.row ≡ 0
   pub rows_are : view.rows ≡ rows
   pub width_is : view.width ≡ width
+
+-- before the first of so many rows that nobody counted, which end so
+pub record IsUncountedStart (form : StripForm) (b : List Bool) (view : RowsView) (count : ℕ)
+    (end : RowsEnd) : Type 0 where
+  pub all : List PageRow
+  pub are : AreRowsUncounted (uncounted form) b all end
+  pub count_is : count ≡ length all
+  pub few : count ≤ most_rows
+  pub start : IsRowsStart (of_uncounted (uncounted form) b) count form.width view
 
 -- these rows are passed, and no others
 pub record PassesRows (old : RowsView) (over : List PageRow) (new : RowsView) : Type 0 where

@@ -41,13 +41,14 @@ IsItemNumber file begun n item = IsNumber (IsTailFrom file begun) n item
 abbrev pub HasPage : List ℕ → ℕ → Type 0
 HasPage file p = IsOnPage file (record { page = p; row = 0 }) (λ here. ⊤) (λ end. ⊥)
 
--- a page is entered with what a walk begins with: that of its cursor, which the file has, and where
--- the cursor's row is after its page's last row the one after that, which the file has too
+-- a page is entered with what a walk begins with: that of its cursor, which the file has; or the
+-- one after that, which the file has too, where it is a cursor alone, after its page's last row
 abbrev pub EntersFirst : List ℕ → Begun → Type 0
 EntersFirst file begun =
     let at = begun_cursor begun in
     IsOnPage file at
-    (λ here. (at.row < here.form.rows) ⊎ HasPage file (at.page + 1)) (λ end. ⊥)
+    (λ here. (at.row < here.form.rows)
+    ⊎ ((begun ≡ At at) × (at.row ≡ here.form.rows) × HasPage file (at.page + 1))) (λ end. ⊥)
 
 -- a page is entered with item number n: it is the first one; or the one before it was its page's
 -- last row, and the file has a page after that

@@ -1,4 +1,4 @@
-use Rattle.std.proofs.Common.{arith, ◌<◌, inl, sym}
+use Rattle.std.proofs.Common.{arith, ◌<◌, ◌≤◌, inl, sym}
 use Rattle.std.proofs.lemmas.Result.{err_from_is_err_and}
 use Rattle.fax_walk.specs.code.Opening.{PageDue}
 use Rattle.fax_walk.proofs.EnterLemmas.{enters_next, enters_on, no_page, opened_next, opened_on, refused_next}
@@ -46,4 +46,5 @@ returns-else-cursor-due-clause-there c = λ is.
     let named = rw (sym c.due.view_is) at (rw c.in-Some.is at c.in_ok-due.ensures.ok) in
     let d = c.due.inside in
     let due : PageDue = record { page = d.page; chain = d.chain; directory = d.strips.directory; form = d.form } in
-    enters_next c.args.file.now c.args.cursor due named c.due.invariant.its (c.open_after.ensures.there is)
+    let past : due.form.rows ≤ c.args.cursor.row = c.if-cursor-due.false in
+    enters_next c.args.file.now c.args.cursor due named c.due.invariant.its past (c.open_after.ensures.there is)
