@@ -38,7 +38,8 @@ use Rattle.fax_c.specs.views.Strips.{TellsStripRows}
 use Rattle.fax_c.specs.views.StripParts.{ArePartRead, AwaitsMore, IsNothingRead, IsUnsettled, IsUnsettledAt, MayChange}
 use Rattle.fax_c.specs.views.StripParts.{TellsStripPart}
 use Rattle.fax_c.specs.code.StripParts.{IsAhead, IsMoreTold, Stays, StopMayChange}
-use Rattle.fax_c.specs.code.Strips.{IsMetBy, IsMetInStrip, IsRowsEndTold}
+use Rattle.fax_c.specs.code.Strips.{IsMetBy, IsMetInStrip}
+use Rattle.fax_c.specs.views.Strips.{IsRowsEndTold}
 
 -- the bits of bytes and of those that follow
 bits_follow : (order : _) (strip more : List ℕ) → bits order (strip ++ more) ≡ bits order strip ++ bits order more
@@ -89,15 +90,27 @@ place_is_to form all from rows to count old place old_runs runs reads count_is a
 unsettled_by : (given : FaxStrip) (form : StripForm) (strip : List ℕ) (place : FaxPlace) (to : StripPlace)
     (page stride left : ℕ) (stop : Stop)
     → StopMayChange form strip place stop → StopsAt form (bits form.order strip) to page stride left stop
-    → IsUnsettled given form strip to
+    → (stride ≤ left) × IsUnsettled given form strip to
 unsettled_by given form strip place to page stride left Done changes stops = absurd changes
 unsettled_by given form strip place to page stride left (Ended Proper) changes stops = absurd changes
 unsettled_by given form strip place to page stride left (Ended (Fault p r (File fault))) changes stops = absurd changes
 unsettled_by given form strip place to page stride left (Ended (Fault p r (Strip fault))) changes stops =
-    inl (subst (λ f. IsCause form to.row to.reference (drop to.bits (bits form.order strip)) f) changes stops.4)
+    let left = drop to.bits (bits form.order strip) in
+    (stops.0, inl (stops.3, subst (λ f. IsCause form to.row to.reference left f) changes stops.4))
 unsettled_by given form strip place to page stride left (Ended Outside) changes stops = absurd stops
 unsettled_by given form strip place to page stride left Memory changes stops = absurd changes
 unsettled_by given form strip place to page stride left NoRoom changes stops = absurd changes
+
+-- and the row that is due there has room
+room_by : (form : StripForm) (all : List Bool) (to : StripPlace) (page stride left : ℕ) (stop : Stop)
+    (met : Option StripFault) → IsMetBy stop (Some met) → StopsAt form all to page stride left stop → stride ≤ left
+room_by form all to page stride left Done met is stops = cc
+room_by form all to page stride left (Ended Proper) met is stops = stops.0
+room_by form all to page stride left (Ended (Fault p r (File fault))) met is stops = cc
+room_by form all to page stride left (Ended (Fault p r (Strip fault))) met is stops = stops.0
+room_by form all to page stride left (Ended Outside) met is stops = cc
+room_by form all to page stride left Memory met is stops = cc
+room_by form all to page stride left NoRoom met is stops = cc
 
 -- what of the strip is in the way there
 lines_by : (form : StripForm) (all : List Bool) (to : StripPlace) (page stride left : ℕ) (stop : Stop)
@@ -439,7 +452,8 @@ module _ (stays : (form : StripForm) (i : ℕ) (reference : List Colour) → Sta
   module _ (is : IsMoreTold filled told status)
       (in_rows : (to : StripPlace) → StopsAt form (bits form.order strip) to old_place.page stride
       (length old - filled.used) filled.stop
-      → to.row ≡ place.row → to.bits ≡ place.bits → IsUnsettled given form strip to)
+      → to.row ≡ place.row → to.bits ≡ place.bits
+      → (stride ≤ length old - filled.used) × IsUnsettled given form strip to)
       (at_once : place ≡ old_place → ReadsNone form strip stride old_place old_runs (length old) filled.stop
       → HasRoom form stride (length old) × IsUnsettledAt given form strip old_place) where
     awaits : ReadsOn form strip stride old_place old_runs old filled place runs new
@@ -460,7 +474,10 @@ module _ (stays : (form : StripForm) (i : ℕ) (reference : List Colour) → Sta
           row = is.row ∙ ap (λ (at : Cursor). at.row) read.cursor;
           place_is = subst (λ n. IsPlaceAfter form.width n old_place old_runs place runs to) (sym is.count) after;
         } in
-        (room, is.fault, inl (to, part, in_rows to read.stops there.0 there.1))
+        let unsettled = in_rows to read.stops there.0 there.1 in
+        let has_room : stride ≤ length old - told.used =
+        subst (λ n. stride ≤ length old - n) (sym is.used) unsettled.0 in
+        (room, is.fault, inl (to, part, has_room, unsettled.1))
     awaits (inr (none, count, used, cursor, same, same_runs, same_bytes)) =
         let why = at_once same none in
         let nothing : IsNothingRead old_place old_runs old place runs new told = record {
@@ -498,15 +515,17 @@ module _ (stays : (form : StripForm) (i : ℕ) (reference : List Colour) → Sta
   end_waits met end readable is by changes so =
       let all = bits form.order strip in
       waits is
-      (λ to stops row bits_are.
-      inr (
-        readable.0,
-        met,
-        end,
-        lines_by form all to old_place.page stride (length old - filled.used) filled.stop met by stops,
-        subst (λ n. EndsSo form.coding to.row (drop n all) met end) (sym bits_are)
-            (subst (λ n. EndsSo form.coding n (drop place.bits all) met end) (sym row) so),
-        changes,
+      (λ to stops row bits_are. (
+        room_by form all to old_place.page stride (length old - filled.used) filled.stop met by stops,
+        inr (
+          readable.0,
+          met,
+          end,
+          lines_by form all to old_place.page stride (length old - filled.used) filled.stop met by stops,
+          subst (λ n. EndsSo form.coding to.row (drop n all) met end) (sym bits_are)
+              (subst (λ n. EndsSo form.coding n (drop place.bits all) met end) (sym row) so),
+          changes,
+        ),
       ))
       (λ same none.
       let at_end = none_by form strip stride old_place old_runs (length old) filled.stop met by none in

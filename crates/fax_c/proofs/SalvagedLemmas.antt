@@ -1,11 +1,14 @@
 -- What is left of a page or a strip, written row after row.
 use Rattle.std.proofs.Common.{◌≡◌, ℕ, zero, suc, ◌+◌, ◌*◌, ◌<◌, ◌≤◌, List, [], ◌∷◌, ◌++◌, length, set, take, drop}
 use Rattle.std.proofs.Common.{replicate, Option, Some, None, Ok, Err, refl, sym, ap, ◌∙◌, arith, append_assoc}
-use Rattle.std.proofs.Common.{append-nil, length-append, inl, inr}
+use Rattle.std.proofs.Common.{append-nil, length-append, inl, inr, subst, Bool}
 use Rattle.std.specs.Prelude.{◌⊎◌, flat_map}
 use Rattle.std.proofs.lemmas.Grind.{flat_map-append}
 use Rattle.std.proofs.lemmas.List.{drop_all, length-replicate, length_push, replicate-append-replicate}
 use Rattle.std.proofs.lemmas.List.{take-append-le, take_all}
+use Rattle.fax_page.specs.declared.StripForm.{StripForm}
+use Rattle.fax_page.specs.declared.RowsEnd.{RowsEnd}
+use Rattle.fax_page.specs.Uncounted.{uncounted}
 use Rattle.fax_rows.specs.Rows.{Colour}
 use Rattle.fax_rows.specs.Coded.{packed_len}
 use Rattle.fax_files.specs.declared.Cause.{Cause}
@@ -14,15 +17,20 @@ use Rattle.fax_walk.specs.declared.salvage.Stretch.{Stretch}
 use Rattle.fax_walk.specs.declared.salvage_rows.PagePart.TheVariants.{Found, Lost}
 use Rattle.fax_walk.specs.Salvaged.{PageRow, LeftItem, row_found, rows_lost, page_items}
 use Rattle.fax_walk.specs.laws.RowsLeft.{AreLeftOneWay}
-use Rattle.fax_walk.specs.views.RowsLeft.{LeftOf, AreRowsOf, RowsView, IsNextPart, PassesRows}
+use Rattle.fax_walk.specs.views.RowsLeft.{LeftOf, of_uncounted, AreRowsOf, RowsView, IsNextPart, IsUncountedStart}
+use Rattle.fax_walk.specs.views.RowsLeft.{PassesRows}
 use Rattle.fax_walk.specs.code.SalvagePage.{longer, rows_of, with_lost}
 use Rattle.fax_walk.proofs.SalvagePageLemmas.{lost_on}
 use Rattle.fax_c.specs.declared.filled.Filled.{Filled}
 use Rattle.fax_c.specs.declared.filled.Stop.{Stop}
+use Rattle.fax_c.specs.declared.filled.Stop.TheVariants.{NoRoom}
 use Rattle.fax_c.specs.declared.salvage.FaxLost.{FaxLost}
+use Rattle.fax_c.specs.declared.told.FaxTold.{FaxTold}
 use Rattle.fax_c.specs.Raster.{padded_row}
 use Rattle.fax_c.specs.Salvaged.{left_row, lost_among, lost_of}
-use Rattle.fax_c.specs.views.Salvaged.{AreLeftWritten, AreLostPut, StopsAfterLost}
+use Rattle.fax_c.specs.Told.{IsTold}
+use Rattle.fax_c.specs.views.Salvaged.{AreLeftWritten, AreLostPut, HoldsRows, IsLeftTold, StopsAfterLost}
+use Rattle.fax_c.specs.views.Salvaged.{WritesUncounted, none_filled_at}
 use Rattle.fax_c.specs.code.Put.{IsPutAt}
 use Rattle.fax_c.specs.code.Salvaged.{AreAllWritten, IsStretchPut, stretch_lost}
 use Rattle.fax_c.proofs.ListLemmas.{more_put, one_set}
@@ -302,3 +310,43 @@ module _ (left : RowsView) (all : List PageRow) (page stride : ℕ) (old : List 
             stops = rw (← stretches) why;
           },
         )
+
+-- rows that nobody counted are written
+module _ (form : StripForm) (b : List Bool) (stride : ℕ) (left : RowsView) (count : ℕ) (end : RowsEnd)
+    (old : List ℕ) (old_lost : List FaxLost) (start : IsUncountedStart form b left count end) where
+  pub uncounted_written : (new : List ℕ) (lost : List FaxLost) (filled : Filled) (told : FaxTold) (status : ℕ)
+      → AreLeftOneWay (of_uncounted (uncounted form) b) → HoldsRows (length old) form.width count stride
+      → AreAllWritten left 0 stride old old_lost filled new lost → IsLeftTold filled end told status
+      → WritesUncounted form b stride old old_lost told status new lost
+  uncounted_written new lost filled told status one holds (rows, are, _, written) told_so =
+      let here = subst (λ (its : LeftOf). AreRowsOf its rows) start.start.its_is are in
+      let same : rows ≡ start.all = one.one rows here ∙ sym (one.one start.all (end, start.are)) in
+      inl (
+        start.all,
+        end,
+        start.are,
+        inl (
+          filled,
+          subst (λ n. HoldsRows (length old) form.width n stride) start.count_is holds,
+          subst (λ (l : List PageRow). AreLeftWritten 0 stride l old old_lost filled new lost) same written,
+          told_so,
+        ),
+      )
+
+  pub uncounted_no_room : (filled : Filled) (told : FaxTold) (status : ℕ)
+      → (HoldsRows (length old) form.width count stride → ⊥)
+      → filled ≡ none_filled_at (record { page = 0; row = count }) NoRoom → IsTold filled told status
+      → WritesUncounted form b stride old old_lost told status old old_lost
+  uncounted_no_room filled told status full filled_is told_so =
+      inl (
+        start.all,
+        end,
+        start.are,
+        inr (
+          subst (λ n. HoldsRows (length old) form.width n stride → ⊥) start.count_is full,
+          subst (λ n. IsTold (none_filled_at (record { page = 0; row = n }) NoRoom) told status) start.count_is
+              (subst (λ (f : Filled). IsTold f told status) filled_is told_so),
+          refl,
+          refl,
+        ),
+      )

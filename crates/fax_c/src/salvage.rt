@@ -1,5 +1,7 @@
 //! What is left of a damaged page or strip, in a raster, and the rows that are lost.
 ghost use Rattle.std.specs.Prelude.{◌≡◌, ◌<◌, ◌≤◌, ◌+◌, ◌*◌, false, length, replicate, Some, true};
+ghost use Rattle.fax_bits.specs.Bits.{bits};
+ghost use Rattle.fax_page.specs.views.Strip.{IsStripForm};
 ghost use Rattle.fax_rows.specs.Coded as Coded;
 ghost use Rattle.fax_walk.specs.code.SalvagePage as Walk;
 ghost use Rattle.fax_c.specs.Raster.{padded_row};
@@ -10,12 +12,15 @@ ghost use Rattle.fax_c.specs.views.Salvaged as Spec;
 use crate::faults::fault_number;
 use crate::filled::{Filled, Stop};
 use crate::forms::FaxForm;
+use crate::places::FaxPlace;
 use crate::raster::{packed_len, put_padded, put_zeros};
 use crate::status;
 use crate::strip_form::FaxStrip;
 use crate::strips::readable_form;
 use crate::told::FaxTold;
+use crate::uncounted::{tell_end, uncounted_form};
 use fax_files::Cause;
+use fax_page::{RowsEnd, StripForm};
 use fax_rows::Row;
 use fax_walk::{Cursor, PageLeft, PagePart, RowsLeft, Stretch};
 use std::alloc::Global;
@@ -172,6 +177,46 @@ fn fill_left(
     }
 }
 
+/// Tells what was written of rows that nobody counted, and how they end, where all stretches that are
+/// lost had room.
+fn tell_left(filled: &Filled, end: RowsEnd, told: &mut FaxTold) -> u32
+    requires { Code.IsDoneOrFull filled.now.stop }
+    ensures { Spec.IsLeftTold filled.now end told.new result }
+{
+    if filled.stop.is_no_room() {
+        return filled.tell(told);
+    }
+    tell_end(filled, &FaxPlace::at(filled.cursor), end, told)
+}
+
+/// Writes what is left of a strip whose rows nobody counted into a raster, and the rows that are lost.
+fn salvage_uncounted(
+    alloc: Global,
+    strip: &[u8],
+    form: StripForm,
+    out: &mut [u8],
+    stride: usize,
+    lost: &mut [FaxLost],
+    told: &mut FaxTold,
+) -> u32
+    requires count { length strip.now ≤ 536870911 }
+    requires limits { IsStripForm form }
+    ensures { Spec.WritesUncounted form (bits form.order strip.now) stride out.old lost.old told.new
+        result out.new lost.new }
+{
+    fax_walk::laws::rows_are_left_in_one_way();
+    let nothing = Cursor { page: 0, row: 0 };
+    let Ok(mut found) = RowsLeft::of_uncounted(alloc, strip, form) else {
+        return Filled::nothing(nothing, Stop::Memory).tell(told);
+    };
+    let row = found.rows;
+    if !holds_rows(out.len(), form.width, row, stride) {
+        return Filled::nothing(Cursor { page: 0, row }, Stop::NoRoom).tell(told);
+    }
+    let filled = fill_left(&mut found.rows_left, 0, stride, out, lost);
+    tell_left(&filled, found.end, told)
+}
+
 /// Writes what is left of a file's page into a raster, and the rows that are lost, and tells the
 /// page's form.
 #[unsafe(no_mangle)]
@@ -204,7 +249,8 @@ pub extern "C" fn faxpages_salvage(
     }
 }
 
-/// Writes what is left of a strip into a raster, and the rows that are lost.
+/// Writes what is left of a strip into a raster, and the rows that are lost; where nobody counted its
+/// rows, up to their end.
 #[unsafe(no_mangle)]
 pub extern "C" fn faxpages_salvage_strip(
     alloc: Global,
@@ -219,7 +265,10 @@ pub extern "C" fn faxpages_salvage_strip(
         told.old told.new result }
 {
     let Some(form) = readable_form(strip, form) else {
-        return status::NO_OPTIONS;
+        let Some(form) = uncounted_form(strip, form) else {
+            return status::NO_OPTIONS;
+        };
+        return salvage_uncounted(alloc, strip, form, out, stride, lost, told);
     };
     let cursor = Cursor { page: 0, row: 0 };
     if !holds_rows(out.len(), form.width, form.rows, stride) {

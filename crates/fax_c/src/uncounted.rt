@@ -96,7 +96,7 @@ pub(crate) fn met_in_strip(stop: Stop) -> Option<Option<StripFault>>
 
 /// Tells what was written of rows that end so at a place, and answers how the call ended.
 pub(crate) fn tell_end(filled: &Filled, place: &FaxPlace, end: RowsEnd, told: &mut FaxTold) -> u32
-    ensures { Code.IsRowsEndTold filled.now place.now end told.new result }
+    ensures { Spec.IsRowsEndTold filled.now place.now end told.new result }
 {
     *told = FaxTold {
         count: filled.count,

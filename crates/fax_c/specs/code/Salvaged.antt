@@ -4,6 +4,8 @@ use Rattle.fax_walk.specs.declared.salvage.Stretch.{Stretch}
 use Rattle.fax_walk.specs.Salvaged.{PageRow}
 use Rattle.fax_walk.specs.views.RowsLeft.{RowsView, AreRowsOf}
 use Rattle.fax_c.specs.declared.filled.Filled.{Filled}
+use Rattle.fax_c.specs.declared.filled.Stop.{Stop}
+use Rattle.fax_c.specs.declared.filled.Stop.TheVariants.{Done, NoRoom}
 use Rattle.fax_c.specs.declared.salvage.FaxLost.{FaxLost}
 use Rattle.fax_c.specs.Salvaged.{lost_rows}
 use Rattle.fax_c.specs.views.Salvaged.{AreLeftWritten}
@@ -19,6 +21,10 @@ IsStretchPut (Some stretch) old count to new =
     (to ≡ count + 1)
     × (((count < length old) × (new ≡ set old count (stretch_lost stretch)))
     ⊎ ((length old ≤ count) × (new ≡ old)))
+
+-- why writing what is left stops: all is written, or not all stretches have room
+abbrev pub IsDoneOrFull : Stop → Type 0
+IsDoneOrFull stop = (stop ≡ Done) ⊎ (stop ≡ NoRoom)
 
 -- all rows that are left are written
 abbrev pub AreAllWritten : RowsView → ℕ → ℕ → List ℕ → List FaxLost → Filled → List ℕ

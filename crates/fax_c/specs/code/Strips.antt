@@ -15,9 +15,7 @@ use Rattle.fax_c.specs.declared.filled.Stop.{Stop}
 use Rattle.fax_c.specs.declared.filled.Stop.TheVariants.{Ended, Memory}
 use Rattle.fax_c.specs.declared.places.FaxPlace.{FaxPlace}
 use Rattle.fax_c.specs.Numbers.{coding_number}
-use Rattle.fax_c.specs.Told.{end_fault, end_status, fault_of, status_of}
-use Rattle.fax_page.specs.declared.RowsEnd.{RowsEnd}
-use Rattle.fax_c.specs.declared.told.FaxTold.{FaxTold}
+use Rattle.fax_c.specs.Told.{fault_of, status_of}
 use Rattle.fax_c.specs.declared.faults.FaxFault.{FaxFault}
 use Rattle.fax_c.specs.views.Places.{HasRuns}
 use Rattle.fax_c.specs.views.Strips.{IsEndTold, IsStopTold}
@@ -90,16 +88,6 @@ IsMetInStrip stop (Some met) =
 IsMetInStrip stop None =
     (form : StripForm) (strip : List ℕ) (place : FaxPlace)
     → IsStopTold form strip place stop (fault_of stop) (status_of stop)
-
--- what was written is told, and that rows end so at a place
-pub record IsRowsEndTold (filled : Filled) (place : FaxPlace) (end : RowsEnd) (told : FaxTold)
-    (status : ℕ) : Type 0 where
-  pub count : told.count ≡ filled.count
-  pub used : told.used ≡ filled.used
-  pub page : told.page ≡ filled.cursor.page
-  pub row : told.row ≡ filled.cursor.row
-  pub fault : told.fault ≡ end_fault place.page place.row end
-  pub answer : status ≡ end_status end
 
 -- what of a strip stopped its rows
 abbrev pub IsMetBy : Stop → Option (Option StripFault) → Type 0

@@ -1,13 +1,16 @@
 -- What is left of a damaged page or strip, told.
-use Rattle.std.specs.Prelude.{◌≡◌, ℕ, ◌*◌, ◌<◌, ◌≤◌, ◌⊎◌, List, ◌++◌, length, take, drop, flat_map}
-use Rattle.std.specs.Prelude.{Ok, Err}
+use Rattle.std.specs.Prelude.{◌≡◌, ℕ, ◌*◌, ◌<◌, ◌≤◌, ◌⊎◌, Bool, List, ◌++◌, length, take, drop}
+use Rattle.std.specs.Prelude.{flat_map, Ok, Err}
 use Rattle.fax_bits.specs.Bits.{bits}
 use Rattle.fax_rows.specs.Coded.{packed_len}
 use Rattle.fax_page.specs.declared.StripForm.{StripForm}
+use Rattle.fax_page.specs.declared.RowsEnd.{RowsEnd}
+use Rattle.fax_page.specs.Uncounted.{uncounted}
 use Rattle.fax_walk.specs.declared.end.End.{End}
 use Rattle.fax_walk.specs.Pages.{FilePage, IsPageAt}
+use Rattle.fax_walk.specs.declared.cursor.Cursor.{Cursor}
 use Rattle.fax_walk.specs.Salvaged.{PageRow}
-use Rattle.fax_walk.specs.views.RowsLeft.{LeftOf, of_page, of_strip, AreRowsOf}
+use Rattle.fax_walk.specs.views.RowsLeft.{LeftOf, of_page, of_strip, AreRowsOf, AreRowsUncounted}
 use Rattle.fax_c.specs.declared.filled.Filled.{Filled}
 use Rattle.fax_c.specs.declared.filled.Stop.{Stop}
 use Rattle.fax_c.specs.declared.filled.Stop.TheVariants.{Done, Ended, Memory, NoRoom}
@@ -19,7 +22,8 @@ use Rattle.fax_c.specs.Forms.{form_numbers}
 use Rattle.fax_c.specs.Salvaged.{left_row, lost_among}
 use Rattle.fax_c.specs.Told.{IsTold}
 use Rattle.fax_c.specs.views.Pages.{none_filled}
-use Rattle.fax_c.specs.views.Strips.{IsReadable}
+use Rattle.fax_c.specs.views.Places.{place_at}
+use Rattle.fax_c.specs.views.Strips.{IsReadable, IsReadableUncounted, IsRowsEndTold}
 
 -- so many bytes hold so many rows of a raster, each in so many bytes, which hold its pels
 abbrev pub HoldsRows : ℕ → ℕ → ℕ → ℕ → Type 0
@@ -44,6 +48,10 @@ pub record AreLeftWritten (page stride : ℕ) (rows : List PageRow) (old : List 
   pub written : new ≡ flat_map (left_row stride) rows ++ drop (length rows * stride) old
   pub lost_are : AreLostPut (lost_among page rows) old_lost lost
   pub stops : StopsAfterLost (length (lost_among page rows)) (length old_lost) filled.stop
+
+-- nothing is written at a place, for this reason
+abbrev pub none_filled_at : Cursor → Stop → Filled
+none_filled_at cursor stop = record { cursor = cursor; count = 0; used = 0; stop = stop }
 
 -- what is left of a page or a strip with so many rows is written; or they have no room, or memory
 -- was refused, and nothing is written
@@ -71,8 +79,28 @@ TellsSalvaged file page stride old_form form old new old_lost lost told status =
     × (filled ≡ none_filled page (Ended end)) × (form ≡ old_form) × (new ≡ old)
     × (lost ≡ old_lost)))
 
--- what is left of a strip is told; or it can be read in no form of these numbers, and nothing is
--- changed
+-- what was written of rows that nobody counted is told, with how they end, where all stretches have
+-- room
+abbrev pub IsLeftTold : Filled → RowsEnd → FaxTold → ℕ → Type 0
+IsLeftTold filled end told status =
+    ((filled.stop ≡ NoRoom) × IsTold filled told status)
+    ⊎ ((filled.stop ≡ Done) × IsRowsEndTold filled (place_at filled.cursor) end told status)
+
+-- what is left of rows that nobody counted is written, and how they end is told; or it has no room,
+-- and how many rows it is is told; or memory was refused; then nothing is written
+abbrev pub WritesUncounted : StripForm → List Bool → ℕ → List ℕ → List FaxLost → FaxTold → ℕ
+    → List ℕ → List FaxLost → Type 0
+WritesUncounted form b stride old old_lost told status new lost =
+    ((rows : List PageRow) × (end : RowsEnd) × AreRowsUncounted (uncounted form) b rows end
+    × (((filled : Filled) × HoldsRows (length old) form.width (length rows) stride
+    × AreLeftWritten 0 stride rows old old_lost filled new lost × IsLeftTold filled end told status)
+    ⊎ ((HoldsRows (length old) form.width (length rows) stride → ⊥)
+    × IsTold (none_filled_at (record { page = 0; row = length rows }) NoRoom) told status
+    × (new ≡ old) × (lost ≡ old_lost))))
+    ⊎ (IsTold (none_filled 0 Memory) told status × (new ≡ old) × (lost ≡ old_lost))
+
+-- what is left of a strip is told, of counted rows or of such as nobody counted; or it can be read
+-- in no form of these numbers, and nothing is changed
 abbrev pub TellsStripSalvaged : List ℕ → FaxStrip → ℕ → List ℕ → List ℕ → List FaxLost
     → List FaxLost → FaxTold → FaxTold → ℕ → Type 0
 TellsStripSalvaged strip given stride old new old_lost lost old_told told status =
@@ -80,5 +108,8 @@ TellsStripSalvaged strip given stride old new old_lost lost old_told told status
     × (filled : Filled) × IsTold filled told status
     × WritesLeft (of_strip form (bits form.order strip)) 0 form.width form.rows stride old old_lost
     filled new lost)
+    ⊎ ((form : StripForm) × IsReadableUncounted strip given form
+    × WritesUncounted form (bits form.order strip) stride old old_lost told status new lost)
     ⊎ ((status ≡ 7) × ((form : StripForm) → IsReadable strip given form → ⊥)
+    × ((form : StripForm) → IsReadableUncounted strip given form → ⊥)
     × (new ≡ old) × (lost ≡ old_lost) × (told ≡ old_told))

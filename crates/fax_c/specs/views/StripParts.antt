@@ -1,7 +1,7 @@
 -- The rows of a strip of which the first bytes are there, where more may follow.
 -- A definition without a citation is this project's profile.
-use Rattle.std.specs.Prelude.{◌≡◌, ℕ, ◌*◌, ◌<◌, ◌≤◌, ◌⊎◌, List, [], ◌++◌, length, drop, flat_map, ⊤}
-use Rattle.std.specs.Prelude.{Option, None}
+use Rattle.std.specs.Prelude.{◌≡◌, ℕ, ◌-◌, ◌*◌, ◌<◌, ◌≤◌, ◌⊎◌, List, [], ◌++◌, length, drop}
+use Rattle.std.specs.Prelude.{flat_map, ⊤, Option, None}
 use Rattle.fax_bits.specs.Bits.{bits}
 use Rattle.fax_rows.specs.Rows.{Colour}
 use Rattle.fax_page.specs.declared.RowsEnd.{RowsEnd}
@@ -60,7 +60,7 @@ MayChange TooMany = ⊤
 abbrev pub IsUnsettled : FaxStrip → StripForm → List ℕ → StripPlace → Type 0
 IsUnsettled given form strip to =
     let left = drop to.bits (bits form.order strip) in
-    IsCause form to.row to.reference left DataEnds
+    ((to.row < form.rows) × IsCause form to.row to.reference left DataEnds)
     ⊎ ((given.rows ≡ 0) × (stop : Option StripFault) × (end : RowsEnd)
     × AreLines form to.row to.reference left [] stop left
     × EndsSo form.coding to.row left stop end × MayChange end)
@@ -74,14 +74,14 @@ IsUnsettledAt given form strip place =
     × EndsSo form.coding place.row (drop place.bits (bits form.order strip)) None end
     × MayChange end)
 
--- rows are read up to one that is not settled
+-- rows are read up to one that has room and is not settled
 abbrev pub AwaitsMore : FaxStrip → StripForm → List ℕ → ℕ → FaxPlace → List ℕ → List ℕ → FaxPlace
     → List ℕ → List ℕ → FaxTold → Type 0
 AwaitsMore given form strip stride old_place old_runs old place runs new told =
     HasRoom form stride (length old) × (told.fault ≡ no_fault)
     × (((to : StripPlace)
     × ArePartRead form strip stride old_place old_runs old place runs new told to
-    × IsUnsettled given form strip to)
+    × (stride ≤ length old - told.used) × IsUnsettled given form strip to)
     ⊎ (IsNothingRead old_place old_runs old place runs new told
     × IsUnsettledAt given form strip old_place))
 

@@ -142,6 +142,16 @@ IsEndTold form strip place met fault status =
     (end : RowsEnd) × EndsSo form.coding place.row (drop place.bits (bits form.order strip)) met end
     × (fault ≡ end_fault place.page place.row end) × (status ≡ end_status end)
 
+-- what was written is told, and that rows that nobody counted end so at a place
+pub record IsRowsEndTold (filled : Filled) (place : FaxPlace) (end : RowsEnd) (told : FaxTold)
+    (status : ℕ) : Type 0 where
+  pub count : told.count ≡ filled.count
+  pub used : told.used ≡ filled.used
+  pub page : told.page ≡ filled.cursor.page
+  pub row : told.row ≡ filled.cursor.row
+  pub fault : told.fault ≡ end_fault place.page place.row end
+  pub answer : status ≡ end_status end
+
 -- rows that nobody counted are read up to a place, and why no more are: how they end, where there
 -- is no more row of a strip, or it cannot be read; else what is told of any strip
 abbrev pub IsStopTold : StripForm → List ℕ → FaxPlace → Stop → FaxFault → ℕ → Type 0
