@@ -41,8 +41,8 @@
 #include <stdint.h>
 
 /* The version of this header, as text and as a number; faxpages_version tells the library's. */
-#define FAXPAGES_VERSION "1.6.0"
-#define FAXPAGES_VERSION_NUMBER 10600
+#define FAXPAGES_VERSION "1.7.0"
+#define FAXPAGES_VERSION_NUMBER 10700
 
 #ifdef __cplusplus
 extern "C" {
@@ -329,13 +329,17 @@ uint32_t faxpages_strip_part(const uint8_t *strip, size_t strip_len,
                              size_t stride, struct faxpages_told *told);
 
 /* Writes what is left of a strip that may be damaged into a raster, with the rows that are lost, all
- * as faxpages_salvage has it. Somebody counted its rows: `rows` of the form is not 0. `page` of
- * `told` is 0.
+ * as faxpages_salvage has it. `page` of `told` is 0.
  *
  * In this order: NO_OPTIONS, if the form is invalid, or strip_len is more than 536870911: then
  * nothing is told; NO_ROOM, if `stride` is less than (width + 7) / 8, or out_room less than rows *
  * stride: then nothing is written; MEMORY, where nothing is written either. Otherwise all rows are
- * written, and the first stretches, as many as have room: DONE, if these are all, or NO_ROOM. */
+ * written, and the first stretches, as many as have room: DONE, if these are all, or NO_ROOM.
+ *
+ * If `rows` of the form is 0, nobody counted them. Then they go up to an end mark, or to the end of
+ * the data after a row, or to a lost row after which no EOL is left, or to row 1,000,000. MEMORY comes
+ * before NO_ROOM, and where the raster has no room, `row` of `told` is how many rows there are. In
+ * place of DONE it is told how they end, as faxpages_strip_rows has it: END, DATA_END, or FAULT. */
 uint32_t faxpages_salvage_strip(const uint8_t *strip, size_t strip_len,
                                 const struct faxpages_strip *form, uint8_t *out, size_t out_room,
                                 size_t stride, struct faxpages_lost *lost, size_t lost_room,

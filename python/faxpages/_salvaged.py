@@ -5,7 +5,7 @@ from __future__ import annotations
 
 import ctypes
 from dataclasses import dataclass
-from typing import Any, NamedTuple, Tuple
+from typing import Any, NamedTuple, Optional, Tuple
 
 from . import _library as _c
 from ._array import Mask, mask_of
@@ -48,6 +48,10 @@ class Salvaged:
 
     raster: Raster
     lost: Tuple[Stretch, ...]
+    # Of rows that nobody counted: whether an end mark stands after them, and the name of the fault with which they end,
+    # if they do not end well.
+    end_mark: bool = False
+    fault: Optional[str] = None
 
     @property
     def found(self) -> int:
@@ -95,13 +99,38 @@ def salvage_page(data: bytes, page: int, rows: int, like: Raster) -> Salvaged:
 def salvaged(like: Raster, rows: int, call: Any) -> Salvaged:
     """What a call leaves in a raster of so many rows, and in a table that has room for all stretches that these can
     have."""
-    size, most = rows * like.stride, (rows + 1) // 2
-    out, lost, told = ctypes.create_string_buffer(size), (_c.Lost * most)(), _c.Told()
-    status = call(out, size, like.stride, lost, most, told)
-    if status == _c.FAULT:
-        raise fault_of(told.fault)
-    if status != _c.DONE:
-        raise refusal(status)
-    raster = Raster(like.width, rows, out.raw, like.x, like.y, like.unit)
-    names = {it.fault: name_of(it.fault) for it in lost[:told.used]}
-    return Salvaged(raster, tuple(Stretch(it.row, it.rows, names[it.fault]) for it in lost[:told.used]))
+    left = _Left(like.stride, rows, call)
+    if left.status == _c.FAULT:
+        raise fault_of(left.told.fault)
+    if left.status != _c.DONE:
+        raise refusal(left.status)
+    return Salvaged(left.raster(like), left.stretches())
+
+
+def salvaged_uncounted(like: Raster, call: Any) -> Salvaged:
+    """The same of rows that nobody counted: a call with no room tells how many there are."""
+    left = _Left(like.stride, 0, call)
+    if left.status == _c.NO_ROOM:
+        left = _Left(like.stride, left.told.row, call)
+    if left.status not in (_c.END, _c.DATA_END, _c.FAULT):
+        raise refusal(left.status)
+    fault = name_of(left.told.fault.number) if left.status == _c.FAULT else None
+    return Salvaged(left.raster(like), left.stretches(), left.status == _c.END, fault)
+
+
+class _Left:
+    """What one call left in rooms for so many rows, and how it ended."""
+
+    def __init__(self, stride: int, rows: int, call: Any) -> None:
+        size, most = rows * stride, (rows + 1) // 2
+        self._rows, self._out, self._lost = rows, ctypes.create_string_buffer(size), (_c.Lost * most)()
+        self.told = _c.Told()
+        self.status = call(self._out, size, stride, self._lost, most, self.told)
+
+    def raster(self, like: Raster) -> Raster:
+        return Raster(like.width, self._rows, self._out.raw, like.x, like.y, like.unit)
+
+    def stretches(self) -> Tuple[Stretch, ...]:
+        lost = self._lost[:self.told.used]
+        names = {it.fault: name_of(it.fault) for it in lost}
+        return tuple(Stretch(it.row, it.rows, names[it.fault]) for it in lost)

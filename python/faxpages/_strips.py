@@ -5,13 +5,13 @@ from __future__ import annotations
 import collections
 import ctypes
 from dataclasses import dataclass
-from typing import Deque, Iterator, List, NamedTuple, NoReturn, Optional, SupportsIndex, Tuple
+from typing import Any, Deque, Iterator, List, NamedTuple, NoReturn, Optional, SupportsIndex, Tuple
 
 from . import _library as _c
 from ._raster import MOST_ROWS, MOST_WIDTH, Raster
 from ._report import NOTES, Note
 from ._rows import Row
-from ._salvaged import Salvaged, salvaged
+from ._salvaged import Salvaged, salvaged, salvaged_uncounted
 from ._source import ReadableBuffer, own
 from ._told import choice_of, fault_of, number_of, refusal
 from ._writing import CODINGS
@@ -148,22 +148,28 @@ def strip(data: ReadableBuffer, width: SupportsIndex = 1728, rows: Optional[Supp
         fault=fault)
 
 
-def salvage_strip(data: ReadableBuffer, width: SupportsIndex = 1728, *, rows: SupportsIndex, coding: str = "mr",
-                  order: SupportsIndex = 1) -> Salvaged:
-    """What is left of T.4 or T.6 data that has no file around it, and of which the rows were counted. The words are
-    those of strip.
+def salvage_strip(data: ReadableBuffer, width: SupportsIndex = 1728, *, rows: Optional[SupportsIndex] = None,
+                  coding: str = "mr", order: SupportsIndex = 1) -> Salvaged:
+    """What is left of T.4 or T.6 data that has no file around it. The words are those of strip. If nobody counted the
+    rows, they go up to an end mark, to the end of the data, or to a lost row after which no EOL is left.
 
     >>> data = b"\\x00\\x19\\x80\\x0f\\x00\\x19\\x80"
     >>> faxpages.salvage_strip(data, width=8, rows=3, coding="mh").lost
     (Stretch(first=1, rows=1, name='BadCode'),)
+    >>> left = faxpages.salvage_strip(data, width=8, coding="mh")
+    >>> left.raster.rows, left.lost, left.end_mark, left.fault
+    (3, (Stretch(first=1, rows=1, name='BadCode'),), False, None)
     """
     own_data = own(data)
     if len(own_data) > MOST_BYTES:
         raise ValueError(f"a strip has at most {MOST_BYTES} bytes")
     form = _form(width, rows, coding, order)
-    return salvaged(
-        Raster(form.width, 0, b""), form.rows,
-        lambda *rooms: _c.library.faxpages_salvage_strip(own_data, len(own_data), form, *rooms))
+    like = Raster(form.width, 0, b"")
+
+    def call(*rooms: Any) -> int:
+        return int(_c.library.faxpages_salvage_strip(own_data, len(own_data), form, *rooms))
+
+    return salvaged_uncounted(like, call) if rows is None else salvaged(like, form.rows, call)
 
 
 class StripReader:

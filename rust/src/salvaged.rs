@@ -27,6 +27,10 @@ pub struct Salvaged {
     pub packed: Vec<u8>,
     /// The stretches of rows that are lost, from the top down.
     pub lost: Vec<Stretch>,
+    /// Of rows that nobody counted: whether an end mark stands after them.
+    pub end_mark: bool,
+    /// Of rows that nobody counted: the fault with which they end, if they do not end well.
+    pub fault: Option<Fault>,
 }
 
 impl Salvaged {
@@ -47,28 +51,65 @@ impl Salvaged {
     }
 }
 
-/// What a call leaves in a raster of so many rows, and in a table that has room for all stretches that these can have.
-pub(crate) fn salvaged(
-    width: u32,
-    rows: u32,
-    call: impl FnOnce(&mut [u8], usize, &mut [FaxLost], &mut FaxTold) -> u32,
-) -> Result<Salvaged, Error> {
-    let stride = width.div_ceil(8) as usize;
-    let mut packed = filled(0, (rows as usize).checked_mul(stride).ok_or(Error::Memory)?)?;
-    let mut lost = filled(calls::LOST, rows.div_ceil(2) as usize)?;
-    let mut told = calls::TOLD;
-    match call(&mut packed, stride, &mut lost, &mut told) {
-        calls::DONE => {}
-        status => return Err(refused(status, &told.fault)),
+/// Rooms for so many rows, and what a call left there.
+struct Rooms {
+    packed: Vec<u8>,
+    lost: Vec<FaxLost>,
+    told: FaxTold,
+    status: u32,
+}
+
+impl Rooms {
+    /// With room for all stretches that the rows can have.
+    fn filled(width: u32, rows: u32, call: &mut Call<'_>) -> Result<Self, Error> {
+        let stride = width.div_ceil(8) as usize;
+        let mut packed = filled(0, (rows as usize).checked_mul(stride).ok_or(Error::Memory)?)?;
+        let mut lost = filled(calls::LOST, rows.div_ceil(2) as usize)?;
+        let mut told = calls::TOLD;
+        let status = call(&mut packed, stride, &mut lost, &mut told);
+        Ok(Rooms { packed, lost, told, status })
     }
-    let stretch = |it: &FaxLost| Stretch { first: it.row, rows: it.rows, fault: Fault::of(it.fault, 0) };
-    Ok(Salvaged { width, packed, lost: lost[..told.used].iter().map(stretch).collect() })
+
+    fn salvaged(self, width: u32, end_mark: bool, fault: Option<Fault>) -> Salvaged {
+        let stretch = |it: &FaxLost| Stretch { first: it.row, rows: it.rows, fault: Fault::of(it.fault, 0) };
+        let lost = self.lost[..self.told.used].iter().map(stretch).collect();
+        Salvaged { width, packed: self.packed, lost, end_mark, fault }
+    }
+}
+
+/// A call for what is left, by a raster, the bytes of a row there, a table of stretches, and what is told.
+pub(crate) type Call<'a> = dyn FnMut(&mut [u8], usize, &mut [FaxLost], &mut FaxTold) -> u32 + 'a;
+
+/// What a call leaves of so many rows.
+pub(crate) fn salvaged(width: u32, rows: u32, call: &mut Call<'_>) -> Result<Salvaged, Error> {
+    let left = Rooms::filled(width, rows, call)?;
+    match left.status {
+        calls::DONE => Ok(left.salvaged(width, false, None)),
+        status => Err(refused(status, &left.told.fault)),
+    }
+}
+
+/// What a call leaves of rows that nobody counted: with no room it tells how many there are.
+pub(crate) fn salvaged_uncounted(width: u32, call: &mut Call<'_>) -> Result<Salvaged, Error> {
+    let mut left = Rooms::filled(width, 0, call)?;
+    if left.status == calls::NO_ROOM {
+        left = Rooms::filled(width, left.told.row, call)?;
+    }
+    match left.status {
+        calls::END => Ok(left.salvaged(width, true, None)),
+        calls::DATA_END => Ok(left.salvaged(width, false, None)),
+        calls::FAULT => {
+            let fault = Fault::of(left.told.fault.number, 0);
+            Ok(left.salvaged(width, false, Some(fault)))
+        }
+        status => Err(refused(status, &left.told.fault)),
+    }
 }
 
 /// What is left of the page of a form.
 pub(crate) fn page(file: &[u8], page: u32, width: u32, rows: u32) -> Result<Salvaged, Error> {
     let mut form = calls::FORM;
-    salvaged(width, rows, |out, stride, lost, told| {
+    salvaged(width, rows, &mut |out, stride, lost, told| {
         calls::faxpages_salvage(file, page, &mut form, out, stride, lost, told)
     })
 }

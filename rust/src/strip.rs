@@ -2,7 +2,7 @@
 
 use crate::calls::{self, FaxFault, FaxPlace, RUNS};
 use crate::error::{fault_of, refused, Error, Invalid};
-use crate::salvaged::{salvaged, Salvaged};
+use crate::salvaged::{salvaged, salvaged_uncounted, Salvaged};
 use crate::writer::{invalid_raster, invalid_rows};
 use crate::{filled, Coding, FillOrder, Note, NoteKind, Row};
 use std::collections::VecDeque;
@@ -184,12 +184,12 @@ impl<'a> Strip<'a> {
     }
 
     /// What is left of it, however it is damaged: each row that stands between its EOLs, and each stretch of rows that
-    /// are lost. The form says how many rows there are.
+    /// are lost. If nobody counted the rows, they go up to an end mark, to the end of the data, or to a lost row after
+    /// which no EOL is left.
     ///
     /// # Errors
     ///
-    /// [`Error::Invalid`] where the form is none, says no number of rows, or the strip is too long; or
-    /// [`Error::Memory`].
+    /// [`Error::Invalid`] where the form is none, or the strip is too long; or [`Error::Memory`].
     ///
     /// ```
     /// use faxpages::{Coding, Strip, StripForm};
@@ -200,14 +200,17 @@ impl<'a> Strip<'a> {
     /// ```
     pub fn salvaged(&self) -> Result<Salvaged, Error> {
         let StripForm { width, rows, coding, aligned, .. } = self.form;
-        let rows = rows.ok_or(Invalid::Rows(0))?;
-        if invalid_rows(width, rows, coding, aligned).is_some() || self.bytes.len() > MOST_BYTES {
+        if invalid_rows(width, rows.unwrap_or(1), coding, aligned).is_some() || self.bytes.len() > MOST_BYTES {
             return Err(self.form.invalid(self.bytes.len()).into());
         }
-        let form = self.form.given(rows);
-        salvaged(width, rows, |out, stride, lost, told| {
+        let form = self.form.given(rows.unwrap_or(0));
+        let call = &mut |out: &mut [u8], stride, lost: &mut [calls::FaxLost], told: &mut calls::FaxTold| {
             calls::faxpages_salvage_strip(self.bytes, &form, out, stride, lost, told)
-        })
+        };
+        match rows {
+            Some(rows) => salvaged(width, rows, call),
+            None => salvaged_uncounted(width, call),
+        }
     }
 
     /// Reads all rows, and reports what stands after them.

@@ -3,6 +3,8 @@ for the callers left.c, left.py and left.rs:
 
 strip CODING ORDER WIDTH ROWS DATA {PACKED} COUNT {FIRST ROWS FAULT}: each row of a strip, white where it is lost, and the
     stretches of lost rows, each with the number of its fault
+uncounted CODING ORDER WIDTH DATA STATUS FAULT ROWS {PACKED} COUNT {FIRST ROWS FAULT}: the same of a strip whose rows
+    nobody counted, with the status and the fault with which they end, or 0
 page NUMBER WIDTH ROWS DATA {PACKED} COUNT {FIRST ROWS FAULT}: the same of a page of a file
 refused NUMBER FAULT DATA: a page whose form is refused
 
@@ -18,11 +20,14 @@ from typing import Iterator, List
 from tests.library.lines import CODINGS, digits, draw_rows, draw_width, number_of, packed
 from tests.plain import drawing, salvaging, spoiling
 from tests.plain.reading import bits_of
+from tests.plain.tables import EOL
+from tests.plain.uncounted import DATA_END, MARKED
 
 # One line in so many is of a file.
 FILES = 8
 FIELD_FAULTS = {"MissingField": 7, "BadField": 8, "Unsupported": 9, "OutOfLimits": 10}
 STRIP_OUTSIDE = "StripOutside", 11
+STATUS_END, STATUS_FAULT, STATUS_DATA_END = 1, 2, 9
 
 
 def fault_of(name: str) -> int:
@@ -51,6 +56,24 @@ def strip_line(rng: random.Random) -> str:
     return " ".join(["strip", f"{CODINGS[coding]} {order} {width} {asked} {digits(data)}", *left_words(width, left)])
 
 
+def uncounted_line(rng: random.Random) -> str:
+    """A strip that is damaged, whose rows nobody counted: with an end mark or without one, and with data after it."""
+    coding, order, width = rng.choice(["mh", "mh", "mr", "mr", "mmr"]), rng.choice([1, 2]), draw_width(rng)
+    rows = draw_rows(rng, width, 1, 12)
+    bits = drawing.code_strip(rng, coding, rows, coding != "mmr" and rng.random() < 0.3)
+    if coding != "mmr" and rng.random() < 0.6:
+        bits += (EOL + ("1" if coding == "mr" else "")) * 6
+    bits += rng.choice(["", "", "0" * rng.randrange(40), "1", EOL + "1"])
+    if rng.random() < 0.8:
+        bits, _ = spoiling.spoiled(rng, bits)
+    data = drawing.to_bytes(bits, order)
+    left, end = salvaging.uncounted_rows(coding, width, bits_of(data, order))
+    status = {MARKED: STATUS_END, DATA_END: STATUS_DATA_END}.get(end, STATUS_FAULT)
+    fault = fault_of(end) if status == STATUS_FAULT else 0
+    head = f"uncounted {CODINGS[coding]} {order} {width} {digits(data)} {status} {fault} {len(left)}"
+    return " ".join([head, *left_words(width, left)])
+
+
 def file_lines(rng: random.Random) -> Iterator[str]:
     """The pages of a file that is damaged."""
     data, _ = spoiling.draw_file(rng)
@@ -66,7 +89,11 @@ def main() -> None:
     seed = sys.argv[2] if len(sys.argv) > 2 else "1"
     for number in range(int(sys.argv[1])):
         rng = random.Random(f"damaged {seed} {number}")
-        for line in file_lines(rng) if number % FILES == 0 else [strip_line(rng)]:
+        if number % FILES == 0:
+            lines = list(file_lines(rng))
+        else:
+            lines = [uncounted_line(rng) if number % FILES % 3 == 0 else strip_line(rng)]
+        for line in lines:
             print(line)
 
 

@@ -41,11 +41,9 @@ static struct filled rooms(uint32_t rows, size_t stride) {
 }
 
 /* The rows, with zeros up to the stride, and the stretches are those that are wanted; and nothing else was written. */
-static void see_left(const struct wanted *wanted, struct filled *left, uint32_t status, size_t stride) {
+static void see_left(const struct wanted *wanted, struct filled *left, size_t stride) {
     size_t i, j;
-    if (status != FAXPAGES_DONE) die("a call ends with another status");
     if (left->told.count != wanted->rows || left->told.used != wanted->count) die("another number of rows is told");
-    if (left->told.fault.number) die("a fault is told");
     for (i = 0; i < wanted->rows; i++) {
         const struct guarded *row = &wanted->row[i];
         if (memcmp(left->out.at + i * stride, row->at, row->len)) die("a row is another");
@@ -57,6 +55,11 @@ static void see_left(const struct wanted *wanted, struct filled *left, uint32_t 
     see(left->lost, wanted->count * sizeof *wanted->lost);
     drop(left->out);
     drop(left->lost);
+}
+
+static void see_done(const struct filled *left, uint32_t status) {
+    if (status != FAXPAGES_DONE) die("a call ends with another status");
+    if (left->told.fault.number) die("a fault is told");
 }
 
 static void drop_wanted(struct wanted *wanted) {
@@ -81,7 +84,47 @@ static void see_strip(void) {
         uint32_t status = faxpages_salvage_strip(data.at, data.len, &form, left.out.at, left.out.len, stride + more,
                                                  (struct faxpages_lost *)(void *)left.lost.at, (form.rows + 1) / 2,
                                                  &left.told);
-        see_left(&wanted, &left, status, stride + more);
+        see_done(&left, status);
+        see_left(&wanted, &left, stride + more);
+    }
+    drop(data);
+    drop_wanted(&wanted);
+}
+
+/* Of a strip whose rows nobody counted a call with no room tells how many there are, and one with room how they end. */
+static void see_uncounted(void) {
+    struct faxpages_strip form = {0, 0, 0, 0, 0};
+    struct wanted wanted;
+    struct guarded data;
+    uint32_t status, fault, rows, told;
+    size_t stride;
+    form.coding = number();
+    form.order = number();
+    form.width = number();
+    data = digits();
+    status = number();
+    fault = number();
+    rows = number();
+    read_wanted(&wanted, rows);
+    stride = (form.width + 7) / 8;
+    if (rows) {
+        struct filled left = rooms(rows, stride);
+        told = faxpages_salvage_strip(data.at, data.len, &form, left.out.at, left.out.len - 1, stride,
+                                      (struct faxpages_lost *)(void *)left.lost.at, (rows + 1) / 2, &left.told);
+        if (told != FAXPAGES_NO_ROOM || left.told.row != rows || left.told.count || left.told.used)
+            die("another number of rows is told where they have no room");
+        see(left.out, 0);
+        see(left.lost, 0);
+        drop(left.out);
+        drop(left.lost);
+    }
+    {
+        struct filled left = rooms(rows, stride + EXTRA);
+        told = faxpages_salvage_strip(data.at, data.len, &form, left.out.at, left.out.len, stride + EXTRA,
+                                      (struct faxpages_lost *)(void *)left.lost.at, (rows + 1) / 2, &left.told);
+        if (told != status || left.told.fault.number != fault) die("rows that nobody counted end otherwise");
+        if (left.told.row != rows || (fault && left.told.fault.row != rows)) die("they end at another row");
+        see_left(&wanted, &left, stride + EXTRA);
     }
     drop(data);
     drop_wanted(&wanted);
@@ -98,7 +141,8 @@ static void see_page(void) {
         struct filled left = rooms(rows, stride + more);
         uint32_t status = faxpages_salvage(file.at, file.len, page, &form, left.out.at, left.out.len, stride + more,
                                            (struct faxpages_lost *)(void *)left.lost.at, (rows + 1) / 2, &left.told);
-        see_left(&wanted, &left, status, stride + more);
+        see_done(&left, status);
+        see_left(&wanted, &left, stride + more);
         if (form.width != width || form.rows != rows) die("a form is another");
     }
     drop(file);
@@ -129,6 +173,7 @@ int main(void) {
         const char *kind = strtok(line, " \n");
         if (!kind) die("a line is empty");
         if (!strcmp(kind, "strip")) see_strip(), strips++;
+        else if (!strcmp(kind, "uncounted")) see_uncounted(), strips++;
         else if (!strcmp(kind, "page")) see_page(), pages++;
         else see_refused(), refused++;
     }

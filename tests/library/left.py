@@ -12,6 +12,8 @@ import tests  # noqa: F401  which says where it is
 
 import faxpages
 
+# The status of rows after which an end mark stands.
+END = 1
 CODINGS = {1: "mh", 2: "mr", 3: "mmr"}
 NAMES: Dict[int, str] = {number: kind.__name__ for number, kind in faxpages.faults.BY_NUMBER.items()}
 
@@ -31,6 +33,16 @@ def see(left: faxpages.Salvaged, rows: int, words: List[str], line: str) -> None
         sys.exit(f"left: another number of rows is found: {line}")
 
 
+def see_uncounted(words: List[str], line: str) -> None:
+    """The same of a strip whose rows nobody counted, and how they end."""
+    coding, order, width = map(int, words[:3])
+    status, fault, rows = map(int, words[4:7])
+    left = faxpages.salvage_strip(bytes_of(words[3]), width, coding=CODINGS[coding], order=order)
+    if (left.end_mark, left.fault) != (status == END, NAMES[fault] if fault else None):
+        sys.exit(f"left: rows end otherwise: {left}: {line}")
+    see(left, rows, words[7:], line)
+
+
 def see_line(line: str) -> str:
     """That a line is so. Answers of what it is."""
     kind, *words = line.split()
@@ -38,6 +50,8 @@ def see_line(line: str) -> str:
         coding, order, width, rows = map(int, words[:4])
         see(faxpages.salvage_strip(bytes_of(words[4]), width, rows=rows, coding=CODINGS[coding], order=order), rows,
             words[5:], line)
+    elif kind == "uncounted":
+        see_uncounted(words, line)
     elif kind == "page":
         number, width, rows = map(int, words[:3])
         page = faxpages.open(bytes_of(words[3])).page(number)
@@ -57,7 +71,7 @@ def see_line(line: str) -> str:
 
 def main() -> None:
     kinds = collections.Counter(see_line(line) for line in sys.stdin)
-    print(f"{kinds['strip']} strips, {kinds['page']} pages, {kinds['refused']} refused")
+    print(f"{kinds['strip'] + kinds['uncounted']} strips, {kinds['page']} pages, {kinds['refused']} refused")
 
 
 if __name__ == "__main__":

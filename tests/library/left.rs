@@ -5,6 +5,9 @@ use faxpages::{Coding, Error, Fax, FillOrder, Salvaged, Strip, StripForm};
 use std::io::BufRead;
 use std::str::SplitWhitespace;
 
+/// The status of rows after which an end mark stands.
+const END: u32 = 1;
+
 fn number(words: &mut SplitWhitespace<'_>) -> u32 {
     words.next().unwrap().parse().unwrap()
 }
@@ -38,6 +41,18 @@ fn strip(words: &mut SplitWhitespace<'_>) {
     see(&left, rows, words);
 }
 
+/// A strip whose rows nobody counted, and how they end.
+fn uncounted(words: &mut SplitWhitespace<'_>) {
+    let coding = [Coding::Mh, Coding::Mr, Coding::Mmr][number(words) as usize - 1];
+    let order = [FillOrder::MsbFirst, FillOrder::LsbFirst][number(words) as usize - 1];
+    let form = StripForm { order, ..StripForm::new(number(words), coding) };
+    let left = Strip::new(&bytes(words), form).salvaged().unwrap();
+    let (status, fault, rows) = (number(words), number(words), number(words));
+    assert_eq!(left.width, form.width);
+    assert_eq!((left.end_mark, left.fault.map_or(0, |fault| fault.number())), (status == END, fault));
+    see(&left, rows, words);
+}
+
 fn page(words: &mut SplitWhitespace<'_>) {
     let (page, width, rows, file) = (number(words), number(words), number(words), bytes(words));
     let left = Fax::new(&file).salvaged(page).unwrap();
@@ -59,6 +74,7 @@ fn main() {
         let words = &mut line.split_whitespace();
         match words.next() {
             Some("strip") => (strip(words), counts[0] += 1).1,
+            Some("uncounted") => (uncounted(words), counts[0] += 1).1,
             Some("page") => (page(words), counts[1] += 1).1,
             _ => (refused(words), counts[2] += 1).1,
         }

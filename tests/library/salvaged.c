@@ -199,7 +199,7 @@ static void numbers_that_are_no_form(const struct faxpages_strip *good, struct g
         if (faxpages_salvage_strip(strip.at, strip.len, &form, out, 1, 1, lost, 1, &told) != FAXPAGES_NO_OPTIONS)
             die("a coding that is none is taken");
         form = *good;
-        form.rows = bad[i] == 4 ? 1000001 : bad[i];
+        form.rows = bad[i] == 0xFFFFFFFFu ? bad[i] : 1000001 + bad[i];
         if (faxpages_salvage_strip(strip.at, strip.len, &form, out, 1, 1, lost, 1, &told) != FAXPAGES_NO_OPTIONS)
             die("rows that are none are taken");
     }

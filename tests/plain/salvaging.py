@@ -14,8 +14,10 @@ from typing import List, NamedTuple, Optional, Tuple
 sys.dont_write_bytecode = True
 
 from tests.plain import reading  # noqa: E402
+from tests.plain.notes import after_mark  # noqa: E402
 from tests.plain.reading import Fault  # noqa: E402
 from tests.plain.tables import EOL  # noqa: E402
+from tests.plain.uncounted import DATA_END, MARKED, MOST_ROWS  # noqa: E402
 
 
 class Row(NamedTuple):
@@ -36,11 +38,11 @@ def is_ended(bits: str, at: int) -> bool:
 
 def own_start(coding: str, number: int, bits: str, at: int) -> Tuple[Optional[bool], int, str]:
     """What stands before the codes of row `number`: whether it is one-dimensional, and the place of its first code; or
-    none, the place after its first bit, and why it cannot be read."""
+    none, the place after its first bit, or the end where the data end after its own EOL, and why it cannot be read."""
     try:
         return (*reading.read_start(coding, number, bits, at), "")
     except Fault as fault:
-        return None, at + 1, str(fault)
+        return None, len(bits) if str(fault) == "DataEnds" else at + 1, str(fault)
 
 
 def row_at(coding: str, width: int, number: int, reference: Optional[str], bits: str, at: int, is_last: bool) -> Row:
@@ -77,6 +79,31 @@ def strip_rows(coding: str, width: int, rows: int, bits: str) -> List[Row]:
         if at < 0:
             done += [Row(None, "NoEolLeft")] * (rows - len(done))
     return done
+
+
+def uncounted_rows(coding: str, width: int, bits: str) -> Tuple[List[Row], str]:
+    """The rows that nobody counted, found or lost, and how they end: with an end mark, with the data, or with the fault of
+    the last row, after which none is due."""
+    done: List[Row] = []
+    reference: Optional[str] = "W" * width
+    at, why = 0, ""
+    while len(done) < MOST_ROWS:
+        number, left = len(done), bits[at:]
+        if after_mark(coding, left) is not None:
+            return done, MARKED
+        if number > 0 and "1" not in left:
+            return done, DATA_END
+        row = row_at(coding, width, number, reference, bits, at, number + 1 == MOST_ROWS)
+        done.append(row)
+        reference = row.pels
+        if row.pels is not None:
+            at = row.after
+            continue
+        why = why if row.lost == "OverLostRow" else row.lost
+        at = -1 if coding == "mmr" else bits.find(EOL, own_start(coding, number, bits, at)[1])
+        if at < 0:
+            return done, why
+    return done, why if done[-1].pels is None else "TooManyRows"
 
 
 class Stretch(NamedTuple):
