@@ -570,7 +570,7 @@ pub fn convert(file: &[u8], options: &Options) -> Result<Vec<u8>, Error> {
     }
 }
 
-/// The version of the calls, as 10600 for 1.6.0: of the plain sources, or of the archive that is linked.
+/// The version of the calls, as 10700 for 1.7.0: of the plain sources, or of the archive that is linked.
 pub fn version() -> u32 {
     calls::faxpages_version()
 }
