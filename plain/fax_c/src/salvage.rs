@@ -3,12 +3,15 @@
 use crate::faults::fault_number;
 use crate::filled::{Filled, Stop};
 use crate::forms::FaxForm;
+use crate::places::FaxPlace;
 use crate::raster::{packed_len, put_padded, put_zeros};
 use crate::status;
 use crate::strip_form::FaxStrip;
 use crate::strips::readable_form;
 use crate::told::FaxTold;
+use crate::uncounted::{tell_end, uncounted_form};
 use fax_files::Cause;
+use fax_page::{RowsEnd, StripForm};
 use fax_rows::Row;
 use fax_walk::{Cursor, PageLeft, PagePart, RowsLeft, Stretch};
 use kit_std::alloc::Global;
@@ -137,6 +140,38 @@ fn fill_left(
     }
 }
 
+/// Tells what was written of rows that nobody counted, and how they end, where all stretches that are
+/// lost had room.
+fn tell_left(filled: &Filled, end: RowsEnd, told: &mut FaxTold) -> u32 {
+    if filled.stop.is_no_room() {
+        return filled.tell(told);
+    }
+    tell_end(filled, &FaxPlace::at(filled.cursor), end, told)
+}
+
+/// Writes what is left of a strip whose rows nobody counted into a raster, and the rows that are lost.
+fn salvage_uncounted(
+    alloc: Global,
+    strip: &[u8],
+    form: StripForm,
+    out: &mut [u8],
+    stride: usize,
+    lost: &mut [FaxLost],
+    told: &mut FaxTold,
+) -> u32 {
+    fax_walk::laws::rows_are_left_in_one_way();
+    let nothing = Cursor { page: 0, row: 0 };
+    let Ok(mut found) = RowsLeft::of_uncounted(alloc, strip, form) else {
+        return Filled::nothing(nothing, Stop::Memory).tell(told);
+    };
+    let row = found.rows;
+    if !holds_rows(out.len(), form.width, row, stride) {
+        return Filled::nothing(Cursor { page: 0, row }, Stop::NoRoom).tell(told);
+    }
+    let filled = fill_left(&mut found.rows_left, 0, stride, out, lost);
+    tell_left(&filled, found.end, told)
+}
+
 /// Writes what is left of a file's page into a raster, and the rows that are lost, and tells the
 /// page's form.
 pub fn faxpages_salvage(
@@ -165,7 +200,8 @@ pub fn faxpages_salvage(
     }
 }
 
-/// Writes what is left of a strip into a raster, and the rows that are lost.
+/// Writes what is left of a strip into a raster, and the rows that are lost; where nobody counted its
+/// rows, up to their end.
 pub fn faxpages_salvage_strip(
     alloc: Global,
     strip: &[u8],
@@ -176,7 +212,10 @@ pub fn faxpages_salvage_strip(
     told: &mut FaxTold,
 ) -> u32 {
     let Some(form) = readable_form(strip, form) else {
-        return status::NO_OPTIONS;
+        let Some(form) = uncounted_form(strip, form) else {
+            return status::NO_OPTIONS;
+        };
+        return salvage_uncounted(alloc, strip, form, out, stride, lost, told);
     };
     let cursor = Cursor { page: 0, row: 0 };
     if !holds_rows(out.len(), form.width, form.rows, stride) {

@@ -105,3 +105,11 @@ pub fn lost_bits_do_not_matter() {}
 
 /// A strip that is read wholly loses nothing: its rows are those that are found where all are.
 pub fn whole_strips_are_found() {}
+
+/// What is left of rows that nobody counted is found and lost in one way, from any row on, in any
+/// coding: one list and one end. It is what is left of the first rows of a strip with as many as there
+/// may be, and where the rows are read to an end mark, or to the end of the data, all are found.
+pub fn uncounted_rows_are_left_in_one_way() {
+    lines_are_read_in_one_way();
+    strips_are_salvaged_in_one_way();
+}

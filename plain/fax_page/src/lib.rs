@@ -8,6 +8,7 @@ mod reader;
 mod salvage;
 mod turns;
 mod uncounted;
+mod uncounted_salvage;
 mod writer;
 
 pub use fax_rows::{Colour, FillOrder, Memory, Row, RowFault};
@@ -16,6 +17,7 @@ pub use reader::StripReader;
 pub use salvage::{SalvageReader, Salvaged};
 use thiserror::Error;
 pub use uncounted::end_of_rows;
+pub use uncounted_salvage::UncountedSalvage;
 pub use writer::StripWriter;
 
 /// The most rows that a strip has.

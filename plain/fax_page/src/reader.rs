@@ -243,9 +243,8 @@ impl<'a> StripReader<'a> {
         }
     }
 
-    /// How rows end that nobody counted, where the reader is past the last of them: its form has
-    /// the most rows that a strip has, `MOST_ROWS`, and `advance` answered a fault, or that there is
-    /// no more row.
+    /// How rows that nobody counted end before the row that is due, whose form has the most rows that
+    /// a strip has, `MOST_ROWS`: after a fault with that one, if not well.
     #[cold]
     pub fn uncounted_end(&self) -> RowsEnd {
         bits_stand_by_place();

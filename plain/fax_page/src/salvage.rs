@@ -1,7 +1,7 @@
 //! What is left of a damaged strip: the rows that stand between its EOLs.
 
 use crate::reader::StripReader;
-use crate::{StripFault, StripForm};
+use crate::{RowsEnd, StripFault, StripForm};
 use fax_rows::{Memory, Row};
 use kit_std::alloc::Global;
 use kit_std::marker::Model;
@@ -97,6 +97,12 @@ impl<'a> SalvageReader<'a> {
         } else {
             None
         }
+    }
+
+    /// How rows that nobody counted end before the row that is due, or that they do not, `TooMany`.
+    #[inline(always)]
+    pub(crate) fn rows_end(&self) -> RowsEnd {
+        self.reader.uncounted_end()
     }
 
     /// The row that was found last, or a white one: the reference of the row that is due.

@@ -137,5 +137,6 @@ pub fn files_are_salvaged_in_one_way() {
 /// and what is left of a file has that of each page.
 pub fn rows_are_left_in_one_way() {
     fax_page::laws::strips_are_salvaged_in_one_way();
+    fax_page::laws::uncounted_rows_are_left_in_one_way();
     fax_files::laws::files_have_one_chain();
 }

@@ -36,7 +36,7 @@ pub use long_cursor::{LongCursor, LongFault};
 pub use options::{ConvertFault, Options, Target};
 pub use pages::Pages;
 pub use parts::{Part, Parts, PartsLeft};
-pub use rows_left::{PageLeft, RowsLeft};
+pub use rows_left::{PageLeft, RowsLeft, UncountedLeft};
 pub use salvage::{Salvage, SalvageItem, Stretch};
 pub use salvage_rows::PagePart;
 pub use walk::{Place, PlaceInside, Walk};

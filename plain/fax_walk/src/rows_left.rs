@@ -6,7 +6,7 @@ use crate::shown_rows::ShownRows;
 use crate::{Cursor, End};
 use fax_bits::Memory;
 use fax_files::PageForm;
-use fax_page::{SalvageReader, StripForm};
+use fax_page::{RowsEnd, SalvageReader, StripForm, UncountedSalvage};
 use fax_rows::Row;
 use kit_std::alloc::Global;
 use kit_std::marker::Model;
@@ -16,11 +16,14 @@ enum Left<'a> {
     Page(ShownRows<'a>),
     /// A strip of these bytes.
     Strip(SalvageReader<'a>, &'a [u8]),
+    /// Rows of these bytes that nobody counted, and how many they are.
+    Uncounted(UncountedSalvage<'a>, &'a [u8], u32),
 }
 
 /// What becomes of the row that is due, or `None` after the last one.
 fn next_of(left: &mut Left) -> Option<PagePart> {
     fax_page::laws::strips_are_salvaged_in_one_way();
+    fax_page::laws::uncounted_rows_are_left_in_one_way();
     match left {
         Left::Page(its) => {
             let part = its.next_part();
@@ -30,6 +33,10 @@ fn next_of(left: &mut Left) -> Option<PagePart> {
         Left::Strip(reader, _) => match reader.advance() {
             Some(salvaged) => Some(part_of(salvaged, true)),
             None => None,
+        },
+        Left::Uncounted(reader, _, _) => match reader.advance() {
+            Ok(salvaged) => Some(part_of(salvaged, true)),
+            Err(_end) => None,
         },
     }
 }
@@ -81,6 +88,16 @@ pub struct RowsLeft<'a> {
     left: Left<'a>,
 }
 
+/// What is left of rows that nobody counted.
+pub struct UncountedLeft<'a> {
+    /// The reader, before the first row.
+    pub rows_left: RowsLeft<'a>,
+    /// How many rows they are, found or lost, at most 1,000,000.
+    pub rows: u32,
+    /// How they end.
+    pub end: RowsEnd,
+}
+
 impl<'a> Model for RowsLeft<'a> {}
 
 impl<'a> RowsLeft<'a> {
@@ -97,6 +114,31 @@ impl<'a> RowsLeft<'a> {
         })
     }
 
+    /// Before the first of the rows in at most 4,294,967,295 bytes that nobody counted, with their
+    /// number and their end. How many rows the form says does not matter. It takes all the memory that rows of this width
+    /// need, and goes through the rows once to count them.
+    ///
+    /// # Errors
+    ///
+    /// `Memory` where a growth was refused.
+    pub fn of_uncounted(
+        alloc: Global,
+        bytes: &'a [u8],
+        form: StripForm,
+    ) -> Result<UncountedLeft<'a>, Memory> {
+        fax_page::laws::uncounted_rows_are_left_in_one_way();
+        let mut reader = UncountedSalvage::new(alloc, bytes, form)?;
+        let end = reader.pass_all();
+        let rows = reader.row();
+        reader.restart(bytes);
+        let left = Left::Uncounted(reader, bytes, rows);
+        Ok(UncountedLeft {
+            rows_left: RowsLeft { left },
+            rows,
+            end,
+        })
+    }
+
     /// What became of the row that is due, and of those that are lost with it, or `None` after the
     /// last one. It takes no memory.
     pub fn next_part(&mut self) -> Option<PagePart> {
@@ -109,6 +151,7 @@ impl<'a> RowsLeft<'a> {
         match &self.left {
             Left::Page(its) => its.row(),
             Left::Strip(reader, _) => reader.reference(),
+            Left::Uncounted(reader, _, _) => reader.reference(),
         }
     }
 }

@@ -1,0 +1,116 @@
+//! What is left of rows that nobody counted, where they are damaged.
+
+use crate::salvage::{SalvageReader, Salvaged};
+use crate::{MOST_ROWS, RowsEnd, StripFault, StripForm};
+use fax_rows::{Memory, Row};
+use kit_std::alloc::Global;
+use kit_std::marker::Model;
+
+/// Goes through rows that nobody counted, and that may be damaged, row by row, up to their end.
+/// Contracts see how far they are gone through.
+pub struct UncountedSalvage<'a> {
+    reader: SalvageReader<'a>,
+    /// How many rows were passed.
+    row: u32,
+    /// The fault with which the rows end, once a row was lost after which none is due.
+    over: Option<StripFault>,
+}
+
+impl<'a> Model for UncountedSalvage<'a> {}
+
+/// What became of a row, and of no other, of those that are lost with it.
+fn alone(salvaged: Salvaged) -> Salvaged {
+    match salvaged {
+        Salvaged::Found => Salvaged::Found,
+        Salvaged::Lost { fault, .. } => Salvaged::Lost { fault, rows: 1 },
+        Salvaged::Unended { .. } => Salvaged::Unended { rows: 1 },
+    }
+}
+
+/// Why a row is lost, if it is.
+fn fault_of(salvaged: Salvaged) -> Option<StripFault> {
+    match salvaged {
+        Salvaged::Found => None,
+        Salvaged::Lost { fault, .. } => Some(fault),
+        Salvaged::Unended { .. } => Some(StripFault::MissingEol),
+    }
+}
+
+/// The fault with which the rows end after one that was passed, where there may be no more.
+fn over_after(reader: &SalvageReader, salvaged: Salvaged) -> Option<StripFault> {
+    if reader.row() == MOST_ROWS {
+        fault_of(salvaged)
+    } else {
+        None
+    }
+}
+
+impl<'a> UncountedSalvage<'a> {
+    /// Before the first row of at most 4,294,967,295 bytes. It takes all the memory that rows of this
+    /// width need. How many rows the form says does not matter.
+    ///
+    /// # Errors
+    ///
+    /// `Memory` where a growth was refused.
+    pub fn new(alloc: Global, bytes: &'a [u8], form: StripForm) -> Result<Self, Memory> {
+        let most = StripForm {
+            rows: MOST_ROWS,
+            ..form
+        };
+        let reader = SalvageReader::new(alloc, bytes, most)?;
+        Ok(UncountedSalvage {
+            reader,
+            row: 0,
+            over: None,
+        })
+    }
+
+    /// Goes before the first row of other bytes, at most 4,294,967,295, with rows of the same coding,
+    /// order and width. It takes no memory.
+    pub fn restart(&mut self, bytes: &'a [u8]) {
+        self.reader.restart(bytes, MOST_ROWS);
+        self.row = 0;
+        self.over = None;
+    }
+
+    /// What became of the row that is due. It takes no memory. A row that is found is the reference
+    /// then. Each lost row is answered alone.
+    ///
+    /// # Errors
+    ///
+    /// How the rows end, where none is due. Each later call answers the same.
+    pub fn advance(&mut self) -> Result<Salvaged, RowsEnd> {
+        if let Some(fault) = self.over {
+            return Err(RowsEnd::Fault(fault));
+        }
+        match self.reader.rows_end() {
+            RowsEnd::TooMany => {}
+            end => return Err(end),
+        }
+        let Some(salvaged) = self.reader.advance() else {
+            return Err(RowsEnd::TooMany);
+        };
+        self.row += 1;
+        self.over = over_after(&self.reader, salvaged);
+        Ok(alone(salvaged))
+    }
+
+    /// Passes all rows that are left, and answers how they end. It takes no memory.
+    pub fn pass_all(&mut self) -> RowsEnd {
+        'rows: loop {
+            if let Err(end) = self.advance() {
+                return end;
+            }
+        }
+    }
+
+    /// The row that was found last, or a white one.
+    pub fn reference(&self) -> &Row {
+        self.reader.reference()
+    }
+
+    /// How many rows were passed, at most 1,000,000.
+    pub fn row(&self) -> u32 {
+        self.row
+    }
+}
