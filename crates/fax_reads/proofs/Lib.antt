@@ -20,6 +20,7 @@ mod ImageExampleLemmas
 pub mod SampleExampleLemmas
 pub mod CodedExampleLemmas
 mod SalvageGraph
+mod LeftUncountedGraph
 mod SalvageFileGraph
 pub mod SalvageExampleLemmas
 pub mod EolLemmas

@@ -5,6 +5,7 @@ use Rattle.fax_bits.specs.declared.Colour.{Colour}
 use Rattle.fax_bits.specs.laws.Codes.{ReadsOneWay, ReadsRunsOneWay}
 use Rattle.fax_bits.specs.Bits.{bits}
 use Rattle.fax_bits.specs.Tables.{modes}
+use Rattle.fax_page.specs.laws.LeftUncounted.{LeavesUncounted}
 use Rattle.fax_page.specs.laws.Salvage.{SalvagesStripsOneWay}
 use Rattle.fax_page.specs.Lines.{white_row}
 use Rattle.fax_page.specs.Salvage.{IsSalvagedStrip}
@@ -23,6 +24,7 @@ use Rattle.fax_reads.specs.Salvage.{salvage_file, salvage_page, salvage_page_str
 use Rattle.fax_reads.specs.Salvage.{salvage_strips, salvage_under}
 use Rattle.fax_reads.specs.laws.Salvage.{SalvagesAreReadByFunctions}
 use Rattle.fax_reads.proofs.ChainGraph.{chain_is}
+use Rattle.fax_reads.proofs.LeftUncountedGraph.{uncounted_graph}
 use Rattle.fax_reads.proofs.SalvageGraph.{strip_is}
 
 module _ (runs_read : (colour : Colour) → ReadsRunsOneWay colour) (modes_read : ReadsOneWay modes) (file : List ℕ) where
@@ -68,15 +70,16 @@ module _ (runs_read : (colour : Colour) → ReadsRunsOneWay colour) (modes_read 
   )
 
 module _ (runs_read : (colour : Colour) → ReadsRunsOneWay colour) (modes_read : ReadsOneWay modes) where
-  pub salvages_graph : SalvagesStripsOneWay → FilesHaveOneChain → ((file : List ℕ) → IsSalvagedOneWay file)
-      → SalvagesAreReadByFunctions
-  salvages_graph strips chains files = record {
+  pub salvages_graph : SalvagesStripsOneWay → LeavesUncounted → FilesHaveOneChain
+      → ((file : List ℕ) → IsSalvagedOneWay file) → SalvagesAreReadByFunctions
+  salvages_graph strips leaves chains files = record {
     strip = λ form b rows.
         let is = strip_is runs_read modes_read form b in
         let one = strips form 0 None (white_row form.width) b (omega arith) in (
           λ at. one.one (salvage_strip form b) is ∙ sym (one.one rows at),
           λ same. subst (λ all. IsSalvagedStrip form b all) same is,
         );
+    uncounted = uncounted_graph runs_read modes_read leaves;
     file = λ file items.
         let is = file_is runs_read modes_read file chains (header file) in
         let one = files file in (

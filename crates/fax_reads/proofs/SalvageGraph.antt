@@ -21,10 +21,10 @@ use Rattle.fax_reads.specs.Salvage.{after_lost, begins_below_eleven, cause_over,
 use Rattle.fax_reads.specs.Salvage.{read_over, row_and_more, salvage_rows, salvage_strip, sought_from, unless}
 use Rattle.fax_reads.proofs.LineGraph.{IsOne, below_eleven, few_below, line_is, start_is, start_of, zeros_is}
 
-abbrev Start : Type 0
+abbrev pub Start : Type 0
 Start = Result (Dimension × List Bool) StripFault
 
-abbrev Line : Type 0
+abbrev pub Line : Type 0
 Line = Result (List Colour × List Bool) StripFault
 
 -- where the next EOL is looked for
@@ -43,7 +43,8 @@ sought_in_mr i b (Some []) false is = inr (inr (is, refl))
 sought_in_mr i b (Some (true ∷ codes)) false is = inl (OneDimensional, is)
 sought_in_mr i b (Some (false ∷ codes)) false is = inl (TwoDimensional, is)
 
-sought_is : (coding : Coding) (i : ℕ) (b : List Bool) → IsSoughtFrom coding i b (sought_from b (read_start coding i b))
+pub sought_is : (coding : Coding) (i : ℕ) (b : List Bool)
+    → IsSoughtFrom coding i b (sought_from b (read_start coding i b))
 sought_is Mh i b = sought_in_mh i b (after_one b) (has_few b) (start_is Mh i b)
 sought_is Mr i b = sought_in_mr i b (after_one b) (has_few b) (start_is Mr i b)
 sought_is Mmr i b = inl (TwoDimensional, start_is Mmr i b)
@@ -78,14 +79,14 @@ each_of false second third is = absurd (cc is)
 each_of true false third is = absurd (cc is)
 each_of true true third is = (refl, refl, is)
 
-lacks : (form : StripForm) (i : ℕ) (rest : List Bool) → IsEolDue form i → BeginsBelowEleven rest
+pub lacks : (form : StripForm) (i : ℕ) (rest : List Bool) → IsEolDue form i → BeginsBelowEleven rest
     → lacks_eol form i rest ≡ true
 lacks form i rest due below =
     let more : nat_lt (i + 1) form.rows ≡ true = grind (arith, nat_tests, due.1) in
     all_three (has_eols form.coding) (nat_lt (i + 1) form.rows) (begins_below_eleven (after_one rest) (has_few rest))
     (eols form.coding due.0) more (begins rest below)
 
-lacks_where : (form : StripForm) (i : ℕ) (rest : List Bool) → lacks_eol form i rest ≡ true
+pub lacks_where : (form : StripForm) (i : ℕ) (rest : List Bool) → lacks_eol form i rest ≡ true
     → IsEolDue form i × BeginsBelowEleven rest
 lacks_where form i rest is =
     let each = each_of (has_eols form.coding) (nat_lt (i + 1) form.rows)
@@ -100,7 +101,7 @@ dimension_of (Ok start) = start.0
 dimension_of (Err fault) = OneDimensional
 
 -- a row that is read, or lost, by how it begins
-by_start : (form : StripForm) (i : ℕ) (before : Option StripFault) (reference : List Colour) (b : List Bool)
+pub by_start : (form : StripForm) (i : ℕ) (before : Option StripFault) (reference : List Colour) (b : List Bool)
     (start : Start) → read_start form.coding i b ≡ start → IsStart form.coding i b start → (r : Line)
     → MatchResult r (λ line. IsLine form i reference b line.0 line.1) (IsCause form i reference b)
     → MatchResult (unless (cause_over before start) r) (λ line. IsReadOver form i before reference b line.0 line.1)

@@ -7,4 +7,5 @@ pub mod Tails
 pub mod Reports
 pub mod Images
 pub mod Salvage
+pub mod LeftUncounted
 pub mod laws

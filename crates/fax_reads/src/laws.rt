@@ -132,14 +132,15 @@ pub fn worked_images_are_read()
     images_are_read_by_functions();
 }
 
-/// What is left of a damaged strip, and of a damaged file, is what functions read of its bits and
-/// bytes (T.4, sections 4.1.2 and 4.2.2; T.6, section 2.2.1; TIFF 6.0, section 2).
+/// What is left of a damaged strip, of damaged rows that nobody counted, and of a damaged file, is
+/// what functions read of its bits and bytes (T.4, sections 4.1.2 and 4.2.2; T.6, section 2.2.1; TIFF 6.0, section 2).
 pub fn salvages_are_read_by_functions()
     ensures { SalvagesAreReadByFunctions }
 {
     fax_bits::laws::run_codes_are_read_in_one_way();
     fax_bits::laws::codes_are_read_in_one_way::<fax_bits::Modes>();
     fax_page::laws::strips_are_salvaged_in_one_way();
+    fax_page::laws::uncounted_rows_are_left_in_one_way();
     fax_files::laws::files_have_one_chain();
     fax_walk::laws::files_are_salvaged_in_one_way();
 }
