@@ -337,9 +337,11 @@ uint32_t faxpages_strip_part(const uint8_t *strip, size_t strip_len,
  * written, and the first stretches, as many as have room: DONE, if these are all, or NO_ROOM.
  *
  * If `rows` of the form is 0, nobody counted them. Then they go up to an end mark, or to the end of
- * the data after a row, or to a lost row after which no EOL is left, or to row 1,000,000. MEMORY comes
- * before NO_ROOM, and where the raster has no room, `row` of `told` is how many rows there are. In
- * place of DONE it is told how they end, as faxpages_strip_rows has it: END, DATA_END, or FAULT. */
+ * the data after a row, or to a lost row after which no EOL is left, or to row 1,000,000; and of the
+ * last one too an EOL or zeros have to follow it, but where it is row 1,000,000. MEMORY comes before
+ * NO_ROOM, and where the raster has no room, `row` of `told` is how many rows there are: 3 MB of data
+ * can have 1,000,000. In place of DONE it is told how they end, as faxpages_strip_rows has it: END,
+ * DATA_END, or FAULT. */
 uint32_t faxpages_salvage_strip(const uint8_t *strip, size_t strip_len,
                                 const struct faxpages_strip *form, uint8_t *out, size_t out_room,
                                 size_t stride, struct faxpages_lost *lost, size_t lost_room,

@@ -151,7 +151,8 @@ def strip(data: ReadableBuffer, width: SupportsIndex = 1728, rows: Optional[Supp
 def salvage_strip(data: ReadableBuffer, width: SupportsIndex = 1728, *, rows: Optional[SupportsIndex] = None,
                   coding: str = "mr", order: SupportsIndex = 1) -> Salvaged:
     """What is left of T.4 or T.6 data that has no file around it. The words are those of strip. If nobody counted the
-    rows, they go up to an end mark, to the end of the data, or to a lost row after which no EOL is left.
+    rows, they go up to an end mark, to the end of the data, or to a lost row after which no EOL is left, and the raster
+    has room for all of them: 3 MB of data can have 1,000,000 rows.
 
     >>> data = b"\\x00\\x19\\x80\\x0f\\x00\\x19\\x80"
     >>> faxpages.salvage_strip(data, width=8, rows=3, coding="mh").lost

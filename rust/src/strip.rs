@@ -185,7 +185,7 @@ impl<'a> Strip<'a> {
 
     /// What is left of it, however it is damaged: each row that stands between its EOLs, and each stretch of rows that
     /// are lost. If nobody counted the rows, they go up to an end mark, to the end of the data, or to a lost row after
-    /// which no EOL is left.
+    /// which no EOL is left, and there is room for all of them: 3 MB of data can have 1,000,000 rows.
     ///
     /// # Errors
     ///
