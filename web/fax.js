@@ -73,7 +73,10 @@ class Fax extends Known {
         this.number = ++Fax.ids;
         this.life = new Life(Fax.parts.place, {
             again: () => this.again(), told: (event) => this.take(event), failed: (error) => this.fail(error),
+            rests: () => this.changed(this),
         });
+        /** The page that is looked at, which is gone back to with the file. */
+        this.at = 0;
         /** Which reading of the file it is that is known: an answer of an earlier one is nobody's. */
         this.reading = 0;
         this.seen = "";
@@ -132,7 +135,7 @@ class Fax extends Known {
             this.read(true);
             return;
         }
-        this.failure = say(TEXTS.broken[/** @type {"ended"} */ (kind)] ?? TEXTS.broken.ended, message);
+        this.failure = say(TEXTS.broken[/** @type {"ended"} */ (kind)] ?? TEXTS.broken.ended, message).trim();
         this.state = this.isBusy() ? "failed" : this.state;
         this.changed(this);
     }
@@ -361,7 +364,7 @@ class Fax extends Known {
     /** What is said of the whole file: that it cannot be read any more comes first. */
     verdict() {
         const parts = [this.failure && this.state !== "failed" ? say(TEXTS.broken.later, this.failure) : "",
-            this.wasChanged ? TEXTS.broken.readAgain : "", this.readVerdict()];
+            this.wasChanged && this.state !== "failed" ? TEXTS.broken.readAgain : "", this.readVerdict()];
         return parts.filter(Boolean).join(" ");
     }
 

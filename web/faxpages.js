@@ -21,7 +21,6 @@ class App {
         this.faxes = [];
         /** @type {Fax | null} */
         this.fax = null;
-        this.page = 0;
         this.isDue = false;
         this.makings = new Makings({ said: the("saved"), submit: the("save-make"), cancel: the("save-cancel"),
             progress: the("save-progress") }, () => this.changed(), (text) => this.announce(text));
@@ -136,12 +135,13 @@ class App {
         }
     }
 
-    /** @param {Fax | null} fax */
+    /** Shows a file at once, so that no button that is seen is another file's, at the page that was looked at last.
+     * @param {Fax | null} fax */
     show(fax) {
         this.fax = fax;
-        this.page = 0;
         this.found = "";
         the("bare-said").textContent = "";
+        this.render();
         this.changed();
     }
 
@@ -158,6 +158,12 @@ class App {
         }
     }
 
+    /** The page that is shown: a file that was read anew may have fewer than before. */
+    get page() {
+        const { fax } = this;
+        return !fax ? 0 : fax.isBusy() ? fax.at : Math.max(0, Math.min(fax.at, fax.pages - 1));
+    }
+
     /** @param {string} text */
     announce(text) {
         the("said").textContent = text;
@@ -169,7 +175,9 @@ class App {
         const last = Math.max(0, (this.fax?.pages ?? 0) - 1);
         const wanted = Number.isInteger(page) ? Math.max(0, Math.min(last, page)) : this.page;
         const hasMoved = wanted !== this.page;
-        this.page = wanted;
+        if (this.fax) {
+            this.fax.at = wanted;
+        }
         this.render();
         if (row !== undefined) {
             this.view.goTo(row);
@@ -385,7 +393,7 @@ class App {
         if (isRight && this.fax) {
             this.fax.coded = bare;
             this.found = "";
-            this.page = 0;
+            this.fax.at = 0;
             this.fax.read();
         }
     }

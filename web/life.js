@@ -26,7 +26,8 @@ class Failed extends Error {
  *
  * Each call ends with an answer or with an error, and what a worker says that was ended is dropped.
  *
- * @typedef {{ again: () => void, told: (event: any) => void, failed: (error: Failed) => void }} Owner
+ * @typedef {{ again: () => void, told: (event: any) => void, failed: (error: Failed) => void, rests: () => void }}
+ *     Owner who has it started anew, is told what it finds and why it failed, and that it has nothing to do
  * @typedef {{ resolve: (result: any) => void, reject: (error: Error) => void, tell?: Function }} Call
  */
 class Life {
@@ -106,6 +107,9 @@ class Life {
                 call?.resolve(data.result);
             } else {
                 call?.reject(new Failed(data.error, data.kind));
+            }
+            if (this.isIdle()) {
+                this.owner.rests();
             }
         }
     }

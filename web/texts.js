@@ -164,9 +164,10 @@ const TEXTS = {
     /** Why a file that was opened is not read, or not any more. */
     broken: {
         gone: "the file is gone from its place, or was changed there: open it again.",
-        changed: "the file is changed while it is read: open it again once it is whole.",
+        changed: "the file was changed on the disk: open it again once it is whole.",
         memory: "the browser has no memory left for it: close other files, and open it again.",
-        policy: "the rules of the server that this page is from (Content-Security-Policy) do not let it work: {0}",
+        policy: "the rules of the server that this page is from (Content-Security-Policy) do not let it work. " +
+            "docs/INSTALL.md says which rules do. {0}",
         ended: "what reads it broke down: {0}",
         later: "It cannot be shown any more: {0} What was read of it before:",
         readAgain: "The file was changed on the disk, and was read again.",

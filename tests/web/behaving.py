@@ -16,6 +16,7 @@ from tests.convert.files import put
 from tests.finding import found
 from tests.web import faxes
 from tests.web.browser import Browser
+from tests.web.chromium import Chromium
 
 SAMPLE = f"{TOP}/samples/three-pages.tif"
 # Each text whose contrast with what is below it is less than 4.5 to 1.
@@ -102,7 +103,7 @@ def zoom(browser: Browser, _program: str, _room: str) -> Generator[Claim, None, 
     yield "0: the whole page", browser.run("app.view.zoom"), "whole"
 
 
-def names(browser: Browser, _program: str, _room: str) -> Generator[Claim, None, None]:
+def names(browser: Chromium, _program: str, _room: str) -> Generator[Claim, None, None]:
     """All that can be used has a name and a role in the tree of accessibility."""
     opened(browser)
     browser.call("Accessibility.enable")
@@ -158,7 +159,7 @@ def odd_names(browser: Browser, program: str, room: str) -> Generator[Claim, Non
     browser.run("while (app.fax) app.close()")
 
 
-def narrow(browser: Browser, _program: str, _room: str) -> Generator[Claim, None, None]:
+def narrow(browser: Chromium, _program: str, _room: str) -> Generator[Claim, None, None]:
     """On a narrow screen nothing is wider than it; light and dark, each text stands out."""
     opened(browser)
     for width in (1280, 360):
@@ -174,7 +175,7 @@ def narrow(browser: Browser, _program: str, _room: str) -> Generator[Claim, None
     browser.call("Emulation.setEmulatedMedia", features=[])
 
 
-def page_first(browser: Browser, _program: str, _room: str) -> Generator[Claim, None, None]:
+def page_first(browser: Chromium, _program: str, _room: str) -> Generator[Claim, None, None]:
     """On a phone, and at 200 percent, the page begins in the first screen: all else is folded, and can be opened."""
     opened(browser)
     top = 'Math.round(document.getElementById("view").getBoundingClientRect().top + scrollY)'
@@ -202,17 +203,14 @@ def printed(browser: Browser, _program: str, room: str) -> Generator[Claim, None
     browser.run("while (app.fax) app.close()")
     browser.choose("#choose", f"{TOP}/samples/received/over-a-noisy-line.tif")
     browser.until('app.fax && app.fax.state === "done" && document.querySelector("#paper canvas[data-drawn]")')
-    data = base64.b64decode(browser.call("Page.printToPDF", printBackground=True)["data"])
-    made = put(f"{room}/printed.pdf", data)
+    made = put(f"{room}/printed.pdf", browser.printed())
     words = subprocess.run(["pdftotext", made, "-"], capture_output=True, check=True).stdout.decode().split()
     yield "no word of the page is printed", words, []
     told = subprocess.run(["pdfinfo", made], capture_output=True, check=True).stdout.decode()
     yield "one sheet", found(r"Pages: +(\d+)", told)[1], "1"
-    browser.call("Emulation.setEmulatedMedia", media="print")
-    wide = browser.run('document.getElementById("sheet").getBoundingClientRect().width / 96')
-    browser.call("Emulation.setEmulatedMedia", media="")
-    yield "in its size, in inches", abs(wide - 1728 / 204) < 0.05 or abs(
-        wide * browser.run("app.view.printScale()") - 1728 / 204) < 0.05, True
+    images = subprocess.run(["pdfimages", "-list", made], capture_output=True, check=True).stdout.decode()
+    yield "in its size: so many dots to the inch", {tuple(line.split()[12:14]) for line in images.splitlines()[2:]}, {
+        ("204", "98")}
 
 
 def refusals(browser: Browser, _program: str, _room: str) -> Generator[Claim, None, None]:
@@ -248,7 +246,7 @@ def refusals(browser: Browser, _program: str, _room: str) -> Generator[Claim, No
     yield "each by the policy", refused[1], ["connect-src", "frame-src", "img-src", "script-src", "script-src-elem"]
 
 
-def nothing_is_asked(browser: Browser, address: str) -> Generator[Claim, None, None]:
+def nothing_is_asked(browser: Chromium, address: str) -> Generator[Claim, None, None]:
     """Whatever was done, the page asked for its own files alone, and keeps nothing."""
     folder = address.rsplit("/", 1)[0] + "/"
     asked = [it["params"]["request"]["url"] for it in browser.events if it["method"] == "Network.requestWillBeSent"]

@@ -1,28 +1,18 @@
-"""Chromium without a window, over its own protocol by two pipes: nothing listens on a port. Nothing waits for a fixed
-time: an event, an answer or a state of the page is waited for, at most some minutes."""
+"""What a browser can do for the tests, whichever it is. Nothing waits for a fixed time: an event, an answer or a state of
+the page is waited for, at most some minutes."""
 
 from __future__ import annotations
 
-import base64
 import json
 import os
-import queue
 import shutil
 import signal
 import subprocess
-import tempfile
-import threading
 import time
-from typing import Any, Callable
+from typing import Any
 
 # Seconds, on a machine that has much else to do.
 MOST = 900
-WORDS = [
-    "--headless=new", "--remote-debugging-pipe", "--disable-gpu", "--no-first-run", "--disable-dev-shm-usage",
-    "--disable-extensions", "--disable-background-networking", "--disable-component-update", "--disable-sync",
-    "--disable-default-apps", "--no-default-browser-check", "--mute-audio", "--hide-scrollbars",
-    "--password-store=basic", "--use-mock-keychain", "--force-device-scale-factor=1",
-]
 
 
 class Failed(Exception):
@@ -32,97 +22,47 @@ class Failed(Exception):
 class Browser:
     """One browser with one page."""
 
-    def __init__(self, size: tuple[int, int] = (1280, 900)) -> None:
-        for left in (2, 1, 0):
-            self._start(size)
-            try:
-                self._attach(size)
-                return
-            except (Failed, OSError) as error:
-                # On a machine that has little left a browser may end as it starts.
-                with open(f"{self._folder}/said", encoding="utf-8", errors="replace") as said:
-                    why = said.read()[-2000:]
-                self.close()
-                if not left:
-                    raise Failed(f"chromium does not start: {error}: {why}") from error
-
-    def _start(self, size: tuple[int, int]) -> None:
-        """Starts the browser, with a pipe to it and one from it."""
-        self._folder = tempfile.mkdtemp()
-        to_it, mine = os.pipe()
-        mine_too, from_it = os.pipe()
-        no_sandbox = ["--no-sandbox"] if os.getuid() == 0 else []
-        with open(f"{self._folder}/said", "wb") as said:
-            self._process = subprocess.Popen(
-                ["bash", "-c", f'exec "$@" 3<&{to_it} 4>&{from_it}', "bash", "chromium", *WORDS, *no_sandbox,
-                 f"--user-data-dir={self._folder}", f"--window-size={size[0]},{size[1]}", "about:blank"],
-                pass_fds=(to_it, from_it), stdin=subprocess.DEVNULL, stdout=subprocess.DEVNULL, stderr=said,
-                start_new_session=True)
-        os.close(to_it)
-        os.close(from_it)
-        self._to = mine
-        self._number = 0
-        self._answers: dict[int | None, Any] = {}
-        self._session: str | None = None
-        self._came = threading.Condition()
-        self.events: list[Any] = []
-        threading.Thread(target=self._read, args=(mine_too, self._answers), daemon=True).start()
-
-    def _attach(self, size: tuple[int, int]) -> None:
-        """Takes a page of the browser's."""
-        target = self.call("Target.createTarget", url="about:blank")["targetId"]
-        self._session = self.call("Target.attachToTarget", targetId=target, flatten=True)["sessionId"]
-        for domain in ("Page", "Runtime", "Network", "Log", "DOM"):
-            self.call(f"{domain}.enable")
-        self.resize(*size)
-
-    def resize(self, width: int, height: int) -> None:
-        """Gives the page a window of another size."""
-        self.call("Emulation.setDeviceMetricsOverride", width=width, height=height, deviceScaleFactor=1, mobile=False)
-
-    def _read(self, said: int, answers: dict[int | None, Any]) -> None:
-        """Takes in what the browser says, until it ends."""
-        left = b""
-        while True:
-            came = os.read(said, 1 << 20)
-            *messages, left = (left + came).split(b"\0")
-            with self._came:
-                for message in map(json.loads, messages):
-                    if "id" in message:
-                        answers[message["id"]] = message
-                    else:
-                        self.events.append(message)
-                if not came:
-                    answers[None] = {}
-                self._came.notify_all()
-            if not came:
-                os.close(said)
-                return
-
-    def call(self, method: str, **words: object) -> Any:
-        """Calls a method of the protocol, and answers its result."""
-        self._number += 1
-        number = self._number
-        message = {"id": number, "method": method, "params": words}
-        if self._session:
-            message["sessionId"] = self._session
-        data = json.dumps(message).encode() + b"\0"
-        while data:
-            data = data[os.write(self._to, data):]
-        with self._came:
-            if not self._came.wait_for(lambda: number in self._answers or None in self._answers, MOST):
-                raise Failed(f"{method}: no answer")
-            answer = self._answers.pop(number, {"error": "the browser has ended"})
-        if "error" in answer:
-            raise Failed(f"{method}: {answer['error']}")
-        return answer["result"]
+    # So many bytes of memory that nothing uses any more it may keep for a while.
+    LATE = 128 * 2 ** 20
 
     def run(self, script: str) -> Any:
         """The value of an expression in the page; of a promise, what it gives."""
-        told = self.call("Runtime.evaluate", expression=script, awaitPromise=True, returnByValue=True)
-        if "exceptionDetails" in told:
-            raise Failed(f"{script}: {told['exceptionDetails'].get('exception', told['exceptionDetails'])}")
-        return told["result"].get("value")
+        raise NotImplementedError
+
+    def go(self, address: str) -> None:
+        """Opens a page, and waits until it is there."""
+        raise NotImplementedError
+
+    def choose(self, selector: str, *files: str) -> None:
+        """Chooses files in an input of the page."""
+        raise NotImplementedError
+
+    def drop(self, *files: str) -> None:
+        """Drops files onto the page, where the browser can be told to."""
+        self.choose("#choose", *files)
+
+    def press(self, key: str, code: str = "", number: int = 0, shift: bool = False) -> None:
+        """Presses a key and lets it go."""
+        raise NotImplementedError
+
+    def resize(self, width: int, height: int) -> None:
+        """Gives the page a window of another size."""
+        raise NotImplementedError
+
+    def picture(self, file: str) -> None:
+        """Writes what is seen into a file, as PNG."""
+        raise NotImplementedError
+
+    def printed(self) -> bytes:
+        """What the browser prints, as PDF."""
+        raise NotImplementedError
+
+    def memory(self, name: str = "VmRSS") -> int:
+        """The bytes of memory of the page's process, or of the largest of them; by a name of /proc."""
+        raise NotImplementedError
+
+    def close(self) -> None:
+        raise NotImplementedError
 
     def until(self, script: str, most: int = MOST) -> Any:
         """Waits until an expression is true in the page, and answers its value: the page looks at each of its pictures
@@ -139,89 +79,33 @@ class Browser:
             look();
         }})""")
 
-    def longest_task(self, does: Callable[[], object]) -> float:
-        """The most milliseconds of the processor that a task of the page's own thread took while something was done:
-        so long it did not answer. Time in which other programs had the processor is none of it."""
-        first = len(self.events)
-        self.call("Tracing.start", categories="-*,toplevel,__metadata", transferMode="ReportEvents")
-        does()
-        self.call("Tracing.end")
-        with self._came:
-            if not self._came.wait_for(lambda: any(
-                    it["method"] == "Tracing.tracingComplete" for it in self.events[first:]), MOST):
-                raise Failed("the tasks were not told")
-        told = [it for event in self.events[first:] if event["method"] == "Tracing.dataCollected"
-                for it in event["params"]["value"]]
-        self.events[:] = [it for it in self.events if it["method"] != "Tracing.dataCollected"]
-        mine = {(it["pid"], it["tid"]) for it in told if it["name"] == "thread_name" and
-                it["args"]["name"] == "CrRendererMain"}
-        tasks = [it["tdur"] for it in told if it["name"] == "ThreadControllerImpl::RunTask" and "tdur" in it and
-                 (it["pid"], it["tid"]) in mine]
-        if not tasks:
-            raise Failed("no task was told")
-        return float(max(tasks)) / 1000
-
-    def most_memory(self) -> int:
-        """The most bytes that a process of the page had at once, so far."""
-        session, self._session = self._session, None
-        told = self.call("SystemInfo.getProcessInfo")["processInfo"]
-        self._session = session
-        most = 0
-        for process in told:
-            if process["type"] == "renderer":
-                with open(f"/proc/{process['id']}/status", encoding="ascii") as status:
-                    most = max(most, *(1024 * int(line.split()[1]) for line in status if line.startswith("VmHWM:")))
-        return most
-
-    def go(self, address: str) -> None:
-        self.call("Page.navigate", url=address)
+    def is_there(self, address: str) -> None:
+        """Waits until a page is there."""
         self.until(f"location.href === {json.dumps(address)} && document.readyState === 'complete' "
                    "&& typeof app !== 'undefined'")
 
-    def choose(self, selector: str, *files: str) -> None:
-        """Chooses files in an input of the page."""
-        root = self.call("DOM.getDocument")["root"]["nodeId"]
-        node = self.call("DOM.querySelector", nodeId=root, selector=selector)["nodeId"]
-        self.call("DOM.setFileInputFiles", nodeId=node, files=[os.path.abspath(file) for file in files])
-
-    def drop(self, *files: str, x: int = 600, y: int = 400) -> None:
-        """Drops files onto the page."""
-        data = {"items": [], "files": [os.path.abspath(file) for file in files], "dragOperationsMask": 1}
-        for kind in ("dragEnter", "dragOver", "drop"):
-            self.call("Input.dispatchDragEvent", type=kind, x=x, y=y, data=data)
-
-    def press(self, key: str, code: str = "", number: int = 0, shift: bool = False) -> None:
-        """Presses a key and lets it go."""
-        text = key if len(key) == 1 else ""
-        words = {"key": key, "code": code or key, "windowsVirtualKeyCode": number or (ord(key.upper()) if text else 0),
-                 "modifiers": 8 if shift else 0}
-        self.call("Input.dispatchKeyEvent", type="keyDown", text=text, **words)
-        self.call("Input.dispatchKeyEvent", type="keyUp", **words)
-
-    def picture(self, file: str) -> None:
-        with open(file, "wb") as out:
-            out.write(base64.b64decode(self.call("Page.captureScreenshot", format="png")["data"]))
-
-    def close(self) -> None:
+    @staticmethod
+    def ended(process: subprocess.Popen[bytes], folder: str) -> None:
+        """Waits until a browser has ended, and takes away what it kept."""
         try:
-            self._session = None
-            self.call("Browser.close")
-        except (Failed, OSError):
-            pass
-        try:
-            self._process.wait(60)
+            process.wait(60)
         except subprocess.TimeoutExpired:
-            os.killpg(self._process.pid, signal.SIGKILL)
-            self._process.wait()
-        os.close(self._to)
+            os.killpg(process.pid, signal.SIGKILL)
+            process.wait()
         for _ in range(50):
-            shutil.rmtree(self._folder, ignore_errors=True)
-            if not os.path.exists(self._folder):
+            shutil.rmtree(folder, ignore_errors=True)
+            if not os.path.exists(folder):
                 break
             time.sleep(0.1)
 
-    def __enter__(self) -> Browser:
+    def __enter__(self) -> Any:
         return self
 
     def __exit__(self, *_: None) -> None:
         self.close()
+
+
+def memory_of(process: int, name: str) -> int:
+    """What /proc says of the memory of a process, in bytes."""
+    with open(f"/proc/{process}/status", encoding="ascii") as status:
+        return max(1024 * int(line.split()[1]) for line in status if line.startswith(f"{name}:"))

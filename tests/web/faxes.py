@@ -26,11 +26,11 @@ def convert(program: str, image: bytes, *words: str) -> bytes:
     return subprocess.run([program, "convert", *words], input=image, capture_output=True, check=True).stdout
 
 
-def drawn(program: str, seed: int) -> bytes:
-    """A fax of three pages that are drawn, in strips."""
+def drawn(program: str, seed: int, count: int = 3) -> bytes:
+    """A fax of so many pages that are drawn, in strips."""
     rng = random.Random(seed)
     images = []
-    for page in range(3):
+    for page in range(count):
         width, rows, row = rng.choice([8, 100, 217]), [], 0
         for number in range(rng.randint(20, 60)):
             row = pages.draw_row(rng, rng.choice(["marks", "marks", "noise"]), width, number, row)

@@ -12,6 +12,7 @@ from tests import Claim
 from tests.convert.files import put
 from tests.web import faxes, saving
 from tests.web.browser import Browser
+from tests.web.chromium import Chromium
 
 import hostile
 
@@ -46,7 +47,7 @@ def pages(count: int, strip: bytes, width: int = 8, rows: int = 1) -> bytes:
                            for number in range(count))
 
 
-def answers(browser: Browser, path: str, until: str) -> float:
+def answers(browser: Chromium, path: str, until: str) -> float:
     """How long the page did not answer while a file was opened and read, the best of some tries."""
     best = math.inf
     for _ in range(TRIES):
@@ -64,7 +65,7 @@ def answers(browser: Browser, path: str, until: str) -> float:
     return best
 
 
-def leaves(browser: Browser, _program: str, room: str) -> Generator[Claim, None, None]:
+def leaves(browser: Chromium, _program: str, room: str) -> Generator[Claim, None, None]:
     """A file that would take minutes is left: what was read stays, and its pages can still be looked at."""
     strip = bytes(4000000) + hostile.packed("000000000001" + "10011")
     path = put(f"{room}/slow.tif", pages(60000, strip))
@@ -87,7 +88,7 @@ def leaves(browser: Browser, _program: str, room: str) -> Generator[Claim, None,
     close_all(browser)
 
 
-def many_pages(browser: Browser, program: str, room: str) -> Generator[Claim, None, None]:
+def many_pages(browser: Chromium, program: str, room: str) -> Generator[Claim, None, None]:
     """65,535 pages: the list has few elements, and the last page is reached by a key."""
     strip = hostile.packed("000000000001" + "10011")
     path = put(f"{room}/pages.tif", pages(65535, strip))
@@ -106,7 +107,7 @@ def many_pages(browser: Browser, program: str, room: str) -> Generator[Claim, No
     close_all(browser)
 
 
-def whole_memory(browser: Browser, program: str, room: str) -> Generator[Claim, None, None]:
+def whole_memory(browser: Chromium, program: str, room: str) -> Generator[Claim, None, None]:
     """A file of 256 MB, the first that the browser reads: it is in memory once, and is read as the program reads it."""
     at = 2 ** 28 - 200
     with open(f"{room}/large.tif", "wb") as file:
@@ -131,7 +132,7 @@ def whole_memory(browser: Browser, program: str, room: str) -> Generator[Claim, 
     close_all(browser)
 
 
-def million_rows(browser: Browser, _program: str, room: str) -> Generator[Claim, None, None]:
+def million_rows(browser: Chromium, _program: str, room: str) -> Generator[Claim, None, None]:
     """A page of a million rows: few canvases, and the end is drawn."""
     path = put(f"{room}/rows.tif", hostile.tiff(1728, 1000000, hostile.MMR, b"\xff" * 125000))
     took = answers(browser, path, 'app.fax && app.fax.state === "done"')
@@ -143,7 +144,7 @@ def million_rows(browser: Browser, _program: str, room: str) -> Generator[Claim,
     close_all(browser)
 
 
-def many_stretches(browser: Browser, program: str, room: str) -> Generator[Claim, None, None]:
+def many_stretches(browser: Chromium, program: str, room: str) -> Generator[Claim, None, None]:
     """A page of which every second row is lost: each stretch is told, and some are listed."""
     strip = hostile.packed(("000000000001" + "10011" + "000000000001" + "111") * 20000)
     path = put(f"{room}/stretches.tif", pages(1, strip, rows=40000))

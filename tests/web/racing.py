@@ -231,10 +231,11 @@ def rewritten(browser: Browser, program: str, room: str) -> Generator[Claim, Non
     put(names[at], plain(program, 0, count=2, rows=30))
     os.utime(names[at], (10 ** 9, 10 ** 9))
     browser.run(f"app.show(app.faxes[{at}])")
-    browser.until(f'/was changed/.test({VERDICT}) && !app.fax.isBusy()', SOON)
+    browser.until(f'/was changed/.test({VERDICT}) && !app.fax.isBusy() && {VERDICT} === app.fax.verdict()', SOON)
     said = browser.run(VERDICT)
     is_anew = said == "The file was changed on the disk, and was read again. This fax is whole: 2 pages, 60 rows."
-    yield f"it is read anew, or said to be changed: {said}", is_anew or "gone from its place" in said, True
+    is_told = "gone from its place" in said or "was changed on the disk: open it again" in said
+    yield f"it is read anew, or said to be changed: {said}", is_anew or is_told, True
     if is_anew:
         yield "its thumbnails are the new ones", browser.until(THUMBS), [255] * 2
     close_all(browser)
