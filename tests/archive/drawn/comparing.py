@@ -456,10 +456,18 @@ class Comparison:
                 continue
             good = [data for path, _, data in its
                     if path in self.after.rows and self.after.rows[path].verdict.status == GOOD]
-            self.claim(all(now is not None and now.data == data for data in good), f"good, and another's copy: {name!r}")
+            is_right = all(now is not None and now.data == data for data in good)
+            self.claim(is_right or (was == now and self._has_rotted(name)), f"good, and another's copy: {name!r}")
             stood = [path for path, fax, data in its if self._was_good(path, fax) and was is not None and was.data == data]
             if len(stood) == 1 and self.model.stands(self.job, name, self.before.target):
                 self.claim(was is not None and now is not None and now.data == was.data, f"turned over: {name!r}")
+
+    def _has_rotted(self, name: bytes) -> bool:
+        """Whether a copy had other bytes than its table knows, with the size and the time that it knows: then only a run
+        that reads copies tells."""
+        known, there = self.model.stood.setdefault(self.job.table, {}).get(name), self.before.target.get(name)
+        return known is not None and there is not None and there.data != known.data and (
+            self.model.stands(self.job, name, self.before.target))
 
     def _was_good(self, path: bytes, fax: Fax) -> bool:
         """Whether a fax was good before this run, and has not changed since."""

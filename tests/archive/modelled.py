@@ -1,0 +1,69 @@
+"""What the model of the drawn operator lets through, and what it does not, where it met that once in some thousand
+steps."""
+
+from __future__ import annotations
+
+import functools
+import os
+import random
+
+from tests.archive.drawn import contents, playing
+from tests.archive.drawn.comparing import Before, Comparison, Difference
+from tests.archive.drawn.model import Words
+from tests.archive.drawn.operating import WORKERS, Episode
+from tests.archive.only import two
+from tests.archive.room import Part, Room
+
+NAMES = (b"a.tif", b"A.TIF")
+
+
+def episode_of(room: Room, name: str, faxes: list[bytes]) -> Episode:
+    """A world with an empty tree, whose copies are taken as those in a folder that folds case."""
+    import faxpages
+
+    drawn = [contents.Content(data) for data in faxes]
+    episode = Episode(room(name), random.Random(name), drawn, contents.Teller(faxpages, room.program), WORKERS)
+    os.rename(episode.world.tree, episode.world.tree + b"-drawn")
+    os.mkdir(episode.world.tree)
+    episode.jobs[1] = episode.jobs[1]._replace(to=("mmr",), follow=False, fields=False, folds=True)
+    episode.world.folds = True
+    return episode
+
+
+def compared(episode: Episode) -> str:
+    """Converts, and compares: what the model says of it, which is nothing where it finds all right."""
+    job, world = episode.jobs[1], episode.world
+    before = Before(world, job, False)
+    words = ["convert", *map(os.fsdecode, (world.tree, world.target)), "--to", "mmr", "--table",
+             f"{os.fsdecode(world.tables)}/{job.table}"]
+    ran = playing.run(words, os.fsdecode(world.folder), playing.Trouble())
+    try:
+        Comparison(episode, job, Words(), playing.Trouble(), before, ran).all()
+    except Difference as difference:
+        return str(difference)
+    return ""
+
+
+def rotted(room: Room, *_given: object) -> None:
+    """A copy that changes without a trace is told by a run that reads it, and by no other: so that of a good fax may have
+    rotted, but may not be another's."""
+    one, other = two()
+    for way in ("rots", "is another's"):
+        episode = episode_of(room, f"modelled {way}", [one, other])
+        world = episode.world
+        copies = [os.path.join(world.target, name) for name in NAMES]
+        world.put(os.path.join(world.tree, NAMES[0]), one, 0o644)
+        room.claim(f"a copy that {way}: the first fax", compared(episode), "")
+        world.put(os.path.join(world.tree, NAMES[1]), other, 0o644)
+        # By either name it is one file, as in a folder that folds case.
+        os.link(*copies)
+        when, copy = os.stat(copies[0]).st_mtime_ns, functools.partial(episode.teller.copy, words=("mmr",))
+        with open(copies[0], "r+b") as file:
+            file.write(copy(one)[:-1] + b"\1" if way == "rots" else copy(other))
+            file.truncate()
+        os.utime(copies[0], ns=(when, when))
+        room.claim(f"a copy that {way}", compared(episode), {
+            "rots": "", "is another's": f"good, and another's copy: {NAMES[0]!r}"}[way])  # fmt: skip
+
+
+PARTS: list[Part] = [rotted]
