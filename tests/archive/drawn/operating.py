@@ -20,8 +20,9 @@ from tests.waiting import there_in, wait_for
 
 _NONE = Entry("none", 0, (0, 0), 0, b"")
 # What does the faxes of an episode: this very process; real workers; Dask; or the first two, with a second run at once;
-# or this process, and the copies stand in a folder that folds case.
-PLAIN, WORKERS, DASK, SECOND, FOLDED = "plain", "workers", "dask", "second", "folded"
+# or this process, and the copies stand in a folder that folds case, or TARGET goes amid most runs, which delete.
+PLAIN, WORKERS, DASK, SECOND, FOLDED, GOING = "plain", "workers", "dask", "second", "folded", "going"
+LACKING = ("data", "fields", "private", "bytes", "resolution")
 
 
 class Episode:
@@ -34,12 +35,14 @@ class Episode:
         if kind == FOLDED:
             os.makedirs(os.path.join(folder, "target"))
             folding.mount(os.path.join(folder, "target"))
-        self.world = World(folder, rng, [content.data for content in faxes], kind == FOLDED)
+        # Where TARGET goes all faxes are good, since nothing is deleted where one is not.
+        given = [it.data for it in faxes if kind != GOING or not teller.verdict(it.data).status]
+        self.world = World(folder, rng, given, kind == FOLDED)
         self.model = Model(teller)
-        follow = not self.other_user and rng.random() < 0.35
+        follow = not self.other_user and kind != GOING and rng.random() < 0.35
         dumps = shutil.which("tiffdump") is not None
         to = rng.choice([("mmr",), ("mmr",), ("mh", "--align"), ("mr", "--k", "2"), ("pbm",)])
-        fields = dumps and rng.random() < 0.4
+        fields = rng.random() < 0.4 and dumps
         folds = kind == FOLDED
         self.jobs = [Job("check.sqlite", follow=follow), Job("copies.sqlite", to, follow, fields, folds=folds),
                      Job("others.sqlite", rng.choice([to, ("mmr",)]), follow, fields, folds=folds)]
@@ -90,7 +93,8 @@ class Episode:
                 self._back_up, self._restore, self._restore]
         if self.other_user:
             rare.append(self._close_or_open)
-        return common * 3 + rare
+        # What TARGET took away with it comes again.
+        return common * 3 + rare if self.kind != GOING else common + [world.more] * 20
 
     def _back_up(self) -> None:
         """A table is copied to where backups are."""
@@ -130,8 +134,8 @@ class Episode:
         gone = rng.random() < 0.3
         if not job.to:
             return Words(again, gone, faults_ok=rng.random() < 0.1)
-        delete = rng.random() < 0.3
-        give_up = tuple(it for it in ("data", "fields", "private", "bytes", "resolution") if delete and rng.random() < 0.3)
+        delete = rng.random() < (0.3 if self.kind != GOING else 0.9)
+        give_up = tuple(it for it in LACKING if delete and (self.kind == GOING or rng.random() < 0.3))
         return Words(again, gone, delete, give_up, rng.random() < 0.1, not delete and rng.random() < 0.1)
 
     def _given(self, job: Job, words: Words) -> List[str]:
@@ -157,8 +161,9 @@ class Episode:
         trouble = playing.drawn_trouble(self.rng)._replace(other_user=self.other_user)
         before = Before(self.world, job, self.other_user)
         often = 0.5 if words.delete or words.again == "copies" else 0.2
-        calm = not trouble.at and trouble.largest is None and self.kind in (PLAIN, SECOND)
-        if calm and job.to and self.kind == PLAIN and self.rng.random() < often / 4:
+        calm = not trouble.at and trouble.largest is None and self.kind in (PLAIN, SECOND, GOING)
+        goes = {PLAIN: often / 4, GOING: 0.8}.get(self.kind, 0.0)
+        if calm and job.to and goes and self.rng.random() < goes:
             trouble = self._target_goes(before, trouble)
         elif calm and self.rng.random() < often:
             trouble = self._amid(job, before, trouble)
