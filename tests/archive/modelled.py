@@ -1,11 +1,13 @@
-"""What the model of the drawn operator lets through, and what it does not, where it met that once in some thousand
-steps."""
+"""The drawn operator itself, where it was wrong once in some thousand steps: what its model lets through, and what it does
+not; and runs that end at once."""
 
 from __future__ import annotations
 
 import functools
 import os
 import random
+import signal
+from unittest import mock
 
 from tests.archive.drawn import contents, playing
 from tests.archive.drawn.comparing import Before, Comparison, Difference
@@ -15,6 +17,7 @@ from tests.archive.only import two
 from tests.archive.room import Part, Room
 
 NAMES = (b"a.tif", b"A.TIF")
+FORK = os.fork
 
 
 def episode_of(room: Room, name: str, faxes: list[bytes]) -> Episode:
@@ -66,4 +69,23 @@ def rotted(room: Room, *_given: object) -> None:
             "rots": "", "is another's": f"good, and another's copy: {NAMES[0]!r}"}[way])  # fmt: skip
 
 
-PARTS: list[Part] = [rotted]
+def late_fork() -> int:
+    """A child that does not run, as on a machine with much to do."""
+    process = FORK()
+    if not process:
+        os.kill(os.getpid(), signal.SIGSTOP)
+    return process
+
+
+def killed(room: Room, *_given: object) -> None:
+    """A run that is killed before it says anything has said nothing, whatever one before it said."""
+    os.mkdir(room("modelled killed"))
+    at_once = playing.Engine(("--processes", "1"), seconds=0.0)
+    for way in ("the first run", "one after it"):
+        with mock.patch.object(os, "fork", late_fork):
+            ran = playing.run(["table"], room("modelled killed"), playing.Trouble(1, kill=signal.SIGKILL), at_once, random.Random(1))
+        room.claim(f"killed at once: {way}", tuple(ran), (-signal.SIGKILL, "", ""))
+        playing.run(["table"], room("modelled killed"), playing.Trouble())
+
+
+PARTS: list[Part] = [rotted, killed]

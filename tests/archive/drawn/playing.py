@@ -152,6 +152,9 @@ class Started:
         self._names = [os.path.join(room, kind + name) for kind in ("out", "error")]
         with contextlib.suppress(FileNotFoundError):
             os.unlink(os.path.join(room, "amid"))
+        # Where it is killed before it says anything, it has said nothing.
+        for said in self._names:
+            open(said, "wb").close()
         # The child has an interrupt wait until it is ready for one.
         signal.pthread_sigmask(signal.SIG_BLOCK, [signal.SIGINT])
         self._process = os.fork()
@@ -181,7 +184,7 @@ def run(words: List[str], room: str, trouble: Trouble, engine: Engine = INLINE,
 def _child(words: List[str], room: str, names: List[str], trouble: Trouble, engine: Engine) -> None:
     try:
         for number, name in enumerate(names, 1):
-            opened = os.open(name, os.O_WRONLY | os.O_CREAT | os.O_TRUNC, 0o666)
+            opened = os.open(name, os.O_WRONLY)
             os.dup2(opened, number)
             os.close(opened)
         sys.stdout = io.TextIOWrapper(io.FileIO(1, "w", closefd=False), "utf-8", "surrogateescape", write_through=True)
