@@ -33,15 +33,15 @@ def episode_of(room: Room, name: str, faxes: list[bytes]) -> Episode:
     return episode
 
 
-def compared(episode: Episode) -> str:
+def compared(episode: Episode, words: Words = Words()) -> str:
     """Converts, and compares: what the model says of it, which is nothing where it finds all right."""
     job, world = episode.jobs[1], episode.world
     before = Before(world, job, False)
-    words = ["convert", *map(os.fsdecode, (world.tree, world.target)), "--to", "mmr", "--table",
-             f"{os.fsdecode(world.tables)}/{job.table}"]
-    ran = playing.run(words, os.fsdecode(world.folder), playing.Trouble())
+    given = ["convert", *map(os.fsdecode, (world.tree, world.target)), "--to", "mmr", "--table",
+             f"{os.fsdecode(world.tables)}/{job.table}", *(["--delete"] if words.delete else [])]
+    ran = playing.run(given, os.fsdecode(world.folder), playing.Trouble())
     try:
-        Comparison(episode, job, Words(), playing.Trouble(), before, ran).all()
+        Comparison(episode, job, words, playing.Trouble(), before, ran).all()
     except Difference as difference:
         return str(difference)
     return ""
@@ -69,6 +69,19 @@ def rotted(room: Room, *_given: object) -> None:
             "rots": "", "is another's": f"good, and another's copy: {NAMES[0]!r}"}[way])  # fmt: skip
 
 
+def changed(room: Room, *_given: object) -> None:
+    """A fax that changes once its copy is marked as the only one stays, and so does the copy, whatever is left of it."""
+    from faxpages.archive import _files as files
+
+    one, _ = two()
+    episode = episode_of(room, "modelled changed", [one])
+    episode.world.put(os.path.join(episode.world.tree, NAMES[0]), one, 0o644)
+    with mock.patch.object(files, "delete", lambda *_given: "Changed"):
+        room.claim("a fax that changed: it stays", compared(episode, Words(delete=True)), "")
+    os.truncate(os.path.join(episode.world.target, NAMES[0]), 4)
+    room.claim("a fax that changed: its copy is cut", compared(episode), "")
+
+
 def late_fork() -> int:
     """A child that does not run, as on a machine with much to do."""
     process = FORK()
@@ -88,4 +101,4 @@ def killed(room: Room, *_given: object) -> None:
         playing.run(["table"], room("modelled killed"), playing.Trouble())
 
 
-PARTS: list[Part] = [rotted, killed]
+PARTS: list[Part] = [rotted, changed, killed]

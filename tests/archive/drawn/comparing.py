@@ -284,7 +284,9 @@ class Comparison:
                 self._mark_may_be_ours(name)
         deleted = {path for path in self.before.seen.faxes if path in self.before.tree and path not in self.after.tree}
         self._note_only(deleted)
-        for path in (set(self.before.rows) | deleted) - set(self.after.rows):
+        # A fax that was about to be deleted and stays has no row, and its copy is marked as the only one.
+        stays = set(self._share()) if self.words.delete else set[bytes]()
+        for path in (set(self.before.rows) | deleted | stays) - set(self.after.rows):
             for name in job.copies_of(path):
                 if path in self.after.tree or self.trouble.at:
                     maybe.add(name)
