@@ -43,11 +43,11 @@ has() {
 }
 
 # The first Python that has these modules, the one on the PATH or Debian's, which has what Debian's packages bring:
-# python_with MODULE..
+# python_with MODULE.. A folder of the sources, such as cups/, is no module.
 python_with() {
     local python
     for python in python3 /usr/bin/python3; do
-        if "$python" -c "import $(IFS=,; printf '%s' "$*")" 2>/dev/null; then
+        if (cd / && "$python" -c "import $(IFS=,; printf '%s' "$*")" 2>/dev/null); then
             printf '%s\n' "$python"
             return
         fi
