@@ -82,6 +82,20 @@ def changed(room: Room, *_given: object) -> None:
     room.claim("a fax that changed: its copy is cut", compared(episode), "")
 
 
+def going_on(room: Room, *_given: object) -> None:
+    """A run that goes on looks at a copy that has another time, and its row stays as it was: then the copy is known so."""
+    from faxpages.archive._table import Table
+
+    one, _ = two()
+    episode = episode_of(room, "modelled going on", [one])
+    episode.world.put(os.path.join(episode.world.tree, NAMES[0]), one, 0o644)
+    with mock.patch.object(Table, "end_run", lambda *_given: None):
+        room.claim("a run that has not ended", compared(episode), "")
+    os.utime(os.path.join(episode.world.target, NAMES[0]))
+    for way in ("goes on", "is done", "is done again"):
+        room.claim(f"a run that {way}", compared(episode), "")
+
+
 def late_fork() -> int:
     """A child that does not run, as on a machine with much to do."""
     process = FORK()
@@ -101,4 +115,4 @@ def killed(room: Room, *_given: object) -> None:
         playing.run(["table"], room("modelled killed"), playing.Trouble())
 
 
-PARTS: list[Part] = [rotted, changed, killed]
+PARTS: list[Part] = [rotted, changed, going_on, killed]

@@ -341,7 +341,7 @@ class Comparison:
         """Each row is as it was, or says what is so; none is lost but those of faxes that are gone."""
         faxes = self._share()
         for path, row in self.after.rows.items():
-            if self.before.rows.get(path) == row:
+            if self.before.rows.get(path) == row and not self._is_done_alike(path):
                 continue
             if self._is_amid(path):
                 self._forget_amid(path)
@@ -359,6 +359,13 @@ class Comparison:
                 self._note_good(path, fax)
         for path in set(self.before.rows) - set(self.after.rows):
             self.claim(path not in faxes or self.words.delete, f"a row is lost: {path!r}")
+
+    def _is_done_alike(self, path: bytes) -> bool:
+        """Whether a fax was done though its row is as it was, since a run that goes on has the number that it had. Where
+        it is not known, nothing is sure of its copy."""
+        if path in self.due and self.troubled:
+            self.model.maybe.setdefault(self.job.table, set()).update(self._copies(path))
+        return path in self.due and not self.troubled
 
     def _leads_nowhere_now(self, path: bytes) -> bool:
         """Whether this is a link to a fax that the first of two runs deleted, so that the second one found it so."""
