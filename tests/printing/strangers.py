@@ -12,6 +12,7 @@ import subprocess
 import uuid
 from typing import IO, Iterator
 
+from faxpages_cups import _job
 from tests.printing import made, server
 from tests.printing.room import Room
 
@@ -113,6 +114,19 @@ def bounds(room: Room) -> None:
     for backend in (False, True):
         status, _, said = by_hand(room, backend, new_identity(room)[0], room.made("large.tif"))
         room.claim("many bytes", (status, "it has more than 268435456 bytes" in said), (3 if backend else 1, True))
+    room.claim("2 GiB of memory", [taken(2 << 30), taken(1 << 30)], ["it takes too much memory", ""])
+
+
+def taken(memory: int) -> str:
+    """Why what reads a fax may not take so many bytes of memory, or nothing."""
+    def take() -> None:
+        bytearray(memory)
+
+    try:
+        _job.within(server.PATIENCE, take)
+        return ""
+    except _job.Refused as refused:
+        return str(refused)
 
 
 def kinds(room: Room) -> None:
