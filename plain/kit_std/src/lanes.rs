@@ -1,7 +1,11 @@
-//! Lanes of numbers as arrays, of which the compiler makes vectors where the target has some. On
-//! x86-64 tests, sums, differences and wider numbers are SSE2's own: of the arrays it makes many
-//! more instructions.
+//! Lanes of numbers as arrays, of which the compiler makes vectors where the target has some. With the
+//! feature `sse2` tests, sums, differences and wider numbers are SSE2's own on x86-64: of the arrays
+//! the compiler makes many more instructions.
 
+#[cfg(not(all(feature = "sse2", target_arch = "x86_64")))]
+use crate::portable::{differences, differing, less, sums, widened};
+#[cfg(all(feature = "sse2", target_arch = "x86_64"))]
+use crate::sse2::{differences, differing, less, sums, widened};
 use std::array;
 use std::ops::{Add, BitAnd, BitOr, Shl, Shr, Sub};
 
@@ -46,109 +50,6 @@ impl Simd<i32, 4> {
     pub fn simd_lt(self, other: Self) -> Mask {
         Mask(less(&self.0, &other.0))
     }
-}
-
-#[cfg(target_arch = "x86_64")]
-#[inline(always)]
-fn differing(one: &[u8; 16], other: &[u8; 16]) -> u64 {
-    use std::arch::x86_64::{_mm_cmpeq_epi8, _mm_loadu_si128, _mm_movemask_epi8};
-    // SAFETY: each array has the 16 bytes that are loaded, and each x86-64 has SSE2.
-    let same = unsafe {
-        let one = _mm_loadu_si128(one.as_ptr().cast());
-        _mm_movemask_epi8(_mm_cmpeq_epi8(one, _mm_loadu_si128(other.as_ptr().cast())))
-    };
-    u64::from(!same as u16)
-}
-
-#[cfg(target_arch = "x86_64")]
-#[inline(always)]
-fn less(one: &[i32; 4], other: &[i32; 4]) -> u64 {
-    use std::arch::x86_64::{_mm_castsi128_ps, _mm_cmplt_epi32, _mm_loadu_si128, _mm_movemask_ps};
-    // SAFETY: as in `differing`.
-    let less = unsafe {
-        let one = _mm_loadu_si128(one.as_ptr().cast());
-        let other = _mm_loadu_si128(other.as_ptr().cast());
-        _mm_movemask_ps(_mm_castsi128_ps(_mm_cmplt_epi32(one, other)))
-    };
-    less as u64
-}
-
-#[cfg(not(target_arch = "x86_64"))]
-#[inline(always)]
-fn differing(one: &[u8; 16], other: &[u8; 16]) -> u64 {
-    (0..16).fold(0, |bits, lane| {
-        bits | u64::from(one[lane] != other[lane]) << lane
-    })
-}
-
-#[cfg(not(target_arch = "x86_64"))]
-#[inline(always)]
-fn less(one: &[i32; 4], other: &[i32; 4]) -> u64 {
-    (0..4).fold(0, |bits, lane| {
-        bits | u64::from(one[lane] < other[lane]) << lane
-    })
-}
-
-#[cfg(target_arch = "x86_64")]
-#[inline(always)]
-fn sums(one: &[u32; 4], other: &[u32; 4]) -> [u32; 4] {
-    use std::arch::x86_64::{_mm_add_epi32, _mm_loadu_si128, _mm_storeu_si128};
-    let mut sums = [0; 4];
-    // SAFETY: each array has the 16 bytes that are loaded or stored, and each x86-64 has SSE2.
-    unsafe {
-        let one = _mm_loadu_si128(one.as_ptr().cast());
-        let sum = _mm_add_epi32(one, _mm_loadu_si128(other.as_ptr().cast()));
-        _mm_storeu_si128(sums.as_mut_ptr().cast(), sum);
-    }
-    sums
-}
-
-#[cfg(target_arch = "x86_64")]
-#[inline(always)]
-fn differences(one: &[u32; 4], other: &[u32; 4]) -> [u32; 4] {
-    use std::arch::x86_64::{_mm_loadu_si128, _mm_storeu_si128, _mm_sub_epi32};
-    let mut differences = [0; 4];
-    // SAFETY: as in `sums`.
-    unsafe {
-        let one = _mm_loadu_si128(one.as_ptr().cast());
-        let difference = _mm_sub_epi32(one, _mm_loadu_si128(other.as_ptr().cast()));
-        _mm_storeu_si128(differences.as_mut_ptr().cast(), difference);
-    }
-    differences
-}
-
-#[cfg(target_arch = "x86_64")]
-#[inline(always)]
-fn widened(bytes: [u8; 4]) -> [u32; 4] {
-    use std::arch::x86_64::{_mm_cvtsi32_si128, _mm_setzero_si128, _mm_storeu_si128};
-    use std::arch::x86_64::{_mm_unpacklo_epi16, _mm_unpacklo_epi8};
-    let mut wide = [0; 4];
-    // SAFETY: as in `sums`.
-    unsafe {
-        let zero = _mm_setzero_si128();
-        let four = _mm_cvtsi32_si128(i32::from_le_bytes(bytes));
-        let four = _mm_unpacklo_epi16(_mm_unpacklo_epi8(four, zero), zero);
-        _mm_storeu_si128(wide.as_mut_ptr().cast(), four);
-    }
-    wide
-}
-
-#[cfg(not(target_arch = "x86_64"))]
-#[inline(always)]
-fn sums(one: &[u32; 4], other: &[u32; 4]) -> [u32; 4] {
-    array::from_fn(|lane| one[lane].wrapping_add(other[lane]))
-}
-
-#[cfg(not(target_arch = "x86_64"))]
-#[inline(always)]
-fn differences(one: &[u32; 4], other: &[u32; 4]) -> [u32; 4] {
-    array::from_fn(|lane| one[lane].wrapping_sub(other[lane]))
-}
-
-#[cfg(not(target_arch = "x86_64"))]
-#[inline(always)]
-fn widened(bytes: [u8; 4]) -> [u32; 4] {
-    bytes.map(u32::from)
 }
 
 /// Numbers as ones of another type, as `as` makes them.

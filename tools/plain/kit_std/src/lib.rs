@@ -3,20 +3,36 @@
 //! Growth of memory answers an error where it is refused. What the kit proves of a call's arguments
 //! is tested here, by Rust's own bounds, and ends the program where it does not hold. The proofs are of
 //! a `usize` of 64 bits: where it has fewer, build with overflow checks, as the workspace does.
+#![cfg_attr(
+    not(any(feature = "c", feature = "program", feature = "sse2")),
+    forbid(unsafe_code)
+)]
 
 pub mod alloc;
+#[cfg(feature = "c")]
 pub mod c;
+#[cfg(feature = "program")]
 pub mod env;
+#[cfg(feature = "program")]
 pub mod fs;
+#[cfg(feature = "program")]
 pub mod io;
 pub mod iter;
 mod lanes;
 pub mod marker;
+#[cfg(not(all(feature = "sse2", target_arch = "x86_64")))]
+mod portable;
+#[cfg(feature = "program")]
 pub mod process;
-#[cfg(not(target_family = "wasm"))]
+#[cfg(all(feature = "program", not(target_family = "wasm")))]
 pub mod program;
+#[cfg(feature = "program")]
 pub mod refusing;
+#[cfg(feature = "program")]
 pub mod rt;
+#[cfg(all(feature = "sse2", target_arch = "x86_64"))]
+mod sse2;
+#[cfg(feature = "program")]
 mod streams;
 
 pub use std::mem;
@@ -35,6 +51,7 @@ pub mod simd {
 pub mod prelude {
     pub use crate::alloc::{String, Vec};
     pub use crate::iter::CollectIn;
+    #[cfg(feature = "program")]
     pub use crate::rt::HostRuntime;
     pub use crate::{prove, vec};
     pub use std::str;
