@@ -6,11 +6,14 @@ use crate::Cursor;
 use std::fmt;
 use std::iter::FusedIterator;
 use std::mem::size_of;
+use std::num::NonZeroU64;
 use std::ops::Range;
 
 /// How many rows are read at a time, and how many bytes of them.
 pub(crate) const ROWS: usize = 8192;
 const BYTES: usize = 1 << 20;
+/// For how many runs there is room in a row at first: few rows have more.
+const RUNS_RESERVED: usize = 64;
 /// In a file of very many pages more bytes are read at a time, this many for each page before them: each call follows
 /// the directories up to its page.
 const BYTES_A_PAGE: usize = 256;
@@ -48,16 +51,58 @@ impl Row {
 
     /// The lengths in pels of its runs, white first: the first is 0 where the row begins black.
     pub fn runs(&self) -> Vec<u32> {
-        let (mut runs, mut colour, mut begin) = (Vec::new(), false, 0);
-        for (pel, black) in (0..self.width).map_while(|pel| Some((pel, self.pel(pel)?))) {
-            if black != colour {
-                runs.push(pel - begin);
-                (colour, begin) = (!colour, pel);
-            }
-        }
-        runs.push(self.width - begin);
+        let mut runs = Vec::new();
+        put_runs(&mut runs, &self.packed, self.width);
         runs
     }
+}
+
+/// Calls a function for each change of colour of a packed row, with the pels since the one before it, or since the
+/// beginning: white stands before the first pel, and what stands after the last is not looked at. Returns the pels after
+/// the last change. 64 pels are looked at together, and each that has another colour than the one before it is found by
+/// a count of zeros.
+#[inline(always)]
+fn each_change(packed: &[u8], width: u32, mut changed: impl FnMut(u32)) -> u32 {
+    let (mut before, mut since) = (0, 0);
+    let mut look_at = |word: u64, pels: u32| {
+        let mut changes = (word ^ (word >> 1 | before << 63)) & !(u64::MAX >> 1 >> (pels - 1));
+        let mut left = pels;
+        before = word & 1;
+        while let Some(next) = NonZeroU64::new(changes) {
+            let zeros = next.leading_zeros();
+            changed(since + zeros);
+            (since, left) = (0, left - zeros);
+            changes = (changes << zeros) & (u64::MAX >> 1);
+        }
+        since += left;
+    };
+    let (words, rest) = packed.split_at((width as usize / 64 * 8).min(packed.len() / 8 * 8));
+    for word in words.chunks_exact(8) {
+        look_at(u64::from_be_bytes(word.try_into().unwrap_or_default()), 64);
+    }
+    let pels = (width as usize - 8 * words.len()).min(8 * rest.len());
+    if pels > 0 {
+        let word = rest.iter().take(8).rev().fold(0, |word, byte| word >> 8 | u64::from(*byte) << 56);
+        look_at(word, pels as u32);
+    }
+    // Where bytes are lacking, the pels there have no other colour.
+    since + (width - 8 * words.len() as u32 - pels as u32)
+}
+
+/// Appends the runs of a packed row.
+fn put_runs(runs: &mut Vec<u32>, packed: &[u8], width: u32) {
+    runs.reserve(RUNS_RESERVED.min(width as usize + 1));
+    let last = each_change(packed, width, |run| runs.push(run));
+    runs.push(last);
+}
+
+/// Appends the changing elements of a packed row.
+fn put_changes(found: &mut Vec<u32>, packed: &[u8], width: u32) {
+    let mut pel = 0;
+    each_change(packed, width, |run| {
+        pel += run;
+        found.push(pel);
+    });
 }
 
 /// A row by its runs.
@@ -94,9 +139,9 @@ impl RowFormat for Row {}
 impl RowFormat for RowRuns {}
 impl RowFormat for RowChanges {}
 
-mod format {
-    use super::{Row, RowChanges, RowRuns};
-    use crate::calls;
+pub(crate) mod format {
+    use super::{put_changes, put_runs, Row, RowChanges, RowRuns};
+    use crate::calls::{self, FaxRow};
     use std::fmt;
 
     /// How a call hands out a row.
@@ -108,8 +153,14 @@ mod format {
         /// The most numbers of a row.
         const MOST: usize;
 
-        /// The row of these numbers.
-        fn of(row: &calls::FaxRow, numbers: &[Self::Number]) -> Self;
+        /// No row, without memory.
+        const NONE: Self;
+
+        /// Becomes the row of these numbers, in the memory that it has.
+        fn put(&mut self, row: &FaxRow, numbers: &[Self::Number]);
+
+        /// Becomes the row of these packed bytes.
+        fn put_packed(&mut self, row: &FaxRow, packed: &[u8]);
     }
 
     impl Format for Row {
@@ -117,8 +168,16 @@ mod format {
         const CALL: calls::RowsFrom<u8> = calls::faxpages_rows_from;
         const MOST: usize = calls::ROW_BYTES;
 
-        fn of(row: &calls::FaxRow, packed: &[u8]) -> Self {
-            Row { page: row.page, number: row.row, width: row.width, packed: packed.to_vec() }
+        const NONE: Row = Row { page: 0, number: 0, width: 0, packed: Vec::new() };
+
+        fn put(&mut self, row: &FaxRow, packed: &[u8]) {
+            (self.page, self.number, self.width) = (row.page, row.row, row.width);
+            self.packed.clear();
+            self.packed.extend_from_slice(packed);
+        }
+
+        fn put_packed(&mut self, row: &FaxRow, packed: &[u8]) {
+            self.put(row, packed);
         }
     }
 
@@ -127,8 +186,17 @@ mod format {
         const CALL: calls::RowsFrom<u32> = calls::faxpages_runs_from;
         const MOST: usize = calls::RUNS;
 
-        fn of(row: &calls::FaxRow, runs: &[u32]) -> Self {
-            RowRuns { page: row.page, number: row.row, width: row.width, runs: runs.to_vec() }
+        const NONE: RowRuns = RowRuns { page: 0, number: 0, width: 0, runs: Vec::new() };
+
+        fn put(&mut self, row: &FaxRow, runs: &[u32]) {
+            (self.page, self.number, self.width) = (row.page, row.row, row.width);
+            self.runs.clear();
+            self.runs.extend_from_slice(runs);
+        }
+
+        fn put_packed(&mut self, row: &FaxRow, packed: &[u8]) {
+            self.put(row, &[]);
+            put_runs(&mut self.runs, packed, row.width);
         }
     }
 
@@ -137,8 +205,17 @@ mod format {
         const CALL: calls::RowsFrom<u32> = calls::faxpages_changes_from;
         const MOST: usize = calls::RUNS;
 
-        fn of(row: &calls::FaxRow, changes: &[u32]) -> Self {
-            RowChanges { page: row.page, number: row.row, width: row.width, changes: changes.to_vec() }
+        const NONE: RowChanges = RowChanges { page: 0, number: 0, width: 0, changes: Vec::new() };
+
+        fn put(&mut self, row: &FaxRow, changes: &[u32]) {
+            (self.page, self.number, self.width) = (row.page, row.row, row.width);
+            self.changes.clear();
+            self.changes.extend_from_slice(changes);
+        }
+
+        fn put_packed(&mut self, row: &FaxRow, packed: &[u8]) {
+            self.put(row, &[]);
+            put_changes(&mut self.changes, packed, row.width);
         }
     }
 }
@@ -177,8 +254,15 @@ impl<'a, T: RowFormat> Reader<'a, T> {
 
     /// A row of those that were read last.
     fn row(&self, number: usize) -> T {
+        let mut row = T::NONE;
+        self.put(number, &mut row);
+        row
+    }
+
+    /// The same in the place of another row.
+    fn put(&self, number: usize, place: &mut T) {
         let row = &self.table[number];
-        T::of(row, &self.out[row.at..][..row.len as usize])
+        place.put(row, &self.out[row.at..][..row.len as usize]);
     }
 
     fn cursor(&self) -> Cursor {
@@ -212,11 +296,49 @@ pub struct Rows<'a, T: RowFormat = Row> {
     /// Those of them that are not handed out yet.
     ready: Range<usize>,
     ended: Option<Option<Error>>,
+    /// The row that was lent last.
+    lent: T,
 }
 
 impl<'a, T: RowFormat> Rows<'a, T> {
     pub(crate) fn new(file: &'a [u8], cursor: &Cursor) -> Self {
-        Rows { reader: Reader::new(file, cursor, ROWS), begin: cursor.clone(), ready: 0..0, ended: None }
+        Rows { reader: Reader::new(file, cursor, ROWS), begin: cursor.clone(), ready: 0..0, ended: None, lent: T::NONE }
+    }
+
+    /// The next row, as the iterator has it, but lent: no memory is taken for it, and it stands until the next call.
+    ///
+    /// ```
+    /// # let mut writer = faxpages::Writer::new(1)?;
+    /// # writer.add(&faxpages::Form::new(8, 3, faxpages::Coding::Mr), 1, &[0x18, 0xFC, 0x00], 1)?;
+    /// # let file = writer.finish()?;
+    /// let (mut rows, mut black) = (faxpages::Fax::new(&file).rows(), 0);
+    /// while let Some(row) = rows.next_row() {
+    ///     black += row?.packed.iter().map(|byte| byte.count_ones()).sum::<u32>();
+    /// }
+    /// assert_eq!(black, 8);
+    /// # Ok::<(), faxpages::Error>(())
+    /// ```
+    pub fn next_row(&mut self) -> Option<Result<&T, Error>> {
+        match self.next_number()? {
+            Ok(number) => {
+                self.reader.put(number, &mut self.lent);
+                Some(Ok(&self.lent))
+            }
+            Err(error) => Some(Err(error)),
+        }
+    }
+
+    /// Which of the rows that were read last is next, or the error that ended them.
+    fn next_number(&mut self) -> Option<Result<usize, Error>> {
+        if self.ready.is_empty() && self.ended.is_none() {
+            self.begin = self.reader.cursor();
+            let (count, ended) = self.reader.read(ROWS);
+            (self.ready, self.ended) = (0..count, ended);
+        }
+        match self.ready.next() {
+            Some(number) => Some(Ok(number)),
+            None => self.ended.as_mut()?.take().map(Err),
+        }
     }
 
     /// The cursor after the rows that were handed out: rows from it on are the ones that would have come next, and no
@@ -269,15 +391,7 @@ impl<T: RowFormat> Iterator for Rows<'_, T> {
     type Item = Result<T, Error>;
 
     fn next(&mut self) -> Option<Self::Item> {
-        if self.ready.is_empty() && self.ended.is_none() {
-            self.begin = self.reader.cursor();
-            let (count, ended) = self.reader.read(ROWS);
-            (self.ready, self.ended) = (0..count, ended);
-        }
-        match self.ready.next() {
-            Some(number) => Some(Ok(self.reader.row(number))),
-            None => self.ended.as_mut()?.take().map(Err),
-        }
+        Some(self.next_number()?.map(|number| self.reader.row(number)))
     }
 }
 

@@ -2,24 +2,20 @@
 
 use crate::calls::{self, FaxFault, FaxPlace, RUNS};
 use crate::error::{fault_of, refused, Error, Invalid};
+use crate::rows::{Row, RowChanges, RowFormat, RowRuns};
 use crate::salvaged::{salvaged, salvaged_uncounted, Salvaged};
 use crate::writer::{invalid_raster, invalid_rows};
-use crate::{filled, Coding, FillOrder, Note, NoteKind, Row};
-use std::collections::VecDeque;
+use crate::{filled, Coding, FillOrder, Note, NoteKind};
 use std::fmt;
 use std::iter::FusedIterator;
+use std::ops::Range;
 
 /// The most rows of a strip.
 const MOST_ROWS: u32 = 1_000_000;
 /// How many bytes of rows are read at a time.
-const BYTES: usize = 1 << 20;
-/// If a row is not whole in this many bytes, it is tried again when a quarter more is there, so that bytes that come
-/// one by one are read in a time in proportion to their number.
-const TRIED: usize = 4096;
+const BYTES: usize = 1 << 17;
 /// The most bytes of a strip.
 const MOST_BYTES: usize = 536_870_911;
-/// How many bytes of zeros before an EOL are kept: it has eleven zeros, and any more are fill.
-const FILL: usize = 2;
 
 /// The form of a strip.
 #[derive(Clone, Copy, Debug, PartialEq, Eq)]
@@ -71,7 +67,7 @@ impl StripForm {
     }
 
     /// How many rows are lacking after so many; none where the form says no number.
-    fn lost(&self, rows: u32) -> Option<u32> {
+    pub(crate) fn lost(&self, rows: u32) -> Option<u32> {
         self.rows.map(|wanted| wanted.saturating_sub(rows))
     }
 
@@ -80,18 +76,19 @@ impl StripForm {
     }
 }
 
-/// A strip that is read from a place on, and the rows before that which were read last and are not handed out.
-struct Reading {
-    form: StripForm,
-    place: FaxPlace,
+/// A strip that is read from a place on, and the rows before that which were read last.
+pub(crate) struct Reading {
+    pub(crate) form: StripForm,
+    pub(crate) place: FaxPlace,
     runs: Vec<u32>,
-    /// The rows of the last call.
+    /// The rows of the last call, the number of the first of them, and which are not handed out yet.
     out: Vec<u8>,
-    ready: VecDeque<Row>,
+    first: u32,
+    ready: Range<usize>,
 }
 
 /// How a call over a strip ended.
-enum Ended {
+pub(crate) enum Ended {
     /// There may be more rows.
     GoesOn,
     /// More bytes have to come before the next row.
@@ -103,13 +100,27 @@ enum Ended {
 }
 
 impl Reading {
-    fn new(form: StripForm) -> Self {
-        Reading { form, place: calls::PLACE, runs: vec![0; RUNS], out: Vec::new(), ready: VecDeque::new() }
+    pub(crate) fn new(form: StripForm) -> Self {
+        Reading { form, place: calls::PLACE, runs: vec![0; RUNS], out: Vec::new(), first: 0, ready: 0..0 }
+    }
+
+    /// Whether a row was read that is not handed out yet.
+    pub(crate) fn is_ready(&self) -> bool {
+        !self.ready.is_empty()
+    }
+
+    /// Puts the next of these rows in the place of another. Returns whether there is one.
+    pub(crate) fn take<T: RowFormat>(&mut self, row: &mut T) -> bool {
+        let Some(at) = self.ready.next() else { return false };
+        let (width, stride) = (self.form.width, self.form.stride());
+        let told = calls::FaxRow { row: self.first + at as u32, width, ..calls::ROW };
+        row.put_packed(&told, &self.out[at * stride..][..stride]);
+        true
     }
 
     /// Reads the next rows of the strip, some thousands at most; where more bytes may follow, those that are the same
     /// whatever they are.
-    fn read(&mut self, strip: &[u8], more: bool) -> Result<Ended, Error> {
+    pub(crate) fn read(&mut self, strip: &[u8], more: bool) -> Result<Ended, Error> {
         let (stride, rows, first) = (self.form.stride().max(1), self.form.rows.unwrap_or(u32::MAX), self.place.row);
         // A row has at least one bit.
         let bits = strip.len().saturating_mul(8).saturating_sub(self.place.bits as usize) + 1;
@@ -125,9 +136,7 @@ impl Reading {
         } else {
             calls::faxpages_strip_rows(strip, &given, place, runs, out, stride, &mut told)
         };
-        let width = self.form.width;
-        let read = self.out.chunks_exact(stride).take(told.count).zip(first..);
-        self.ready.extend(read.map(|(packed, number)| Row { page: 0, number, width, packed: packed.to_vec() }));
+        (self.first, self.ready) = (first, 0..told.count);
         match status {
             calls::DONE if self.place.row < rows => Ok(Ended::GoesOn),
             calls::DONE | calls::END | calls::DATA_END => Ok(Ended::Rows),
@@ -139,7 +148,7 @@ impl Reading {
     }
 
     /// How many whole bytes of zeros stand after the byte of the place, if nothing but zeros stands in the rest of that.
-    fn fill_after(&self, strip: &[u8]) -> usize {
+    pub(crate) fn fill_after(&self, strip: &[u8]) -> usize {
         let mask = match self.form.order {
             FillOrder::MsbFirst => 0xFF >> self.place.bits,
             FillOrder::LsbFirst => 0xFF << self.place.bits,
@@ -180,7 +189,25 @@ impl<'a> Strip<'a> {
 
     /// Its rows, whose page is 0, and the error that ends them. [`Error::Invalid`] where the form is none.
     pub fn rows(&self) -> StripRows<'a> {
-        StripRows { strip: self.bytes, reading: Reading::new(self.form), rows: 0, ended: None }
+        StripRows::new(self)
+    }
+
+    /// The same as runs.
+    ///
+    /// ```
+    /// use faxpages::{Coding, Strip, StripForm};
+    /// let strip = Strip::new(&[0x2F, 0xF8], StripForm { rows: Some(2), ..StripForm::new(8, Coding::Mmr) });
+    /// let rows: Result<Vec<_>, _> = strip.runs().map(|row| row.map(|row| row.runs)).collect();
+    /// assert_eq!(rows?, [[2, 2, 4], [2, 2, 4]]);
+    /// # Ok::<(), faxpages::Error>(())
+    /// ```
+    pub fn runs(&self) -> StripRows<'a, RowRuns> {
+        StripRows::new(self)
+    }
+
+    /// The same as changing elements.
+    pub fn changes(&self) -> StripRows<'a, RowChanges> {
+        StripRows::new(self)
     }
 
     /// What is left of it, however it is damaged: each row that stands between its EOLs, and each stretch of rows that
@@ -276,15 +303,56 @@ pub struct StripReport {
 
 /// The rows of a strip, and the error that ends them.
 #[derive(Debug)]
-pub struct StripRows<'a> {
+pub struct StripRows<'a, T: RowFormat = Row> {
     strip: &'a [u8],
     reading: Reading,
     /// How many were handed out.
     rows: u32,
     ended: Option<Option<Error>>,
+    /// The row that was lent last.
+    lent: T,
 }
 
-impl StripRows<'_> {
+impl<'a, T: RowFormat> StripRows<'a, T> {
+    fn new(strip: &Strip<'a>) -> Self {
+        StripRows { strip: strip.bytes, reading: Reading::new(strip.form), rows: 0, ended: None, lent: T::NONE }
+    }
+
+    /// The next row, as the iterator has it, but lent: no memory is taken for it, and it stands until the next call.
+    ///
+    /// ```
+    /// use faxpages::{Coding, Strip, StripForm};
+    /// let strip = Strip::new(&[0x2F, 0xF8], StripForm { rows: Some(2), ..StripForm::new(8, Coding::Mmr) });
+    /// let mut rows = strip.runs();
+    /// while let Some(row) = rows.next_row() {
+    ///     assert_eq!(row?.runs, [2, 2, 4]);
+    /// }
+    /// # Ok::<(), faxpages::Error>(())
+    /// ```
+    pub fn next_row(&mut self) -> Option<Result<&T, Error>> {
+        let mut row = std::mem::replace(&mut self.lent, T::NONE);
+        let found = self.put_next(&mut row);
+        self.lent = row;
+        Some(found?.map(|()| &self.lent))
+    }
+
+    /// Puts the next row in the place of another.
+    fn put_next(&mut self, row: &mut T) -> Option<Result<(), Error>> {
+        if !self.reading.is_ready() && self.ended.is_none() {
+            self.ended = match self.reading.read(self.strip, false) {
+                Ok(Ended::GoesOn | Ended::Awaits) => None,
+                Ok(Ended::Rows) => Some(None),
+                Ok(Ended::Fault(fault)) => Some(Some(fault_of(&fault))),
+                Err(error) => Some(Some(error)),
+            };
+        }
+        if self.reading.take(row) {
+            self.rows += 1;
+            return Some(Ok(()));
+        }
+        self.ended.as_mut()?.take().map(Err)
+    }
+
     /// How many rows are lacking after those that were handed out; none where the form says no number.
     ///
     /// ```
@@ -299,164 +367,16 @@ impl StripRows<'_> {
     }
 }
 
-impl Iterator for StripRows<'_> {
-    type Item = Result<Row, Error>;
+impl<T: RowFormat> Iterator for StripRows<'_, T> {
+    type Item = Result<T, Error>;
 
     fn next(&mut self) -> Option<Self::Item> {
-        if self.reading.ready.is_empty() && self.ended.is_none() {
-            self.ended = match self.reading.read(self.strip, false) {
-                Ok(Ended::GoesOn | Ended::Awaits) => None,
-                Ok(Ended::Rows) => Some(None),
-                Ok(Ended::Fault(fault)) => Some(Some(fault_of(&fault))),
-                Err(error) => Some(Some(error)),
-            };
-        }
-        match self.reading.ready.pop_front() {
-            Some(row) => {
-                self.rows += 1;
-                Some(Ok(row))
-            }
-            None => self.ended.as_mut()?.take().map(Err),
-        }
+        let mut row = T::NONE;
+        Some(self.put_next(&mut row)?.map(|()| row))
     }
 }
 
-impl FusedIterator for StripRows<'_> {}
-
-/// Reads a strip that comes in pieces, as a server receives it.
-///
-/// ```
-/// use faxpages::{Coding, StripForm, StripReader};
-/// let mut reader = StripReader::new(StripForm { rows: Some(2), ..StripForm::new(8, Coding::Mmr) });
-/// reader.feed(&[0x2F]);
-/// assert!(reader.next_row().is_none());
-/// reader.feed(&[0xF8]);
-/// assert_eq!(reader.next_row().unwrap()?.runs(), [2, 2, 4]);
-/// assert_eq!((reader.next_row().unwrap()?.runs(), reader.is_ended()), (vec![2, 2, 4], true));
-/// # Ok::<(), faxpages::Error>(())
-/// ```
-#[derive(Debug)]
-pub struct StripReader {
-    reading: Reading,
-    /// What was fed and is not read yet, of which so many bytes are being read, and how many have to be there before
-    /// more is read.
-    fed: Vec<u8>,
-    seen: Option<usize>,
-    wanted: usize,
-    is_closed: bool,
-    /// Whether the strip has ended, or why it did; and whether that was answered.
-    ended: Option<Option<Error>>,
-    is_told: bool,
-    /// The bytes that were read and dropped are not counted in the place; its rows are.
-    rows: u32,
-}
-
-impl StripReader {
-    /// A reader of a strip of this form, before its first byte.
-    pub fn new(form: StripForm) -> Self {
-        StripReader {
-            reading: Reading::new(form),
-            fed: Vec::new(),
-            seen: None,
-            wanted: 1,
-            is_closed: false,
-            ended: None,
-            is_told: false,
-            rows: 0,
-        }
-    }
-
-    /// Takes more bytes. Those after the end of the strip, or after its error, are left out, and those after
-    /// [`StripReader::close`] too.
-    pub fn feed(&mut self, bytes: &[u8]) {
-        if self.ended.is_none() && !self.is_closed {
-            self.fed.extend_from_slice(bytes);
-        }
-    }
-
-    /// Says that no more bytes come: then a row that is cut is an error.
-    pub fn close(&mut self) {
-        self.is_closed = true;
-    }
-
-    /// Whether nothing more comes: the strip has ended, at its end mark, at the last of its rows or after
-    /// [`StripReader::close`], and all its rows were handed out, or its error was.
-    pub fn is_ended(&self) -> bool {
-        match self.ended {
-            None => false,
-            Some(None) => self.reading.ready.is_empty(),
-            Some(Some(_)) => self.is_told,
-        }
-    }
-
-    /// The error that ended the strip, once it was handed out.
-    pub fn error(&self) -> Option<&Error> {
-        self.ended.as_ref()?.as_ref().filter(|_| self.is_told)
-    }
-
-    /// How many rows were handed out.
-    pub fn rows(&self) -> u32 {
-        self.rows
-    }
-
-    /// How many rows are lacking after those that were handed out; none where the form says no number.
-    pub fn lost(&self) -> Option<u32> {
-        self.reading.form.lost(self.rows)
-    }
-
-    /// The next row; none if more bytes must come first, or if the strip has ended. An error ends it too, and is handed
-    /// out once.
-    pub fn next_row(&mut self) -> Option<Result<Row, Error>> {
-        while self.reading.ready.is_empty() && self.ended.is_none() {
-            if !self.read_more() {
-                break;
-            }
-        }
-        if let Some(row) = self.reading.ready.pop_front() {
-            self.rows += 1;
-            return Some(Ok(row));
-        }
-        let error = self.ended.as_ref()?.clone().filter(|_| !self.is_told)?;
-        self.is_told = true;
-        Some(Err(error))
-    }
-
-    /// Reads rows of what was fed. Returns whether there was enough to read.
-    fn read_more(&mut self) -> bool {
-        if self.seen.is_none() && self.fed.len() < self.wanted && !self.is_closed {
-            return false;
-        }
-        let seen = self.seen.unwrap_or(self.fed.len());
-        match self.reading.read(&self.fed[..seen], !self.is_closed || seen < self.fed.len()) {
-            Ok(Ended::GoesOn) => self.seen = Some(seen),
-            Ok(Ended::Awaits) => self.drop_read(seen),
-            Ok(Ended::Rows) => self.end(None),
-            Ok(Ended::Fault(fault)) => self.end(Some(fault_of(&fault))),
-            Err(error) => self.end(Some(error)),
-        }
-        true
-    }
-
-    fn end(&mut self, error: Option<Error>) {
-        self.ended = Some(error);
-        self.fed = Vec::new();
-    }
-
-    /// Drops the bytes that were read wholly, and zeros before an EOL that are more than it has.
-    fn drop_read(&mut self, seen: usize) {
-        let used = self.reading.place.bits / 8;
-        self.fed.drain(..used as usize);
-        self.reading.place.bits -= 8 * used;
-        let has_eols = self.reading.form.coding != Coding::Mmr;
-        let fill = if has_eols { self.reading.fill_after(&self.fed).saturating_sub(FILL) } else { 0 };
-        if fill > 0 {
-            self.fed.drain(1..1 + fill);
-        }
-        let left = (seen - used as usize).saturating_sub(fill);
-        self.wanted = left + if left > TRIED { left / 4 } else { 1 };
-        self.seen = None;
-    }
-}
+impl<T: RowFormat> FusedIterator for StripRows<'_, T> {}
 
 /// Codes the rows of a raster as a strip, in the codes that T.4 and T.6 choose: row i stands in the (width + 7) / 8
 /// bytes from `raster[i * stride]` on, the highest bit first, 1 for black, whatever stands after its pels. Where the

@@ -107,3 +107,54 @@ fn a_reader_ends_without_an_error_too() {
     ends("a form that is none", std::iter::from_fn(|| wrong.next_row()), 0, Invalid::Width(0).into());
     assert!(wrong.is_ended());
 }
+
+/// An MH row of a width, of runs of one pel, and its strip.
+fn long_row(width: u32) -> (StripForm, Vec<u8>) {
+    let form = StripForm { rows: Some(1), ..StripForm::new(width, Coding::Mh) };
+    let packed = vec![0x55; width.div_ceil(8) as usize];
+    let strip = faxpages::code_strip(&form, 1, &packed, packed.len()).unwrap();
+    (StripForm { rows: None, ..form }, strip)
+}
+
+#[test]
+fn a_row_is_handed_out_when_its_last_byte_was_fed() {
+    for (width, piece, fill) in [(9600, 1000, 5000), (9600, 200, 5000), (65_528, 1000, 9000), (65_528, 256, 5000), (4000, 1, 99)] {
+        let (form, strip) = long_row(width);
+        assert!(strip.len() > width as usize / 2);
+        let mut reader = StripReader::new(form);
+        for bytes in strip.chunks(piece) {
+            assert_eq!(reader.next_row(), None);
+            reader.feed(bytes);
+        }
+        assert_eq!(reader.next_row().unwrap().unwrap().runs().len(), width as usize, "{width} by {piece}");
+        // An end mark with fill before each of its EOLs.
+        let mark = [&vec![0; fill][..], &[0x01]].concat().repeat(6);
+        for bytes in mark.chunks(piece) {
+            assert!(!reader.is_ended());
+            reader.feed(bytes);
+        }
+        assert!(reader.is_ended() && reader.next_row().is_none(), "{width} by {piece}");
+    }
+}
+
+#[test]
+fn a_closed_reader_says_whether_it_has_ended() {
+    let form = StripForm::new(8, Coding::Mh);
+    // A white row of eight pels, and one that is cut.
+    let mut reader = StripReader::new(form);
+    reader.feed(&[0x98]);
+    assert!(reader.next_row().is_some() && !reader.is_ended());
+    reader.close();
+    assert!(reader.is_ended());
+    let mut reader = StripReader::new(form);
+    reader.feed(&[0x98, 0x01]);
+    assert!(reader.next_row().is_some());
+    reader.close();
+    assert!(!reader.is_ended(), "its error was not handed out");
+    assert!(matches!(reader.next_row(), Some(Err(_))) && reader.is_ended());
+    let mut reader = StripReader::new(form);
+    reader.feed(&[0x98]);
+    reader.close();
+    assert!(!reader.is_ended(), "its row was not handed out");
+    assert!(matches!(reader.next_row(), Some(Ok(_))) && reader.is_ended());
+}
