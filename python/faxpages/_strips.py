@@ -19,9 +19,10 @@ from .faults import Fault
 
 # The most bytes of a strip, and how many bytes of rows are read at a time.
 MOST_BYTES, _BYTES = 536870911, 1 << 20
-# This many bytes hold the codes of any row of an ordinary width: if a row is not whole in so many, it is tried again
-# when a quarter more is there, so that bytes that come one by one are read in a time in proportion to their number.
-_TRIED = 4096
+# This many bytes hold the codes of any row of an ordinary width: one that is not whole in so many is read again from its
+# beginning as long as that reads no more bytes than _AGAIN for each that was fed, so that bytes that come one by one are
+# read in a time in proportion to their number.
+_TRIED, _AGAIN = 4096, 256
 # How many bytes of zeros before an EOL are kept: it has eleven zeros, and any more are fill.
 _FILL = 2
 # The faults of a row that is cut, and of too many rows, as of faxpages.h.
@@ -178,8 +179,8 @@ class StripReader:
 
     feed takes bytes; an iteration gives the rows that are whole by then and were not given before; close says that no
     more bytes come. An iteration raises the fault of the row that is due. If that row is cut, an iteration before close
-    ends there, since more bytes may come; after close it raises DataEnds. width, coding, order and rows are as for
-    strip.
+    ends there, since more bytes may come; after close it raises DataEnds. A row of more than 4,096 bytes that come in
+    pieces of less than a 256th of it may be given so many bytes later. width, coding, order and rows are as for strip.
 
     >>> data = faxpages.encode_strip(faxpages.open("samples/three-mmr-rows.tif")[0], coding="mr", order=2)
     >>> reader, found = faxpages.StripReader(width=8, coding="mr", order=2), []
@@ -196,10 +197,11 @@ class StripReader:
         self._strip = _Strip(_form(width, rows, coding, order), False, True)
         self._has_eols = coding != "mmr"
         self._ready: Deque[Row] = collections.deque()
-        # What was fed and is not read yet; the beginning of it that is being read; and how many bytes have to be there
-        # before more is read.
-        self._fed, self._seen, self._wanted = bytearray(), b"", 1
+        # What was fed and is not read yet; the beginning of it that is being read; how much was read that ends in a row;
+        # and how many bytes more may be read again.
+        self._fed, self._seen, self._tried, self._again = bytearray(), b"", 0, 0
         self._closed, self._ended, self._fault = False, False, None  # type: bool, bool, Optional[Fault]
+        self._told = False
         self._given = 0
 
     @property
@@ -213,24 +215,28 @@ class StripReader:
 
     @property
     def ended(self) -> bool:
-        """Whether the strip has ended: at its end mark, at the last of its rows, or after close.
+        """Whether the strip has ended: at its end mark, at the last of its rows, or after close, and its rows were
+        given; or at a fault, which was raised.
 
         >>> reader = faxpages.StripReader(width=8)
         >>> reader.feed(b"\\x80\\x08\\x00\\x80")
         >>> [len(list(reader)), reader.ended]
         [1, True]
         """
-        return self._ended and not self._ready
+        return (self._ended or self._told) and not self._ready
 
     def feed(self, data: ReadableBuffer) -> None:
-        """Takes more bytes. What comes after the end of the strip is left out.
+        """Takes more bytes. What comes after the end of the strip, or after its fault, is left out.
 
         >>> faxpages.StripReader().feed(b"\\x00")
         """
         if self._closed:
             raise ValueError("the reader is closed")
-        if not self._ended:
-            self._fed += own(data)
+        if not self._ended and not self._fault:
+            piece = own(data)
+            self._fed += piece
+            self._again += _AGAIN * len(piece)
+            self._read_on()
 
     def close(self) -> None:
         """Says that no more bytes come.
@@ -245,24 +251,31 @@ class StripReader:
         faxpages.faults.DataEnds: page 0 row 0: DataEnds
         """
         self._closed = True
+        self._read_on()
 
     def __iter__(self) -> Iterator[Row]:
-        while self._ready or self._read_more():
+        self._read_on()
+        while self._ready:
             self._given += 1
-            yield self._ready.popleft()
+            row = self._ready.popleft()
+            self._read_on()
+            yield row
         if self._fault:
+            self._told = True
             raise self._fault
 
     def __reduce__(self) -> NoReturn:
         raise TypeError("a StripReader cannot be copied, as an iterator cannot")
 
-    def _read_more(self) -> bool:
-        """Reads rows of what was fed, if there are some."""
-        while not self._ready and not self._ended and not self._fault:
-            if not self._seen and len(self._fed) < self._wanted and not self._closed:
-                return False
+    def _read_on(self) -> None:
+        """Reads rows of what was fed where none is ready, so that what has ended is known."""
+        while not self._ready and not self._ended and not self._fault and self._may_read():
             self._read_fed()
-        return bool(self._ready)
+
+    def _may_read(self) -> bool:
+        """Whether there is something to read that was not read yet, and may be."""
+        is_new = self._tried < len(self._fed) <= max(_TRIED, self._again)
+        return bool(self._seen) or self._closed or is_new
 
     def _read_fed(self) -> None:
         """Reads rows of what was fed."""
@@ -273,19 +286,20 @@ class StripReader:
             self._ready.append(Row(0, first + at // stride, width, read.packed[at:at + stride]))
         if read.status == _c.MORE:
             self._drop_read()
-        elif read.status == _c.FAULT:
-            self._fault = fault_of(read.fault)
         elif read.status != _c.DONE:
-            self._ended = True
-            self._fed.clear()
+            self._fault = fault_of(read.fault) if read.status == _c.FAULT else None
+            self._ended = not self._fault
+            self._fed, self._seen = bytearray(), b""
 
     def _drop_read(self) -> None:
         """Drops the bytes that were read wholly."""
         used = self._strip.place.bits // 8
         del self._fed[:used]
         self._strip.place.bits -= 8 * used
-        left = max(0, len(self._seen) - used - self._drop_fill())
-        self._seen, self._wanted = b"", left + (left // 4 if left > _TRIED else 1)
+        self._tried = max(0, len(self._seen) - used - self._drop_fill())
+        if self._tried > _TRIED:
+            self._again = max(0, self._again - self._tried)
+        self._seen = b""
 
     def _drop_fill(self) -> int:
         """Drops zeros before an EOL that are more than it has. Answers how many bytes they were."""

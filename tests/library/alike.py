@@ -87,7 +87,7 @@ class Growing:
         except faxpages.Fault as error:
             fault = error
         need((self._found, number_of(fault)) == (wanted.rows, wanted.fault), "another row or fault is there", self._strip)
-        need(self._reader.ended == (wanted.status == END), "the reader has ended, or not", self._strip)
+        need(self._reader.ended == (wanted.status == END or wanted.fault != 0), "the reader has ended, or not", self._strip)
 
 
 def main() -> None:

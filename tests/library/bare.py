@@ -120,7 +120,7 @@ def drawn_strips(claims: Claims) -> None:
             claims.see(f"strip {number} in pieces, {rows}",
                        b"".join(row.packed for row in got) == packed(wanted[0]) and reader.rows == len(got)
                        and [row.number for row in got] == list(range(len(got)))
-                       and why == (wanted[1] and (wanted[1], len(wanted[0]))) and reader.ended == (why is None))
+                       and why == (wanted[1] and (wanted[1], len(wanted[0]))) and reader.ended)
             for length in rng.sample(sorted(counts), min(2, len(counts))):
                 claims.see(f"strip {number} by {length} bytes", counts[length] == min(
                     len(by_plain(coding, order, width, MOST_ROWS, data[:length])[0]), rows or MOST_ROWS))
@@ -265,7 +265,66 @@ def ends_of_readers(claims: Claims) -> None:
     claims.see("a row before a fault", next(iter(reader)).number == 0)
     for _ in range(2):
         claims.raises("a fault, again", faxpages.OutOfRow, lambda: next(iter(reader)))
-    claims.see("it has not ended", not reader.ended and reader.rows == 1)
+    claims.see("it has ended, once the fault was raised", reader.ended and reader.rows == 1)
+
+
+def long_rows(claims: Claims) -> None:
+    """A row is given when its last byte was fed, however long it is; and the reader ends with the last byte of an end mark
+    with much fill."""
+    for width, piece, fill in ((9600, 1000, 5000), (9600, 200, 5000), (65528, 1000, 9000), (65528, 256, 5000), (4000, 1, 99)):
+        data = plain.to_bytes(plain.one_dimensional("WB" * (width // 2)))
+        reader, early = faxpages.StripReader(width, "mh"), 0
+        for at in range(0, len(data), piece):
+            early += sum(1 for _ in reader)
+            reader.feed(data[at:at + piece])
+        claims.see(f"a row of {len(data)} bytes by {piece}", (early, [row.runs() for row in reader]) == (0, [[1] * width]))
+        mark, early = (bytes(fill) + b"\x01") * 6, 0
+        for at in range(0, len(mark), piece):
+            early += reader.ended
+            reader.feed(mark[at:at + piece])
+        claims.see(f"an end mark of {len(mark)} bytes by {piece}", (early, reader.ended, list(reader)) == (0, True, []))
+
+
+def closed(claims: Claims) -> None:
+    """What a reader says after close: it has ended if all its rows were given, and if its fault was raised."""
+    row = plain.to_bytes(plain.one_dimensional("WB" * 4))
+    for cut in (b"", b"\x01"):
+        reader = faxpages.StripReader(8, "mh")
+        reader.feed(row + cut)
+        claims.see("one row, and more may come", len(list(reader)) == 1 and not reader.ended)
+        reader.close()
+        claims.see("it is closed", reader.ended == (not cut))
+        if cut:
+            claims.raises("its fault", faxpages.DataEnds, partial(list, reader))
+        claims.see("it is closed, and its fault was raised", reader.ended)
+    reader = faxpages.StripReader(8, "mh")
+    reader.feed(row)
+    reader.close()
+    claims.see("closed with a row that is due", not reader.ended and len(list(reader)) == 1 and reader.ended)
+
+
+def row_without_end(claims: Claims) -> None:
+    """A row of runs of no pels is read again in proportion to what was fed; and after its fault nothing is kept."""
+    library = faxpages._c.library
+    counting = Lengths(library)
+    setattr(faxpages._c, "library", counting)
+    reader, fed = faxpages.StripReader(1728, "mh"), 0
+    # No white pel, no black pel, four times in nine bytes.
+    piece = bytes([0x35, 0x0D, 0xCD, 0x43, 0x73, 0x50, 0xDC, 0xD4, 0x37]) * 12
+    for _ in range(2000):
+        reader.feed(piece)
+        fed += len(piece)
+    claims.see("it is read again, and not each time", 100 * fed < counting.total < 400 * fed)
+    setattr(faxpages._c, "library", library)
+    reader.close()
+    claims.raises("it is cut", faxpages.DataEnds, lambda: list(reader))
+    claims.see("nothing is kept", len(reader._fed) == len(reader._seen) == 0 and reader.ended)
+    reader = faxpages.StripReader(8)
+    reader.feed(b"\xb0")
+    next(iter(reader))
+    for _ in range(3):
+        reader.feed(bytes(1000))
+    claims.see("nothing is kept after a fault that was not raised yet", len(reader._fed) == 0 and not reader.ended)
 
 
 def refused(claims: Claims) -> None:
@@ -292,7 +351,8 @@ def refused(claims: Claims) -> None:
 
 def main() -> int:
     claims = Claims()
-    for part in (drawn_strips, counted_rows, coded, at_bytes, many_pieces, ends_of_readers, refused):
+    for part in (drawn_strips, counted_rows, coded, at_bytes, many_pieces, ends_of_readers, long_rows, closed,
+                 row_without_end, refused):
         part(claims)
     return claims.ends("bare")
 
