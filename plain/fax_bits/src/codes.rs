@@ -35,11 +35,14 @@ pub trait CodeTable {
     const COUNT: usize;
 
     /// The entry at a place below `COUNT`.
+    // requires { i < COUNT }
     fn entry(i: usize) -> CodeEntry<Self::Meaning>;
 
     /// The length in bits and the meaning of the code that begins `n` bits, 0 to 13 of them: the
     /// lowest of `window`, the highest first. `None` where no code is the beginning of them. A table
     /// that has no quicker way goes through its entries.
+    // requires few { n ≤ LONGEST_CODE }
+    // requires fits { window < 2 ^ n }
     fn find(window: u32, n: u32) -> Option<(u32, Self::Meaning)> {
         for i in 0..Self::COUNT {
             let entry = Self::entry(i);
@@ -85,6 +88,8 @@ pub fn read_code<T: CodeTable>(source: &mut BitSource) -> Result<T::Meaning, Cod
 /// Which fault it is that no code begins the last `n` bits, the lowest of `window`, by all entries:
 /// they may end within a code.
 #[inline(never)]
+// requires fits { window < 2 ^ n }
+// requires none { HasNoCode T.table (code_bits n window) }
 fn fault_at_end<T: CodeTable>(window: u32, n: u32) -> CodeFault {
     for i in 0..T::COUNT {
         let entry = T::entry(i);

@@ -50,6 +50,7 @@ impl<'a> BitSource<'a> {
     /// which `total` stand before them (T.4, section 4.1.1). Where they go past the row's end, or
     /// where that look-up has no such pair, the source is as it was.
     #[inline(always)]
+    // requires { total < 2 ^ 31 }
     pub fn pair_within(&mut self, total: u32, width: u32) -> Option<Pair> {
         self.window = self.window.loaded(self.bytes, self.order)?;
         let (len, pair) = find_pair(self.window.number(LOOKED_AT) >> AFTER_CODE)?;
@@ -64,6 +65,7 @@ impl<'a> BitSource<'a> {
     /// `width` pels of which `total` stand before them (T.4, sections 4.1.1 and 4.2.1.3.2). Where
     /// they go past the row's end, or where that look-up has no such pair, the source is as it was.
     #[inline(always)]
+    // requires { total < 2 ^ 31 }
     pub fn horizontal_pair_within(&mut self, total: u32, width: u32) -> Option<Pair> {
         self.window = self
             .window
@@ -123,6 +125,7 @@ impl<'a> BitSource<'a> {
     /// Goes past ones that are next, at most so many of them, and says how many they are. More of
     /// them may follow.
     #[inline(always)]
+    // requires { most ≤ 32 }
     pub fn past_ones(&mut self, most: u32) -> u32 {
         let count = self.window.ones().min(most);
         self.window = self.window.after(count);

@@ -73,6 +73,7 @@ impl CodeTable for Modes {
 /// The length and the meaning of the code of a mode that begins thirteen bits. Vertical modes,
 /// which most are, take one look-up; of the extension it says nothing.
 #[inline(always)]
+// requires { bits < 2 ^ LONGEST_CODE }
 pub(crate) fn find_mode(bits: u32) -> Option<(u32, ModeCode)> {
     let at = (bits >> 6) as usize;
     let len = VERTICAL_MODES.lens[at];

@@ -17,6 +17,7 @@ pub struct Pair {
 /// The pair whose terminating codes begin thirteen bits, of which they take twelve at most, and how
 /// many they take. Each of its runs has pels. `None` where no such pair does.
 #[inline(always)]
+// requires { bits < 2 ^ LONGEST_CODE }
 pub(crate) fn find_pair(bits: u32) -> Option<(u32, Pair)> {
     let at = (bits >> 1) as usize;
     let len = PAIRS.lens[at];
@@ -33,6 +34,8 @@ pub(crate) fn find_pair(bits: u32) -> Option<(u32, Pair)> {
 /// The terminating codes of a short run of the colour and of a short run of the other colour after
 /// it.
 #[inline(always)]
+// requires first { first < SHORT_RUN }
+// requires second { second < SHORT_RUN }
 pub(crate) fn short_pair_code(colour: Colour, first: u32, second: u32) -> PendingBits {
     let at = (first * SHORT_RUN + second) as usize;
     let (code, len) = match colour {

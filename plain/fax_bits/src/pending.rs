@@ -30,6 +30,8 @@ impl PendingBits {
 
     /// The lowest `len` bits of `bits`, the highest first.
     #[inline(always)]
+    // requires short { len ≤ 32 }
+    // requires fits { bits < 2 ^ len }
     pub(crate) fn of(bits: u32, len: u32) -> Self {
         PendingBits {
             number: u64::from(bits),
@@ -39,6 +41,7 @@ impl PendingBits {
 
     /// These and the next ones.
     #[inline(always)]
+    // requires { length self + length next ≤ 32 }
     pub(crate) fn then(self, next: Self) -> Self {
         PendingBits {
             number: (self.number << next.count) | next.number,

@@ -21,6 +21,7 @@ pub(crate) static VERTICAL_CODES: VerticalCodes = VerticalCodes {
 
 /// The code at a place of the run table of a colour.
 #[inline(always)]
+// requires { place < 105 }
 fn run_code(colour: Colour, place: usize) -> PendingBits {
     let entry = run_entry(colour, place);
     PendingBits::of(u32::from(entry.code), u32::from(entry.len))
@@ -28,6 +29,8 @@ fn run_code(colour: Colour, place: usize) -> PendingBits {
 
 /// The make-up code of so many times 64 pels, 1 to 40 times (T.4, tables 3a and 3b).
 #[inline(always)]
+// requires some { 0 < steps }
+// requires few { steps ≤ 40 }
 fn make_up_code(colour: Colour, steps: u32) -> PendingBits {
     run_code(colour, usize::from(TERMINATING_CODES) - 1 + steps as usize)
 }
@@ -35,6 +38,7 @@ fn make_up_code(colour: Colour, steps: u32) -> PendingBits {
 /// The codes of a run of `n` pels, fewer than 2560: at most one make-up code, and a terminating
 /// code (T.4, section 4.1.1).
 #[inline(always)]
+// requires { n < 2560 }
 fn codes_of_run(colour: Colour, n: u32) -> PendingBits {
     if n < 64 {
         return run_code(colour, n as usize);
@@ -45,6 +49,7 @@ fn codes_of_run(colour: Colour, n: u32) -> PendingBits {
 /// The code of vertical mode with a1 `d` pels right of b1, -3 to 3 (T.4, section 4.2.1.3.2 and
 /// table 4).
 #[inline(always)]
+// requires { IsWritten (Vertical d) }
 fn vertical_code(d: i8) -> PendingBits {
     let place = (i32::from(d) + 3) as usize;
     PendingBits::of(
@@ -55,6 +60,7 @@ fn vertical_code(d: i8) -> PendingBits {
 
 /// The code of a mode (T.4, section 4.2.1.3.2 and table 4).
 #[inline(always)]
+// requires { IsWritten mode }
 fn mode_code(mode: ModeCode) -> PendingBits {
     match mode {
         ModeCode::Pass => PendingBits::of(0b0001, 4),
@@ -72,6 +78,7 @@ fn mode_code(mode: ModeCode) -> PendingBits {
 ///
 /// Where a growth was refused. Some of these codes may have been put then, from the first on and
 /// each of them whole.
+// requires { n < 2 ^ 16 }
 pub fn put_run(sink: &mut BitSink, colour: Colour, n: u32) -> Result<(), Memory> {
     for _ in 0..n / 2560 {
         make_up_code(colour, 40).put_all(sink)?;
@@ -85,6 +92,7 @@ pub fn put_run(sink: &mut BitSink, colour: Colour, n: u32) -> Result<(), Memory>
 /// # Errors
 ///
 /// Where a growth was refused. The sink is then as it was.
+// requires { IsWritten mode }
 pub fn put_mode(sink: &mut BitSink, mode: ModeCode) -> Result<(), Memory> {
     mode_code(mode).put_all(sink)
 }
@@ -99,6 +107,7 @@ impl PendingBits {
     /// Where a growth was refused. The pending bits and those of the run were put up to some place
     /// then.
     #[inline(always)]
+    // requires { n < 2 ^ 16 }
     pub fn put_run(self, sink: &mut BitSink, colour: Colour, n: u32) -> Result<Self, Memory> {
         if n < 2560 {
             return self.put(sink, codes_of_run(colour, n));
@@ -109,6 +118,7 @@ impl PendingBits {
 
     /// Puts these bits and a run of any length, after which none is pending.
     #[inline(never)]
+    // requires { n < 2 ^ 16 }
     fn put_longest_run(self, sink: &mut BitSink, colour: Colour, n: u32) -> Result<(), Memory> {
         self.put_all(sink)?;
         put_run(sink, colour, n)
@@ -122,6 +132,8 @@ impl PendingBits {
     ///
     /// Where a growth was refused. The sink is then as it was.
     #[inline(always)]
+    // requires first { first < SHORT_RUN }
+    // requires second { second < SHORT_RUN }
     pub fn put_short_pair(
         self,
         sink: &mut BitSink,
@@ -139,6 +151,7 @@ impl PendingBits {
     ///
     /// Where a growth was refused. The sink is then as it was.
     #[inline(always)]
+    // requires { IsWritten mode }
     pub fn put_mode(self, sink: &mut BitSink, mode: ModeCode) -> Result<Self, Memory> {
         self.put(sink, mode_code(mode))
     }
@@ -148,6 +161,7 @@ impl BitSource<'_> {
     /// Goes past the codes of a run of `n` pels, fewer than 2560, as they are written, where they
     /// stand next, and answers whether they do (T.4, section 4.1.1). Else it stays.
     #[inline(always)]
+    // requires { n < 2560 }
     pub fn take_run(&mut self, colour: Colour, n: u32) -> bool {
         codes_of_run(colour, n).take(self)
     }

@@ -111,6 +111,7 @@ impl CodeTable for BlackRuns {
 
 /// The entry at a place of the run table of a colour.
 #[inline(always)]
+// requires { i < 105 }
 pub(crate) fn run_entry(colour: Colour, i: usize) -> CodeEntry<RunCode> {
     let (code, len) = match colour {
         Colour::White => (WHITE_CODES[i], WHITE_LENS[i]),
@@ -124,6 +125,8 @@ pub(crate) fn run_entry(colour: Colour, i: usize) -> CodeEntry<RunCode> {
 }
 
 /// What `find` of the run table of a colour says.
+// requires few { n ≤ LONGEST_CODE }
+// requires fits { window < 2 ^ n }
 fn find_run(colour: Colour, window: u32, n: u32) -> Option<(u32, RunCode)> {
     let place = run_place(colour, window << (LONGEST_CODE - n));
     if place < RUN_ENTRIES {
@@ -136,6 +139,7 @@ fn find_run(colour: Colour, window: u32, n: u32) -> Option<(u32, RunCode)> {
 /// The place of the code that begins thirteen bits in the run table of a colour, or the number of
 /// codes where none does.
 #[inline(always)]
+// requires { bits < 2 ^ LONGEST_CODE }
 fn run_place(colour: Colour, bits: u32) -> usize {
     let at = bits as usize;
     match colour {
@@ -149,6 +153,7 @@ fn run_place(colour: Colour, bits: u32) -> usize {
 /// The length and the meaning of the code for a run of the colour that begins thirteen bits, but
 /// for the extension. `None` where no such code does. Short codes are looked up first.
 #[inline(always)]
+// requires { bits < 2 ^ LONGEST_CODE }
 pub(crate) fn find_run_code(colour: Colour, bits: u32) -> Option<(u32, RunCode)> {
     let at = bits as usize;
     let short = match colour {
@@ -167,6 +172,7 @@ pub(crate) fn find_run_code(colour: Colour, bits: u32) -> Option<(u32, RunCode)>
 }
 
 /// What the code at a place of a run table means.
+// requires { i < 105 }
 fn meaning_at(i: u16) -> RunCode {
     if i < TERMINATING_CODES {
         RunCode::Terminating(i)

@@ -15,6 +15,9 @@ const ROOM: usize = 9;
 
 /// Pushes the whole bytes of pending bits after bytes that have room for them, and answers the bits
 /// that are pending then, fewer than eight, and how many they are.
+// requires few { count ≤ 64 }
+// requires fits { pending < 2 ^ count }
+// requires room { 8 * vec_len bytes.old + count ≤ 8 * vec_capacity bytes.old }
 fn push_whole(bytes: &mut Vec<u8>, pending: u64, count: u32) -> (u64, u32) {
     let mut rest = pending;
     let mut left = count;
@@ -29,6 +32,7 @@ fn push_whole(bytes: &mut Vec<u8>, pending: u64, count: u32) -> (u64, u32) {
 
 /// Pushes the four bytes of a word, the highest first, after bytes that have room for them.
 #[inline(always)]
+// requires room { vec_len bytes.old + 4 ≤ vec_capacity bytes.old }
 fn push_word(bytes: &mut Vec<u8>, word: u32) {
     // There is room, so that this does not fail.
     let _ = bytes.extend_from_slice(&word.to_be_bytes());
@@ -92,6 +96,8 @@ impl BitSink {
     ///
     /// Where a growth was refused. The sink is then as it was.
     #[inline(always)]
+    // requires short { len ≤ 32 }
+    // requires fits { bits < 2 ^ len }
     pub fn put(&mut self, bits: u32, len: u32) -> Result<(), Memory> {
         let count = self.count + len;
         if count > self.most {
@@ -105,6 +111,8 @@ impl BitSink {
     /// What `put` does where the pending bits have to become bytes, or have no room yet, for 0 to
     /// 32 bits.
     #[inline(never)]
+    // requires short { len ≤ 32 }
+    // requires fits { bits < 2 ^ len }
     fn store(&mut self, bits: u32, len: u32) -> Result<(), Memory> {
         self.bytes.reserve(ROOM).map_err(|_| Memory)?;
         let pending = (self.pending << len) | u64::from(bits);
@@ -143,6 +151,7 @@ impl BitSink {
     }
 
     /// The bytes of the bits, which make up whole bytes.
+    // requires whole { length self.bits % 8 ≡ 0 }
     pub fn into_bytes(self) -> Vec<u8> {
         let mut bytes = self.bytes;
         // No bits are pending after these bytes.

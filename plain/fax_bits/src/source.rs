@@ -18,6 +18,7 @@ impl<'a> BitSource<'a> {
     /// The first bit of at most 4,294,967,295 bytes; `order` says which bit of a byte comes first
     /// (TIFF 6.0, FillOrder).
     #[inline(never)]
+    // requires count { length bytes.now ≤ 4294967295 }
     pub fn new(bytes: &'a [u8], order: FillOrder) -> Self {
         BitSource {
             bytes,
@@ -37,6 +38,7 @@ impl<'a> BitSource<'a> {
     }
 
     /// The bit that is `i` bits ahead.
+    // requires { i < length self.now.left }
     pub(crate) fn bit(&self, i: u64) -> bool {
         let at = self.window.place() + i;
         let byte = self.bytes[(at / 8) as usize];
@@ -45,6 +47,7 @@ impl<'a> BitSource<'a> {
 
     /// The number that the next `n` bits spell, 0 to 32 of them, the highest first. Past the end of
     /// the bytes it sees zeros, which are no bits: `remaining` says how many bits there are.
+    // requires { n ≤ 32 }
     pub fn peek(&self, n: u32) -> u32 {
         if n == 0 {
             return 0;
@@ -57,6 +60,7 @@ impl<'a> BitSource<'a> {
 
     /// The byte that begins `i` bits ahead is whole and all zeros. `false` where no byte begins
     /// there.
+    // requires { i < length self.now.left }
     fn is_zero_byte(&self, i: u64) -> bool {
         let at = self.window.place() + i;
         at % 8 == 0 && self.bytes[(at / 8) as usize] == 0
@@ -121,6 +125,8 @@ impl<'a> BitSource<'a> {
 
     /// Goes past the lowest `len` bits of `bits`, 0 to 32 of them, the highest first, where they
     /// stand next, and answers whether they do. Else it stays.
+    // requires short { len ≤ 32 }
+    // requires fits { bits < 2 ^ len }
     pub fn take(&mut self, bits: u32, len: u32) -> bool {
         if len == 0 {
             return true;
@@ -134,6 +140,8 @@ impl<'a> BitSource<'a> {
     }
 
     /// Whether the lowest `len` bits of `bits`, 0 to 48 of them, the highest first, stand next.
+    // requires short { len ≤ 48 }
+    // requires fits { bits < 2 ^ len }
     pub(crate) fn begins(&self, bits: u64, len: u32) -> bool {
         let low = len / 2;
         let mut ahead = self.again();
@@ -145,6 +153,7 @@ impl<'a> BitSource<'a> {
 
     /// Goes on by `n` bits.
     #[inline(always)]
+    // requires { n ≤ length self.old.left }
     pub fn skip(&mut self, n: u64) {
         if n <= u64::from(self.window.count) && n < 64 {
             self.window = self.window.after(n as u32);
@@ -155,6 +164,8 @@ impl<'a> BitSource<'a> {
 
     /// Goes on to a place.
     #[inline(always)]
+    // requires ahead { self.old.place ≤ place }
+    // requires within { place ≤ self.old.place + length self.old.left }
     pub fn skip_to(&mut self, place: u64) {
         // By its fields, so that the window that is gone on with need not stand in memory.
         let window = Window::from_place(self.bytes, self.order, place);
@@ -163,6 +174,7 @@ impl<'a> BitSource<'a> {
 
     /// What `skip` does past bits that are not loaded.
     #[inline(never)]
+    // requires { n ≤ length self.old.left }
     fn skip_further(&mut self, n: u64) {
         let place = self.window.place() + n;
         let ahead = self.window.filled(self.bytes, self.order);
@@ -175,6 +187,7 @@ impl<'a> BitSource<'a> {
 }
 
 /// Which bit of a byte, 0 the lowest, is coded at a place of its eight bits (TIFF 6.0, FillOrder).
+// requires { place < 8 }
 fn bit_in_byte(order: FillOrder, place: u64) -> u64 {
     match order {
         FillOrder::MsbFirst => 7 - place,

@@ -14,6 +14,7 @@ pub struct Verticals {
 /// The vertical modes whose codes begin thirteen bits, of which they take twelve at most, and how
 /// many they take: two modes to four. `None` where fewer begin them.
 #[inline(always)]
+// requires { bits < 2 ^ LONGEST_CODE }
 pub(crate) fn find_verticals(bits: u32) -> Option<(u32, Verticals)> {
     let at = (bits >> 1) as usize;
     let len = VERTICALS.lens[at];

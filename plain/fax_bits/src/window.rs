@@ -26,6 +26,7 @@ impl Window {
 
     /// The bits from a place on, of which no more than those of its byte are loaded.
     #[inline(never)]
+    // requires { IsPlaced bytes.now place }
     pub fn from_place(bytes: &[u8], order: FillOrder, place: u64) -> Window {
         let at = (place / 8) as usize;
         let bits = (place % 8) as u32;
@@ -47,12 +48,16 @@ impl Window {
 
     /// How many bits of the bytes stand before its own.
     #[inline(always)]
+    // requires after { self.count ≤ 8 * self.at }
+    // requires within { self.at ≤ 4294967295 }
     pub fn place(self) -> u64 {
         self.at as u64 * 8 - u64::from(self.count)
     }
 
     /// The bits after the next `n`, which are loaded.
     #[inline(always)]
+    // requires loaded { n ≤ self.count }
+    // requires short { n < 64 }
     pub fn after(self, n: u32) -> Window {
         Window {
             bits: self.bits << n,
@@ -63,6 +68,8 @@ impl Window {
 
     /// The same bits, of which four bytes more are loaded.
     #[inline(always)]
+    // requires room { self.count < 32 }
+    // requires left { self.at + 4 ≤ length bytes.now }
     pub fn refilled(self, bytes: &[u8], order: FillOrder) -> Window {
         let word = word_at(bytes, self.at, order);
         Window {
@@ -74,6 +81,8 @@ impl Window {
 
     /// The same bits, of which one byte more is loaded.
     #[inline(always)]
+    // requires room { self.count ≤ 56 }
+    // requires left { self.at < length bytes.now }
     pub fn with_byte(self, bytes: &[u8], order: FillOrder) -> Window {
         let byte = byte_at(bytes, self.at, order);
         Window {
@@ -86,6 +95,7 @@ impl Window {
     /// The same bits, of which single bytes more are loaded, up to 32 bits or to the end of the
     /// bytes.
     #[inline(never)]
+    // requires within { self.at ≤ length bytes.now }
     pub fn with_last_bytes(self, bytes: &[u8], order: FillOrder) -> Window {
         let mut more = self;
         while more.count < 32 && more.at < bytes.len() {
@@ -96,6 +106,7 @@ impl Window {
 
     /// The same bits, of which at least 32 are loaded, or all that are left.
     #[inline(always)]
+    // requires within { self.at ≤ length bytes.now }
     pub fn filled(self, bytes: &[u8], order: FillOrder) -> Window {
         match self.loaded(bytes, order) {
             Some(more) => more,
@@ -105,6 +116,7 @@ impl Window {
 
     /// The same bits, of which at least 32 are loaded, or `None` near the end of the bytes.
     #[inline(always)]
+    // requires { self.at ≤ length bytes.now }
     pub fn loaded(self, bytes: &[u8], order: FillOrder) -> Option<Window> {
         self.loaded_for(32, bytes, order)
     }
@@ -112,6 +124,8 @@ impl Window {
     /// The same bits, of which at least `least` are loaded, 0 to 32 of them, or `None` near the end
     /// of the bytes.
     #[inline(always)]
+    // requires within { self.at ≤ length bytes.now }
+    // requires few { least ≤ 32 }
     pub fn loaded_for(self, least: u32, bytes: &[u8], order: FillOrder) -> Option<Window> {
         if self.count >= least {
             return Some(self);
@@ -143,6 +157,8 @@ impl Window {
     /// The number that the next `n` bits spell, where they are loaded, or all that are left are:
     /// past the end of the bytes it sees zeros, which are no bits.
     #[inline(always)]
+    // requires some { 0 < n }
+    // requires few { n ≤ 32 }
     pub fn number(self, n: u32) -> u32 {
         (self.bits >> (64 - n)) as u32
     }
@@ -150,6 +166,7 @@ impl Window {
 
 /// The bits of a byte as a number, the first bit highest.
 #[inline(always)]
+// requires { at < length bytes.now }
 fn byte_at(bytes: &[u8], at: usize, order: FillOrder) -> u8 {
     match order {
         FillOrder::MsbFirst => bytes[at],
@@ -159,6 +176,7 @@ fn byte_at(bytes: &[u8], at: usize, order: FillOrder) -> u8 {
 
 /// The bits of four bytes as a number, the first bit highest.
 #[inline(always)]
+// requires { at + 4 ≤ length bytes.now }
 pub(crate) fn word_at(bytes: &[u8], at: usize, order: FillOrder) -> u32 {
     let word = [bytes[at], bytes[at + 1], bytes[at + 2], bytes[at + 3]];
     match order {

@@ -11,6 +11,9 @@ use fax_rows::Row;
 use kit_std::alloc::Global;
 
 /// The rows of a raster from one on, coded as a strip.
+// requires limits { IsStripForm form }
+// requires some_k { 0 < k }
+// requires raster { Raster.HoldsRaster (length raster.now) form.width (first + form.rows) stride }
 pub(crate) fn code_strip(
     alloc: Global,
     form: StripForm,

@@ -26,6 +26,8 @@ fn take_row(row: &mut Row, rows: &[FaxRow], runs: &[u32], i: usize) -> bool {
 
 /// The rows of a table, whose runs stand apart, coded as a strip, or none where one is no row of its
 /// width.
+// requires limits { IsStripForm form }
+// requires some_k { 0 < k }
 fn code_rows(
     alloc: Global,
     form: StripForm,

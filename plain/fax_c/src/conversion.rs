@@ -125,6 +125,7 @@ impl FaxConverted {
 }
 
 /// Writes a part of an output at a place, and answers where it ends.
+// requires { at + length (part_bytes part) ≤ length out.old }
 fn put_part(out: &mut [u8], at: usize, part: Part) -> usize {
     let zeros = at + part.held.len();
     put_bytes(out, at, part.held);

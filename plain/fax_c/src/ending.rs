@@ -17,6 +17,7 @@ fn is_endable(written: &FaxWritten) -> bool {
 }
 
 /// Where the link of a page stands to which a link leads, if that page lies after the link.
+// requires { link + 4 ≤ length file.now }
 fn next_link(file: &[u8], link: usize) -> Option<usize> {
     let directory = four_at(file, link) as usize;
     if directory < link + 4 || directory > file.len().saturating_sub(TO_LINK + 4) {
@@ -26,6 +27,7 @@ fn next_link(file: &[u8], link: usize) -> Option<usize> {
 }
 
 /// Whether so many pages stand in a file after its header, and the last has its link here.
+// requires { 8 ≤ length file.now }
 fn are_pages(file: &[u8], count: u32, last: usize) -> bool {
     let mut link = 4;
     for _ in 0..count {
@@ -38,6 +40,8 @@ fn are_pages(file: &[u8], count: u32, last: usize) -> bool {
 }
 
 /// Tells each page of a file how many there are.
+// requires header { 8 ≤ length file.old }
+// requires pages { (last : ℕ) × Spec.ArePagesAfter file.old pages 4 last }
 fn put_totals(file: &mut [u8], pages: u16) {
     let mut link = 4;
     for _ in 0..pages {

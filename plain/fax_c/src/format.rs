@@ -11,6 +11,7 @@ pub(crate) trait RowFormat {
     const MOST: usize;
 
     /// Writes those of a row at a place, where they have room, and answers where they end.
+    // requires { at ≤ length out.old }
     fn put(row: &Row, out: &mut [Self::Number], at: usize) -> Option<usize>;
 }
 
@@ -36,6 +37,7 @@ impl RowFormat for Packed {
 pub(crate) struct Runs;
 
 /// Writes the runs that are left at a place where they have room.
+// requires { at + length runs.old ≤ length out.old }
 fn put_runs(runs: &mut LongestRuns, out: &mut [u32], at: usize) {
     let mut to = at;
     while let Some(run) = runs.next_run() {

@@ -86,6 +86,7 @@ pub(crate) fn next_form(pages: &mut Pages) -> Result<PageForm, End> {
 }
 
 /// Writes the forms of the first pages of a reader, as many as have room.
+// requires { pages.old.given ≡ 0 }
 fn fill_forms(pages: &mut Pages, forms: &mut [FaxForm]) -> Filled {
     fax_walk::laws::form_tails_are_one();
     let mut count = 0;

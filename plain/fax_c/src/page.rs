@@ -8,6 +8,7 @@ use fax_walk::{Cursor, End, Pages, Walk};
 use kit_std::alloc::Global;
 
 /// Writes the next row of a walk at a place of a raster, and answers where it ends.
+// requires { at ≤ length out.old }
 fn put_next_padded(walk: &mut Walk, stride: usize, out: &mut [u8], at: usize) -> Result<usize, Stop> {
     match walk.next_row() {
         Ok(Some((_, row))) => match put_padded(row, stride, out, at) {
@@ -20,6 +21,7 @@ fn put_next_padded(walk: &mut Walk, stride: usize, out: &mut [u8], at: usize) ->
 }
 
 /// Writes the first rows of a walk into a raster, as many as are asked for and have room.
+// requires { walk.old.given ≡ 0 }
 fn fill_raster(walk: &mut Walk, asked: u32, stride: usize, out: &mut [u8]) -> Filled {
     fax_walk::laws::beginnings_have_one_tail();
     let mut count = 0;

@@ -48,6 +48,7 @@ impl FaxPlace {
 }
 
 /// What a walk begins with that goes on at a place, or none where memory was refused for its runs.
+// requires { place.now.runs ≤ length runs.now }
 pub(crate) fn begun_at(alloc: Global, place: &FaxPlace, runs: &[u32]) -> Option<Begun> {
     let at = place.cursor();
     if place.runs == 0 {
@@ -64,6 +65,7 @@ pub(crate) fn begun_at(alloc: Global, place: &FaxPlace, runs: &[u32]) -> Option<
 }
 
 /// Tells a place inside a strip, where its runs have room, and answers how it was told.
+// requires { 0 < length found.now.runs }
 pub(crate) fn tell_place(found: &LongCursor, place: &mut FaxPlace, runs: &mut [u32]) -> u32 {
     let count = found.runs.len();
     if count > MOST_RUNS {
@@ -84,6 +86,8 @@ pub(crate) fn tell_place(found: &LongCursor, place: &mut FaxPlace, runs: &mut [u
 
 /// Tells the place inside a strip after the rows that a walk has handed out, where there is one and
 /// its runs have room.
+// requires some { 0 < walk.now.given }
+// requires none { place.old.runs ≡ 0 }
 fn tell_inside(walk: &Walk, place: &mut FaxPlace, runs: &mut [u32]) {
     let Some(found) = walk.lend_place() else {
         return;
@@ -101,6 +105,8 @@ fn tell_inside(walk: &Walk, place: &mut FaxPlace, runs: &mut [u32]) {
 
 /// Tells the place after so many rows, which a walk has handed out and no more: where they are
 /// none, a place inside a strip stays.
+// requires given { 0 < count → walk.now.given ≡ count }
+// requires begun { count ≡ 0 → Code.IsBegunAt walk.now.begun place.old runs.old }
 fn tell_after(walk: &Walk, cursor: Cursor, count: usize, place: &mut FaxPlace, runs: &mut [u32]) {
     if count > 0 {
         *place = FaxPlace::at(cursor);
@@ -112,6 +118,7 @@ fn tell_after(walk: &Walk, cursor: Cursor, count: usize, place: &mut FaxPlace, r
 
 /// Tells the place before the next row, where rows stand before it and it may have no room in so
 /// many numbers: a walk that has handed it out has passed the place.
+// requires { walk.now.given ≡ count }
 pub(crate) fn place_before<F: RowFormat>(
     walk: &Walk,
     cursor: Cursor,
@@ -127,6 +134,10 @@ pub(crate) fn place_before<F: RowFormat>(
 
 /// Tells the place after the rows that were written. Where the next one had no room, the walk has
 /// passed it, and it was told before.
+// requires given { filled.now.stop ≢ NoRoom → walk.now.given ≡ filled.now.count }
+// requires begun { filled.now.count ≡ 0 → Code.IsBegunAt walk.now.begun place.old runs.old }
+// requires told { 0 < filled.now.count → filled.now.stop ≡ NoRoom → Spec.IsAfterRows walk.now.file
+//     walk.now.begun filled.now.cursor filled.now.count place.old runs.old }
 pub(crate) fn place_after(walk: &Walk, filled: &Filled, place: &mut FaxPlace, runs: &mut [u32]) {
     if filled.count == 0 || !filled.stop.is_no_room() {
         tell_after(walk, filled.cursor, filled.count, place, runs);

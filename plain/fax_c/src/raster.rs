@@ -16,12 +16,15 @@ fn clear(bytes: &mut [u8]) {
 }
 
 /// Writes zeros from a place to another.
+// requires order { at ≤ to }
+// requires within { to ≤ length out.old }
 pub(crate) fn put_zeros(out: &mut [u8], at: usize, to: usize) {
     clear(&mut out[at..to]);
 }
 
 /// Writes a row's bytes at a place, and zeros after them up to the stride, where they have room,
 /// and answers where they end.
+// requires { at ≤ length out.old }
 pub(crate) fn put_padded(row: &Row, stride: usize, out: &mut [u8], at: usize) -> Option<usize> {
     let size = packed_len(row.width()).max(stride);
     if out.len() - at < size {
@@ -36,6 +39,7 @@ pub(crate) fn put_padded(row: &Row, stride: usize, out: &mut [u8], at: usize) ->
 }
 
 /// Whether so many bytes hold a raster of so many rows.
+// requires { 0 < rows }
 pub(crate) fn holds_raster(len: usize, width: u32, rows: u32, stride: usize) -> bool {
     let Some(last) = (rows as usize - 1).checked_mul(stride) else {
         return false;

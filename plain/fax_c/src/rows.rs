@@ -24,6 +24,7 @@ pub struct FaxRow {
 }
 
 /// Writes the next row of a walk at a place, and answers where it lies.
+// requires { at ≤ length out.old }
 fn put_next<F: RowFormat>(walk: &mut Walk, out: &mut [F::Number], at: usize) -> Result<FaxRow, Stop> {
     match walk.next_row() {
         Ok(Some((place, row))) => match F::put(row, out, at) {
@@ -43,6 +44,8 @@ fn put_next<F: RowFormat>(walk: &mut Walk, out: &mut [F::Number], at: usize) -> 
 
 /// Writes the first rows of a walk, as many as are asked for and have room, and where each lies.
 /// The place, with which the walk began, is then the one after them.
+// requires none { walk.old.given ≡ 0 }
+// requires begun { Code.IsBegunAt walk.old.begun place.old runs.old }
 fn fill<F: RowFormat>(
     walk: &mut Walk,
     place: &mut FaxPlace,

@@ -40,6 +40,7 @@ impl FaxLost {
 }
 
 /// The stretch that ends before a row of a page, with so many rows more, which are lost for this cause.
+// requires { Walk.HasRoom lost rows }
 fn longer(lost: Option<Stretch>, page: u32, row: u32, rows: u32, cause: Cause) -> Stretch {
     match lost {
         Some(stretch) => Stretch {
@@ -57,6 +58,7 @@ fn longer(lost: Option<Stretch>, page: u32, row: u32, rows: u32, cause: Cause) -
 
 /// Writes a stretch that has ended, if one has, after so many others, where it has room, and answers
 /// how many there are now.
+// requires { count ≤ 1000000 }
 fn put_stretch(ended: Option<Stretch>, lost: &mut [FaxLost], count: usize) -> usize {
     let Some(stretch) = ended else {
         return count;
@@ -79,6 +81,8 @@ fn holds_rows(len: usize, width: u32, rows: u32, stride: usize) -> bool {
 }
 
 /// Writes a row that is found into a raster that has room for it, and answers where it ends.
+// requires short { Coded.packed_len (length row.now) ≤ stride }
+// requires room { at + stride ≤ length out.old }
 fn put_found(row: &Row, stride: usize, out: &mut [u8], at: usize) -> usize {
     let Some(to) = put_padded(row, stride, out, at) else {
         unreachable!();
@@ -87,6 +91,7 @@ fn put_found(row: &Row, stride: usize, out: &mut [u8], at: usize) -> usize {
 }
 
 /// Writes so many rows that are lost into a raster that has room for them, and answers where they end.
+// requires room { at + rows * stride ≤ length out.old }
 fn put_lost(rows: u32, stride: usize, out: &mut [u8], at: usize) -> usize {
     let to = at + rows as usize * stride;
     put_zeros(out, at, to);
@@ -104,6 +109,10 @@ fn stop_after(stretches: usize, room: usize) -> Stop {
 
 /// Writes all rows that are left into a raster that has room for them, and the first stretches that
 /// are lost, as many as have room.
+// requires begun { left.old.row ≡ 0 }
+// requires few { left.old.rows ≤ 1000000 }
+// requires short { Coded.packed_len left.old.width ≤ stride }
+// requires room { left.old.rows * stride ≤ length out.old }
 fn fill_left(
     left: &mut RowsLeft,
     page: u32,
@@ -142,6 +151,7 @@ fn fill_left(
 
 /// Tells what was written of rows that nobody counted, and how they end, where all stretches that are
 /// lost had room.
+// requires { Code.IsDoneOrFull filled.now.stop }
 fn tell_left(filled: &Filled, end: RowsEnd, told: &mut FaxTold) -> u32 {
     if filled.stop.is_no_room() {
         return filled.tell(told);
@@ -150,6 +160,8 @@ fn tell_left(filled: &Filled, end: RowsEnd, told: &mut FaxTold) -> u32 {
 }
 
 /// Writes what is left of a strip whose rows nobody counted into a raster, and the rows that are lost.
+// requires count { length strip.now ≤ 536870911 }
+// requires limits { IsStripForm form }
 fn salvage_uncounted(
     alloc: Global,
     strip: &[u8],

@@ -14,11 +14,13 @@ use fax_walk::End;
 use kit_std::alloc::Global;
 
 /// Whether a row is due at a place that is after these bytes.
+// requires count { length strip.now ≤ 536870911 }
 fn is_ahead(strip: &[u8], form: StripForm, place: &FaxPlace) -> bool {
     place.row < form.rows && u64::from(place.bits) > 8 * strip.len() as u64
 }
 
 /// Whether a stop may be another one where more bytes follow.
+// requires count { length strip.now ≤ 536870911 }
 fn may_change(strip: &[u8], form: StripForm, place: &FaxPlace, stop: Stop) -> bool {
     match stop {
         Stop::Ended(

@@ -39,6 +39,9 @@ fn row_before<'a>(place: &FaxPlace, runs: &'a [u32]) -> Option<RowBefore<'a>> {
 }
 
 /// A reader of a strip before the row that is due at a place, or why there is none.
+// requires count { length strip.now ≤ 536870911 }
+// requires limits { IsStripForm form }
+// requires due { place.now.row < form.rows }
 fn reader_at<'a>(
     alloc: Global,
     strip: &'a [u8],
@@ -69,6 +72,7 @@ fn stop_of(page: u32, row: u32, fault: Option<StripFault>) -> Stop {
 }
 
 /// Reads the next row of a strip, and answers why there is none, if there is none.
+// requires { reader.old.fault ≡ None }
 fn read_next(reader: &mut StripReader, page: u32) -> Option<Stop> {
     match reader.advance() {
         Ok(true) => None,
@@ -78,6 +82,9 @@ fn read_next(reader: &mut StripReader, page: u32) -> Option<Stop> {
 }
 
 /// Reads the rows of a strip into a raster from the row that is due on, as many as have room.
+// requires no_fault { reader.old.fault ≡ None }
+// requires stride { Coded.packed_len reader.old.form.width ≤ stride }
+// requires some { 0 < stride }
 fn fill_strip(reader: &mut StripReader, page: u32, stride: usize, out: &mut [u8]) -> Filled {
     fax_bits::laws::bits_stand_by_place();
     let mut count = 0;
@@ -108,6 +115,8 @@ fn fill_strip(reader: &mut StripReader, page: u32, stride: usize, out: &mut [u8]
 }
 
 /// Tells the place of the row that is due, after so many rows: where they are none, it stays.
+// requires room { 65536 ≤ length runs.old }
+// requires few { length reader.now.bytes ≤ 536870911 }
 fn tell_due(reader: &StripReader, count: usize, place: &mut FaxPlace, runs: &mut [u32]) {
     if count == 0 {
         return;
@@ -137,6 +146,9 @@ fn stop_before(form: StripForm, place: &FaxPlace, stride: usize, room: usize) ->
 }
 
 /// Reads rows of a strip into a raster from a place on, which is then the one after them.
+// requires count { length strip.now ≤ 536870911 }
+// requires limits { IsStripForm form }
+// requires room { 65536 ≤ length runs.old }
 pub(crate) fn read_strip(
     alloc: Global,
     strip: &[u8],

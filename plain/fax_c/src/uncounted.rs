@@ -46,6 +46,7 @@ fn go_on(source: &mut BitSource, bits: u64) {
 
 /// How rows end that nobody counted and that are read up to a place, where this fault is in the way
 /// of the next one, or none is.
+// requires count { length strip.now ≤ 536870911 }
 pub(crate) fn end_at(
     strip: &[u8],
     form: StripForm,
@@ -86,6 +87,7 @@ pub(crate) fn tell_end(filled: &Filled, place: &FaxPlace, end: RowsEnd, told: &m
 
 /// Tells what was written of rows that nobody counted, up to a place, and answers how the call
 /// ended.
+// requires count { length strip.now ≤ 536870911 }
 pub(crate) fn tell_uncounted(
     filled: &Filled,
     strip: &[u8],

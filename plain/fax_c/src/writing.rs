@@ -77,6 +77,9 @@ fn page_form_of(given: &FaxForm) -> Option<PageForm> {
 }
 
 /// The strips of a page, whose rows are those of a raster.
+// requires limits { IsPageForm form.now }
+// requires some_k { 0 < k }
+// requires raster { Raster.HoldsRaster (length raster.now) form.now.width form.now.rows stride }
 fn code_strips(
     alloc: Global,
     form: &PageForm,
@@ -119,12 +122,15 @@ fn is_held(written: &FaxWritten, room: usize) -> bool {
 }
 
 /// Whether the last page of a file that is written so far, if there is one, says its total.
+// requires writing { Spec.IsWriting written.now }
+// requires held { Spec.IsHeld written.now (length file.now) }
 fn is_total_said(written: &FaxWritten, file: &[u8]) -> bool {
     written.added == 0 || u32::from(two_at(file, written.link as usize - 2)) == written.total
 }
 
 /// Where a file that is written goes on, and where the offset of the next directory stands: after
 /// its header, or after the pages that were added.
+// requires { Spec.IsWriting written.now }
 fn place_of(written: &FaxWritten) -> (u32, u32) {
     if written.added == 0 {
         (8, 4)
@@ -139,6 +145,7 @@ fn has_room(len: usize, start: usize, count: usize) -> bool {
 }
 
 /// Writes the header of a file, where no page was added.
+// requires { (Code.place_of written.now).0 ≤ length file.old }
 fn put_header(file: &mut [u8], written: &FaxWritten) {
     if written.added == 0 {
         put_bytes(file, 0, &[b'I', b'I', 42, 0, 0, 0, 0, 0]);
@@ -147,12 +154,20 @@ fn put_header(file: &mut [u8], written: &FaxWritten) {
 
 /// Adds a page to a file, which has room for it: its bytes after the file's, and the place of its
 /// directory, where the last page has the offset of the next one.
+// requires link { link + 4 ≤ start }
+// requires room { start + length page.now ≤ length file.old }
 fn put_page(file: &mut [u8], start: usize, link: usize, page: &[u8], directory: u32) {
     put_bytes(file, start, page);
     put_four(file, link, directory);
 }
 
 /// Adds a page to a file of the caller, where it has room, and answers how that ended.
+// requires limits { IsPageForm form.now }
+// requires exchanged { form.now.exchanged ≡ false }
+// requires some_k { 0 < k }
+// requires raster { Raster.HoldsRaster (length raster.now) form.now.width form.now.rows stride }
+// requires writing { Spec.IsWriting written.old }
+// requires held { Spec.IsHeld written.old (length file.old) }
 fn add_page(
     alloc: Global,
     form: &PageForm,

@@ -40,11 +40,13 @@ fn due_after(tiff: &Tiff, offset: u32) -> u32 {
 }
 
 /// Computes nothing: the offsets of a chain differ, and each is a number of four bytes, not 0.
+// requires { file.now ≡ tiff.now.file }
 fn has_few_pages(tiff: &Tiff, file: &[u8]) {
     let _first = tiff.first();
 }
 
 /// The offset due after the first directories of a chain.
+// requires { (i : ℕ) → i < pages → LeadsOn tiff.now i }
 fn due_after_pages(tiff: &Tiff, pages: u64) -> u32 {
     let mut due = tiff.first();
     for _page in 0..pages {
@@ -54,6 +56,7 @@ fn due_after_pages(tiff: &Tiff, pages: u64) -> u32 {
 }
 
 /// The first page of which the offset comes again after the length of the loop.
+// requires { Spec.IsRound tiff.now round.start round.len }
 fn first_turn(tiff: &Tiff, round: Round) -> u64 {
     let mut ahead = due_after_pages(tiff, round.len);
     let mut before = tiff.first();
@@ -67,6 +70,11 @@ fn first_turn(tiff: &Tiff, round: Round) -> u64 {
 }
 
 /// The length of the loop on which a place lies, which is met again after as many steps.
+// requires kept { kept ≡ place tiff.now start }
+// requires some { 0 < start }
+// requires limit { start < 2 ^ 32 }
+// requires back { place tiff.now (start + start) ≡ place tiff.now start }
+// requires on { (i : ℕ) → i < start + start → LeadsOn tiff.now i }
 fn round_from(tiff: &Tiff, start: u64, kept: u32) -> Round {
     let mut due = due_after(tiff, kept);
     let mut len: u64 = 1;
@@ -78,6 +86,11 @@ fn round_from(tiff: &Tiff, start: u64, kept: u32) -> Round {
 }
 
 /// The page at which the chain turns back, where a place is met again after as many steps.
+// requires kept { kept ≡ place tiff.now start }
+// requires some { 0 < start }
+// requires limit { start < 2 ^ 32 }
+// requires back { place tiff.now (start + start) ≡ place tiff.now start }
+// requires on { (i : ℕ) → i < start + start → LeadsOn tiff.now i }
 fn turning_from(tiff: &Tiff, start: u64, kept: u32) -> u32 {
     has_few_pages(tiff, tiff.bytes());
     let round = round_from(tiff, start, kept);
@@ -86,6 +99,9 @@ fn turning_from(tiff: &Tiff, start: u64, kept: u32) -> u32 {
 }
 
 /// The search after one more directory, after which this offset is due.
+// requires search { Spec.IsSearch tiff.now given search }
+// requires due { due ≡ place tiff.now (given + 1) }
+// requires few { given + 1 < 2 ^ 32 }
 fn search_on(tiff: &Tiff, search: Search, given: u32, due: u32) -> Search {
     let Search::Running(fast) = search else {
         return search;

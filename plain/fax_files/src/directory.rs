@@ -17,12 +17,14 @@ pub struct Directory<'a> {
 impl<'a> Model for Directory<'a> {}
 
 /// The number of entries in the directory at an offset.
+// requires { offset + 2 ≤ length file.now.bytes.now }
 pub(crate) fn entry_count(file: &File, offset: usize) -> u16 {
     file.u16_at(offset)
 }
 
 impl<'a> Directory<'a> {
     /// The directory at an offset.
+    // requires { Code.IsWholeDirectory file.endian file.bytes.now offset }
     pub(crate) fn new(file: File<'a>, offset: usize) -> Self {
         Directory {
             bytes: file.bytes,

@@ -42,6 +42,7 @@ impl Entry {
 
 impl<'a> File<'a> {
     /// The entry of twelve bytes at a place.
+    // requires { place + 12 ≤ length self.now.bytes.now }
     pub fn entry_at(&self, place: usize) -> Entry {
         Entry {
             tag: self.u16_at(place),
@@ -52,6 +53,7 @@ impl<'a> File<'a> {
     }
 
     /// Where the values of an entry stand.
+    // requires { entry.now.place + 4 ≤ length self.now.bytes.now }
     fn values_place(&self, entry: &Entry) -> usize {
         if (entry.count as usize).saturating_mul(entry.value_len()) <= 4 {
             entry.place
@@ -61,6 +63,7 @@ impl<'a> File<'a> {
     }
 
     /// Whether an entry has at least `n` values, SHORT or LONG, and the first `n` lie in the file.
+    // requires { entry.now.place + 4 ≤ length self.now.bytes.now }
     pub fn has_integers(&self, entry: &Entry, n: u32) -> bool {
         entry.is_integer()
             && n <= entry.count
@@ -72,6 +75,9 @@ impl<'a> File<'a> {
     }
 
     /// The value of an entry at index `i`.
+    // requires place { entry.now.place + 4 ≤ length self.now.bytes.now }
+    // requires there { IsTrue
+    //     (Spec.has_integers self.now.endian self.now.bytes.now entry.now (i + 1)) }
     pub fn value_at(&self, entry: &Entry, i: u32) -> u32 {
         let place = self.values_place(entry) + i as usize * entry.value_len();
         if entry.kind == SHORT {
@@ -82,6 +88,7 @@ impl<'a> File<'a> {
     }
 
     /// The value of a scalar.
+    // requires { entry.now.place + 4 ≤ length self.now.bytes.now }
     pub fn scalar(&self, entry: &Entry) -> Result<u32, FileFault> {
         if !self.has_integers(entry, 1) {
             return Err(FileFault::BadField(entry.tag));
@@ -90,6 +97,7 @@ impl<'a> File<'a> {
     }
 
     /// An entry's fraction, where it has one whose numbers are above 0.
+    // requires { entry.now.place + 4 ≤ length self.now.bytes.now }
     pub fn good_rational(&self, entry: &Entry) -> Option<(u32, u32)> {
         let place = self.values_place(entry);
         if entry.kind != RATIONAL || entry.count < 1 || !is_inside(self.bytes, place, 8) {

@@ -48,6 +48,7 @@ impl FirstEntries {
     }
 
     /// The first entry of a tag of `TAGS`.
+    // requires { IsTrue (is_sought tag) }
     fn first(&self, tag: u16) -> Option<Entry> {
         match TAGS.binary_search(&tag) {
             Ok(slot) => self.entries[slot],
@@ -123,16 +124,19 @@ impl<'d, 'a> Fields<'d, 'a> {
     }
 
     /// The first entry of a tag of `TAGS`.
+    // requires { IsTrue (is_sought tag) }
     pub fn first(&self, tag: u16) -> Option<Entry> {
         self.first.first(tag)
     }
 
     /// The first entry of a tag, which has to be there.
+    // requires { IsTrue (is_sought tag) }
     pub fn needed(&self, tag: u16) -> Result<Entry, FileFault> {
         self.first(tag).ok_or(FileFault::MissingField(tag))
     }
 
     /// The first value of a tag, or `absent` where no entry has the tag, if it is given.
+    // requires { IsTrue (is_sought tag) }
     fn first_number(&self, tag: u16, absent: Option<u32>) -> Result<u32, FileFault> {
         match (self.first(tag), absent) {
             (Some(entry), _) => self.file().scalar(&entry),
@@ -143,6 +147,7 @@ impl<'d, 'a> Fields<'d, 'a> {
 
     /// The scalar of a tag, or `absent` where no entry has the tag, if it is given: a number within
     /// the limits, else it is refused so.
+    // requires { IsTrue (is_sought tag) }
     pub fn scalar(
         &self,
         tag: u16,
@@ -158,6 +163,7 @@ impl<'d, 'a> Fields<'d, 'a> {
     }
 
     /// The fraction of a tag, where it is there and good.
+    // requires { IsTrue (is_sought tag) }
     pub fn rational_of(&self, tag: u16) -> Option<(u32, u32)> {
         let entry = self.first(tag)?;
         self.file().good_rational(&entry)

@@ -172,6 +172,8 @@ pub struct PageForm {
 impl PageForm {
     /// The form of strip `s`, from 0, which holds the page's rows from `s * rows_per_strip` on
     /// (TIFF 6.0, RowsPerStrip).
+    // requires limits { IsPageForm self.now }
+    // requires strip { s < self.now.strips }
     pub fn strip_form(&self, s: u32) -> StripForm {
         StripForm {
             coding: self.coding,

@@ -17,6 +17,7 @@ pub(crate) fn is_inside(file: &[u8], place: usize, len: usize) -> bool {
 
 impl<'a> File<'a> {
     /// The number of two bytes at a place.
+    // requires { place + 2 ≤ length self.now.bytes.now }
     pub fn u16_at(&self, place: usize) -> u16 {
         let bytes = &self.bytes[place..];
         match self.endian {
@@ -26,6 +27,7 @@ impl<'a> File<'a> {
     }
 
     /// The number of four bytes at a place.
+    // requires { place + 4 ≤ length self.now.bytes.now }
     pub fn u32_at(&self, place: usize) -> u32 {
         let bytes = &self.bytes[place..];
         match self.endian {

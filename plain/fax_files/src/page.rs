@@ -123,6 +123,7 @@ fn page_resolution(fields: &Fields) -> Resolution {
 }
 
 /// The entry of a tag, which has to have a value for each strip.
+// requires { IsTrue (is_sought tag) }
 fn strip_field(fields: &Fields, tag: u16, strips: u32) -> Result<Entry, FileFault> {
     let entry = fields.needed(tag)?;
     if !fields.file().has_integers(&entry, strips) {

@@ -138,6 +138,7 @@ pub struct PbmImage<'a> {
 impl<'a> PbmImage<'a> {
     /// The bytes of row `i`, from 0 at the top: eight pels in a byte, the leftmost in its highest
     /// bit, where 1 is black.
+    // requires { i < self.now.rows }
     pub fn row(&self, i: u32) -> &'a [u8] {
         let len = row_len(self.width);
         let start = i as usize * len;

@@ -18,6 +18,7 @@ impl<'a> Model for Strips<'a> {}
 
 impl<'a> Strips<'a> {
     /// The strips of the page with this directory.
+    // requires { AreStripPlaces directory count offsets byte_counts }
     pub(crate) fn new(
         directory: Directory<'a>,
         count: u32,
@@ -39,6 +40,7 @@ impl<'a> Strips<'a> {
 
     /// The bytes of strip `s`, from 0, or `StripOutside` where they do not lie in the file
     /// (TIFF 6.0, StripOffsets and StripByteCounts).
+    // requires { s < self.now.count }
     pub fn bytes(&self, s: u32) -> Result<&'a [u8], FileFault> {
         let file = self.directory.file();
         let offset = file.value_at(&self.offsets, s) as usize;
@@ -51,6 +53,7 @@ impl<'a> Strips<'a> {
 
     /// The bytes of strip `s`, from 0, that lie in the file: those before its end, where it has not
     /// all of them (TIFF 6.0, StripOffsets and StripByteCounts).
+    // requires { s < self.now.count }
     pub fn bytes_inside(&self, s: u32) -> &'a [u8] {
         let file = self.directory.file();
         let offset = file.value_at(&self.offsets, s) as usize;

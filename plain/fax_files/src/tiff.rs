@@ -75,6 +75,8 @@ impl<'a> Tiff<'a> {
     /// The bytes of strip `s`, from 0, of a page whose directory and form these are, or
     /// `StripOutside` where they do not lie in the directory's file. It is for callers that want
     /// one strip: `Strips` gives one after another.
+    // requires form { form_of directory.now ≡ Ok form.now }
+    // requires strip { s < form.now.strips }
     pub fn strip(
         &self,
         form: &PageForm,

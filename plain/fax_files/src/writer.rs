@@ -39,6 +39,11 @@ pub struct PageBytes {
 ///
 /// `OutputTooLarge` where the file would have more than 268,435,456 bytes, `Memory` where a growth
 /// was refused.
+// requires header { 8 ≤ start }
+// requires limit { start ≤ max_file }
+// requires limits { IsPageForm form.now }
+// requires exchanged { form.now.exchanged ≡ false }
+// requires strips { length strips.now ≡ form.now.strips }
 pub fn write_page(
     alloc: Global,
     form: &PageForm,
@@ -88,6 +93,7 @@ impl TiffWriter {
     /// # Errors
     ///
     /// `Memory` where a growth was refused.
+    // requires { 1 ≤ pages }
     pub fn new(alloc: Global, pages: u16) -> Result<Self, Memory> {
         let head = [b'I', b'I', 42, 0, 0, 0, 0, 0];
         let bytes = Vec::from_slice(alloc, &head).map_err(|_| Memory)?;
@@ -106,6 +112,10 @@ impl TiffWriter {
     ///
     /// `OutputTooLarge` where the file would have more than 268,435,456 bytes, `Memory` where a
     /// growth was refused. The file is then as it was.
+    // requires fewer { self.old.added < self.old.total }
+    // requires limits { IsPageForm form.now }
+    // requires exchanged { form.now.exchanged ≡ false }
+    // requires strips { length strips.now ≡ form.now.strips }
     pub fn add_page(&mut self, form: &PageForm, strips: &[Vec<u8>]) -> Result<(), WriteFault> {
         let start = self.bytes.len() as u32;
         let Some(end) = strips_end(start, strips) else {
@@ -138,6 +148,7 @@ impl TiffWriter {
     }
 
     /// The bytes of the file, to which all pages were added.
+    // requires { self.added ≡ self.total }
     pub fn finish(self) -> Vec<u8> {
         self.bytes
     }

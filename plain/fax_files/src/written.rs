@@ -148,6 +148,7 @@ fn put_rational(out: &mut Vec<u8>, value: (u32, u32)) -> Result<(), AllocError> 
 }
 
 /// The fields of a page.
+// requires { at.now.directory ≤ max_file }
 fn page_fields(form: &PageForm, at: &Layout) -> [Field; FIELDS] {
     [
         long_field(tags::NEW_SUBFILE_TYPE, 1, 2),
@@ -175,6 +176,7 @@ fn page_fields(form: &PageForm, at: &Layout) -> [Field; FIELDS] {
 }
 
 /// Appends a directory of these fields, with the next offset 0.
+// requires { length fields.now < 65536 }
 fn put_directory(out: &mut Vec<u8>, fields: &[Field]) -> Result<(), AllocError> {
     put_two(out, fields.len() as u16)?;
     for field in fields {
@@ -184,6 +186,7 @@ fn put_directory(out: &mut Vec<u8>, fields: &[Field]) -> Result<(), AllocError> 
 }
 
 /// Appends the offsets of strips that begin at a place.
+// requires { start + length (Parts.joined_strips (contents strips.now)) < 4294967296 }
 fn put_offsets(out: &mut Vec<u8>, start: u32, strips: &[Vec<u8>]) -> Result<(), AllocError> {
     let mut place = start;
     for strip in strips {
@@ -194,6 +197,7 @@ fn put_offsets(out: &mut Vec<u8>, start: u32, strips: &[Vec<u8>]) -> Result<(), 
 }
 
 /// Appends the byte counts of strips.
+// requires { length (Parts.joined_strips (contents strips.now)) < 4294967296 }
 fn put_byte_counts(out: &mut Vec<u8>, strips: &[Vec<u8>]) -> Result<(), AllocError> {
     for strip in strips {
         put_four(out, strip.len() as u32)?;
@@ -219,6 +223,10 @@ pub(crate) struct StripsAt<'a> {
 
 /// The bytes of a page that stand after its strips: a zero byte to an even place, the directory,
 /// and the values that do not fit it.
+// requires end { placed.end
+//     ≡ placed.start + length (Parts.joined_strips (contents placed.strips.now)) }
+// requires limit { at.now.directory ≤ max_file }
+// requires strips { at.now.strips ≡ length placed.strips.now }
 pub(crate) fn page_tail(
     alloc: Global,
     form: &PageForm,
@@ -251,6 +259,8 @@ pub(crate) fn page_end(directory: u32, strips: u32) -> u64 {
 }
 
 /// How a page is laid out whose strips begin at `start` and end at `end`.
+// requires order { start ≤ end }
+// requires limit { end_of_page (end + end % 2) strips ≤ max_file }
 pub(crate) fn laid_out(strips: u32, start: u32, end: u32, number: u16, total: u16) -> Layout {
     let directory = end + end % 2;
     let (offsets, byte_counts) = if strips == 1 {
@@ -277,11 +287,13 @@ pub(crate) fn append(bytes: &mut Vec<u8>, strips: &[Vec<u8>], tail: &[u8]) -> Re
 }
 
 /// Sets the four bytes at a place.
+// requires { place + 4 ≤ length bytes.old }
 fn set_four(bytes: &mut [u8], place: usize, n: u32) {
     bytes[place..place + 4].copy_from_slice(&four_bytes(n));
 }
 
 /// The place after strips that begin at a place, if it is within the limit of a file.
+// requires { start ≤ max_file }
 pub(crate) fn strips_end(start: u32, strips: &[Vec<u8>]) -> Option<u32> {
     let mut end = start;
     for strip in strips {
@@ -294,6 +306,7 @@ pub(crate) fn strips_end(start: u32, strips: &[Vec<u8>]) -> Option<u32> {
 }
 
 /// Sets the four bytes at a place of a file.
+// requires { place + 4 ≤ length bytes.old.items }
 pub(crate) fn set_link(bytes: &mut Vec<u8>, place: usize, n: u32) {
     set_four(bytes, place, n);
 }

@@ -99,6 +99,7 @@ pub(crate) fn take_white(source: &mut BitSource, dimension: Dimension, reference
 
 /// Reads the codes of a row that is coded so into `row`, of which nothing is said after a fault.
 #[inline(always)]
+// requires same_width { length reference.now ≡ length row.old }
 pub(crate) fn read_codes(
     source: &mut BitSource,
     dimension: Dimension,

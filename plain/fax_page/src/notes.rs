@@ -65,6 +65,7 @@ impl From<Memory> for NotesFault {
 
 /// Reads the codes of a row that is coded so into `row`, of which nothing is said after a fault,
 /// and answers whether they are seen to be those that T.4 chooses.
+// requires same_width { length reference.now ≡ length row.old }
 fn read_seen(
     source: &mut BitSource,
     dimension: Dimension,
@@ -99,6 +100,7 @@ impl<'a> NotedStrip<'a> {
     /// Reads the codes of row `i`, which are due, into `row`, of which nothing is said after a fault,
     /// and answers whether they are those that T.4 chooses. Only where that is not seen while they
     /// are read, the row is written and compared.
+    // requires { Code.IsNoting self.old rows.old }
     fn read_choice(
         &mut self,
         rows: &mut NotedRows,
@@ -123,6 +125,7 @@ impl<'a> NotedStrip<'a> {
 
     /// Reads the codes of row `i`, which are due, into `row`, of which nothing is said after a fault,
     /// and asks nothing of them.
+    // requires { Code.IsNoting self.old rows.old }
     fn read_unasked(
         &mut self,
         rows: &mut NotedRows,
@@ -141,6 +144,7 @@ impl<'a> NotedStrip<'a> {
 
     /// Reads the codes of row `i`, which are due. Once the codes of a row are others than T.4
     /// chooses, rows are only read.
+    // requires { Code.IsNoting self.old rows.old }
     fn note_codes(
         &mut self,
         rows: &mut NotedRows,
@@ -157,6 +161,7 @@ impl<'a> NotedStrip<'a> {
     }
 
     /// Reads row `i`, the one that is due. A white row after a white one is gone past.
+    // requires { Code.IsNoting self.old rows.old }
     fn read_row(&mut self, rows: &mut NotedRows, i: u32) -> Result<(), NotesFault> {
         let dimension = match read_start(&mut self.source, self.form.coding, i) {
             Ok(dimension) => dimension,
@@ -257,6 +262,8 @@ impl NotesReader {
     /// # Errors
     ///
     /// `Memory` where a growth was refused.
+    // requires some { 0 < width }
+    // requires short { width < 2 ^ 16 }
     pub fn new(alloc: Global, width: u32) -> Result<Self, Memory> {
         let reference = Row::white(alloc, width)?;
         let row = Row::white(alloc, width)?;
@@ -277,6 +284,9 @@ impl NotesReader {
     /// # Errors
     ///
     /// `Strip` where a row cannot be read, and `Memory` where a growth was refused.
+    // requires count { length bytes.now ≤ 4294967295 }
+    // requires limits { IsStripForm form }
+    // requires width { form.width ≡ self.old }
     pub fn notes(&mut self, bytes: &[u8], form: StripForm) -> Result<StripNotes, NotesFault> {
         crate::laws::lines_are_read_in_one_way();
         self.rows.reference.whiten();
@@ -298,6 +308,9 @@ impl NotesReader {
     /// # Errors
     ///
     /// `Memory` where a growth was refused.
+    // requires count { length bytes.now ≤ 4294967295 }
+    // requires limits { IsStripForm form }
+    // requires width { form.width ≡ self.old }
     pub fn uncounted_notes(
         &mut self,
         bytes: &[u8],
@@ -335,6 +348,8 @@ impl NotesReader {
 /// # Errors
 ///
 /// `Strip` where a row cannot be read, and `Memory` where a growth was refused.
+// requires count { length bytes.now ≤ 4294967295 }
+// requires limits { IsStripForm form }
 pub fn strip_notes(alloc: Global, bytes: &[u8], form: StripForm) -> Result<StripNotes, NotesFault> {
     let mut reader = NotesReader::new(alloc, form.width)?;
     reader.notes(bytes, form)

@@ -36,6 +36,8 @@ impl<'a> StripReader<'a> {
     /// # Errors
     ///
     /// `Memory` where a growth was refused.
+    // requires count { length bytes.now ≤ 4294967295 }
+    // requires limits { IsStripForm form }
     pub fn new(alloc: Global, bytes: &'a [u8], form: StripForm) -> Result<Self, Memory> {
         let rows = RowsInTurn::new(alloc, form.width)?;
         Ok(StripReader {
@@ -58,6 +60,9 @@ impl<'a> StripReader<'a> {
     ///
     /// `Outside` where the strip has fewer bits, or no row of its width has the runs of the row
     /// before. `Memory` where a growth was refused.
+    // requires count { length bytes.now ≤ 4294967295 }
+    // requires limits { IsStripForm form }
+    // requires due { row < form.rows }
     pub fn inside(
         alloc: Global,
         bytes: &'a [u8],
@@ -93,6 +98,9 @@ impl<'a> StripReader<'a> {
     /// Goes before the first row of another strip of the same coding, order and width, with 1 to
     /// 1,000,000 rows in at most 4,294,967,295 bytes. A fault is forgotten, and the first row's
     /// reference is white (T.4, section 4.2.1.1; T.6, section 2.2.1). It takes no memory.
+    // requires count { length bytes.now ≤ 4294967295 }
+    // requires some { 0 < rows }
+    // requires few { rows ≤ most_rows }
     pub fn restart(&mut self, bytes: &'a [u8], rows: u32) {
         self.read_before = self.rows_read();
         self.bytes = bytes;
@@ -109,6 +117,11 @@ impl<'a> StripReader<'a> {
     /// 1,000,000 rows in at most 4,294,967,295 bytes, after so many of its bits: the row that is
     /// read next begins there, over this reference, which has the same width. A fault is forgotten.
     /// It takes no memory.
+    // requires count { length bytes.now ≤ 4294967295 }
+    // requires due { row < rows }
+    // requires few { rows ≤ most_rows }
+    // requires within { bits ≤ 8 * length bytes.now }
+    // requires width { length reference.now ≡ self.old.form.width }
     pub fn restart_at(&mut self, bytes: &'a [u8], rows: u32, row: u32, bits: u64, reference: &Row) {
         bits_stand_by_place();
         let mut source = BitSource::new(bytes, self.form.order);
@@ -184,6 +197,7 @@ impl<'a> StripReader<'a> {
 
     /// Whether a row is due that is coded over the row before it. It is for readers of damaged strips.
     #[cold]
+    // requires { self.now.fault ≡ None }
     pub(crate) fn begins_two_dimensional(&self) -> bool {
         if self.row == self.form.rows {
             return false;
@@ -199,6 +213,7 @@ impl<'a> StripReader<'a> {
     /// Whether an EOL is due after the row that was read last, and something else follows it: in MH
     /// and MR each row but a strip's last has an EOL after it, or nothing but zeros.
     #[inline(always)]
+    // requires { self.now.fault ≡ None }
     pub(crate) fn lacks_eol(&self) -> bool {
         if self.form.coding == Coding::Mmr || self.row == self.form.rows {
             return false;
@@ -208,6 +223,8 @@ impl<'a> StripReader<'a> {
 
     /// Goes before row `row` of the same strip, or after its last one, after so many bits, over a white
     /// reference. A fault is forgotten. It takes no memory.
+    // requires row { row ≤ self.old.form.rows }
+    // requires within { bits ≤ 8 * length self.old.bytes }
     fn go_to(&mut self, row: u32, bits: u64) {
         bits_stand_by_place();
         let mut source = BitSource::new(self.bytes, self.form.order);
@@ -226,6 +243,8 @@ impl<'a> StripReader<'a> {
     /// rows are lost so is answered. It takes no memory.
     #[cold]
     #[inline(never)]
+    // requires row { row < self.old.form.rows }
+    // requires within { bits ≤ 8 * length self.old.bytes }
     pub(crate) fn pass_lost(&mut self, row: u32, bits: u64) -> u32 {
         bits_stand_by_place();
         let rows = self.form.rows;

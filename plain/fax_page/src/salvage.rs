@@ -44,6 +44,8 @@ impl<'a> SalvageReader<'a> {
     /// # Errors
     ///
     /// `Memory` where a growth was refused.
+    // requires count { length bytes.now ≤ 4294967295 }
+    // requires limits { IsStripForm form }
     pub fn new(alloc: Global, bytes: &'a [u8], form: StripForm) -> Result<Self, Memory> {
         let reader = StripReader::new(alloc, bytes, form)?;
         Ok(SalvageReader {
@@ -54,6 +56,9 @@ impl<'a> SalvageReader<'a> {
 
     /// Goes before the first row of another strip of the same coding, order and width, with 1 to
     /// 1,000,000 rows in at most 4,294,967,295 bytes. It takes no memory.
+    // requires count { length bytes.now ≤ 4294967295 }
+    // requires some { 0 < rows }
+    // requires few { rows ≤ most_rows }
     pub fn restart(&mut self, bytes: &'a [u8], rows: u32) {
         self.reader.restart(bytes, rows);
         self.before = None;

@@ -19,6 +19,8 @@ impl Model for RowsInTurn {}
 
 impl RowsInTurn {
     /// Before the first row, whose reference is white.
+    // requires some { 0 < width }
+    // requires short { width < 65536 }
     pub fn new(alloc: Global, width: u32) -> Result<Self, Memory> {
         let first = Row::white(alloc, width)?;
         let second = Row::white(alloc, width)?;
@@ -46,6 +48,7 @@ impl RowsInTurn {
     }
 
     /// Takes the pels of a row of the same width as the reference.
+    // requires { length row.now ≡ length self.old }
     pub fn set_reference(&mut self, row: &Row) {
         self.is_turned = false;
         self.first.set_from(row);
@@ -80,6 +83,8 @@ impl RowsInTurn {
     /// Reads row `i` of a strip, which is the reference then. Where it cannot be read, the
     /// reference stays. A white row after a white one is gone past, and nothing is put.
     #[inline(always)]
+    // requires width { length self.old ≡ form.width }
+    // requires some_pels { 0 < form.width }
     pub fn read(&mut self, source: &mut BitSource, form: StripForm, i: u32) -> Result<(), LineStop> {
         let dimension = match read_start(source, form.coding, i) {
             Ok(dimension) => dimension,

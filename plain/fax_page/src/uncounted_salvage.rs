@@ -52,6 +52,8 @@ impl<'a> UncountedSalvage<'a> {
     /// # Errors
     ///
     /// `Memory` where a growth was refused.
+    // requires count { length bytes.now ≤ 4294967295 }
+    // requires limits { IsStripForm form }
     pub fn new(alloc: Global, bytes: &'a [u8], form: StripForm) -> Result<Self, Memory> {
         let most = StripForm {
             rows: MOST_ROWS,
@@ -67,6 +69,7 @@ impl<'a> UncountedSalvage<'a> {
 
     /// Goes before the first row of other bytes, at most 4,294,967,295, with rows of the same coding,
     /// order and width. It takes no memory.
+    // requires { length bytes.now ≤ 4294967295 }
     pub fn restart(&mut self, bytes: &'a [u8]) {
         self.reader.restart(bytes, MOST_ROWS);
         self.row = 0;

@@ -15,6 +15,7 @@ const EOL_BITS: u32 = 12;
 
 /// How row `i` of a strip is written: in MR one-dimensional exactly where `i` is a multiple of `k`
 /// (T.4, section 4.2.1.1).
+// requires { 0 < k }
 fn written_dimension(coding: Coding, k: u32, i: u32) -> Dimension {
     match coding {
         Coding::Mh => Dimension::OneDimensional,
@@ -49,6 +50,7 @@ fn put_start(sink: &mut BitSink, form: StripForm, dimension: Dimension) -> Resul
 }
 
 /// Puts the codes of a row that T.4 chooses where it is coded so.
+// requires same_width { length reference.now ≡ length row.now }
 pub(crate) fn put_codes(
     sink: &mut BitSink,
     dimension: Dimension,
@@ -63,6 +65,7 @@ pub(crate) fn put_codes(
 
 /// Puts a row that is coded so over the row before it: what stands before its codes, and its codes
 /// in T.4's own choice.
+// requires same_width { length reference.now ≡ length row.now }
 fn put_line(
     sink: &mut BitSink,
     form: StripForm,
@@ -106,6 +109,8 @@ impl StripWriter {
     /// # Errors
     ///
     /// `Memory` where a growth was refused.
+    // requires limits { IsStripForm form }
+    // requires some_k { 0 < k }
     pub fn new(alloc: Global, form: StripForm, k: u32) -> Result<Self, Memory> {
         let last = Row::white(alloc, form.width)?;
         Ok(StripWriter {
@@ -124,6 +129,8 @@ impl StripWriter {
     /// # Errors
     ///
     /// `Memory` where a growth was refused, and at each later call.
+    // requires due { self.old.row < self.old.form.rows }
+    // requires width { length row.now ≡ self.old.form.width }
     pub fn put_row(&mut self, row: &Row) -> Result<(), Memory> {
         if self.refused {
             return Err(Memory);
@@ -148,6 +155,7 @@ impl StripWriter {
     /// # Errors
     ///
     /// `Memory` where a growth was refused, here or before.
+    // requires all_put { self.refused ≡ false → self.row ≡ self.form.rows }
     pub fn finish(self) -> Result<Vec<u8>, Memory> {
         fax_bits::laws::bits_are_packed_in_one_way();
         if self.refused {

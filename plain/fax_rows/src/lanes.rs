@@ -24,6 +24,7 @@ fn others(byte: u8, colour: Colour) -> u8 {
 }
 
 /// The least place from `from` on of a byte's bits, highest first, that is not of the colour, or 8.
+// requires { from < 8 }
 fn first_other_in_byte(byte: u8, from: u32, colour: Colour) -> u32 {
     let ahead = others(byte, colour) << from;
     if ahead == 0 {
@@ -34,6 +35,7 @@ fn first_other_in_byte(byte: u8, from: u32, colour: Colour) -> u32 {
 }
 
 /// The first of the bytes from `from` on that is not `plain`, or the place after them all.
+// requires { from ≤ length bytes.now }
 fn first_other_of_rest(bytes: &[u8], from: usize, plain: u8) -> usize {
     for at in from..bytes.len() {
         if bytes[at] != plain {
@@ -44,6 +46,7 @@ fn first_other_of_rest(bytes: &[u8], from: usize, plain: u8) -> usize {
 }
 
 /// The first of the bytes from `from` on that is not `plain`, or the place after them all.
+// requires { from ≤ length bytes.now }
 fn first_other_byte(bytes: &[u8], from: usize, plain: u8) -> usize {
     let mut at = from;
     while bytes.len() - at >= LANES {
@@ -60,6 +63,8 @@ fn first_other_byte(bytes: &[u8], from: usize, plain: u8) -> usize {
 /// The least place at or after `from` whose bit, highest of each byte first, is not of the colour,
 /// where 1 is black; where there is none, the place after the last bit. At most 4,294,967,295
 /// bytes are given, and `from` is no further than the place after their bits. It takes no memory.
+// requires count { length bytes.now ≤ 4294967295 }
+// requires within { from ≤ 8 * length bytes.now }
 pub fn first_other(bytes: &[u8], from: u64, colour: Colour) -> u64 {
     bits_stand_by_place();
     let at = (from / 8) as usize;

@@ -53,6 +53,7 @@ impl<'a> LongestRuns<'a> {
 
     /// Leaves out so many of the next runs, at most all of them.
     #[inline(always)]
+    // requires { count ≤ length self.old }
     pub fn skip(&mut self, count: usize) {
         self.places = &self.places[count..];
     }
@@ -71,6 +72,9 @@ pub(crate) fn are_longest(runs: &[u32], width: u32) -> bool {
 }
 
 /// Puts the places where runs end, white first, and answers where these places end.
+// requires short { width < 2 ^ 16 }
+// requires room { HasRoom width places.old }
+// requires whole { sum runs.now ≡ width }
 pub(crate) fn put_runs(places: &mut [u32], runs: &[u32], width: u32) -> usize {
     let mut end = 1;
     let mut total = 0;

@@ -30,6 +30,8 @@ impl Runs {
 
 /// Reads a run of the colour after others, mostly by one look-up, and answers how many pels it has.
 #[inline(always)]
+// requires short { width < 2 ^ 16 }
+// requires within { runs.old.total ≤ width }
 fn next_run(
     ahead: &mut BitSource,
     colour: Colour,
@@ -46,6 +48,9 @@ fn next_run(
 
 /// Reads a run of the colour after others, and puts the place where it ends.
 #[inline(always)]
+// requires short { width < 2 ^ 16 }
+// requires unfinished { runs.old.total < width }
+// requires put { ArePut width places.old runs.old.end runs.old.total }
 fn read_on(
     ahead: &mut BitSource,
     places: &mut [u32],
@@ -62,6 +67,9 @@ fn read_on(
 
 /// Reads the runs of a row: a white run and the black one after it mostly by one look-up.
 #[inline(always)]
+// requires some { 0 < width }
+// requires short { width < 2 ^ 16 }
+// requires room { HasRoom width places.old }
 fn read_runs(source: &mut BitSource, places: &mut [u32], width: u32) -> Result<Runs, RowFault> {
     crate::laws::one_dimensional_rows_are_read_as_nothing_else();
     let mut ahead = source.again();

@@ -34,6 +34,8 @@ static PLACES: [u8; 2048] = places!([0 0 0 0 0 0 0 0] 7 6 5 4 3 2 1 0);
 /// Puts a place for each one in a byte, whose highest bit is at place `from`, and answers where
 /// they end. Eight places are written: what stands after the end does not count.
 #[inline(always)]
+// requires room { end + 8 ≤ length places.old }
+// requires short { from + 8 < 2 ^ 32 }
 fn put_ones_of_byte(places: &mut [u32], end: usize, from: u32, byte: u8) -> usize {
     let at = usize::from(byte);
     let ones = u8x8::from_slice(&PLACES[8 * at..]).cast::<u32>();
@@ -44,6 +46,8 @@ fn put_ones_of_byte(places: &mut [u32], end: usize, from: u32, byte: u8) -> usiz
 /// Puts a place for each one in a word, whose highest bit is at place `from`, by bytes, and answers
 /// where they end.
 #[inline(always)]
+// requires room { end + 64 ≤ length places.old }
+// requires short { from + 64 < 2 ^ 32 }
 fn put_ones_by_bytes(places: &mut [u32], end: usize, from: u32, word: u64) -> usize {
     let bytes = word.to_be_bytes();
     let mut end = end;
@@ -56,6 +60,8 @@ fn put_ones_by_bytes(places: &mut [u32], end: usize, from: u32, word: u64) -> us
 /// Puts a place for each one in a word, whose highest bit is at place `from`, one by one, and
 /// answers where they end.
 #[inline(always)]
+// requires room { end + 64 ≤ length places.old }
+// requires short { from + 64 < 2 ^ 32 }
 fn put_ones_one_by_one(places: &mut [u32], end: usize, from: u32, word: u64) -> usize {
     let mut end = end;
     let mut left = word;
@@ -71,6 +77,8 @@ fn put_ones_one_by_one(places: &mut [u32], end: usize, from: u32, word: u64) -> 
 /// Puts a place for each one in a word, whose highest bit is at place `from`, and answers where
 /// they end.
 #[inline(always)]
+// requires room { end + 64 ≤ length places.old }
+// requires short { from + 64 < 2 ^ 32 }
 pub(crate) fn put_ones(places: &mut [u32], end: usize, from: u32, word: u64) -> usize {
     if word == 0 {
         return end;

@@ -22,6 +22,9 @@ impl Row {
     /// # Errors
     ///
     /// `Memory` where a growth was refused.
+    // requires some { 0 < width }
+    // requires short { width < 2 ^ 16 }
+    // requires whole { length bytes.now ≡ Spec.packed_len width }
     pub fn from_packed(alloc: Global, bytes: &[u8], width: u32) -> Result<Row, Memory> {
         let mut row = Row::white(alloc, width)?;
         row.set_packed(bytes);
@@ -30,6 +33,7 @@ impl Row {
 
     /// Takes the pels that these bytes hold: pel `i` is black where bit `i` is 1, the highest bit
     /// of each byte first. The bits after the last pel are ignored. It takes no memory.
+    // requires { length bytes.now ≡ Spec.packed_len (length self.old) }
     pub fn set_packed(&mut self, bytes: &[u8]) {
         let places = self.places.as_mut_slice();
         let end = places_of_bits(bytes, places, self.width);
@@ -38,12 +42,14 @@ impl Row {
 
     /// Writes the row's pels as bytes, the highest bit of each first, where 1 is black and the bits
     /// after the last pel are 0. `out` has just as many bytes as that takes.
+    // requires { length out.old ≡ Spec.packed_len (length self.now) }
     pub fn to_packed(&self, out: &mut [u8]) {
         pack_row(self.placed(), out);
     }
 }
 
 /// Writes the pels of a row as bytes, the highest bit of each first.
+// requires { length out.old ≡ Spec.packed_len row.width }
 fn pack_row(row: PlacedRow, out: &mut [u8]) {
     bits_stand_by_place();
     bits_are_packed_in_one_way();
@@ -58,6 +64,8 @@ fn pack_row(row: PlacedRow, out: &mut [u8]) {
 }
 
 /// Writes so many words of 64 pels, and answers how many places of change are passed after them.
+// requires within { words ≡ row.width / 64 }
+// requires room { 8 * words ≤ length out.old }
 fn pack_words(row: PlacedRow, words: u32, out: &mut [u8]) -> usize {
     let mut passed = 1;
     let mut k = 0;
@@ -84,6 +92,8 @@ fn pack_words(row: PlacedRow, words: u32, out: &mut [u8]) -> usize {
 }
 
 /// Writes this byte from a place on up to another.
+// requires order { from ≤ to }
+// requires within { to ≤ length out.old }
 fn fill(out: &mut [u8], from: usize, to: usize, byte: u8) {
     for at in from..to {
         out[at] = byte;
@@ -93,6 +103,10 @@ fn fill(out: &mut [u8], from: usize, to: usize, byte: u8) {
 /// Word `k` of 64 pels, before which so many places of change are passed, with no change from the
 /// pel `to` on; and how many are passed before that pel.
 #[inline(always)]
+// requires order { 64 * k ≤ to }
+// requires inside { to ≤ 64 * k + 64 }
+// requires within { to ≤ row.width }
+// requires so_far { HasPassed row.places.now row.end (64 * k) passed }
 fn word_up_to(row: PlacedRow, k: u32, to: u32, passed: usize) -> (u64, usize) {
     let mut word = match colour_after(passed) {
         Colour::White => 0,
@@ -107,6 +121,8 @@ fn word_up_to(row: PlacedRow, k: u32, to: u32, passed: usize) -> (u64, usize) {
 }
 
 /// Word `k` of 64 pels, in which the row ends, with zeros after the last pel.
+// requires last { k ≡ row.width / 64 }
+// requires so_far { HasPassed row.places.now row.end (64 * k) passed }
 fn last_word(row: PlacedRow, k: u32, passed: usize) -> u64 {
     let (word, after) = word_up_to(row, k, row.width, passed);
     match colour_after(after) {

@@ -36,6 +36,8 @@ impl Row {
     /// # Errors
     ///
     /// `Memory` where a growth was refused.
+    // requires some { 0 < width }
+    // requires short { width < 2 ^ 16 }
     pub fn white(alloc: Global, width: u32) -> Result<Row, Memory> {
         let mut places = vec![in alloc; width; width as usize + 4].map_err(|_| Memory)?;
         places[0] = 0;
@@ -52,6 +54,7 @@ impl Row {
     }
 
     /// The pel at place `i`, where 0 is the leftmost.
+    // requires { i < length self.now }
     pub fn pel(&self, i: u32) -> Colour {
         colour_after(places_up_to(&self.places, self.end, i))
     }
@@ -83,6 +86,7 @@ impl Row {
     }
 
     /// Takes the pels of a row of the same width. Mostly that row is white.
+    // requires { length self.old ≡ length row.now }
     pub fn set_from(&mut self, row: &Row) {
         if row.end == 1 {
             return self.whiten();

@@ -11,6 +11,8 @@ use fax_bits::{BitSink, Colour, Memory, ModeCode, PendingBits, SHORT_RUN};
 /// Puts a run of the colour and a run of the other colour after it (T.4, section 4.1.1): short ones
 /// at once.
 #[inline(always)]
+// requires first { first < 2 ^ 16 }
+// requires second { second < 2 ^ 16 }
 fn put_pair(
     pending: PendingBits,
     sink: &mut BitSink,
@@ -75,6 +77,8 @@ struct ChangesAhead {
 impl ChangesAhead {
     /// What stands ahead inside a row.
     #[inline(always)]
+    // requires places { Spec.IsWrittenTo rows at }
+    // requires unfinished { unwrap_or at.a0 0 < rows.row.width }
     fn of(rows: RowPair, at: WrittenTo) -> ChangesAhead {
         ChangesAhead {
             a0: at.a0,
@@ -90,6 +94,8 @@ impl ChangesAhead {
 
     /// After pass mode: a0 is put under b2.
     #[inline(always)]
+    // requires places { Spec.AreAhead rows self }
+    // requires left { self.b2 < self.a1 }
     fn after_pass(self, rows: RowPair) -> WrittenTo {
         WrittenTo {
             a0: Some(self.b2),
@@ -100,6 +106,8 @@ impl ChangesAhead {
 
     /// After a1 that is under b1: the next b1 is the reference row's next changing element.
     #[inline(always)]
+    // requires places { Spec.AreAhead rows self }
+    // requires same { self.a1 ≡ self.b1 }
     fn after_b1(self, rows: RowPair) -> WrittenTo {
         WrittenTo {
             a0: Some(self.a1),
@@ -110,6 +118,7 @@ impl ChangesAhead {
 
     /// After any a1.
     #[inline(always)]
+    // requires places { Spec.AreAhead rows self }
     fn after_a1(self, rows: RowPair) -> WrittenTo {
         WrittenTo {
             a0: Some(self.a1),
@@ -120,6 +129,7 @@ impl ChangesAhead {
 
     /// After horizontal mode: a0 is put on a2.
     #[inline(always)]
+    // requires places { Spec.AreAhead rows self }
     fn after_a2(self, rows: RowPair) -> WrittenTo {
         WrittenTo {
             a0: Some(self.a2),
@@ -132,6 +142,8 @@ impl ChangesAhead {
 /// The mode that T.4 chooses: pass where b2 is left of a1, else vertical where a1 and b1 differ by
 /// at most 3 pels, else horizontal (T.4, section 4.2.1.3.3).
 #[inline(always)]
+// requires a1 { a1 < 2 ^ 16 }
+// requires b1 { b1 < 2 ^ 16 }
 fn choose(a1: u32, b1: u32, b2: u32) -> ModeCode {
     if b2 < a1 {
         return ModeCode::Pass;
@@ -147,6 +159,7 @@ fn choose(a1: u32, b1: u32, b2: u32) -> ModeCode {
 /// Puts the step from a0 where a1 is not under b1, and answers how far the row is written then, and
 /// which bits are pending.
 #[inline(always)]
+// requires places { Spec.AreAhead rows ahead }
 fn put_far_step(
     rows: RowPair,
     ahead: ChangesAhead,
@@ -176,6 +189,8 @@ fn put_far_step(
 
 /// Puts the next step, and answers how far the row is written then, and which bits are pending.
 #[inline(always)]
+// requires places { Spec.IsWrittenTo rows at }
+// requires unfinished { unwrap_or at.a0 0 < rows.row.width }
 fn put_step(
     rows: RowPair,
     at: WrittenTo,
@@ -210,6 +225,7 @@ fn put_steps(rows: RowPair, sink: &mut BitSink) -> Result<(), Memory> {
 /// # Errors
 ///
 /// `Memory` where a growth was refused. The row's bits were put up to some place then.
+// requires same_width { length reference.now ≡ length row.now }
 pub fn put_2d(reference: &Row, row: &Row, sink: &mut BitSink) -> Result<(), Memory> {
     let rows = RowPair {
         reference: reference.placed(),

@@ -34,6 +34,8 @@ impl PlacedRow<'_> {
     }
 
     /// The index of b1 as seen from the pel `place`, from an index on that is not after it.
+    // requires inside { place < self.width }
+    // requires within { from ≤ self.end + 1 }
     pub fn find_b1(self, from: usize, place: u32) -> usize {
         let mut b1 = from;
         while self.places[b1] <= place {
@@ -45,6 +47,9 @@ impl PlacedRow<'_> {
     /// What `find_b1` answers from the index before that of a b1 right of the pel: the changing
     /// element there, or the one right of that b1.
     #[inline(always)]
+    // requires some { 0 < b1 }
+    // requires within { b1 ≤ self.end + 1 }
+    // requires left { place < slice_index self.places.now b1 }
     pub fn b1_before(self, b1: usize, place: u32) -> usize {
         if self.places[b1 - 1] > place {
             b1 - 1
@@ -55,6 +60,7 @@ impl PlacedRow<'_> {
 
     /// What `find_b1` answers where the pel is in the row; there is no b1 at the row's end.
     #[inline(always)]
+    // requires within { place < self.width → from ≤ self.end + 1 }
     pub fn b1_after(self, from: usize, place: u32) -> usize {
         if place < self.width {
             self.find_b1(from, place)
@@ -65,6 +71,8 @@ impl PlacedRow<'_> {
 
     /// The index of b1 as seen from the pel `place`, where the colour turned, from that of the b1
     /// before.
+    // requires some { 0 < b1 }
+    // requires within { b1 ≤ self.end + 1 }
     pub fn turned_b1_after(self, b1: usize, place: u32) -> usize {
         if self.places[b1] > place {
             return self.b1_before(b1, place);

@@ -34,6 +34,8 @@ pub(crate) struct ReadRun {
 /// has one. Its codes are T.4's choice where each make-up code but the last is the longest.
 #[cold]
 #[inline(never)]
+// requires width { width < 2 ^ 16 }
+// requires from { from ≤ width }
 fn read_run(
     source: &mut BitSource,
     colour: Colour,
@@ -69,6 +71,8 @@ fn read_run(
 
 /// What `read_run` does for a source that stands in a value: only a copy of it is lent.
 #[inline(always)]
+// requires width { width < 2 ^ 16 }
+// requires from { from ≤ width }
 pub(crate) fn last_run(
     source: &mut BitSource,
     colour: Colour,

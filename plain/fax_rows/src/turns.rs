@@ -14,6 +14,9 @@ pub(crate) fn colour_after(places: usize) -> Colour {
 }
 
 /// How many of the places before `end` are not right of `i`.
+// requires started { 0 < end }
+// requires within { end ≤ length places.now }
+// requires first { slice_index places.now 0 ≡ 0 }
 pub(crate) fn places_up_to(places: &[u32], end: usize, i: u32) -> usize {
     let mut low = 1;
     let mut high = end;
@@ -30,6 +33,9 @@ pub(crate) fn places_up_to(places: &[u32], end: usize, i: u32) -> usize {
 
 /// Turns the colour from a place on, and answers where the places end: it puts the place after the
 /// last one, or takes the last one away where it is the same.
+// requires ascending { Spec.IsAscending places.old end }
+// requires last { slice_index places.old (end - 1) ≤ place }
+// requires room { end < length places.old }
 pub(crate) fn turn(places: &mut [u32], end: usize, place: u32) -> usize {
     if end > 1 && places[end - 1] == place {
         return end - 1;
@@ -41,6 +47,9 @@ pub(crate) fn turn(places: &mut [u32], end: usize, place: u32) -> usize {
 /// What `turn` does, after a run of pels that ends at the place: where it has some, the last place
 /// is another one.
 #[inline(always)]
+// requires ascending { Spec.IsAscending places.old end }
+// requires last { slice_index places.old (end - 1) + run ≤ place }
+// requires room { end < length places.old }
 pub(crate) fn turn_after(places: &mut [u32], end: usize, place: u32, run: u32) -> usize {
     if run == 0 {
         return turn(places, end, place);
@@ -51,12 +60,16 @@ pub(crate) fn turn_after(places: &mut [u32], end: usize, place: u32, run: u32) -
 /// Turns the colour from a place on that is right of the last one, and answers where the places
 /// end.
 #[inline(always)]
+// requires ascending { Spec.IsAscending places.old end }
+// requires right { 1 < end → slice_index places.old (end - 1) < place }
+// requires room { end < length places.old }
 pub(crate) fn put_turn(places: &mut [u32], end: usize, place: u32) -> usize {
     places[end] = place;
     end + 1
 }
 
 /// Where the places below the width end: the last of them may be the width, where no row changes.
+// requires { ArePut width places.now end width }
 fn end_below(places: &[u32], end: usize, width: u32) -> usize {
     if end > 1 && places[end - 1] == width {
         end - 1
@@ -66,6 +79,9 @@ fn end_below(places: &[u32], end: usize, width: u32) -> usize {
 }
 
 /// Puts the width after the places of a row, and answers where its changes end.
+// requires some { 0 < width }
+// requires short { width < 2 ^ 16 }
+// requires put { ArePut width places.old end width }
 pub(crate) fn close(places: &mut [u32], end: usize, width: u32) -> usize {
     let end = end_below(places, end, width);
     places[end] = width;
@@ -76,6 +92,7 @@ pub(crate) fn close(places: &mut [u32], end: usize, width: u32) -> usize {
 
 /// Turns the colours of all pels, and answers where the places end then: a change at the first pel
 /// is put, or taken away.
+// requires { Spec.ArePlaces places.old end width }
 pub(crate) fn turn_first(places: &mut [u32], end: usize, width: u32) -> usize {
     if places[1] == 0 {
         places.rotate_left(1);
@@ -87,6 +104,8 @@ pub(crate) fn turn_first(places: &mut [u32], end: usize, width: u32) -> usize {
 }
 
 /// Takes the places of another row of the same width.
+// requires row { Spec.ArePlaces other.now end width }
+// requires room { length places.old ≡ width + 4 }
 pub(crate) fn copy_places(places: &mut [u32], other: &[u32], end: usize, width: u32) {
     places[..end + 3].copy_from_slice(&other[..end + 3]);
 }

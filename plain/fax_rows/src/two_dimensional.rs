@@ -37,6 +37,7 @@ struct ReadRow {
 /// and from a code on that none of them finds, by the tables. With `CHOICE` it stops at the first
 /// step that is not seen to be T.4's choice; the source is then as it was.
 #[inline(always)]
+// requires room { HasRoom reference.width places.old }
 fn read_modes<const CHOICE: bool>(
     source: &mut BitSource,
     reference: PlacedRow,
@@ -60,6 +61,7 @@ fn read_modes<const CHOICE: bool>(
 /// Reads the modes of a row over the reference row; where they are not T.4's choice, once more, for
 /// their pels alone.
 #[inline(always)]
+// requires room { HasRoom reference.width places.old }
 fn read_places<const CHOICE: bool>(
     source: &mut BitSource,
     reference: PlacedRow,
@@ -86,6 +88,7 @@ fn read_places<const CHOICE: bool>(
 
 /// Reads a row, and answers whether its codes are seen to be those that T.4 chooses.
 #[inline(always)]
+// requires width { length reference.now ≡ length row.old }
 fn read_row<const CHOICE: bool>(
     source: &mut BitSource,
     reference: &Row,
@@ -114,6 +117,7 @@ fn read_row<const CHOICE: bool>(
 ///
 /// The fault of the first mode or run that is no part of the row. Nothing else is said of the row
 /// then.
+// requires width { length reference.now ≡ length row.old }
 pub fn read_2d(source: &mut BitSource, reference: &Row, row: &mut Row) -> Result<(), RowFault> {
     read_row::<false>(source, reference, row)?;
     Ok(())
@@ -126,6 +130,7 @@ pub fn read_2d(source: &mut BitSource, reference: &Row, row: &mut Row) -> Result
 /// # Errors
 ///
 /// As for `read_2d`.
+// requires width { length reference.now ≡ length row.old }
 pub fn read_2d_choice(
     source: &mut BitSource,
     reference: &Row,

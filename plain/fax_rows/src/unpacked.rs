@@ -11,6 +11,7 @@ use fax_bits::laws::bits_stand_by_place;
 
 /// The word of eight bytes from a place on, the highest first.
 #[inline(always)]
+// requires { at + 8 ≤ length bytes.now }
 fn word_at(bytes: &[u8], at: usize) -> u64 {
     bits_stand_by_place();
     let mut word = [0; 8];
@@ -30,6 +31,10 @@ fn last_colour(word: u64) -> Colour {
 /// Puts the places of change of a word of 64 pels, the first of them at place `from`, after
 /// another word, and answers where they end.
 #[inline(always)]
+// requires ascending { IsAscending places.old end }
+// requires left { 1 < end → slice_index places.old (end - 1) < from }
+// requires room { from + 68 ≤ length places.old }
+// requires short { from + 64 < 2 ^ 32 }
 fn put_word(places: &mut [u32], end: usize, from: u32, before: u64, word: u64) -> usize {
     // A bit is 1 where a pel has another colour than the one before it.
     let changes = word ^ (word >> 1) ^ (before << 63);
@@ -38,6 +43,7 @@ fn put_word(places: &mut [u32], end: usize, from: u32, before: u64, word: u64) -
 
 /// Whether the four words from a place on are white.
 #[inline(always)]
+// requires { at + 32 ≤ length bytes.now }
 fn are_white(bytes: &[u8], at: usize) -> bool {
     let first = (word_at(bytes, at) == 0) & (word_at(bytes, at + 8) == 0);
     let last = (word_at(bytes, at + 16) == 0) & (word_at(bytes, at + 24) == 0);
@@ -46,6 +52,9 @@ fn are_white(bytes: &[u8], at: usize) -> bool {
 
 /// Goes past white words, by fours, after a word that is white.
 #[inline(always)]
+// requires short { words < 1024 }
+// requires whole { 8 * words ≤ length bytes.now }
+// requires within { from ≤ words }
 fn past_white(bytes: &[u8], word: u64, from: u32, words: u32) -> u32 {
     let mut k = from;
     while word == 0 && words - k >= 4 && are_white(bytes, 8 * k as usize) {
@@ -56,6 +65,10 @@ fn past_white(bytes: &[u8], word: u64, from: u32, words: u32) -> u32 {
 
 /// Puts the places of change of so many words of 64 pels, and answers where they end, and the
 /// colour of the last pel: white where there is no word.
+// requires short { words < 1024 }
+// requires whole { 8 * words ≤ length bytes.now }
+// requires room { 64 * words + 4 ≤ length places.old }
+// requires first { slice_index places.old 0 ≡ 0 }
 fn places_of_words(bytes: &[u8], places: &mut [u32], words: u32) -> (usize, Colour) {
     let mut end = 1;
     let mut before = 0;
@@ -71,6 +84,10 @@ fn places_of_words(bytes: &[u8], places: &mut [u32], words: u32) -> (usize, Colo
 
 /// Puts the places of change of the row of `width` pels that these bytes hold, and answers where
 /// they end.
+// requires some { 0 < width }
+// requires short { width < 2 ^ 16 }
+// requires whole { length bytes.now ≡ Spec.packed_len width }
+// requires room { HasRoom width places.old }
 pub(crate) fn places_of_bits(bytes: &[u8], places: &mut [u32], width: u32) -> usize {
     bits_stand_by_place();
     let words = width / WORD;

@@ -22,6 +22,7 @@ const INPUT_FAULT: u8 = 1;
 const REFUSED: u8 = 3;
 
 /// Says a line on the error stream, and answers this status, or 3 where the stream fails.
+// requires { E.counts err.old ≡ no_faults }
 fn say<E: Sink>(err: &mut E, line: &[u8], status: u8) -> u8 {
     let mut interruptions = Interruptions::NONE;
     match give_all(err, &mut interruptions, line) {
@@ -32,6 +33,7 @@ fn say<E: Sink>(err: &mut E, line: &[u8], status: u8) -> u8 {
 
 /// Says on the error stream what fault the input has, or why the run was refused, and answers the
 /// program's status.
+// requires { E.counts err.old ≡ no_faults }
 fn report<E: Sink>(outcome: Result<Option<ErrorLine>, Refusal>, err: &mut E) -> u8 {
     match outcome {
         Ok(None) => DONE,
@@ -42,6 +44,9 @@ fn report<E: Sink>(outcome: Result<Option<ErrorLine>, Refusal>, err: &mut E) -> 
 
 /// Carries out a command: reads the input whole and writes the output; for the version nothing is
 /// read. It answers the line of the input's fault, if there is one.
+// requires input_counts { R.counts input.old ≡ no_faults }
+// requires taken { R.taken input.old ≡ 0 }
+// requires output_counts { W.counts out.old ≡ no_faults }
 fn carry_out<R: Source, W: Sink>(
     alloc: Global,
     command: &Command,
@@ -64,6 +69,10 @@ fn carry_out<R: Source, W: Sink>(
 /// Carries out a job: reads the input whole, but for the version, writes the output, and says on
 /// the error stream why that is not all. It answers the program's status: 0 where all is done; 1 at a fault of the
 /// input; 3 where memory, a read or a write was refused, or the error stream failed.
+// requires input_counts { R.counts input.old ≡ no_faults }
+// requires taken { R.taken input.old ≡ 0 }
+// requires output_counts { W.counts out.old ≡ no_faults }
+// requires error_counts { E.counts err.old ≡ no_faults }
 pub fn run<R: Source, W: Sink, E: Sink>(
     alloc: Global,
     job: &Job,

@@ -11,6 +11,7 @@ use arrayvec::ArrayString;
 use itoa::{Buffer, Integer};
 
 /// Appends a blank and a number in decimals. There must be room for the longest such number.
+// requires { array_string_len line.old + (N.MAX_STR_LEN + 1) ≤ CAP }
 pub fn push_number<N: Integer, const CAP: usize>(line: &mut ArrayString<CAP>, number: N) {
     let mut digits = Buffer::new();
     line.push_str(" ");

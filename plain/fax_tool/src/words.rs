@@ -136,6 +136,7 @@ impl WordsFault {
 
     /// Says the text for these words on the error stream, and answers the status, also where the
     /// stream fails.
+    // requires { E.counts err.old ≡ no_faults }
     pub fn say<E: Sink>(&self, words: &[&str], err: &mut E) -> u8 {
         let (text, status) = self.text(words);
         let mut interruptions = Interruptions::NONE;
@@ -253,6 +254,7 @@ fn file_of(alloc: Global, matches: &ArgMatches) -> Result<Option<String>, AllocE
 }
 
 /// The part of a file's pages that the words after `list` name.
+// requires { HasNumber (codes "max") most_lines (entries_of matches.now) }
 fn pages_of(matches: &ArgMatches) -> Result<Part, NotACursor> {
     let cursor = match matches.get_str("cursor") {
         Some(text) => Cursor::parse(text)?,
@@ -267,6 +269,8 @@ fn pages_of(matches: &ArgMatches) -> Result<Part, NotACursor> {
 }
 
 /// The part of a file's rows that the words after `rows` name, where the cursor may be a long one.
+// requires max { HasNumber (codes "max") most_lines (entries_of matches.now) }
+// requires long { HasFlag (codes "long") (entries_of matches.now) }
 fn rows_of(alloc: Global, matches: &ArgMatches) -> Result<Part, WordsFault> {
     let (cursor, from) = match matches.get_str("cursor") {
         Some(text) => match Cursor::parse(text) {
@@ -298,6 +302,7 @@ fn target_of(matches: &ArgMatches) -> Option<Target> {
 }
 
 /// Which bit of a byte is to be first.
+// requires { HasNumber (codes "order") 2 (entries_of matches.now) }
 fn order_of(matches: &ArgMatches) -> FillOrder {
     let order = matches.get_one::<u32>("order").unwrap_or(1);
     if order == 2 {
@@ -317,6 +322,7 @@ fn has_eols(target: Target) -> bool {
 
 /// How the words after `convert` want the pages, unless they name no target, or one that has no
 /// EOLs where these are to be aligned.
+// requires { HasOptions (entries_of matches.now) }
 fn options_of(matches: &ArgMatches) -> Option<Options> {
     let target = target_of(matches)?;
     let aligned = matches.get_flag("align");
@@ -333,6 +339,7 @@ fn options_of(matches: &ArgMatches) -> Option<Options> {
 }
 
 /// The command of this name, as the words after it want it.
+// requires { HasEntries name.now (entries_of matches.now) }
 fn command_of(alloc: Global, name: &str, matches: &ArgMatches) -> Result<Command, WordsFault> {
     match name {
         "list" => Ok(Command::List(pages_of(matches)?)),

@@ -131,6 +131,7 @@ fn note_strip(notes: &mut Vec<Note>, page: u32, strip: u32, found: StripNotes) -
 }
 
 /// How far a page was read where a strip that begins after so many rows has no notes.
+// requires { Code.IsRowInside before fault }
 fn read_to(before: u32, fault: NotesFault) -> Result<PageRead, Memory> {
     match fault {
         NotesFault::Memory => Err(Memory),
@@ -142,6 +143,10 @@ fn read_to(before: u32, fault: NotesFault) -> Result<PageRead, Memory> {
 }
 
 /// Reads the strips of a page and adds the notes on each, up to the first that is not whole.
+// requires form { form_of strips.now.directory ≡ Ok form.now }
+// requires limits { IsPageForm form.now }
+// requires count { strips.now.count ≡ form.now.strips }
+// requires here { Code.IsDirectoryOfPage strips.now.directory page }
 fn check_strips(
     alloc: Global,
     page: u32,
@@ -175,6 +180,7 @@ fn check_strips(
 }
 
 /// Reads a page and adds the notes on it, up to its first fault. A page that is refused has none.
+// requires { Code.IsDirectoryOfPage directory.now page }
 fn check_page(
     alloc: Global,
     page: u32,
@@ -196,6 +202,7 @@ fn check_page(
 }
 
 /// The report on a file with a good header.
+// requires { header tiff.file ≡ Ok tiff.head }
 fn check_pages(alloc: Global, tiff: Tiff) -> Result<Report, Memory> {
     fax_files::laws::files_have_one_chain();
     let mut chain = Chain::new(tiff);

@@ -27,6 +27,7 @@ fn count_images(bytes: &[u8]) -> Result<u64, ConvertFault> {
 }
 
 /// Converts an image. Where the output is too large, its rows are not looked at.
+// requires { (at : Progress) × IsPageDue options.now output.old at }
 fn convert_image(
     alloc: Global,
     image: &PbmImage,
@@ -47,6 +48,7 @@ fn convert_image(
 }
 
 /// Converts images.
+// requires { BeginsWith bytes.now (codes "P4") }
 fn convert_images(alloc: Global, bytes: &[u8], options: &Options) -> Result<Parts, ConvertFault> {
     fax_files::laws::images_are_read_in_one_way();
     fax_files::laws::images_begin_in_one_way();
@@ -91,6 +93,8 @@ fn count_pages(file: &[u8]) -> u64 {
 
 /// Begins the page of a row that is its first one.
 #[inline(always)]
+// requires limits { IsPageForm last.now.form.now }
+// requires due { (part : Part) × Reads.IsLentDue options.now output.old last.now part }
 fn begin_page(
     alloc: Global,
     last: &LastRow,
@@ -105,6 +109,8 @@ fn begin_page(
 
 /// Puts a row that is lent on its page.
 #[inline(always)]
+// requires limits { IsPageForm last.now.form.now }
+// requires due { (part : Part) × Reads.IsLentDue options.now output.old last.now part }
 fn put_lent(
     alloc: Global,
     last: &LastRow,
@@ -121,6 +127,9 @@ fn put_lent(
 
 /// Puts the row that a walk handed out last on its page.
 #[inline(always)]
+// requires untold { walk.now.told ≡ None }
+// requires due { (item : RowItem) × (part : Part)
+//     × Reads.IsItemDue options.now walk.now output.old item part }
 fn put_last_row(
     alloc: Global,
     walk: &Walk,
@@ -135,6 +144,7 @@ fn put_last_row(
 }
 
 /// Converts a TIFF file.
+// requires { Spec.IsTiff file.now }
 fn convert_file(alloc: Global, file: &[u8], options: &Options) -> Result<Parts, ConvertFault> {
     fax_files::laws::files_have_one_chain();
     crate::laws::files_are_paged();

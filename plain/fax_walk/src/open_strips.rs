@@ -20,6 +20,8 @@ pub(crate) struct OpenStrips {
 
 impl OpenStrips {
     /// Before the first row.
+    // requires limits { IsPageForm form }
+    // requires some_k { 0 < k }
     pub(crate) fn new(alloc: Global, form: PageForm, k: u32) -> Self {
         OpenStrips {
             alloc,
@@ -33,6 +35,8 @@ impl OpenStrips {
 
     /// Begins the strip of this form, which is the next one.
     #[inline(never)]
+    // requires limits { IsStripForm form }
+    // requires some_k { 0 < self.old.k }
     fn begin_strip(&mut self, form: StripForm) -> Result<(), Memory> {
         self.writer = Some(StripWriter::new(self.alloc, form, self.k)?);
         Ok(())
@@ -40,6 +44,8 @@ impl OpenStrips {
 
     /// Begins the next strip, which has this number, where none is open.
     #[inline(always)]
+    // requires number { strip ≡ length self.old.done.items }
+    // requires due { (row : List Colour) × Spec.TakesRow self.old row }
     fn open_strip(&mut self, strip: u32) -> Result<(), Memory> {
         fax_page::laws::strips_are_written_row_by_row();
         if let Some(_) = self.writer {
@@ -51,6 +57,7 @@ impl OpenStrips {
 
     /// Writes the strip that is open, all rows of which were put.
     #[inline(never)]
+    // requires { Spec.HasWholeStrip self.old }
     fn end_strip(&mut self) -> Result<(), Memory> {
         let Some(writer) = self.writer.take() else {
             unreachable!();
@@ -61,6 +68,7 @@ impl OpenStrips {
 
     /// Writes the next row, and its strip where that is whole then. The strip's writer stays where
     /// it is between the strip's rows.
+    // requires { Spec.TakesRow self.old row.now }
     pub(crate) fn put_row(&mut self, row: &Row) -> Result<(), Memory> {
         fax_page::laws::strips_are_written_row_by_row();
         let strip = self.done.len() as u32;

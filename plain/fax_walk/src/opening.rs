@@ -69,6 +69,7 @@ pub(crate) fn chain_before<'a>(file: &'a [u8], page: u32) -> Result<Chain<'a>, E
 impl<'a> DuePage<'a> {
     /// The page that is due after the directories that a chain has handed out, or none after the
     /// last one, or the fault in its place.
+    // requires { Spec.IsFileChain chain }
     pub(crate) fn after(mut chain: Chain<'a>) -> Result<Option<Self>, End> {
         fax_files::laws::files_have_one_chain();
         let page = chain.given();

@@ -27,6 +27,7 @@ pub(crate) enum Output {
 
 impl Output {
     /// The output of so many pages, before the first.
+    // requires { 1 ≤ pages }
     pub(crate) fn new(alloc: Global, options: &Options, pages: u64) -> Result<Self, Memory> {
         let Some(coding) = options.target.coding() else {
             return Ok(Output::Images(Parts::new(alloc)));
@@ -39,6 +40,8 @@ impl Output {
     }
 
     /// Begins a page.
+    // requires limits { Spec.IsSheet sheet.now }
+    // requires due { (at : Progress) × Spec.IsPageDue options.now self.old at }
     pub(crate) fn begin(
         &mut self,
         alloc: Global,
@@ -66,6 +69,7 @@ impl Output {
 
     /// Writes the next row of the page.
     #[inline(always)]
+    // requires { Spec.TakesRow self.old row.now }
     pub(crate) fn put_row(&mut self, row: &Row) -> Result<(), Memory> {
         fax_rows::laws::packing_undoes_unpacking();
         match self {
@@ -77,6 +81,7 @@ impl Output {
     }
 
     /// Ends the page, of which all rows were written.
+    // requires { Spec.HasAllRows self.old }
     pub(crate) fn end(&mut self) -> Result<(), Memory> {
         let Output::File(_, writer, open) = self else {
             return Ok(());
@@ -95,6 +100,7 @@ impl Output {
     }
 
     /// The bytes of all pages.
+    // requires { Spec.HasAllPages self }
     pub(crate) fn finish(self, alloc: Global) -> Result<Parts, ConvertFault> {
         match self {
             Output::Images(parts) => Ok(parts),

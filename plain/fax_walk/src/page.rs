@@ -30,6 +30,7 @@ pub(crate) struct OpenPage<'a> {
 impl<'a> Model for OpenPage<'a> {}
 
 /// A row for colours that are exchanged, where they are.
+// requires { IsPageForm form.now }
 pub(crate) fn row_for_exchange(alloc: Global, form: &PageForm) -> Result<Option<Row>, Memory> {
     if form.exchanged {
         Ok(Some(Row::white(alloc, form.width)?))
@@ -40,6 +41,7 @@ pub(crate) fn row_for_exchange(alloc: Global, form: &PageForm) -> Result<Option<
 
 /// Takes the pels of another row of the same width, with their colours exchanged.
 #[inline(never)]
+// requires { length from.now ≡ length row.old }
 pub(crate) fn set_exchanged(row: &mut Row, from: &Row) {
     row.set_from(from);
     row.exchange();
@@ -47,6 +49,8 @@ pub(crate) fn set_exchanged(row: &mut Row, from: &Row) {
 
 /// Opens a page that is due, at the strip that holds the first row that is handed out. So many
 /// rows were read before.
+// requires there { first < due.form.rows }
+// requires few { before ≤ due.page * most_rows }
 pub(crate) fn open<'a>(
     alloc: Global,
     due: DuePage<'a>,
@@ -78,6 +82,8 @@ pub(crate) fn open<'a>(
 
 /// Opens the page after the directories that a chain has handed out, at its first row. So many
 /// rows were read before.
+// requires chain { IsFileChain chain.now }
+// requires few { before ≤ chain.now.given * most_rows }
 pub(crate) fn open_after<'a>(
     alloc: Global,
     chain: &Chain<'a>,
@@ -90,6 +96,9 @@ pub(crate) fn open_after<'a>(
 }
 
 /// A reader of a strip from a place inside it on, before this row of the strip.
+// requires count { length bytes.now ≤ 4294967295 }
+// requires limits { IsStripForm form }
+// requires row { row < form.rows }
 fn strip_at<'a>(
     alloc: Global,
     bytes: &'a [u8],
@@ -102,6 +111,7 @@ fn strip_at<'a>(
 }
 
 /// Opens a page that is due at a place inside a strip of it.
+// requires { due.page ≡ place.now.at.page }
 pub(crate) fn open_inside<'a>(
     alloc: Global,
     due: DuePage<'a>,
@@ -145,6 +155,7 @@ pub(crate) fn open_inside<'a>(
 
 impl<'a> OpenPage<'a> {
     /// Opens the page after this one, all rows of which are read.
+    // requires { row_of self.now ≡ self.now.form.rows }
     pub(crate) fn open_next(&self, alloc: Global) -> Result<OpenPage<'a>, OpenFault> {
         open_after(alloc, &self.chain, self.read())
     }
@@ -209,6 +220,9 @@ impl<'a> OpenPage<'a> {
     /// Goes to the next strip, and answers whether it lies in the file.
     #[cold]
     #[inline(never)]
+    // requires open { Spec.IsOpen self.old }
+    // requires all_read { self.old.strip.row ≡ self.old.strip.form.rows }
+    // requires due { row_of self.old < self.old.form.rows }
     fn next_strip(&mut self) -> bool {
         let number = self.number + 1;
         match self.strips.bytes(number) {
@@ -232,6 +246,7 @@ impl<'a> OpenPage<'a> {
 
     /// Reads the row that is due, and answers whether there was one, or how the rows end there.
     #[inline(always)]
+    // requires { Spec.IsOpen self.old }
     fn advance(&mut self) -> Result<bool, End> {
         'strips: loop {
             match self.strip.advance() {
@@ -261,6 +276,7 @@ impl<'a> OpenPage<'a> {
     /// Reads on to the next row that is handed out, and answers whether there was one, or how the
     /// rows end before it.
     #[inline(always)]
+    // requires { Spec.IsOpen self.old }
     pub(crate) fn next(&mut self) -> Result<bool, End> {
         'rows: loop {
             if !self.advance()? {

@@ -31,6 +31,7 @@ pub struct Pages<'a> {
 impl<'a> Model for Pages<'a> {}
 
 /// The page after the directories that a chain has handed out, or how the pages end there.
+// requires { IsFileChain chain }
 fn page_after<'a>(chain: Chain<'a>) -> Result<DuePage<'a>, End> {
     match DuePage::after(chain) {
         Ok(Some(page)) => Ok(page),

@@ -61,11 +61,14 @@ impl Parts {
     }
 
     /// Appends an image's header.
+    // requires { length self.old ≤ max_file }
     pub(crate) fn put_head(&mut self, width: u32, rows: u32) -> Result<(), Memory> {
         put_pbm_head(&mut self.held, width, rows)
     }
 
     /// Appends zeros, which are not held, to bytes that are some already.
+    // requires begun { 1 ≤ length self.old }
+    // requires room { length self.old + zeros ≤ max_file }
     fn put_zeros(&mut self, zeros: usize) -> Result<(), Memory> {
         let held = self.held.len() - self.placed;
         if held == 0 {
@@ -82,6 +85,7 @@ impl Parts {
 
     /// Appends a row of an image, eight pels in a byte.
     #[inline(always)]
+    // requires { length self.old + packed_len (length row.now) ≤ max_file }
     pub(crate) fn put_row(&mut self, row: &Row) -> Result<(), Memory> {
         fax_rows::laws::packing_undoes_unpacking();
         let len = (row.width() as usize).div_ceil(8);

@@ -21,6 +21,7 @@ enum Left<'a> {
 }
 
 /// What becomes of the row that is due, or `None` after the last one.
+// requires { Spec.IsGoneOver left.old }
 fn next_of(left: &mut Left) -> Option<PagePart> {
     fax_page::laws::strips_are_salvaged_in_one_way();
     fax_page::laws::uncounted_rows_are_left_in_one_way();
@@ -107,6 +108,8 @@ impl<'a> RowsLeft<'a> {
     /// # Errors
     ///
     /// `Memory` where a growth was refused.
+    // requires count { length bytes.now ≤ 4294967295 }
+    // requires limits { IsStripForm form }
     pub fn of_strip(alloc: Global, bytes: &'a [u8], form: StripForm) -> Result<Self, Memory> {
         let reader = SalvageReader::new(alloc, bytes, form)?;
         Ok(RowsLeft {
@@ -121,6 +124,8 @@ impl<'a> RowsLeft<'a> {
     /// # Errors
     ///
     /// `Memory` where a growth was refused.
+    // requires count { length bytes.now ≤ 4294967295 }
+    // requires limits { IsStripForm form }
     pub fn of_uncounted(
         alloc: Global,
         bytes: &'a [u8],

@@ -53,6 +53,7 @@ enum NextPage<'a> {
 /// The page that is due after the directories that a chain has handed out.
 #[cold]
 #[inline(never)]
+// requires { IsFileChain chain.now }
 fn next_page<'a>(alloc: Global, chain: &Chain<'a>) -> Result<NextPage<'a>, Memory> {
     fax_files::laws::files_have_one_chain();
     let number = chain.given();

@@ -12,6 +12,7 @@ use kit_std::marker::Model;
 
 /// The stretch of lost rows that ends before a row of a page, with so many rows more, which are lost
 /// for this cause.
+// requires { Spec.HasRoom lost rows }
 fn longer(lost: Option<Stretch>, page: u32, row: u32, rows: u32, cause: Cause) -> Stretch {
     match lost {
         Some(stretch) => Stretch {
@@ -48,6 +49,9 @@ impl<'a> Model for SalvagePage<'a> {}
 
 impl<'a> SalvagePage<'a> {
     /// Before the first row of a page. It takes all the memory that the page needs.
+    // requires form { form_of strips.directory ≡ Ok form }
+    // requires limits { IsPageForm form }
+    // requires count { strips.count ≡ form.strips }
     pub fn open(
         alloc: Global,
         page: u32,
@@ -75,6 +79,7 @@ impl<'a> SalvagePage<'a> {
     }
 
     /// The row before the one that is due, as it is handed out.
+    // requires { 0 < Spec.row_after self.now }
     fn item(&self) -> SalvageItem {
         SalvageItem::Row(Place {
             page: self.page,

@@ -18,6 +18,7 @@ pub enum PagePart {
 }
 
 /// The bytes of strip `s` that lie in the file, and whether these are all of them.
+// requires { s < strips.now.count }
 fn bytes_left<'a>(strips: &Strips<'a>, s: u32) -> (&'a [u8], bool) {
     match strips.bytes(s) {
         Ok(bytes) => (bytes, true),
@@ -77,6 +78,9 @@ impl<'a> Model for SalvageRows<'a> {}
 
 impl<'a> SalvageRows<'a> {
     /// Before the first row of a page.
+    // requires form { form_of strips.directory ≡ Ok form }
+    // requires limits { IsPageForm form }
+    // requires count { strips.count ≡ form.strips }
     pub fn begin(alloc: Global, form: PageForm, strips: Strips<'a>) -> Result<Self, Memory> {
         let (bytes, whole) = bytes_left(&strips, 0);
         let reader = SalvageReader::new(alloc, bytes, form.strip_form(0))?;

@@ -26,6 +26,7 @@ impl Sheet {
     }
 
     /// The sheet of a page, which keeps its resolution.
+    // requires { IsPageForm form.now }
     pub(crate) fn of_form(form: &PageForm) -> Self {
         Sheet {
             width: form.width,
@@ -37,6 +38,8 @@ impl Sheet {
     }
 
     /// The form of the page as it is written.
+    // requires limits { Spec.IsSheet self.now }
+    // requires has_eols { options.now.aligned ≡ true → coding ≢ Coding.Mmr }
     pub(crate) fn form(&self, options: &Options, coding: Coding) -> PageForm {
         let rows_per_strip = options.strip.unwrap_or(self.rows).min(self.rows);
         PageForm {

@@ -19,6 +19,9 @@ impl<'a> Model for ShownRows<'a> {}
 
 impl<'a> ShownRows<'a> {
     /// Before the first row of a page. It takes all the memory that the page needs.
+    // requires form { form_of strips.directory ≡ Ok form }
+    // requires limits { IsPageForm form }
+    // requires count { strips.count ≡ form.strips }
     pub fn open(alloc: Global, form: PageForm, strips: Strips<'a>) -> Result<Self, Memory> {
         let exchanged = row_for_exchange(alloc, &form)?;
         let rows = SalvageRows::begin(alloc, form, strips)?;

@@ -78,6 +78,7 @@ fn open_at_place<'a>(
 /// the step from row to row: there what it puts on the stack would be cleared at each row.
 #[cold]
 #[inline(never)]
+// requires { Spec.IsReadOrNone page.old }
 fn open_due<'a>(
     alloc: Global,
     file: &'a [u8],
@@ -96,6 +97,7 @@ fn open_due<'a>(
 /// Reads the next row that is handed out. Where the page that is open has no more, the next one is
 /// opened.
 #[inline(always)]
+// requires { Spec.IsOpenOrNone page.old }
 fn go_on<'a>(
     alloc: Global,
     file: &'a [u8],
@@ -178,6 +180,7 @@ impl<'a> Walk<'a> {
 
     /// The row that was handed out last, if one was.
     #[inline(always)]
+    // requires { self.now.told ≡ None }
     pub(crate) fn last_row(&self) -> Option<LastRow<'_>> {
         match &self.page {
             Some(page) => Some(LastRow {

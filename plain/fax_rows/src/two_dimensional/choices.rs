@@ -7,6 +7,7 @@ use crate::rows::PlacedRow;
 /// Whether T.4 chooses vertical mode where a1 is reached by it: b2 is not left of a1 (T.4, section
 /// 4.2.1.3.3).
 #[inline(always)]
+// requires b1 { IsB1At reference at.reached.a0 at.reached.colour at.b1 }
 pub(super) fn chooses_a1<const CHOICE: bool>(
     reference: PlacedRow,
     at: PlacedReached,
@@ -25,6 +26,8 @@ pub(super) fn chooses_b2<const CHOICE: bool>(reference: PlacedRow, next: PlacedR
 /// Whether T.4 chooses horizontal mode with these two runs, as far as the row is read (T.4, section
 /// 4.2.1.3.3).
 #[inline(always)]
+// requires b1 { IsB1At reference at.reached.a0 at.reached.colour at.b1 }
+// requires within { reached_pel at.reached + runs.first + runs.second ≤ reference.width }
 pub(super) fn chooses_runs<const CHOICE: bool>(
     reference: PlacedRow,
     at: PlacedReached,

@@ -43,6 +43,7 @@ pub(super) struct TwoRuns {
 /// by a look-up. Else it answers the first run, where that is found. `CHOICE` and `SEVERAL` part the
 /// copies of several callers: each is written out in its one caller.
 #[inline(always)]
+// requires from { from ≤ width }
 pub(super) fn run_by_run<const CHOICE: bool, const SEVERAL: bool>(
     source: &mut BitSource,
     colour: Colour,
@@ -60,6 +61,8 @@ pub(super) fn run_by_run<const CHOICE: bool, const SEVERAL: bool>(
 
 /// What `run_by_run` does: a white run and the black one after it mostly by one look-up.
 #[inline(always)]
+// requires width { width < 2 ^ 16 }
+// requires from { from ≤ width }
 pub(super) fn two_runs<const CHOICE: bool, const SEVERAL: bool>(
     source: &mut BitSource,
     colour: Colour,
@@ -81,6 +84,9 @@ pub(super) fn two_runs<const CHOICE: bool, const SEVERAL: bool>(
 /// Reads the runs that `two_runs` does not find, by their tables: a run of the colour whose first
 /// pel is `from`, where it is not read, and the run of the other colour after it. With `CHOICE` it
 /// stops where their codes are not seen to be T.4's choice.
+// requires width { width < 2 ^ 16 }
+// requires from { from ≤ width }
+// requires fits { IfSome first (λ n. from + n ≤ width) }
 pub(super) fn last_two_runs<const CHOICE: bool>(
     source: &mut BitSource,
     colour: Colour,

@@ -17,6 +17,8 @@ const LEAST_MORE: u32 = 3;
 
 /// Copies eight places of another row to the index `end`.
 #[inline(always)]
+// requires room { end + COPIED ≤ length places.old }
+// requires others { from + COPIED ≤ length other.now }
 fn copy_eight(places: &mut [u32], end: usize, other: &[u32], from: usize) {
     places[end..end + COPIED].copy_from_slice(&other[from..from + COPIED]);
 }
@@ -24,6 +26,7 @@ fn copy_eight(places: &mut [u32], end: usize, other: &[u32], from: usize) {
 /// Reads a step with a1 under b1, after its code, and up to seven more of them, whose codes are 1s
 /// that are next, where the row does not end among the next eight changes.
 #[inline(always)]
+// requires inside { IsReadInside reference places.old at }
 pub(super) fn under_several(
     source: &mut BitSource,
     reference: PlacedRow,

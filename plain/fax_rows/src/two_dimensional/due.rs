@@ -52,6 +52,8 @@ fn last_mode(source: &mut BitSource) -> Result<ModeCode, CodeFault> {
 }
 
 /// Horizontal mode with runs by their tables: the first of them where it is not read, and the second.
+// requires inside { IsReadInside reference places.old at }
+// requires fits { IfSome first (λ n. reached_pel at.reached + n ≤ reference.width) }
 fn last_horizontal<const CHOICE: bool>(
     source: &mut BitSource,
     reference: PlacedRow,
@@ -66,6 +68,7 @@ fn last_horizontal<const CHOICE: bool>(
 }
 
 /// Goes on by a mode, after its code, with runs by their tables.
+// requires inside { IsReadInside reference places.old at }
 fn last_step<const CHOICE: bool>(
     source: &mut BitSource,
     reference: PlacedRow,
@@ -82,6 +85,8 @@ fn last_step<const CHOICE: bool>(
 }
 
 /// Reads what is due, and goes on by it.
+// requires inside { IsReadInside reference places.old at }
+// requires within { IsDueWithin reference.width (reached_pel at.reached) due }
 fn read_due<const CHOICE: bool>(
     source: &mut BitSource,
     reference: PlacedRow,
@@ -102,6 +107,7 @@ fn read_due<const CHOICE: bool>(
 /// as it was.
 #[cold]
 #[inline(never)]
+// requires pause { IsPause CHOICE reference source.old places.old pause }
 pub(super) fn read_on<const CHOICE: bool>(
     source: &mut BitSource,
     reference: PlacedRow,

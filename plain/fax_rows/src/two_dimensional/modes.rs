@@ -15,6 +15,8 @@ use fax_bits::{BitSource, ModeCode};
 /// Horizontal mode, after its two runs, where that is T.4's choice or this is not asked for (T.4,
 /// sections 4.2.1.3.2 and 4.2.1.3.3).
 #[inline(always)]
+// requires inside { IsReadInside reference places.old at }
+// requires within { reached_pel at.reached + runs.first + runs.second ≤ reference.width }
 pub(super) fn past_runs<const CHOICE: bool>(
     reference: PlacedRow,
     places: &mut [u32],
@@ -31,6 +33,7 @@ pub(super) fn past_runs<const CHOICE: bool>(
 /// Horizontal mode: two runs from a0 on, the first of a0's colour, which stays (T.4, section
 /// 4.2.1.3.2). The index of b1 tells that colour.
 #[inline(always)]
+// requires inside { IsReadInside reference places.old at }
 fn horizontal<const CHOICE: bool, const SEVERAL: bool>(
     source: &mut BitSource,
     reference: PlacedRow,
@@ -49,6 +52,7 @@ fn horizontal<const CHOICE: bool, const SEVERAL: bool>(
 /// section 4.2.1.3.2). Vertical mode always is T.4's choice where a1 is not right of b1 (T.4,
 /// section 4.2.1.3.3).
 #[inline(always)]
+// requires inside { IsReadInside reference places.old at }
 pub(super) fn vertical<const CHOICE: bool>(
     reference: PlacedRow,
     places: &mut [u32],
@@ -73,6 +77,7 @@ pub(super) fn vertical<const CHOICE: bool>(
 
 /// Pass mode, where that is T.4's choice or this is not asked for (T.4, section 4.2.1.3.3).
 #[inline(always)]
+// requires inside { IsReadInside reference places.now at }
 pub(super) fn pass<const CHOICE: bool>(
     reference: PlacedRow,
     places: &[u32],
@@ -90,6 +95,7 @@ pub(super) fn pass<const CHOICE: bool>(
 /// Goes on by a mode, after its code; where a1 is under b1 it reads more such modes too (T.4,
 /// section 4.2.1.3.3).
 #[inline(always)]
+// requires inside { IsReadInside reference places.old at }
 fn by_mode<const CHOICE: bool, const SEVERAL: bool>(
     source: &mut BitSource,
     reference: PlacedRow,
@@ -110,6 +116,7 @@ fn by_mode<const CHOICE: bool, const SEVERAL: bool>(
 /// modes too (T.4, section 4.2.1.3.3). With `SEVERAL` it reads several vertical modes by one look-up
 /// where it can.
 #[inline(always)]
+// requires inside { IsReadInside reference places.old at }
 fn next_steps<const CHOICE: bool, const SEVERAL: bool>(
     source: &mut BitSource,
     reference: PlacedRow,
@@ -129,6 +136,7 @@ fn next_steps<const CHOICE: bool, const SEVERAL: bool>(
 /// It stops where no look-up finds the next code, and with `CHOICE` at the first step that is not
 /// seen to be T.4's choice. Where it stops the source is as it was.
 #[inline(never)]
+// requires room { HasRoom reference.width places.old }
 pub(super) fn read_by_look_ups<const CHOICE: bool, const SEVERAL: bool>(
     source: &mut BitSource,
     reference: PlacedRow,

@@ -45,6 +45,7 @@ impl ReachedOverWhite {
 
     /// A pause where no look-up finds the next step, at this place in the bits of the source.
     #[inline(always)]
+    // requires { self.first_pel < 2 ^ 16 }
     fn pause(self, place: u64) -> Pause {
         Pause {
             due: Due::Mode,
@@ -69,6 +70,7 @@ enum StepOverWhite {
 /// is the first that is not read, each code by a look-up. Where it finds no such step the source is
 /// as it was.
 #[inline(always)]
+// requires within { first_pel ≤ width }
 fn by_codes<const CHOICE: bool>(
     source: &mut BitSource,
     first_pel: u32,
@@ -95,6 +97,8 @@ fn by_codes<const CHOICE: bool>(
 
 /// What `by_codes` does, mostly by one look-up.
 #[inline(always)]
+// requires width { width < 2 ^ 16 }
+// requires within { first_pel ≤ width }
 fn next_step<const CHOICE: bool>(
     source: &mut BitSource,
     first_pel: u32,
@@ -112,6 +116,10 @@ fn next_step<const CHOICE: bool>(
 /// Horizontal mode, after its two runs, where that is T.4's choice or this is not asked for: b1 is
 /// at the row's end (T.4, sections 4.2.1.3.2 and 4.2.1.3.3).
 #[inline(always)]
+// requires white { reference.end ≡ 1 }
+// requires inside { IsReadInside reference places.old (placed_over_white at) }
+// requires within { at.first_pel + runs.first + runs.second ≤ reference.width }
+// requires pels { HavePels at.first_pel runs }
 fn past_two_runs<const CHOICE: bool>(
     reference: PlacedRow,
     places: &mut [u32],
@@ -132,6 +140,8 @@ fn past_two_runs<const CHOICE: bool>(
 /// end. It stops where no look-up finds the next step, and with `CHOICE` at the first step that is
 /// not seen to be T.4's choice. Where it stops the source is as it was.
 #[inline(never)]
+// requires room { HasRoom reference.width places.old }
+// requires white { reference.end ≡ 1 }
 pub(super) fn read_over_white<const CHOICE: bool>(
     source: &mut BitSource,
     reference: PlacedRow,

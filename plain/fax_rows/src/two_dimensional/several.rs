@@ -18,6 +18,8 @@ const LEFT: u32 = 3;
 
 /// Which lanes are less than the others, the first in the lowest bit.
 #[inline(always)]
+// requires lanes { AreFour lanes }
+// requires others { AreFour others }
 fn less_lanes(lanes: u32x4, others: u32x4) -> u64 {
     // With a sign, which takes fewer instructions.
     lanes
@@ -28,6 +30,7 @@ fn less_lanes(lanes: u32x4, others: u32x4) -> u64 {
 
 /// Whether the lowest `count` bits are set in each of the three.
 #[inline(always)]
+// requires { count ≤ 4 }
 fn are_set(first: u64, second: u64, third: u64, count: u32) -> bool {
     let wanted = (1 << count) - 1;
     first & second & third & wanted == wanted
@@ -35,6 +38,7 @@ fn are_set(first: u64, second: u64, third: u64, count: u32) -> bool {
 
 /// Three pels right of a0, or 2 just before the first pel.
 #[inline(always)]
+// requires { unwrap_or a0 0 < 2 ^ 16 }
 fn raised_a0(a0: Option<u32>) -> u32 {
     match a0 {
         None => 2,
@@ -46,6 +50,11 @@ fn raised_a0(a0: Option<u32>) -> u32 {
 /// each is right of the one before, not left of the change before its b1, and left of the one after
 /// it.
 #[inline(always)]
+// requires some { 0 < b }
+// requires room { b + 5 ≤ length others.now }
+// requires small { (i : ℕ) → i < 6 → slice_index others.now (b - 1 + i) < 2 ^ 16 }
+// requires reached { unwrap_or a0 0 < 2 ^ 16 }
+// requires few { AreFew found }
 fn in_lanes(others: &[u32], b: usize, a0: Option<u32>, found: Verticals) -> Option<[u32; LANES]> {
     // Each three pels too far right, as the looked-up numbers are.
     let raises = u8x4::from_array(found.raises);
@@ -67,6 +76,8 @@ fn in_lanes(others: &[u32], b: usize, a0: Option<u32>, found: Verticals) -> Opti
 
 /// Puts four places from the index `end` on.
 #[inline(always)]
+// requires room { end + LANES ≤ length places.old }
+// requires lanes { length four ≡ 4 }
 fn put_four(places: &mut [u32], end: usize, four: [u32; LANES]) {
     places[end..end + LANES].copy_from_slice(&four);
 }
@@ -75,6 +86,7 @@ fn put_four(places: &mut [u32], end: usize, four: [u32; LANES]) {
 /// not end among the next four changes, and where each a1 is right of the one before, not left of
 /// the change before its b1, and left of the one after it. Else it reads nothing.
 #[inline(always)]
+// requires inside { IsReadInside reference places.old at }
 pub(super) fn several<const ASKED: bool>(
     source: &mut BitSource,
     reference: PlacedRow,

@@ -23,6 +23,7 @@ impl Reached {
 
     /// a0 as a number: -1 just before the first pel.
     #[inline(always)]
+    // requires { reached_pel self < 2 ^ 16 }
     pub fn number(self) -> i32 {
         match self.a0 {
             None => -1,
@@ -32,12 +33,16 @@ impl Reached {
 
     /// Whether the pel `a1` is right of a0.
     #[inline(always)]
+    // requires reached { reached_pel self < 2 ^ 16 }
+    // requires near { a1 < 2 ^ 16 }
     pub fn is_left_of(self, a1: u32) -> bool {
         a1 as i32 > self.number()
     }
 
     /// The pel `d` pels right of the pel `b1`, where it is right of a0.
     #[inline(always)]
+    // requires reached { reached_pel self < 2 ^ 16 }
+    // requires near { b1 < 2 ^ 16 }
     fn left_of(self, b1: u32, d: i8) -> Option<u32> {
         let place = b1 as i32 + i32::from(d);
         if place > self.number() {
@@ -73,6 +78,7 @@ impl PlacedReached {
 
 /// Pass mode: goes on to the pel below b2 (T.4, section 4.2.1.3.2).
 #[inline(always)]
+// requires inside { IsReadInside reference places.now at }
 pub(crate) fn under_b2(reference: PlacedRow, places: &[u32], at: PlacedReached) -> PlacedReached {
     PlacedReached {
         reached: Reached {
@@ -87,6 +93,11 @@ pub(crate) fn under_b2(reference: PlacedRow, places: &[u32], at: PlacedReached) 
 /// Goes on to the pel `a1`, which is right of a0 and in the row, where the colour changes (T.4,
 /// section 4.2.1.3.2). `b1` is the index of the next b1.
 #[inline(always)]
+// requires inside { IsReadInside reference places.old at }
+// requires right { Spec.a0_number (position_of at.reached []) <ℤ pos a1 }
+// requires within { a1 ≤ reference.width }
+// requires b1 { a1 < reference.width
+//     → IsB1At reference (Some a1) (other_than at.reached.colour) b1 }
 fn turned_at(
     reference: PlacedRow,
     places: &mut [u32],
@@ -108,6 +119,7 @@ fn turned_at(
 /// Vertical mode with a1 just under b1, which is always right of a0 and in the row (T.4,
 /// section 4.2.1.3.2). The next b1 is the reference row's next changing element.
 #[inline(always)]
+// requires inside { IsReadInside reference places.old at }
 pub(crate) fn under_b1(reference: PlacedRow, places: &mut [u32], at: PlacedReached) -> PlacedReached {
     turned_at(reference, places, at, reference.places[at.b1], at.b1 + 1)
 }
@@ -115,6 +127,8 @@ pub(crate) fn under_b1(reference: PlacedRow, places: &mut [u32], at: PlacedReach
 /// Vertical mode with a1 right of b1, by `d` pels (T.4, section 4.2.1.3.2). `None` where a1 is not
 /// in the row.
 #[inline(always)]
+// requires inside { IsReadInside reference places.old at }
+// requires right { pos 0 ≤ℤ d }
 pub(crate) fn right_of_b1(
     reference: PlacedRow,
     places: &mut [u32],
@@ -132,6 +146,8 @@ pub(crate) fn right_of_b1(
 /// Vertical mode with a1 left of b1, by `-d` pels (T.4, section 4.2.1.3.2). `None` where a1 is not
 /// right of a0.
 #[inline(always)]
+// requires inside { IsReadInside reference places.old at }
+// requires left { d ≤ℤ negsuc 0 }
 pub(crate) fn left_of_b1(
     reference: PlacedRow,
     places: &mut [u32],
@@ -146,6 +162,8 @@ pub(crate) fn left_of_b1(
 /// Horizontal mode, after its two runs, the first of a0's colour, which stays (T.4, section
 /// 4.2.1.3.2).
 #[inline(always)]
+// requires inside { IsReadInside reference places.old at }
+// requires within { reached_pel at.reached + first + second ≤ reference.width }
 pub(crate) fn after_runs(
     reference: PlacedRow,
     places: &mut [u32],

@@ -16,6 +16,7 @@ use kit_std::alloc::Global;
 type ReportLine = ArrayString<64>;
 
 /// Appends the number of a strip, where there is one.
+// requires { array_string_len line.old + 17 ≤ 64 }
 fn push_strip(line: &mut ReportLine, strip: Option<u32>) {
     if let Some(strip) = strip {
         line.push_str(" strip");
@@ -68,6 +69,9 @@ fn fault_line(report: &Report) -> Option<ErrorLine> {
 
 /// Reads the input whole and writes what is worth a note in it, how many pages were read wholly,
 /// and how many rows.
+// requires input_counts { R.counts input.old ≡ no_faults }
+// requires taken { R.taken input.old ≡ 0 }
+// requires counts { W.counts out.old ≡ no_faults }
 pub fn check<R: Source, W: Sink>(
     alloc: Global,
     input: &mut R,

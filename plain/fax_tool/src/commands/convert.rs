@@ -11,6 +11,9 @@ use kit_std::alloc::Global;
 const BLOCK: usize = 65_536;
 
 /// Writes so many zeros, from a block of them.
+// requires block { block.now ≡ replicate (length block.now) 0 }
+// requires some { 0 < length block.now }
+// requires counts { W.counts out.old ≡ counted interruptions.old }
 fn give_zeros<W: Sink>(
     out: &mut W,
     interruptions: &mut Interruptions,
@@ -27,6 +30,9 @@ fn give_zeros<W: Sink>(
 }
 
 /// Writes a part of an output, with its zeros from a block.
+// requires block { block.now ≡ replicate (length block.now) 0 }
+// requires some { 0 < length block.now }
+// requires counts { W.counts out.old ≡ counted interruptions.old }
 fn give_part<W: Sink>(
     out: &mut W,
     interruptions: &mut Interruptions,
@@ -38,6 +44,9 @@ fn give_part<W: Sink>(
 }
 
 /// Writes an output part by part, with zeros from a block.
+// requires block { block.now ≡ replicate (length block.now) 0 }
+// requires some { 0 < length block.now }
+// requires counts { W.counts out.old ≡ no_faults }
 fn give_parts<W: Sink>(out: &mut W, block: &[u8], output: &Parts) -> Result<(), Refusal> {
     let mut interruptions = Interruptions::NONE;
     let mut left = output.parts();
@@ -50,6 +59,9 @@ fn give_parts<W: Sink>(out: &mut W, block: &[u8], output: &Parts) -> Result<(), 
 
 /// Reads the input whole and writes its pages as the options say. Where it is refused nothing is
 /// written.
+// requires input_counts { R.counts input.old ≡ no_faults }
+// requires taken { R.taken input.old ≡ 0 }
+// requires counts { W.counts out.old ≡ no_faults }
 pub fn convert<R: Source, W: Sink>(
     alloc: Global,
     options: Options,

@@ -27,6 +27,7 @@ fn next_line(cursor: Cursor) -> ArrayString<29> {
 }
 
 /// Writes a text in two parts.
+// requires { W.counts out.old ≡ counted interruptions.old }
 fn give_two<W: Sink>(
     out: &mut W,
     interruptions: &mut Interruptions,
@@ -40,6 +41,7 @@ fn give_two<W: Sink>(
 }
 
 /// Writes the lines that are whole, and the line that says where to go on, when memory was refused.
+// requires { W.counts out.old ≡ counted interruptions.old }
 fn stop_for_memory<W: Sink>(
     out: &mut W,
     interruptions: &mut Interruptions,
@@ -53,6 +55,7 @@ fn stop_for_memory<W: Sink>(
 }
 
 /// Writes the text that is collected, and empties it; its room stays.
+// requires { W.counts out.old ≡ counted interruptions.old }
 pub fn write_out<W: Sink>(
     out: &mut W,
     interruptions: &mut Interruptions,
@@ -64,6 +67,7 @@ pub fn write_out<W: Sink>(
 }
 
 /// Writes the text that is collected where it is long, and empties it then.
+// requires { W.counts out.old ≡ counted interruptions.old }
 pub fn write_where_long<W: Sink>(
     out: &mut W,
     interruptions: &mut Interruptions,
@@ -76,6 +80,7 @@ pub fn write_where_long<W: Sink>(
 }
 
 /// What is left of a limit after one more line.
+// requires { IfSome left (λ n. 0 < n) }
 fn after_one(left: Option<u32>) -> Option<u32> {
     match left {
         Some(n) => Some(n - 1),
@@ -84,6 +89,8 @@ fn after_one(left: Option<u32>) -> Option<u32> {
 }
 
 /// Prints the lines, up to the limit, and answers how they ended, or `None` at the limit.
+// requires counts { W.counts out.old ≡ counted interruptions.old }
+// requires fresh { L.given lines.old ≡ 0 }
 fn print_lines<L: Lines, W: Sink>(
     alloc: Global,
     lines: &mut L,
@@ -128,6 +135,7 @@ fn long_next_line<L: Lines>(alloc: Global, lines: &L) -> Result<String, Memory> 
 }
 
 /// Writes where to go on, with a long cursor where it is asked for and there is one.
+// requires { W.counts out.old ≡ counted interruptions.old }
 fn give_next<L: Lines, W: Sink>(
     alloc: Global,
     lines: &L,
@@ -155,6 +163,7 @@ struct LastLine {
 
 /// Writes the last line of the output: `end`, or where to go on, or none for a cursor outside of
 /// the file. Where printing ended at its limit there is no end.
+// requires { W.counts out.old ≡ counted interruptions.old }
 fn give_last_line<L: Lines, W: Sink>(
     alloc: Global,
     lines: &L,
@@ -172,6 +181,8 @@ fn give_last_line<L: Lines, W: Sink>(
 
 /// Prints the lines, up to the limit, and the last line, and answers the line of their fault, if
 /// there is one.
+// requires counts { W.counts out.old ≡ no_faults }
+// requires fresh { L.given lines.old ≡ 0 }
 fn print_all<L: Lines, W: Sink>(
     alloc: Global,
     lines: &mut L,
@@ -188,6 +199,9 @@ fn print_all<L: Lines, W: Sink>(
 }
 
 /// Reads the input whole. Where memory is refused it writes where to go on: at this cursor.
+// requires input_counts { R.counts input.old ≡ no_faults }
+// requires taken { R.taken input.old ≡ 0 }
+// requires counts { W.counts out.old ≡ no_faults }
 fn read_or_stop<R: Source, W: Sink>(
     alloc: Global,
     cursor: Cursor,
@@ -208,6 +222,7 @@ fn read_or_stop<R: Source, W: Sink>(
 }
 
 /// What the rows of a part begin with. Where memory is refused it writes where to go on: there.
+// requires { W.counts out.old ≡ no_faults }
 fn begin_or_stop<W: Sink>(part: &Part, out: &mut W) -> Result<Begun, Refusal> {
     match part.begun() {
         Ok(begun) => Ok(begun),
@@ -222,6 +237,9 @@ fn begin_or_stop<W: Sink>(part: &Part, out: &mut W) -> Result<Begun, Refusal> {
 /// Reads the input whole and prints the rows of its pages from the cursor on, up to the limit, and
 /// then `end`, or `next` with the place of the row that was due: a long cursor where the part asks
 /// for it and there is one.
+// requires input_counts { R.counts input.old ≡ no_faults }
+// requires taken { R.taken input.old ≡ 0 }
+// requires counts { W.counts out.old ≡ no_faults }
 pub fn rows<R: Source, W: Sink>(
     alloc: Global,
     part: &Part,
@@ -237,6 +255,9 @@ pub fn rows<R: Source, W: Sink>(
 
 /// Reads the input whole and prints the forms of its pages from the cursor on, up to the limit, and
 /// then `end`, or `next` with the place of the page that was due.
+// requires input_counts { R.counts input.old ≡ no_faults }
+// requires taken { R.taken input.old ≡ 0 }
+// requires counts { W.counts out.old ≡ no_faults }
 pub fn list<R: Source, W: Sink>(
     alloc: Global,
     part: &Part,

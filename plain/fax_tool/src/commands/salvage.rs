@@ -26,6 +26,7 @@ pub trait Remains {
 }
 
 /// Collects the line of a row that was found, which the reader lends.
+// requires { salvage.now.last ≢ None }
 fn put_found(salvage: &Salvage<'_>, place: Place, text: &mut Collected) -> Result<(), Memory> {
     match salvage.row() {
         Some(row) => put_row_line(text, place, row),
@@ -54,6 +55,8 @@ impl Remains for Salvage<'_> {
 }
 
 /// Prints the lines of what is left of a file.
+// requires counts { W.counts out.old ≡ counted interruptions.old }
+// requires fresh { R.given remains.old ≡ 0 }
 fn print_remains<R: Remains, W: Sink>(
     alloc: Global,
     remains: &mut R,
@@ -85,6 +88,7 @@ fn pass_row(walk: &mut Walk<'_>) -> Result<Option<End>, Memory> {
 }
 
 /// How the rows of a file end: properly where it is known that nothing is lost.
+// requires { is_whole ≡ true → (rows : List RowItem) × AreItems file.now rows Proper }
 fn end_of_rows(alloc: Global, file: &[u8], is_whole: bool) -> Result<End, Memory> {
     if is_whole {
         return Ok(End::Proper);
@@ -101,6 +105,9 @@ fn end_of_rows(alloc: Global, file: &[u8], is_whole: bool) -> Result<End, Memory
 /// Reads the input whole and prints each row that stands between its EOLs, the stretches that are
 /// lost and the pages that are refused, and then `end`. The fault that it answers is the one of the
 /// file's rows.
+// requires input_counts { R.counts input.old ≡ no_faults }
+// requires taken { R.taken input.old ≡ 0 }
+// requires counts { W.counts out.old ≡ no_faults }
 pub fn salvage<R: Source, W: Sink>(
     alloc: Global,
     input: &mut R,

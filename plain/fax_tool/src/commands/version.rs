@@ -8,6 +8,7 @@ use crate::streams::transfer::{Interruptions, give_all};
 const VERSION_TEXT: &str = "faxpages 1.7.0\n";
 
 /// Writes the version.
+// requires { W.counts out.old ≡ no_faults }
 pub fn version<W: Sink>(out: &mut W) -> Result<(), Refusal> {
     let mut interruptions = Interruptions::NONE;
     give_all(out, &mut interruptions, VERSION_TEXT.as_bytes())

@@ -61,6 +61,8 @@ pub(crate) fn zero_bytes(alloc: Global, len: usize) -> Result<Vec<u8>, Refusal> 
 ///
 /// `Memory` where a growth was refused; `Read` where a read failed, 1,024 were interrupted, or the
 /// source has more bytes.
+// requires counts { R.counts input.old ≡ no_faults }
+// requires taken { R.taken input.old ≡ 0 }
 pub fn read_whole<R: Source>(alloc: Global, input: &mut R) -> Result<Vec<u8>, Refusal> {
     let mut interruptions = Interruptions::NONE;
     let mut file = Vec::new(alloc);
@@ -93,6 +95,7 @@ pub fn read_whole<R: Source>(alloc: Global, input: &mut R) -> Result<Vec<u8>, Re
 ///
 /// `Write` where a write failed or 1,024 on this sink were interrupted; a front of the bytes was
 /// then written.
+// requires counts { W.counts out.old ≡ counted interruptions.old }
 pub fn give_all<W: Sink>(
     out: &mut W,
     interruptions: &mut Interruptions,

@@ -23,6 +23,7 @@ impl Model for Collected {}
 const LEAST_ROOM: usize = 1024;
 
 /// Makes room for so many bytes after a text that ends here.
+// requires { end ≤ vec_len bytes.old }
 pub(crate) fn make_room(bytes: &mut Vec<u8>, end: usize, more: usize) -> Result<(), Memory> {
     if bytes.len() - end >= more {
         return Ok(());
@@ -32,6 +33,7 @@ pub(crate) fn make_room(bytes: &mut Vec<u8>, end: usize, more: usize) -> Result<
 }
 
 /// Writes these bytes at a place, and answers where they end.
+// requires { at + length more.now ≤ length bytes.old }
 pub(crate) fn write_bytes(bytes: &mut [u8], at: usize, more: &[u8]) -> usize {
     for (i, byte) in more.iter().enumerate() {
         bytes[at + i] = *byte;

@@ -44,6 +44,7 @@ fn image_line(image: u64, fault: PbmFault) -> ErrorLine {
 }
 
 /// A line that is always the same.
+// requires { length line.now ≤ 72 }
 fn fixed_line(line: &'static str) -> ErrorLine {
     let mut text = ArrayString::new();
     text.push_str(line);

@@ -10,6 +10,7 @@ use fax_walk::{Cause, FileFault, Stretch};
 type LostLine = ArrayString<80>;
 
 /// Appends a fault after a blank, the tag of the field at fault after it, and the line's end.
+// requires { array_string_len line.old + 37 ≤ 80 }
 fn push_fault(line: &mut LostLine, cause: Cause) {
     let (name, tag) = cause.name();
     line.push_str(" ");

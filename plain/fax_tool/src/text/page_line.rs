@@ -28,6 +28,7 @@ fn order_number(order: FillOrder) -> u32 {
 }
 
 /// Appends a blank and a fraction: two numbers in decimals with a stroke between them.
+// requires { array_string_len line.old + 22 ≤ 136 }
 fn push_fraction(line: &mut PageLine, value: (u32, u32)) {
     let (over, under) = value;
     let mut digits = Buffer::new();

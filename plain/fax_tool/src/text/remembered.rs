@@ -50,6 +50,7 @@ fn made_at(texts: &[ShortText], place: usize) -> Option<ShortText> {
 
 /// Writes a blank and a number at a place, and answers where they end.
 #[inline(never)]
+// requires { at + length (and_number number) ≤ length bytes.old }
 fn write_any(bytes: &mut [u8], at: usize, number: u32) -> usize {
     let mut digits = Buffer::new();
     let end = write_bytes(bytes, at, b" ");
@@ -59,6 +60,7 @@ fn write_any(bytes: &mut [u8], at: usize, number: u32) -> usize {
 /// The text of a number.
 #[cold]
 #[inline(never)]
+// requires { number < 2048 }
 fn number_text(number: u32) -> ShortText {
     let mut bytes = [0; ROOM];
     let len = write_any(&mut bytes, 0, number);
@@ -68,6 +70,8 @@ fn number_text(number: u32) -> ShortText {
 /// The text of two numbers, one after the other.
 #[cold]
 #[inline(never)]
+// requires first { first < 64 }
+// requires second { second < 64 }
 fn pair_text(first: u32, second: u32) -> ShortText {
     let mut bytes = [0; ROOM];
     let end = write_any(&mut bytes, 0, first);
@@ -78,6 +82,9 @@ fn pair_text(first: u32, second: u32) -> ShortText {
 /// Writes a text at a place, and answers where it ends. The bytes after it, up to eight from its
 /// beginning on, are written over.
 #[inline(always)]
+// requires room { at + 8 ≤ length bytes.old }
+// requires eight { length text.bytes ≡ 8 }
+// requires few { text.len ≤ 8 }
 fn put_short(bytes: &mut [u8], at: usize, text: ShortText) -> usize {
     bytes[at..at + ROOM].copy_from_slice(&text.bytes);
     at + text.len
@@ -95,6 +102,7 @@ impl Texts {
     /// Writes a blank and a number at a place, and answers where they end. Eleven bytes from there on
     /// may be written over.
     #[inline(always)]
+    // requires { at + 11 ≤ length bytes.old }
     pub fn write_number(&mut self, bytes: &mut [u8], at: usize, number: u32) -> usize {
         let place = number as usize;
         if place >= NUMBERS {
@@ -111,6 +119,7 @@ impl Texts {
     /// Writes two short numbers at a place, each after a blank, and answers where they end.
     /// Twenty-two bytes from there on may be written over.
     #[inline(always)]
+    // requires { at + 22 ≤ length bytes.old }
     pub fn write_pair(&mut self, bytes: &mut [u8], at: usize, first: u16, second: u16) -> usize {
         let (first, second) = (u32::from(first), u32::from(second));
         if first >= PAIRED || second >= PAIRED {

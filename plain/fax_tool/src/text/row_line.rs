@@ -14,6 +14,7 @@ const LINE_BYTES: usize = 42;
 const RUN_BYTES: usize = 6;
 
 /// Writes the runs that are still to come, each after a blank, and answers where they end.
+// requires { at + 6 * length runs + 11 ≤ length bytes.old }
 fn write_rest(bytes: &mut [u8], at: usize, texts: &mut Texts, mut runs: LongestRuns<'_>) -> usize {
     let mut end = at;
     while let Some(run) = runs.next_run() {
@@ -24,6 +25,7 @@ fn write_rest(bytes: &mut [u8], at: usize, texts: &mut Texts, mut runs: LongestR
 
 /// Writes eight numbers at a place, each after a blank, and answers where they end.
 #[inline(always)]
+// requires { at + 64 ≤ length bytes.old }
 fn write_eight(bytes: &mut [u8], at: usize, texts: &mut Texts, numbers: [u16; 8]) -> usize {
     let two = texts.write_pair(bytes, at, numbers[0], numbers[1]);
     let four = texts.write_pair(bytes, two, numbers[2], numbers[3]);
@@ -32,6 +34,7 @@ fn write_eight(bytes: &mut [u8], at: usize, texts: &mut Texts, numbers: [u16; 8]
 }
 
 /// Writes the runs of a row at a place, each after a blank, and answers where they end.
+// requires { at + 6 * length (runs_of row.now) + 16 ≤ length bytes.old }
 fn write_runs(bytes: &mut [u8], at: usize, texts: &mut Texts, row: &Row) -> usize {
     let mut end = at;
     let mut runs = LongestRuns::of_row(row);
@@ -43,6 +46,7 @@ fn write_runs(bytes: &mut [u8], at: usize, texts: &mut Texts, row: &Row) -> usiz
 }
 
 /// Writes the line of a row at a place, and answers where it ends.
+// requires { at + (42 + 6 * length (runs_of row.now)) ≤ length bytes.old }
 fn write_line(bytes: &mut [u8], at: usize, texts: &mut Texts, place: Place, row: &Row) -> usize {
     bytes[at] = b'r';
     bytes[at + 1] = b'o';
