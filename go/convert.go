@@ -1,0 +1,104 @@
+package faxpages
+
+// #include <faxpages.h>
+import "C"
+
+// NoteKind says what may trouble other readers of a file. Its String is its name.
+type NoteKind uint32
+
+func (k NoteKind) String() string {
+	var name [32]C.uint8_t
+	return textOf(name[:C.faxpages_note_name(C.uint32_t(k), &name[0], C.size_t(len(name)))])
+}
+
+// Note is a note on a page, or on a strip of it; Strip is -1 where it is on the page's directory.
+type Note struct {
+	Page, Strip int
+	Kind        NoteKind
+}
+
+// Report is what was found in a file up to its first fault.
+type Report struct {
+	Pages, Rows int
+	Notes       []Note
+	Fault       *Fault // none where the file is sound
+}
+
+// Check reads all rows up to the first fault, which the report has.
+func (f Fax) Check() (Report, error) {
+	file, length := bytesOf(f.file)
+	for room := 64; ; {
+		var report C.struct_faxpages_report
+		notes := make([]C.struct_faxpages_note, room)
+		status := C.faxpages_check(file, length, &notes[0], C.size_t(room), &report)
+		if status != C.FAXPAGES_END && status != C.FAXPAGES_FAULT {
+			return Report{}, errorOf(status, &report.fault)
+		}
+		if int(report.notes) > room {
+			room = int(report.notes)
+			continue
+		}
+		made := Report{Pages: int(report.pages), Rows: int(report.rows), Fault: faultOf(&report.fault)}
+		for _, it := range notes[:report.notes] {
+			note := Note{int(it.page), int(it.strip), NoteKind(it.kind)}
+			if it.strip == C.FAXPAGES_NO_STRIP {
+				note.Strip = -1
+			}
+			made.Notes = append(made.Notes, note)
+		}
+		return made, nil
+	}
+}
+
+// Target says what a file is converted to.
+type Target uint32
+
+// The targets: raw PBM, and TIFF-F in each coding.
+const (
+	ToPBM Target = iota
+	ToMH
+	ToMR
+	ToMMR
+)
+
+// Options say how a file is written. Those that are 0 are the usual ones: the highest bit first, in MR one row in four
+// coded by itself, a page one strip.
+type Options struct {
+	Target  Target
+	Order   FillOrder
+	K       int // in MR, a row in this many is coded by itself
+	Strip   int // the rows of a strip
+	Aligned bool
+}
+
+// Convert turns a TIFF-F file or raw PBM images into another file.
+func Convert(file []byte, options Options) ([]byte, error) {
+	given := C.struct_faxpages_options{target: C.uint32_t(options.Target), order: C.uint32_t(options.Order),
+		k: C.uint32_t(options.K), strip: C.uint32_t(options.Strip)}
+	if options.Order == 0 {
+		given.order = C.uint32_t(MSBFirst)
+	}
+	if options.K == 0 {
+		given.k = 4
+	}
+	if options.Aligned {
+		given.aligned = 1
+	}
+	if options.K < 0 || options.Strip < 0 {
+		return nil, ErrOptions
+	}
+	bytes, length := bytesOf(file)
+	for room := len(file) + 1024; ; {
+		var converted C.struct_faxpages_converted
+		out := make([]byte, room)
+		status := C.faxpages_convert(bytes, length, &given, (*C.uint8_t)(&out[0]), C.size_t(room), &converted)
+		if status == C.FAXPAGES_NO_ROOM {
+			room = int(converted.len)
+			continue
+		}
+		if err := errorOf(status, &converted.fault); err != nil {
+			return nil, err
+		}
+		return out[:converted.len], nil
+	}
+}

@@ -1,0 +1,131 @@
+package faxpages_test
+
+import (
+	"errors"
+	"fmt"
+	"image"
+	"image/color"
+	"os"
+	"reflect"
+	"testing"
+
+	faxpages "ironminnow.example/faxpages/go"
+)
+
+func Example() {
+	fax, _ := faxpages.Open("../samples/three-mmr-rows.tif")
+	fax.Rows()(func(row faxpages.Row, err error) bool {
+		fmt.Println(row.Page, row.Number, row.Runs(), err)
+		return true
+	})
+	// Output:
+	// 0 0 [3 2 3] <nil>
+	// 0 1 [0 6 2] <nil>
+	// 0 2 [8] <nil>
+}
+
+func ExampleFault() {
+	fax, _ := faxpages.Open("../samples/damaged-fourth-page.tif")
+	page, err := fax.Page(3)
+	var fault *faxpages.Fault
+	fmt.Println(page.Rows, err, errors.As(err, &fault) && fault.Number == faxpages.OutOfRow)
+	left, err := fax.Salvage(3)
+	fmt.Println(left.Rows, left.Lost, err)
+	_, err = fax.Page(9)
+	fmt.Println(errors.Is(err, faxpages.ErrOutside), faxpages.EndMarker)
+	// Output:
+	// 5 page 3 row 5: OutOfRow true
+	// 11 [{5 6 OutOfRow}] <nil>
+	// true EndMarker
+}
+
+// A loop may end before the rows do, and then nothing more is handed out.
+func TestEarlyEnd(t *testing.T) {
+	fax, err := faxpages.Open("../samples/damaged-fourth-page.tif")
+	if err != nil {
+		t.Fatal(err)
+	}
+	for most := 1; most < 40; most++ {
+		count := 0
+		fax.Rows()(func(row faxpages.Row, err error) bool {
+			count++
+			return err == nil && count < most
+		})
+		if count > most {
+			t.Fatalf("%d items, and %d were wanted", count, most)
+		}
+	}
+}
+
+func TestImage(t *testing.T) {
+	fax, _ := faxpages.Open("../samples/three-mmr-rows.tif")
+	page, err := fax.Page(0)
+	if err != nil {
+		t.Fatal(err)
+	}
+	var shown image.Image = page
+	black := 0
+	for y := 0; y < 3; y++ {
+		for x := 0; x < 8; x++ {
+			if shown.At(x, y) == (color.Gray{Y: 0}) {
+				black++
+			}
+		}
+	}
+	if shown.Bounds() != image.Rect(0, 0, 8, 3) || black != 8 || shown.At(8, 0) != (color.Gray{Y: 255}) {
+		t.Fatal(shown.Bounds(), black)
+	}
+}
+
+// What is written is read again; a strip is coded and read.
+func TestWritten(t *testing.T) {
+	raster := faxpages.Raster{Width: 8, Rows: 2, Packed: []byte{0x18, 0xFC}}
+	form := faxpages.Form{Width: 8, Rows: 2, Coding: faxpages.MMR, Order: faxpages.MSBFirst,
+		X: faxpages.Ratio{Numerator: 204, Denominator: 1}, Y: faxpages.Ratio{Numerator: 98, Denominator: 1}, Unit: 2}
+	file, err := faxpages.Write([]*faxpages.Page{{Form: form, Raster: raster}, {Form: form, Raster: raster}}, 4)
+	if err != nil {
+		t.Fatal(err)
+	}
+	page, err := faxpages.New(file).Page(1)
+	if err != nil || !reflect.DeepEqual(page.Raster, raster) {
+		t.Fatal(page, err)
+	}
+	report, err := faxpages.New(file).Check()
+	if err != nil || report.Fault != nil || report.Pages != 2 || report.Rows != 4 {
+		t.Fatal(report, err)
+	}
+	for _, coding := range []faxpages.Coding{faxpages.MH, faxpages.MR, faxpages.MMR} {
+		strip, err := faxpages.Code(&raster, coding, faxpages.LSBFirst, 2)
+		if err != nil {
+			t.Fatal(err)
+		}
+		var runs [][]int
+		faxpages.Strip(strip, faxpages.StripForm{Width: 8, Coding: coding, Order: faxpages.LSBFirst})(
+			func(row faxpages.Row, err error) bool {
+				runs = append(runs, row.Runs())
+				return err == nil
+			})
+		if !reflect.DeepEqual(runs, [][]int{{3, 2, 3}, {0, 6, 2}}) {
+			t.Fatal(coding, runs)
+		}
+	}
+}
+
+// What is out of range is an error.
+func TestRefused(t *testing.T) {
+	fax := faxpages.New(nil)
+	for _, err := range []error{
+		func() error { _, err := fax.Form(-1); return err }(),
+		func() error { _, err := faxpages.New([]byte("II*\x00")).Form(0); return err }(),
+		func() error { _, err := fax.Page(0); return err }(),
+		func() error { _, err := faxpages.Convert(nil, faxpages.Options{}); return err }(),
+		func() error { _, err := faxpages.Convert(nil, faxpages.Options{K: -1}); return err }(),
+		func() error { _, err := faxpages.SalvageStrip(nil, faxpages.StripForm{}); return err }(),
+		func() error { _, err := faxpages.Code(&faxpages.Raster{Width: 8}, faxpages.MH, 1, 1); return err }(),
+		func() error { _, err := os.Open("none"); return err }(),
+	} {
+		if err == nil || err.Error() == "" {
+			t.Fatal(err)
+		}
+	}
+}

@@ -1,0 +1,3 @@
+module ironminnow.example/faxpages/go
+
+go 1.18
