@@ -27,7 +27,8 @@ class App {
         /** What was said last of a file that is read. */
         this.settled = "";
         this.found = "";
-        this.view = new View(the("view"), the("sheet"), the("paper"));
+        this.view = new View(the("view"), (page) => this.follow(page));
+        this.hands = new Hands(this.view);
         this.thumbs = new Thumbs(the("thumbs"), the("thumbs-all"), (page) => this.goTo(page));
         App.fillTexts();
         this.listen();
@@ -43,7 +44,12 @@ class App {
             element.textContent = texts[/** @type {HTMLElement} */ (element).dataset.text ?? ""];
         });
         document.querySelectorAll("[data-label]").forEach((element) => {
-            element.setAttribute("aria-label", texts[/** @type {HTMLElement} */ (element).dataset.label ?? ""]);
+            const label = texts[/** @type {HTMLElement} */ (element).dataset.label ?? ""];
+            element.setAttribute("aria-label", label);
+            // Who sees a sign alone is told by the mouse what it does.
+            if (element.localName === "button") {
+                element.setAttribute("title", label);
+            }
         });
     }
 
@@ -59,7 +65,10 @@ class App {
         on("wide", () => this.view.setZoom("wide"));
         on("left", () => this.view.turn(-1));
         on("right", () => this.view.turn(1));
+        on("full", () => this.fill());
+        on("copy", () => this.copy());
         on("print", () => this.print());
+        on("damaged", () => this.nextDamaged());
         on("stop", () => this.fax?.stop());
         on("notes", () => this.lookForNotes());
         on("bare-open", () => this.askForBare());
@@ -93,25 +102,37 @@ class App {
         set();
     }
 
-    /** Files that are chosen, or dropped. */
+    /** Files that are chosen, dropped or pasted, and folders of them. */
     listenForFiles() {
-        the("choose").addEventListener("change", () => {
-            this.open([...the("choose").files]);
-            the("choose").value = "";
-        });
+        for (const id of ["choose", "folder"]) {
+            the(id).addEventListener("change", () => {
+                const files = [...the(id).files];
+                this.open(id === "folder" ? Gathering.ofFolder(files) : files);
+                the(id).value = "";
+            });
+        }
+        document.addEventListener("paste", (event) => this.open([...(event.clipboardData?.files ?? [])]));
         for (const name of ["dragover", "dragenter", "dragleave", "drop"]) {
             document.addEventListener(name, (event) => {
                 event.preventDefault();
                 document.body.classList.toggle("dropping", name === "dragover" || name === "dragenter");
-                if (name === "drop") {
-                    this.open([...(/** @type {DragEvent} */ (event).dataTransfer?.files ?? [])]);
+                const dropped = /** @type {DragEvent} */ (event).dataTransfer;
+                if (name === "drop" && dropped) {
+                    Gathering.dropped(dropped).then((files) => this.open(files), () => this.refuseFolder());
                 }
             });
         }
     }
 
+    /** A folder was dropped, and the browser does not hand it out. */
+    refuseFolder() {
+        the("refused").textContent = TEXTS.announce.noFolder;
+        the("folder").focus();
+    }
+
     /** @param {File[]} files */
     open(files) {
+        the("refused").textContent = "";
         const faxes = files.map((file) => new Fax(file, () => this.changed()));
         this.faxes.push(...faxes);
         if (faxes.length > 0) {
@@ -179,7 +200,9 @@ class App {
             this.fax.at = wanted;
         }
         this.render();
-        if (row !== undefined) {
+        if (row === undefined) {
+            this.view.toTop();
+        } else {
             this.view.goTo(row);
             if (matchMedia(App.NARROW).matches) {
                 the("view-part").scrollIntoView();
@@ -188,6 +211,15 @@ class App {
         if (hasMoved) {
             const state = /** @type {Fax} */ (this.fax).stateOf(wanted);
             this.announce(say(TEXTS.announce.page, sayPage(wanted), TEXTS.pages[state]));
+        }
+    }
+
+    /** The reader has scrolled to another page.
+     * @param {number} page */
+    follow(page) {
+        if (this.fax) {
+            this.fax.at = page;
+            this.changed();
         }
     }
 
@@ -302,6 +334,7 @@ class App {
         the("again").hidden = !fax.failure;
         the("save").hidden = fax.pages === 0 || fax.isBusy();
         the("print").hidden = the("save").hidden;
+        the("damaged").hidden = this.faxes.length < 2;
         // Whoever knows that these are bare fax data says so.
         const mayBeBare = fax.state === "done" && fax.pages === 0 && fax.end && !["pdf", "empty"].includes(
             fax.end.kind?.name ?? "") && ["ByteOrder", "ShortHeader", "Magic"].includes(fax.end.name);
@@ -369,7 +402,6 @@ class App {
         the("form").textContent = form
             ? say(texts.form, form.width, form.rows, TEXTS.codings[form.coding], resolution)
             : fax.pages > 0 ? say(TEXTS.findings.page, sayPage(this.page)) : "";
-        the("sheet").setAttribute("aria-label", say(texts.picture, sayPage(this.page), texts[fax.stateOf(this.page)]));
     }
 
     /** Opens the form for bare data, and goes to it. */
@@ -404,6 +436,40 @@ class App {
         }
     }
 
+    /** Puts the page onto the clipboard, as a picture. */
+    async copy() {
+        const { fax, page } = this;
+        if (!fax?.form(page)) {
+            return;
+        }
+        const texts = TEXTS.copying;
+        try {
+            const picture = fax.ask("save", { kind: "png", pages: [page], coding: 0, turns: 0 });
+            await navigator.clipboard.write([new ClipboardItem({ "image/png": picture })]);
+            this.announce(say(texts.copied, sayPage(page)));
+        } catch (error) {
+            this.announce(say(texts.failed, sayPage(page), /** @type {Error} */ (error).message));
+        }
+    }
+
+    /** Shows the page on the whole screen, and back. */
+    fill() {
+        (document.fullscreenElement ? document.exitFullscreen() : the("view-part").requestFullscreen()).catch(
+            (/** @type {Error} */ error) => this.announce(error.message));
+    }
+
+    /** Goes to the next file that is damaged, and from the last to the first. */
+    nextDamaged() {
+        const at = this.fax ? this.faxes.indexOf(this.fax) + 1 : 0;
+        const next = [...this.faxes.slice(at), ...this.faxes.slice(0, at)].find((it) => App.lookOf(it) === "damaged");
+        if (next) {
+            this.show(next);
+            this.announce(`${sayName(next.file.name)}: ${next.verdict()}`);
+        } else {
+            this.announce(TEXTS.announce.noneDamaged);
+        }
+    }
+
     /** Makes the PDF, and has it be opened: what shows PDFs prints them, a page a sheet, in their size. */
     print() {
         if (this.fax) {
@@ -425,12 +491,23 @@ class App {
             the("choose").click();
             return;
         }
-        const does = this.fax && this.keys()[event.key];
-        const scrolls = ["ArrowUp", "ArrowDown", "PageUp", "PageDown"].includes(event.key);
-        if (does && (!scrolls || target.closest("#thumbs"))) {
+        const does = this.fax && (this.keys()[event.key] ?? (target.closest("#thumbs") && this.listKeys()[event.key]));
+        if (does) {
             event.preventDefault();
             does();
+        } else if (this.fax && !target.closest("#about, button, a, summary") &&
+                this.hands.key(event.key, event.shiftKey)) {
+            event.preventDefault();
         }
+    }
+
+    /** Keys of the list of pages.
+     * @returns {Record<string, () => void>} */
+    listKeys() {
+        return {
+            ArrowDown: () => this.goTo(this.page + 1), ArrowUp: () => this.goTo(this.page - 1),
+            PageDown: () => this.goTo(this.page + 10), PageUp: () => this.goTo(this.page - 10),
+        };
     }
 
     /** @returns {Record<string, () => void>} */
@@ -439,12 +516,11 @@ class App {
         const last = (this.fax?.pages ?? 1) - 1;
         return {
             n: () => this.goTo(this.page + 1), p: () => this.goTo(this.page - 1),
-            ArrowDown: () => this.goTo(this.page + 1), ArrowUp: () => this.goTo(this.page - 1),
-            PageDown: () => this.goTo(this.page + 10), PageUp: () => this.goTo(this.page - 10),
             Home: () => this.goTo(0), End: () => this.goTo(last),
             "+": () => view.zoomBy(1), "=": () => view.zoomBy(1), "-": () => view.zoomBy(-1),
             0: () => view.setZoom("whole"), w: () => view.setZoom("wide"), 1: () => view.setZoom(1 / devicePixelRatio),
-            r: () => view.turn(1), l: () => view.turn(-1), f: () => this.nextFinding(),
+            r: () => view.turn(1), l: () => view.turn(-1), f: () => this.nextFinding(), d: () => this.nextDamaged(),
+            c: () => this.copy(), s: () => this.fill(),
         };
     }
 

@@ -9,7 +9,8 @@ const TEXTS = {
         head: "Fax pages",
         motto: "Shows a fax, and says what is wrong with it. Nothing leaves this computer.",
         open: "Open files…",
-        welcome: "Drop faxes here, or choose them by Open files…",
+        openFolder: "Open a folder…",
+        welcome: "Drop faxes or folders here, paste them, or choose them by Open files…",
         welcomeMore: "TIFF files from fax servers, raw PBM, and bare T.4 or T.6 data. Damaged ones too: what " +
             "can be read is shown, and what cannot is named.",
         stop: "Stop reading",
@@ -17,6 +18,7 @@ const TEXTS = {
         bareOpen: "It is bare fax data…",
         again: "Read it again",
         print: "Print…",
+        damaged: "Next damaged file",
         close: "Close",
         more: "What is wrong, saving, report",
         findings: "What is wrong",
@@ -58,6 +60,11 @@ const TEXTS = {
         keySizes: "the whole page, its width, a dot as a dot",
         keyTurn: "turn right, turn left",
         keyFinding: "the next place where something is wrong",
+        keyDamaged: "the next file that is damaged",
+        keyFull: "full screen, and back",
+        keyCopy: "copy the page as a picture",
+        keyScroll: "scroll a little; the mouse drags the page, and zooms by its wheel with Ctrl",
+        keyScreen: "scroll by a screen",
         keyOpen: "open files",
         page: "Page",
         whole: "Whole page",
@@ -73,6 +80,8 @@ const TEXTS = {
         larger: "Larger",
         left: "Turn left",
         right: "Turn right",
+        full: "Full screen",
+        copy: "Copy",
         view: "Picture of the page",
     },
     /** What a fault means, in the words of docs/TROUBLESHOOTING.md, and what to do about it. */
@@ -238,7 +247,10 @@ const TEXTS = {
     looks: {
         failed: "cannot be read any more", busy: "is read", other: "no fax", whole: "whole", damaged: "damaged",
     },
-    announce: { page: "Page {0}, {1}.", closed: "Closed {0}.", opened: "Opened {0}." },
+    announce: { page: "Page {0}, {1}.", closed: "Closed {0}.", opened: "Opened {0}.",
+        noneDamaged: "No file is damaged.",
+        noFolder: "The browser hands out no folder that is dropped here: choose it by Open a folder…" },
+    copying: { copied: "Page {0} was copied as a picture.", failed: "Page {0} was not copied: {1}" },
 };
 
 /** Puts values into a text: {0} is the first.

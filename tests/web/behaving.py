@@ -12,7 +12,8 @@ import urllib.parse
 from typing import Generator
 
 from tests import TOP, Claim
-from tests.convert.files import put
+from tests.convert import pages
+from tests.convert.files import get, put
 from tests.finding import found
 from tests.web import faxes
 from tests.web.browser import Browser
@@ -80,7 +81,7 @@ def keys(browser: Browser, _program: str, _room: str) -> Generator[Claim, None, 
 def zoom(browser: Browser, _program: str, _room: str) -> Generator[Claim, None, None]:
     """Zoomed and turned by keys and buttons; a page is as high as its resolution says."""
     opened(browser)
-    size = "[app.view.sheet.clientWidth, app.view.sheet.clientHeight]"
+    size = "[app.view.sheet.element.clientWidth, app.view.sheet.element.clientHeight]"
     browser.run("app.goTo(1)")
     browser.press("1")
     yield "1: a pel is a pel", browser.run(size), [8, round(3 * 204 / 196)]
@@ -191,7 +192,7 @@ def page_first(browser: Chromium, _program: str, _room: str) -> Generator[Claim,
         browser.run('document.getElementById("more").open = false')
     browser.resize(1280, 900)
     browser.until("document.getElementById('more').open")
-    paper = browser.run('getComputedStyle(document.getElementById("paper")).backgroundColor')
+    paper = browser.run('getComputedStyle(document.querySelector(".paper")).backgroundColor')
     yield "what is not drawn is not white", paper != "rgb(255, 255, 255)", True
 
 
@@ -202,7 +203,7 @@ def printed(browser: Browser, _program: str, room: str) -> Generator[Claim, None
         return
     browser.run("while (app.fax) app.close()")
     browser.choose("#choose", f"{TOP}/samples/received/over-a-noisy-line.tif")
-    browser.until('app.fax && app.fax.state === "done" && document.querySelector("#paper canvas[data-drawn]")')
+    browser.until('app.fax && app.fax.state === "done" && document.querySelector(".current canvas[data-drawn]")')
     made = put(f"{room}/printed.pdf", browser.printed())
     words = subprocess.run(["pdftotext", made, "-"], capture_output=True, check=True).stdout.decode().split()
     yield "no word of the page is printed", words, []
@@ -211,6 +212,28 @@ def printed(browser: Browser, _program: str, room: str) -> Generator[Claim, None
     images = subprocess.run(["pdfimages", "-list", made], capture_output=True, check=True).stdout.decode()
     yield "in its size: so many dots to the inch", {tuple(line.split()[12:14]) for line in images.splitlines()[2:]}, {
         ("204", "98")}
+
+
+def printed_whole(browser: Browser, program: str, room: str) -> Generator[Claim, None, None]:
+    """All of the page is printed, also what is out of sight."""
+    if not shutil.which("pdftoppm"):
+        print("SKIPPED: what is printed of a long page (poppler-utils)")
+        return
+    browser.run("while (app.fax) app.close()")
+    # White, with a black band of an inch at its end, on paper 10 inches long.
+    rows = [0] * (9 * 196) + [(1 << 1600) - 1] * 196
+    path = put(f"{room}/band.tif", faxes.convert(program, pages.image(1600, rows), "-o", "mmr"))
+    browser.choose("#choose", path)
+    browser.until('app.fax && app.fax.state === "done" && app.view.form !== null')
+    browser.run("app.view.setZoom('wide'); app.view.zoomBy(3); app.view.toTop()")
+    browser.until("app.view.sheet.tiles.size === 2 && "
+                  "[...app.view.sheet.tiles.values()].every((tile) => tile.dataset.drawn) && !app.view.isDue")
+    made = put(f"{room}/band.pdf", browser.printed())
+    subprocess.run(["pdftoppm", "-r", "20", "-gray", "-singlefile", made, f"{room}/band"], check=True)
+    width, _, raster = found(rb"\AP5\s+(\d+)\s+(\d+)\s+255\s(.*)", get(f"{room}/band.pgm"), re.S).groups()
+    greys = [raster[int(width) * row + 60] for row in (10, 100, 170, 185, 195)]
+    yield "white, and the band", [grey // 128 for grey in greys], [1, 1, 1, 0, 0]
+    browser.run("app.view.setZoom('whole')")
 
 
 def refusals(browser: Browser, _program: str, _room: str) -> Generator[Claim, None, None]:

@@ -45,6 +45,10 @@ class Browser:
         """Presses a key and lets it go."""
         raise NotImplementedError
 
+    def drag(self, x: int, y: int, to_x: int, to_y: int) -> None:
+        """Drags by the mouse from one place to another, by one between."""
+        raise NotImplementedError
+
     def resize(self, width: int, height: int) -> None:
         """Gives the page a window of another size."""
         raise NotImplementedError

@@ -171,6 +171,12 @@ class Chromium(Browser):
         self.call("Input.dispatchKeyEvent", type="keyDown", text=text, **words)
         self.call("Input.dispatchKeyEvent", type="keyUp", **words)
 
+    def drag(self, x: int, y: int, to_x: int, to_y: int) -> None:
+        for kind, across, down in (("mousePressed", x, y), ("mouseMoved", (x + to_x) // 2, (y + to_y) // 2),
+                                   ("mouseMoved", to_x, to_y), ("mouseReleased", to_x, to_y)):
+            self.call("Input.dispatchMouseEvent", type=kind, x=across, y=down, button="left", clickCount=1,
+                      buttons=int(kind != "mouseReleased"))
+
     def picture(self, file: str) -> None:
         with open(file, "wb") as out:
             out.write(base64.b64decode(self.call("Page.captureScreenshot", format="png")["data"]))

@@ -154,6 +154,13 @@ class Firefox(Browser):
         self.call("input.performActions", context=self._page, actions=[
             {"type": "key", "id": "keyboard", "actions": actions}])
 
+    def drag(self, x: int, y: int, to_x: int, to_y: int) -> None:
+        moves = [{"type": "pointerMove", "x": across, "y": down} for across, down in (
+            (x, y), ((x + to_x) // 2, (y + to_y) // 2), (to_x, to_y))]
+        self.call("input.performActions", context=self._page, actions=[
+            {"type": "pointer", "id": "mouse", "actions": [
+                moves[0], {"type": "pointerDown", "button": 0}, *moves[1:], {"type": "pointerUp", "button": 0}]}])
+
     def resize(self, width: int, height: int) -> None:
         self.call("browsingContext.setViewport", context=self._page, viewport={"width": width, "height": height})
 
@@ -190,7 +197,7 @@ def plain(value: Any) -> Any:
     """A value as the protocol tells it, as one of Python."""
     kind, told = value["type"], value.get("value")
     if kind == "array":
-        return [plain(it) for it in told]
+        return [plain(it) for it in told or []]
     if kind == "object":
-        return {name: plain(it) for name, it in told}
+        return {name: plain(it) for name, it in told or []}
     return told if kind in ("string", "number", "boolean") else None

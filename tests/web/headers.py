@@ -74,7 +74,7 @@ def headers(browser: Browser, _program: str, _room: str) -> Generator[Claim, Non
     known = named()
     yield "INSTALL names a policy", "Content-Security-Policy" in known, True
     yield "with those of INSTALL", opened(browser, known), WHOLE
-    browser.until('document.querySelector("#paper canvas[data-drawn]")')
+    browser.until('document.querySelector(".current canvas[data-drawn]")')
     for policy in BREAKING:
         said = opened(browser, {"Content-Security-Policy": policy})
         yield f"with {policy}: {said}", said.startswith(REFUSED), True

@@ -80,7 +80,7 @@ def leaves(browser: Chromium, _program: str, room: str) -> Generator[Claim, None
     yield "it is left", left, ["left", None]
     yield "what was read stays", browser.run("app.fax.pages === 60000 && app.fax.page >= 3 && app.fax.rows >= 3"), True
     browser.run("app.goTo(59999)")
-    browser.until('document.querySelector("#paper canvas[data-drawn]") && app.view.page === 59999')
+    browser.until('document.querySelector(".current canvas[data-drawn]") && app.view.page === 59999')
     yield "its last page is drawn", browser.run("app.fax.form(59999).width"), 8
     said = "You stopped the reading. Of 60,000 pages, those before page "
     yield "the verdict says so", browser.run("app.fax.verdict()").startswith(said), True
@@ -97,7 +97,7 @@ def many_pages(browser: Chromium, program: str, room: str) -> Generator[Claim, N
     yield "65,535 pages: it is whole", browser.run("app.fax.verdict()"), "This fax is whole: 65,535 pages, 65,535 rows."
     browser.run("document.activeElement.blur()")
     browser.press("End", number=35)
-    browser.until('app.view.page === 65534 && document.querySelector("#paper canvas[data-drawn]")')
+    browser.until('app.view.page === 65534 && document.querySelector(".current canvas[data-drawn]")')
     browser.run("for (let at = 0; at < 50; at++) { app.goTo(1300 * at); app.thumbs.fill(); } app.goTo(65534)")
     items = browser.run('document.querySelectorAll("#thumbs [role=option]").length')
     yield "65,535 pages: few have an element", 0 < items < 40, True
@@ -139,8 +139,9 @@ def million_rows(browser: Chromium, _program: str, room: str) -> Generator[Claim
     yield f"a million rows: it answers within {BOUND} ms", took <= BOUND, True
     yield "a million rows: they are counted", browser.run("app.fax.rows"), 1000000
     browser.run("app.view.setZoom('wide'); app.view.view.scrollTo(0, 1e9)")
-    browser.until("""[...app.view.tiles].some(([key, tile]) => key.split(" ")[1] === "976" && tile.dataset.drawn)""")
-    yield "a million rows: few canvases", browser.run('document.querySelectorAll("#paper canvas").length') <= 8, True
+    browser.until("""[...app.view.sheet.tiles].some(
+        ([key, tile]) => key.split(" ")[1] === "976" && tile.dataset.drawn)""")
+    yield "a million rows: few canvases", browser.run('document.querySelectorAll(".current canvas").length') <= 8, True
     close_all(browser)
 
 
@@ -194,7 +195,7 @@ def many_files(browser: Browser, program: str, room: str) -> Generator[Claim, No
     browser.until("app.faxes.filter((fax) => fax.life.worker).length <= 6")
     yield "a hundred files: few workers", browser.run("app.faxes.filter((fax) => fax.life.worker).length <= 6"), True
     browser.run('document.querySelectorAll("#files button")[3].click()')
-    browser.until('app.view.fax === app.faxes[3] && document.querySelector("#paper canvas[data-drawn]")')
+    browser.until('app.view.fax === app.faxes[3] && document.querySelector(".current canvas[data-drawn]")')
     name = browser.run('document.getElementById("name").textContent')
     yield "a hundred files: one of the first is drawn", name, "file-3.tif"
     close_all(browser)

@@ -21,7 +21,7 @@ from tests.web import contents
 from tests.web.browser import Browser, Failed
 from tests.web.contents import Content
 from tests.web.racing import WATCH
-from tests.web.saying import PELS
+from tests.web.saying import PELS_OF
 
 SEED = os.environ.get("FAXPAGES_SEED", "20261129")
 STEPS = int(os.environ.get("FAXPAGES_STEPS", "200" if os.environ.get("DRAWS") == "short" else "1000"))
@@ -57,8 +57,9 @@ SETTLED = """(() => {
 SEEN = f"""(() => {{
     const text = (id) => document.getElementById(id).textContent;
     const {{ view, faxes }} = app;
-    const tiles = [...view.tiles.values()];
-    const isDrawn = tiles.length > 0 && tiles.every((tile) => tile.dataset.drawn) && view.shrinking().join() === "1,1";
+    const isShrunk = (sheet) => sheet.shrinking().join() !== "1,1";
+    const drawn = (sheet) => sheet.tiles.size > 0 && !isShrunk(sheet) &&
+        [...sheet.tiles.values()].every((tile) => tile.dataset.drawn) && {PELS_OF}(sheet);
     const greys = (canvas) => canvas.getContext("2d").getImageData(0, 0, canvas.width, canvas.height).data
         .filter((_, at) => at % 4 === 0);
     const link = document.querySelector("#saved a");
@@ -67,8 +68,9 @@ SEEN = f"""(() => {{
             it.getAttribute("aria-pressed")]),
         none: document.getElementById("fax").hidden, name: text("name"), verdict: text("verdict"), title: document.title,
         look: document.getElementById("verdict").className, page: document.getElementById("page").value, of: text("of"),
-        size: view.form && [view.form.width, view.form.rows], drawn: isDrawn && {PELS},
-        shrunk: view.form && view.shrinking().join() !== "1,1",
+        size: view.form && [view.form.width, view.form.rows], drawn: view.sheet && drawn(view.sheet),
+        shrunk: view.sheet && isShrunk(view.sheet),
+        sheets: [...view.sheets.values()].map((it) => [it.page, [it.form.width, it.form.rows], drawn(it)]),
         thumbs: [...document.querySelectorAll("#thumbs-all > div")].map((it) => [Number(it.dataset.page),
             it.firstChild.width, it.firstChild.height, it.firstChild.width > 1 || it.firstChild.height > 1
                 ? btoa(String.fromCharCode(...greys(it.firstChild))) : ""]),
@@ -246,6 +248,15 @@ class Operator:
         self.browser.run("watched.release()")
         return "let go"
 
+    def scroll(self) -> str:
+        """Scrolls, maybe to another page: which one it is, is the page's to say, and its picture has to be that."""
+        if not self.is_settled or not self.shown or not self.browser.run("app.fax.pages"):
+            return ""
+        self.browser.run(f"""app.view.view.scrollBy(0, {self.draw.randint(-900, 900)});
+            new Promise((resolve) => requestAnimationFrame(() => requestAnimationFrame(resolve)))""")
+        self.shown.page = self.browser.run("app.page")
+        return f"scroll to page {self.shown.page}"
+
     def zoom(self) -> str:
         button = self.draw.choice(["smaller", "larger", "whole", "wide", "left", "right"])
         return self.click(f"#{button}", button)
@@ -254,7 +265,7 @@ class Operator:
         weights: dict[Callable[[], str], int] = {
             self.open: 8 if grows else 2, self.close: 3 if grows else 12, self.switch: 18, self.delete: 2,
             self.rewrite: 6, self.page: 5, self.stop: 5, self.again: 4, self.breaks: 1, self.save: 9, self.cancel: 2,
-            self.hold: 3, self.release: 3, self.zoom: 3,
+            self.hold: 3, self.release: 3, self.zoom: 3, self.scroll: 4,
         }
         said = ""
         while not said:
@@ -349,8 +360,11 @@ def not_of(seen: Any, it: Opened, content: Content) -> list[str]:
         page = min(it.page, content.count - 1)
         if (seen["page"], seen["of"]) != (str(page + 1), f"of {content.count:,}"):
             wrong.append(f"{it.name}: it shows page {seen['page']} {seen['of']}, and not {page + 1} of {content.count}")
-        if (seen["drawn"] or not (has_failed or seen["shrunk"])) and not is_picture(seen, content.pictures[page]):
+        if (seen["drawn"] or not (has_failed or seen["shrunk"])) and not is_picture(
+                seen["size"], seen["drawn"], content.pictures[page]):
             wrong.append(f"{it.name}: the picture is not that of page {page + 1}")
+        wrong += [f"{it.name}: below or above is not page {page + 1}" for page, size, pels in seen["sheets"]
+                  if pels and page < len(content.pictures) and not is_picture(size, pels, content.pictures[page])]
     for page, wide, high, greys in seen["thumbs"]:
         if page >= len(content.pictures):
             wrong += [] if page < content.count else [f"{it.name}: there is a thumbnail of page {page + 1}"]
@@ -360,10 +374,10 @@ def not_of(seen: Any, it: Opened, content: Content) -> list[str]:
     return wrong
 
 
-def is_picture(seen: Any, picture: contents.Picture) -> bool:
-    """Whether the page that is seen is this picture."""
+def is_picture(size: list[int], drawn: str, picture: contents.Picture) -> bool:
+    """Whether a page that is seen is this picture."""
     wide, high, pels = picture
-    return seen["size"] == [wide, high] and bool(seen["drawn"]) and base64.b64decode(seen["drawn"]) == pels
+    return size == [wide, high] and bool(drawn) and base64.b64decode(drawn) == pels
 
 
 def operated(browser: Browser, program: str, room: str) -> Generator[Claim, None, None]:

@@ -48,8 +48,8 @@ THUMBS = """(() => {
         return data[4 * Math.floor(data.length / 8)] > 127 ? 255 : 0;
     });
 })()"""
-DRAWN = """app.fax && app.view.fax === app.fax && app.view.tiles.size > 0 &&
-    [...app.view.tiles.values()].every((tile) => tile.dataset.drawn)"""
+DRAWN = """app.fax && app.view.fax === app.fax && app.view.sheet.tiles.size > 0 &&
+    [...app.view.sheet.tiles.values()].every((tile) => tile.dataset.drawn)"""
 SAID = 'document.getElementById("saved").textContent'
 VERDICT = 'document.getElementById("verdict").textContent'
 
@@ -154,7 +154,7 @@ def bare_again(browser: Browser, program: str, room: str) -> Generator[Claim, No
             browser.until("app.fax.state === 'done' && app.view.reading === app.fax.reading")
             if browser.run("app.fax.pages"):
                 browser.run("app.view.setZoom(1)")
-                browser.until(f"{DRAWN} && app.view.shrinking().join() === '1,1'")
+                browser.until(f"{DRAWN} && app.view.sheet.shrinking().join() === '1,1'")
                 got = base64.b64decode(browser.run(PELS))
                 yield f"turn {turn}: the picture by order {order}", got == pels, right
     close_all(browser)

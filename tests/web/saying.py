@@ -17,9 +17,8 @@ from tests.convert.files import get, put
 from tests.web import faxes
 from tests.web.browser import Browser
 
-# The pels of the page that is shown, from its canvases: 0, 1 or 2 a pel.
-PELS = """(() => {
-    const { form, tiles } = app.view;
+# The pels of a page on the screen, from its canvases: 0, 1 or 2 a pel.
+PELS_OF = """(({ form, tiles }) => {
     const pels = new Uint8Array(form.width * form.rows).fill(9);
     for (const [key, canvas] of tiles) {
         const [column, line, across, down] = key.split(" ").map(Number);
@@ -28,17 +27,18 @@ PELS = """(() => {
         for (let y = 0; y < canvas.height; y++) {
             for (let x = 0; x < canvas.width; x++) {
                 const value = data[4 * (y * canvas.width + x)];
-                pels[(y + line * View.DOWN) * form.width + x + column * View.ACROSS] = { 0: 1, 255: 0 }[value] ?? 2;
+                pels[(y + line * Sheet.DOWN) * form.width + x + column * Sheet.ACROSS] = { 0: 1, 255: 0 }[value] ?? 2;
             }
         }
     }
     let text = "";
     for (let at = 0; at < pels.length; at += 8192) text += String.fromCharCode(...pels.subarray(at, at + 8192));
     return btoa(text);
-})()"""
+})"""
+PELS = f"{PELS_OF}(app.view.sheet)"
 READ = "app.faxes.length === {} && app.faxes.every((fax) => !fax.isBusy())"
-DRAWN = """app.fax.state === "done" && app.view.page === {} && app.view.form && app.view.shrinking().join() === "1,1" &&
-    app.view.tiles.size > 0 && [...app.view.tiles.values()].every((tile) => tile.dataset.drawn)"""
+DRAWN = """app.fax.state === "done" && app.view.page === {} && app.view.sheet.shrinking().join() === "1,1" &&
+    app.view.sheet.tiles.size > 0 && [...app.view.sheet.tiles.values()].every((tile) => tile.dataset.drawn)"""
 FINDINGS = '[...document.querySelectorAll("#findings li button")].map((it) => it.textContent)'
 
 
@@ -119,9 +119,9 @@ def findings(browser: Browser, program: str, room: str) -> Generator[Claim, None
         if lines:
             browser.run('document.querySelector("#findings button").click()')
             yield f"{name}: the first leads there", browser.run("app.page"), page
-            browser.until('document.querySelector("#paper .mark")')
+            browser.until('document.querySelector(".current .mark")')
             yield f"{name}: a mark on the page", browser.run(
-                'document.querySelector("#paper .mark").textContent.includes("%s")' % lines[0].split(": ")[1]), True
+                'document.querySelector(".current .mark").textContent.includes("%s")' % lines[0].split(": ")[1]), True
     close_all(browser)
 
 
@@ -192,7 +192,11 @@ def shown(browser: Browser, path: str,
         browser.press("1")
         got = bytearray(b"\x09") * (width * height)
         for top in range(0, height, 400):
-            browser.run(f"app.view.view.scrollTo(0, {top})")
+            browser.run(f"""(() => {{
+                const {{ sheet, view }} = app.view;
+                view.scrollTo(0, sheet.element.offsetTop - View.GAP +
+                    Math.min({top}, Math.max(0, sheet.element.offsetHeight - view.clientHeight)));
+            }})()""")
             for left in (0, 2000) if width > 1000 else (0,):
                 browser.run(f"app.view.view.scrollLeft = {left}; app.view.fill()")
                 browser.until(DRAWN.format(page))

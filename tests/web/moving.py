@@ -1,0 +1,192 @@
+"""Moving among pages and files by hands: scrolling from page to page, dragging, zooming by the wheel and by two fingers,
+keys, the whole screen, folders, pasting and copying."""
+
+from __future__ import annotations
+
+import base64
+import os
+import shutil
+from typing import Generator
+
+from tests import Claim
+from tests.convert import pages
+from tests.convert.files import get, put
+from tests.web import faxes
+from tests.web.browser import Browser
+from tests.web.chromium import Chromium
+
+PAGES = 4
+WIDE, HIGH = 800, 900
+AT = "[app.page, Number(document.getElementById('page').value), document.querySelectorAll('.current').length]"
+TOP = "app.view.sheet.element.getBoundingClientRect().top"
+# Waits until what was scrolled is painted and said.
+PAINTED = "new Promise((resolve) => requestAnimationFrame(() => setTimeout(resolve, 100)))"
+
+
+def opened(browser: Browser, program: str, room: str) -> str:
+    """Opens a fax of some pages, as wide as the screen."""
+    browser.run("while (app.fax) app.close()")
+    rows = [(1 << WIDE) - 1 if row % 50 < 9 else 0 for row in range(HIGH)]
+    path = put(f"{room}/pages.tif", faxes.convert(program, pages.image(WIDE, rows) * PAGES, "-o", "mmr"))
+    browser.choose("#choose", path)
+    browser.until("app.fax && app.fax.state === 'done' && app.view.form !== null")
+    browser.run("document.activeElement.blur(); app.view.setZoom('wide')")
+    return path
+
+
+def scrolling(browser: Browser, program: str, room: str) -> Generator[Claim, None, None]:
+    """Pages stand below each other: scrolled through, each is met in its order, and nothing jumps."""
+    opened(browser, program, room)
+    met, jumps = [0], []
+    for _ in range(200):
+        before, page = browser.run(f"[{TOP}, app.page]")
+        browser.run(f"app.view.view.scrollBy(0, 60); {PAINTED}")
+        told = browser.run(f"[{TOP}, app.page, app.view.view.scrollTop + app.view.view.clientHeight >= "
+                           "app.view.view.scrollHeight - 1]")
+        if told[1] == page and not told[2] and abs(before - told[0] - 60) > 1:
+            jumps.append((before, told))
+        met += [told[1]] * (told[1] != met[-1])
+        if told[2] and told[1] == PAGES - 1:
+            break
+    yield "each page is met", met, list(range(PAGES))
+    yield "nothing jumps", jumps, []
+    yield "the number of the page says so", browser.run(AT), [PAGES - 1, PAGES, 1]
+    browser.until("[...app.view.sheets.values()].every((it) => [...it.tiles.values()].every((one) => one.dataset.drawn))")
+    yield "few pages stand there", browser.run("app.view.sheets.size"), 2
+    browser.run("app.goTo(1)")
+    yield "a page that is gone to begins at the top", browser.run(
+        f"Math.round({TOP} - app.view.view.getBoundingClientRect().top)"), 8
+    yield "it stands between two", browser.run("[...document.querySelectorAll('.sheet')].map((it) => it.className)"), [
+        "sheet", "sheet current", "sheet"]
+
+
+def keys(browser: Browser, program: str, room: str) -> Generator[Claim, None, None]:
+    """Keys scroll, wherever the focus is, and lead on to the next page."""
+    opened(browser, program, room)
+    top = "Math.round(app.view.view.scrollTop)"
+    for key, number, sign in (("ArrowDown", 40, 1), ("PageDown", 34, 1), ("PageUp", 33, -1), ("ArrowUp", 38, -1)):
+        before = browser.run(top)
+        browser.press(key, number=number)
+        browser.run(PAINTED)
+        after = browser.run(top)
+        yield f"{key}: it scrolls", (after - before) * sign > 0, True
+    for _ in range(12):
+        browser.press("PageDown", number=34)
+    browser.until(f"document.getElementById('page').value === '{PAGES}'")
+    yield "PageDown leads to the last page", browser.run(AT), [PAGES - 1, PAGES, 1]
+
+
+def mouse(browser: Browser, program: str, room: str) -> Generator[Claim, None, None]:
+    """The mouse drags the page; with Ctrl the wheel zooms, and two fingers do, at their place."""
+    opened(browser, program, room)
+    browser.run("app.view.zoomBy(3); app.view.toTop()")
+    browser.run(PAINTED)
+    before = browser.run("[app.view.view.scrollLeft, app.view.view.scrollTop]")
+    browser.drag(900, 600, 700, 350)
+    yield "it is dragged", browser.run("[app.view.view.scrollLeft, app.view.view.scrollTop]"), [
+        before[0] + 200, before[1] + 250]
+    yield "and let go", browser.run("[app.hands.held.size, app.view.view.className]"), [0, ""]
+    place = """(() => {
+        const box = app.view.sheet.element.getBoundingClientRect();
+        return [(900 - box.left) / box.width, (500 - box.top) / box.height].map((it) => Math.round(200 * it));
+    })()"""
+    under, scale = browser.run(f"[{place}, app.view.scale]")
+    browser.run("""app.view.view.dispatchEvent(new WheelEvent("wheel", { ctrlKey: true, deltaY: -200, clientX: 900,
+        clientY: 500, cancelable: true }))""")
+    yield "the wheel zooms", round(browser.run("app.view.scale") / scale, 2), 1.56
+    yield "at its place", browser.run(place), under
+    browser.run("""(() => {
+        const send = (type, id, x, y) => app.view.view.dispatchEvent(new PointerEvent(type, { pointerId: id, clientX: x,
+            clientY: y, pointerType: "touch" }));
+        send("pointerdown", 11, 850, 500); send("pointerdown", 12, 950, 500);
+        send("pointermove", 11, 875, 500); send("pointermove", 12, 925, 500);
+        send("pointerup", 11, 875, 500); send("pointerup", 12, 925, 500);
+    })()""")
+    yield "two fingers zoom", round(browser.run("app.view.scale") / scale, 2), 0.78
+
+
+def many(browser: Browser, program: str, room: str) -> Generator[Claim, None, None]:
+    """The next damaged file among many."""
+    browser.run("while (app.fax) app.close()")
+    paths = [put(f"{room}/whole-{number}.tif", faxes.drawn(program, 60 + number)) for number in range(3)]
+    damaged = faxes.damaged(program, room)[:2]
+    browser.choose("#choose", paths[0], damaged[0], paths[1], damaged[1], paths[2])
+    browser.until("app.faxes.length === 5 && app.faxes.every((fax) => fax.state === 'done')")
+    browser.run("document.activeElement.blur()")
+    for at in (1, 3, 1):
+        browser.press("d")
+        yield "d: the next damaged file", browser.run("app.faxes.indexOf(app.fax)"), at
+    yield "it is said", browser.run('document.getElementById("said").textContent.includes("This fax is damaged")'), True
+    browser.run("document.getElementById('damaged').click()")
+    yield "the button does the same", browser.run("app.faxes.indexOf(app.fax)"), 3
+    browser.run("while (app.fax) app.close()")
+
+
+def pasted(browser: Chromium, _program: str, _room: str) -> Generator[Claim, None, None]:
+    """Files that are pasted are opened."""
+    browser.run("""(() => {
+        const data = new DataTransfer();
+        data.items.add(new File(["no fax"], "pasted.txt"));
+        document.dispatchEvent(new ClipboardEvent("paste", { clipboardData: data }));
+    })()""")
+    yield "what is pasted is opened", browser.run("app.faxes.map((fax) => fax.file.name)"), ["pasted.txt"]
+    browser.run("while (app.fax) app.close()")
+
+
+def folders(browser: Chromium, program: str, room: str) -> Generator[Claim, None, None]:
+    """Of a folder, with all below it, what is called as faxes are is opened, by name."""
+    os.makedirs(f"{room}/folder/below/more")
+    for name in ("fax-10.tif", "fax-9.tif", "notes.txt", "below/fax-2.TIF", "below/more/fax-1.tiff"):
+        put(f"{room}/folder/{name}", faxes.drawn(program, 70))
+    wanted = ["fax-1.tiff", "fax-2.TIF", "fax-9.tif", "fax-10.tif"]
+    for how in ("chosen", "dropped"):
+        if how == "dropped":
+            browser.drop(f"{room}/folder")
+        else:
+            browser.choose("#folder", f"{room}/folder")
+        browser.until("app.faxes.length > 0 && app.faxes.every((fax) => fax.state === 'done')")
+        yield f"a folder that is {how}", browser.run("app.faxes.map((fax) => fax.file.name)"), wanted
+        browser.run("while (app.fax) app.close()")
+    shutil.rmtree(f"{room}/folder")
+
+
+def no_folder(browser: Chromium, program: str, room: str) -> Generator[Claim, None, None]:
+    """Where the page is of the disk, the browser hands out no folder that is dropped: it says what to do."""
+    os.makedirs(f"{room}/folder")
+    put(f"{room}/folder/fax.tif", faxes.drawn(program, 70))
+    browser.drop(f"{room}/folder")
+    said = 'document.getElementById("refused").textContent'
+    browser.until(said)
+    yield "it is said", browser.run(said), (
+        "The browser hands out no folder that is dropped here: choose it by Open a folder…")
+    browser.choose("#folder", f"{room}/folder")
+    browser.until("app.fax && app.fax.state === 'done'")
+    yield "what is chosen then is opened", browser.run(f"[app.fax.file.name, {said}]"), ["fax.tif", ""]
+    browser.run("while (app.fax) app.close()")
+
+
+def copying(browser: Chromium, program: str, room: str) -> Generator[Claim, None, None]:
+    """The page is copied as a picture, row by row as it is; and it fills the screen."""
+    data = get(opened(browser, program, room))
+    browser.call("Browser.grantPermissions", permissions=["clipboardReadWrite", "clipboardSanitizedWrite"])
+    browser.call("Page.bringToFront")
+    browser.press("c")
+    browser.until('document.getElementById("said").textContent.startsWith("Page 1 was")')
+    yield "it is said", browser.run('document.getElementById("said").textContent'), "Page 1 was copied as a picture."
+    wide, high, pels = browser.run("""navigator.clipboard.read().then(async (items) => {
+        const image = await createImageBitmap(await items[0].getType("image/png"));
+        const canvas = new OffscreenCanvas(image.width, image.height);
+        const draw = canvas.getContext("2d");
+        draw.drawImage(image, 0, 0);
+        const { data } = draw.getImageData(0, 0, image.width, image.height);
+        let text = "";
+        for (let at = 0; at < data.length; at += 4) text += data[at] === 0 ? "\\x01" : data[at] === 255 ? "\\0" : "\\x02";
+        return [image.width, image.height, btoa(text)];
+    })""")
+    wanted = faxes.pels_of_pbm(faxes.convert(program, data, "-o", "pbm"))[0]
+    yield "it is the page", (wide, high, base64.b64decode(pels)) == wanted, True
+    browser.press("s")
+    browser.until("document.fullscreenElement")
+    yield "the page fills the screen", browser.run("document.fullscreenElement.id"), "view-part"
+    browser.press("s")
+    yield "and leaves it", browser.until("!document.fullscreenElement"), True

@@ -1,0 +1,200 @@
+"use strict";
+
+/** A page on the screen, in tiles: only those that are in sight have a canvas. */
+class Sheet {
+    static ACROSS = 2048;
+    static DOWN = 1024;
+    /** So many tiles of the page that is looked at are drawn also where they are out of sight. */
+    static MOST_WHOLE = 6;
+    static MOST_MARKS = 200;
+    /** Of more marks each says what it is only under the mouse, so that the page can be read. */
+    static MOST_SAID = 2;
+
+    /** @param {View} view @param {Fax} fax @param {number} page @param {Form} form */
+    constructor(view, fax, page, form) {
+        this.view = view;
+        this.fax = fax;
+        this.reading = fax.reading;
+        this.page = page;
+        this.form = form;
+        this.scale = 1;
+        /** @type {Map<string, HTMLCanvasElement>} */
+        this.tiles = new Map();
+        this.element = document.createElement("div");
+        this.paper = document.createElement("div");
+        this.paper.className = "paper";
+        this.element.setAttribute("role", "img");
+        this.element.append(this.paper);
+    }
+
+    /** Whether it is the page that is looked at; others stand above and below it.
+     * @param {boolean} isCurrent */
+    dress(isCurrent) {
+        const texts = TEXTS.pages;
+        this.element.className = isCurrent ? "sheet current" : "sheet";
+        this.element.setAttribute("aria-hidden", String(!isCurrent));
+        this.element.setAttribute("aria-label", say(texts.picture, sayPage(this.page),
+            texts[this.fax.stateOf(this.page)]));
+    }
+
+    remove() {
+        this.tiles.clear();
+        this.element.remove();
+    }
+
+    /** The size of the page on the screen as it lies, at a scale of 1. */
+    natural() {
+        const [wide, high] = [this.form.width, this.form.rows * this.form.shape];
+        return this.view.turns % 2 ? [high, wide] : [wide, high];
+    }
+
+    /** Lays the page out at its scale, as it is turned. */
+    lay() {
+        this.scale = this.view.scaleOf(this);
+        const [wide, high] = this.size();
+        const { turns } = this.view;
+        const isAcross = turns % 2 === 1;
+        this.element.style.width = `${isAcross ? high : wide}px`;
+        this.element.style.height = `${isAcross ? wide : high}px`;
+        this.paper.style.width = `${wide}px`;
+        this.paper.style.height = `${high}px`;
+        this.paper.style.transform = ["none", `translate(${high}px, 0) rotate(90deg)`,
+            `translate(${wide}px, ${high}px) rotate(180deg)`, `translate(0, ${wide}px) rotate(270deg)`][turns];
+        this.element.style.setProperty("--print-scale", String(this.printScale()));
+        this.paper.classList.toggle("sharp", this.scale * devicePixelRatio >= 1);
+        for (const [key, canvas] of this.tiles) {
+            this.place(canvas, key);
+        }
+        this.mark();
+    }
+
+    /** By how much a sheet of paper shows the page larger than the screen: 96 pels of a style are an inch. */
+    printScale() {
+        return (96 * Pdf.inches(this.form, this.form.width, this.form.across)) / this.size()[0];
+    }
+
+    /** The size of the page on the screen before it is turned. */
+    size() {
+        return [Math.round(this.form.width * this.scale), Math.round(this.form.rows * this.scale * this.form.shape)];
+    }
+
+    /** @param {HTMLCanvasElement} canvas @param {string} key */
+    place(canvas, key) {
+        const { form } = this;
+        const [wide, high] = this.size();
+        const [x, y] = key.split(" ").map(Number);
+        const [left, right] = [x * Sheet.ACROSS, Math.min(form.width, (x + 1) * Sheet.ACROSS)]
+            .map((pel) => Math.round((pel * wide) / form.width));
+        const [top, bottom] = [y * Sheet.DOWN, Math.min(form.rows, (y + 1) * Sheet.DOWN)]
+            .map((row) => Math.round((row * high) / form.rows));
+        Object.assign(canvas.style, { left: `${left}px`, top: `${top}px`, width: `${Math.max(1, right - left)}px`,
+            height: `${Math.max(1, bottom - top)}px` });
+    }
+
+    /** What of the page is in sight, in pels and rows: from and to; nothing where it is out of sight.
+     * @returns {number[] | null} */
+    inSight() {
+        const { form } = this;
+        const [box, sheet] = [this.view.view.getBoundingClientRect(), this.element.getBoundingClientRect()];
+        if (sheet.bottom < box.top || sheet.top > box.bottom) {
+            return null;
+        }
+        const [wide, high] = this.size();
+        const [left, top] = [box.left - sheet.left, box.top - sheet.top];
+        const [right, bottom] = [left + box.width, top + box.height];
+        const [x, y, toX, toY] = [
+            [left, top, right, bottom], [top, high - right, bottom, high - left],
+            [wide - right, high - bottom, wide - left, high - top], [wide - bottom, left, wide - top, right],
+        ][this.view.turns];
+        const pels = (/** @type {number} */ at) => Math.max(0, Math.min(form.width - 1, (at * form.width) / wide));
+        const rows = (/** @type {number} */ at) => Math.max(0, Math.min(form.rows - 1, (at * form.rows) / high));
+        return [pels(x), rows(y), pels(toX), rows(toY)];
+    }
+
+    /** How many pels across and rows down a pel of the screen has. */
+    shrinking() {
+        const scale = this.scale * devicePixelRatio;
+        return [scale, scale * this.form.shape].map((it) => Math.max(1, Math.floor(1 / it)));
+    }
+
+    /** What is drawn, in pels and rows: what is in sight; all of the page that is looked at, if that is not large, so
+     * that it is there to be printed. */
+    drawn() {
+        const { width, rows } = this.form;
+        const isSmall = Math.ceil(width / Sheet.ACROSS) * Math.ceil(rows / Sheet.DOWN) <= Sheet.MOST_WHOLE;
+        return isSmall && this.view.sheet === this ? [0, 0, width - 1, rows - 1] : this.inSight() ?? [0, 0, -1, -1];
+    }
+
+    /** Gives the tiles that are drawn their canvases, and takes away the others. */
+    fill() {
+        const [x, y, toX, toY] = this.drawn();
+        const shrunk = this.shrinking().join(" ");
+        const wanted = new Set();
+        for (let down = Math.floor(y / Sheet.DOWN); down <= Math.floor(toY / Sheet.DOWN); down++) {
+            for (let across = Math.floor(x / Sheet.ACROSS); across <= Math.floor(toX / Sheet.ACROSS); across++) {
+                wanted.add(`${across} ${down} `);
+            }
+        }
+        this.drop((key) => !wanted.has(Sheet.placeOf(key)));
+        for (const place of wanted) {
+            if (!this.tiles.has(place + shrunk)) {
+                this.add(place + shrunk);
+            }
+        }
+    }
+
+    /** Of a tile's key, where it is.
+     * @param {string} key */
+    static placeOf(key) {
+        return key.replace(/\d+ \d+$/, "");
+    }
+
+    /** Takes tiles away.
+     * @param {(key: string) => boolean} isDropped */
+    drop(isDropped) {
+        for (const [key, canvas] of this.tiles) {
+            if (isDropped(key)) {
+                canvas.remove();
+                this.tiles.delete(key);
+            }
+        }
+    }
+
+    /** @param {string} key */
+    add(key) {
+        const { page, reading, form, fax } = this;
+        const canvas = document.createElement("canvas");
+        const [column, line, across, down] = key.split(" ").map(Number);
+        const [x, y] = [column * Sheet.ACROSS, line * Sheet.DOWN];
+        const [width, height] = [Math.min(Sheet.ACROSS, form.width - x), Math.min(Sheet.DOWN, form.rows - y)];
+        canvas.width = canvas.height = 1;
+        this.tiles.set(key, canvas);
+        this.place(canvas, key);
+        this.paper.append(canvas);
+        const isWanted = () => this.tiles.get(key) === canvas && fax.reading === reading;
+        this.view.queue.add(isWanted, async () => {
+            const { pels } = await fax.ask("part", { page, x, y, width, height, across, down });
+            if (isWanted()) {
+                putPels(canvas, pels, Math.ceil(width / across), Math.ceil(height / down));
+                canvas.dataset.drawn = key;
+                this.drop((other) => other !== key && Sheet.placeOf(other) === Sheet.placeOf(key));
+            }
+        });
+    }
+
+    /** Marks the rows where something is wrong. */
+    mark() {
+        const high = this.size()[1];
+        const found = this.fax.findingsOf(this.page, Sheet.MOST_MARKS).slice(0, Sheet.MOST_MARKS);
+        this.paper.querySelectorAll(".mark").forEach((mark) => mark.remove());
+        this.paper.classList.toggle("many", found.length > Sheet.MOST_SAID);
+        this.paper.append(...found.map(({ row, head, name, kind }) => {
+            const mark = document.createElement("div");
+            mark.className = `mark ${kind}`;
+            mark.style.top = `${Math.round((row * high) / this.form.rows)}px`;
+            mark.append(document.createElement("span"));
+            /** @type {HTMLElement} */ (mark.firstChild).textContent = `${head}: ${name}`;
+            return mark;
+        }));
+    }
+}
