@@ -349,11 +349,12 @@ class Fax extends Known {
             const isStrip = strip !== Library.NO_STRIP;
             return { page, row: isStrip ? strip * (this.form(page)?.rowsOfStrip ?? 0) : 0, name, tag: 0,
                 kind: /** @type {"note"} */ ("note"),
-                head: isStrip ? say(texts.strip, sayPage(page), String(strip)) : say(texts.directory, sayPage(page)) };
+                head: isStrip ? say(texts.strip, sayPage(page), sayPage(strip)) : say(texts.directory, sayPage(page)) };
         });
         const lost = (this.lost.get(page)?.stretches(most) ?? []).map(({ from, to, name }) => ({
             page, row: from, name, tag: 0, kind: /** @type {"fault"} */ ("fault"),
-            head: from === to ? say(texts.row, sayPage(page), from) : say(texts.rows, sayPage(page), from, to) }));
+            head: from === to ? say(texts.row, sayPage(page), from + 1)
+                : say(texts.rows, sayPage(page), from + 1, to + 1) }));
         const faults = refused ? [{ page, row: 0, name: refused.name, tag: refused.fault.tag,
             kind: /** @type {"fault"} */ ("fault"), head: refused.kind
                 ? say(texts.otherPage, sayPage(page), sayOfKind(refused.kind)[0])
@@ -398,7 +399,7 @@ class Fax extends Known {
         if (told.rows === 0) {
             return say(texts.bareNothing, told.name ? means : texts.bareEnds);
         }
-        const parts = [told.name ? say(texts.bareDamaged, told.rows, means) : "",
+        const parts = [told.name ? say(texts.bareDamaged, told.rows, means, told.rows + 1) : "",
             told.missing ? say(texts.bareMissing, told.rows, told.missing) : ""];
         return parts.join(" ").trim() || say(texts.bareWhole, told.rows);
     }
@@ -449,7 +450,8 @@ class Fax extends Known {
         });
         lines.push(this.end ? faultLine(this.end.fault, this.end.name) : "end", "");
         const unseen = this.lost.size ? `\n${TEXTS.findings.unseen}` : "";
-        const head = `${this.file.name}\n${this.verdict()}${unseen}\n\n${lines.splice(0).join("\n")}\n`;
+        const said = `${this.file.name}\n${this.verdict()}${unseen}\n${TEXTS.findings.fromZero}`;
+        const head = `${said}\n\n${lines.splice(0).join("\n")}\n`;
         const notes = [...this.notes].sort(([one], [other]) => one - other).map(([page, all]) => all.map(
             ({ strip, name }) => FaxWorker.noteLine(page, strip, this.report.kinds.indexOf(name), name)).join(""));
         if (this.report) {

@@ -97,7 +97,7 @@ const TEXTS = {
         MissingField: ["The field with this tag is missing.",
             "Ask for the file again, or mend the program that wrote it."],
         MissingField273: ["A page of tiles.", "It is no fax page: ask for it in strips."],
-        Unsupported: ["A field with a value that no fax page has.", "Ask for it as a black-and-white fax."],
+        Unsupported: ["A field has a value that no fax page has.", "Ask for it as a black-and-white fax."],
         Unsupported259: ["Another compression than MH, MR or MMR.", "Ask for it as a fax in MH, MR or MMR."],
         BadField: ["The field with this tag has another type than TIFF gives it, no value, or values outside the file.",
             "Ask for the file again, or mend the program that wrote it."],
@@ -127,9 +127,11 @@ const TEXTS = {
             "The program that wrote it has a fault, or something else follows the last image."],
         ShortRaster: ["Its rows are not all there.", "It was cut. Ask for it again."],
         UnknownInput: ["The input is neither raw PBM nor TIFF.", "It is no fax."],
-        OutputTooLarge: ["What convert would write has more than 268,435,456 bytes.", "Save fewer pages at once."],
+        OutputTooLarge: ["The output would have more than 268,435,456 bytes, or a TIFF file more than 65,535 pages.",
+            "Save fewer pages at once."],
         Memory: ["Memory was refused.", "Close other files, or other pages of the browser, and open it again."],
-        TooManyRows: ["More follows 1,000,000 rows.", "It is not a fax page, or it is coded in another way."],
+        TooManyRows: ["A strip whose rows nobody counted has more than 1,000,000 of them.",
+            "It is not a fax page, or it is coded in another way."],
     },
     /** The same of notes. */
     notes: {
@@ -194,7 +196,7 @@ const TEXTS = {
         others: "{0} of {1} are no fax pages that are read here.",
         bareWhole: "The data were read to their end: {0} rows.",
         bareMissing: "{0} rows were read, and {1} are missing.",
-        bareDamaged: "{0} rows were read. Row {0} cannot be read: {1}.",
+        bareDamaged: "{0} rows were read. Row {2} cannot be read: {1}.",
         bareEnds: "it ends at once",
         bareNothing: "No row can be read as you said it is coded: {0}. Try another coding, width or bit order.",
         image: "Image {0} of the PBM file is refused.",
@@ -211,6 +213,7 @@ const TEXTS = {
         image: "Image {0}",
         more: "{0} more are not shown.",
         reportGoesOn: "The report goes on: save it as text.",
+        fromZero: "Below, pages, rows and strips are numbered from 0, as the program numbers them.",
         unseen: "A row above those that cannot be read may be wrong too: of 1,000 pages in MMR with one bit turned " +
             "343 had such a row, and 126 had no fault. No reader sees damage that makes other codes.",
         unchecked: "Notes were not looked for, since this file takes long.",
@@ -269,7 +272,7 @@ function sayName(name) {
         `\u27e8U+${letter.charCodeAt(0).toString(16).toUpperCase().padStart(4, "0")}\u27e9`);
 }
 
-/** The number of a page as people count, from 1; the program and the report count from 0.
+/** The number of a page, or of a strip, as people count, from 1; the program and the report count from 0.
  * @param {number} page */
 function sayPage(page) {
     return String(page + 1);

@@ -104,17 +104,17 @@ def bound(fax: Fax) -> None:
 
 
 def salvaged(page: Union[Page, Fault]) -> Sheet:
-    """What is left of a page, with lines that say what is lost."""
+    """What is left of a page, with lines that say what is lost: they number pages and rows from 1, as people count."""
     if isinstance(page, Fault):
         blank = Raster(1728, 1143, bytes(216 * 1143), y=Fraction(98))
-        where = f"page {page.page}" if page.row == 0 else f"page {page.page} row {page.row}"
+        where = f"page {page.page + 1}" if page.row == 0 else f"page {page.page + 1} row {page.row + 1}"
         return Sheet(blank, [Stretch(0, blank.rows, page.name)], [f"{where} is missing: {page.name}"])
     try:
         return Sheet(page.raster(), [], [])
     except Fault:
         pass
     left = page.salvaged()
-    lines = [f"page {page.number} rows {it.first} to {it.last} are missing: {it.name}" for it in left.lost]
+    lines = [f"page {page.number + 1} rows {it.first + 1} to {it.last + 1} are missing: {it.name}" for it in left.lost]
     return Sheet(left.raster, list(left.lost), lines)
 
 
@@ -139,7 +139,7 @@ def lines_of(sheet: Sheet) -> List[str]:
     lines = sheet.lines[:_LINES]
     if len(sheet.lines) > _LINES:
         lines.append(f"and {len(sheet.lines) - _LINES} more stretches of rows are missing")
-    told = [f"faxpages: {line} (numbered from 0)" for line in lines]
+    told = [f"faxpages: {line}" for line in lines]
     return told + [_UNSEEN] if sheet.lost and told else told
 
 

@@ -44,7 +44,7 @@ class ConversionError(FaxError):
 
 
 class UnknownInput(ConversionError):
-    """The bytes are neither raw PBM nor TIFF.
+    """The input is neither raw PBM nor TIFF.
 
     >>> faxpages.convert(b"GIF89a", "mmr")
     Traceback (most recent call last):
@@ -138,7 +138,7 @@ class StripFault(Fault):
 
 
 class ShortHeader(FileFault):
-    """The file has fewer bytes than a header, which has eight.
+    """The file has fewer than eight bytes.
 
     >>> faxpages.open(b"II*").page(0)
     Traceback (most recent call last):
@@ -147,7 +147,7 @@ class ShortHeader(FileFault):
 
 
 class ByteOrder(FileFault):
-    """The file begins with neither II nor MM.
+    """It begins with neither II nor MM: not a TIFF file.
 
     >>> faxpages.open(b"GIF89a..").page(0)
     Traceback (most recent call last):
@@ -156,7 +156,7 @@ class ByteOrder(FileFault):
 
 
 class Magic(FileFault):
-    """The header's number is not 42.
+    """The number after the byte order is not 42: not a TIFF file, or BigTIFF.
 
     >>> faxpages.open(b"II+\\0\\x08\\0\\0\\0").page(0)
     Traceback (most recent call last):
@@ -165,7 +165,7 @@ class Magic(FileFault):
 
 
 class NoDirectory(FileFault):
-    """The file has no directory.
+    """The header names no page.
 
     >>> faxpages.open(b"II*\\0\\0\\0\\0\\0").page(0)
     Traceback (most recent call last):
@@ -174,7 +174,7 @@ class NoDirectory(FileFault):
 
 
 class DirectoryOutside(FileFault):
-    """A directory does not lie wholly inside the file.
+    """A page's directory lies outside the file: usually the end of the file is missing.
 
     >>> faxpages.open(b"II*\\0\\x08\\0\\0\\0").page(0)
     Traceback (most recent call last):
@@ -183,7 +183,7 @@ class DirectoryOutside(FileFault):
 
 
 class DirectoryLoop(FileFault):
-    """A directory is followed by an earlier one.
+    """A directory is followed by an earlier one. All pages come before the fault.
 
     >>> damaged = bytearray(open("samples/one-mh-page.tif", "rb").read())
     >>> damaged[206] = 12
@@ -194,7 +194,7 @@ class DirectoryLoop(FileFault):
 
 
 class MissingField(FileFault):
-    """A field that each page must have is missing.
+    """The field with this tag is missing.
 
     >>> faxpages.open(b"II*\\0\\x08\\0\\0\\0" + bytes(6)).page(0)
     Traceback (most recent call last):
@@ -203,7 +203,8 @@ class MissingField(FileFault):
 
 
 class BadField(FileFault):
-    """A field has a wrong type or number of values, or a value outside the file; or RowsPerStrip is 0.
+    """The field with this tag has another type than TIFF gives it, no value, or values outside the file. Also,
+    RowsPerStrip is 0.
 
     >>> damaged = bytearray(open("samples/one-mh-page.tif", "rb").read())
     >>> damaged[136] = 2
@@ -214,7 +215,7 @@ class BadField(FileFault):
 
 
 class Unsupported(FileFault):
-    """A field has a value that no fax page has, such as another compression.
+    """A field has a value that no fax page has. 259 is another compression.
 
     >>> damaged = bytearray(open("samples/one-mh-page.tif", "rb").read())
     >>> damaged[70] = 5
@@ -225,7 +226,7 @@ class Unsupported(FileFault):
 
 
 class OutOfLimits(FileFault):
-    """A page is empty, or wider than 65,535 pels or longer than 1,000,000 rows.
+    """The page is empty, wider than 65,535 pels or longer than 1,000,000 rows.
 
     >>> damaged = bytearray(open("samples/one-mh-page.tif", "rb").read())
     >>> damaged[34] = 0
@@ -236,7 +237,7 @@ class OutOfLimits(FileFault):
 
 
 class StripOutside(FileFault):
-    """A strip does not lie wholly inside the file.
+    """A strip lies outside the file: usually the end of the file is missing.
 
     >>> damaged = bytearray(open("samples/one-mh-page.tif", "rb").read())
     >>> damaged[107] = 1
@@ -247,7 +248,7 @@ class StripOutside(FileFault):
 
 
 class DataEnds(StripFault):
-    """The data end within a row, or where one is due.
+    """A strip ends within a row: the sender was cut off, or the page has fewer rows than it says.
 
     >>> faxpages.strip(b"\\x80", width=8, rows=9)
     Traceback (most recent call last):
@@ -292,7 +293,7 @@ class OutOfRow(StripFault):
 
 
 class MissingEol(StripFault):
-    """No EOL stands before the row.
+    """No EOL stands before the row, in MH or MR.
 
     >>> faxpages.strip(b"\\x9a\\x68", width=8, coding="mh", rows=2)
     Traceback (most recent call last):
@@ -301,7 +302,7 @@ class MissingEol(StripFault):
 
 
 class EndMarker(StripFault):
-    """Eleven zeros, as in an end mark, stand where a row is due.
+    """The end of the page stands where a row is due: the page has fewer rows than it says.
 
     >>> faxpages.strip(b"\\0\\x10\\x01", width=8, rows=1)
     Traceback (most recent call last):

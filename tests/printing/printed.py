@@ -17,7 +17,7 @@ SAMPLES = f"{server.TOP}/samples"
 # A page of this paper is larger than a fax, and the difference is even in pels: nothing is scaled, and no pel is cut.
 PAPER = ["-o", "media=na_legal_8.5x14in", "-o", "print-scaling=none"]
 # A line about what is lost.
-LINE = re.compile(r"faxpages: (page .*?) (?:is|are) missing: (\w+(?: \d+)?) \(numbered from 0\)")
+LINE = re.compile(r"faxpages: (page .*?) (?:is|are) missing: (\w+(?: \d+)?)")
 PAPER_SIZE = (1734, {196: 2744, 98: 1372})
 
 
@@ -132,12 +132,17 @@ def salvaged(room: Room, spoiled: list[tuple[str, str]]) -> None:
             continue
         room.claim(f"{name}: printed", told[title].state, "completed")
         said = room.run("pdftotext", "-layout", got[title], "-")[1].decode()
-        lost = [f"{where}: {why}" for where, why in LINE.findall(said)]
+        lost = [f"{from_zero(where)}: {why}" for where, why in LINE.findall(said)]
         room.claim(f"{name}: lines", bool(lost) and fault_of(lost[0]), first_lost(room, fax, spoiled[number][1]))
         room.claim(f"{name}: rows", readable_rows(room, fax, got[title]))
         if number % 5 == 0:
             room.claim(f"{name}: as faxpages-salvage has it", lost, as_salvage_has_it(room, fax)[: len(lost)])
     without_the_program(room)
+
+
+def from_zero(where: str) -> str:
+    """A printed place, which is numbered from 1, as the program numbers it."""
+    return re.sub(r"\d+", lambda number: str(int(number[0]) - 1), where)
 
 
 def without_the_program(room: Room) -> None:

@@ -454,7 +454,8 @@ def mail_gateway(room: Room, commands: str) -> Iterator[Claim]:
     mail = message(room.get("mailed"))
     parts = parts_of(mail)
     yield "faulty: files", (sorted(parts), parts["fax.tif"]), (["fax.pdf", "fax.tif"], room.get("fax.tif"))
-    yield "faulty: lost", "\nLost:\npage 3 rows " in text_of(mail), True
+    lost = "numbered from 1 (above, faxpages check numbers them from 0):\npage 4 rows 6 to 11: OutOfRow\n"
+    yield "faulty: lost", lost in text_of(mail).replace("\r", ""), True
     yield from mailed_of_other_kinds(room, commands, mailer)
     for name in [*HOSTILE, "\nBcc: all@example.org\n\n.tif"]:
         room.others(name)

@@ -92,14 +92,14 @@ def damaged(program: str, path: str) -> Content | None:
 
 def lost_line(page: int, row: int, rows: int, name: str) -> str:
     """What the page says of rows that are lost."""
-    where = f"row {row:,}" if rows == 1 else f"rows {row:,} to {row + rows - 1:,}"
+    where = f"row {row + 1:,}" if rows == 1 else f"rows {row + 1:,} to {row + rows:,}"
     return f"Page {page + 1}, {where} cannot be read: {name}"
 
 
 def note_line(line: str) -> str:
     """What the page says of a note that the program prints."""
     page, strip, name = found(r"note page (\d+)(?: strip (\d+))?: N\d (\w+)", line).groups()
-    return f"Page {int(page) + 1}{f', strip {strip}' if strip else ''}: {name}"
+    return f"Page {int(page) + 1}{f', strip {int(strip) + 1}' if strip else ''}: {name}"
 
 
 def all_contents(program: str, room: str) -> list[Content]:

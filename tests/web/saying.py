@@ -104,9 +104,9 @@ def first_part(listed: str) -> str:
 def findings(browser: Browser, program: str, room: str) -> Generator[Claim, None, None]:
     """The faults, the notes and their words stand in the page, each once, and lead to where they are."""
     wanted: dict[str, tuple[list[str], int]] = {
-        "damaged-fourth-page.tif": (["Page 4, rows 5 to 10 cannot be read: OutOfRow"], 3),
-        "return-to-control.tif": (["Page 1, strip 0: ReturnToControl"], 0),
-        "three-pages.tif": (["Page 3, row 1 cannot be read: DataEnds"], 2),
+        "damaged-fourth-page.tif": (["Page 4, rows 6 to 11 cannot be read: OutOfRow"], 3),
+        "return-to-control.tif": (["Page 1, strip 1: ReturnToControl"], 0),
+        "three-pages.tif": (["Page 3, row 2 cannot be read: DataEnds"], 2),
         "one-mh-page.tif": ([], 0),
     }
     for name, (lines, page) in wanted.items():

@@ -1,5 +1,5 @@
-"""The sources of the page: the library inside is of these sources, the words are those of TROUBLESHOOTING, and nothing
-names another place."""
+"""The sources of the page: the library inside is of these sources, all words stand in one file, and nothing names another
+place."""
 
 from __future__ import annotations
 
@@ -18,7 +18,6 @@ from tests.web import faxes
 
 WEB = os.path.join(TOP, "web")
 MOST_LINES, MOST_COLUMNS = 800, 120
-NO_WORDS_OF_THE_PAGE = {"Open", "Read", "Write", "CursorOutside", "NotACursor"}
 
 
 def read(*name: str) -> str:
@@ -32,7 +31,6 @@ def printed(*words: str) -> str:
 
 def claims() -> Generator[Claim, None, None]:
     yield from module_is_of_these_sources()
-    yield from words_are_those_of_troubleshooting()
     yield from sources_are_in_form()
 
 
@@ -47,20 +45,6 @@ def module_is_of_these_sources() -> Generator[Claim, None, None]:
     yield "web/faxpages.wasm.js: it is a module", module[:8], b"\0asm\1\0\0\0"
     yield "web/faxpages.wasm.js: no path of a machine", re.findall(rb"/(?:usr|tmp|root|home|work|var)/", module), []
     yield "web/faxpages.wasm.js: its module", head.get("module"), printed("tools/build-web", "--digest")
-
-
-def words_are_those_of_troubleshooting() -> Generator[Claim, None, None]:
-    """Each fault and note of TROUBLESHOOTING has words in the page, and what they mean stands there too."""
-    document = re.sub(r"\[([^\]]*)\]\([^)]*\)", r"\1", read("docs", "TROUBLESHOOTING.md")).replace("`", "")
-    names = set(re.findall(r"^\| (?:N\d )?(?:fault: )?([A-Z]\w+)(?: \d+)? \|", document, re.M)) - NO_WORDS_OF_THE_PAGE
-    names.discard("Message")
-    names -= {"Fault", "Note", "Status"}
-    table = dict(re.findall(r'^        ([A-Z]\w+): \["([^"]*)"', read("web", "texts.js"), re.M))
-    yield "faults and notes were found", len(names) > 25, True
-    yield "each has words in the page", names - {re.sub(r"\d+$", "", name) for name in table}, set()
-    for name, means in table.items():
-        if name != "TooManyRows":
-            yield f"{name}: what it means stands in TROUBLESHOOTING: {means}", means.lower() in document.lower(), True
 
 
 def sources_are_in_form() -> Generator[Claim, None, None]:

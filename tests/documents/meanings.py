@@ -1,0 +1,100 @@
+"""What a fault and a note mean is one table, that of docs/TROUBLESHOOTING.md: the manual page, the page for a browser
+and the docstrings of Python begin with its words, wholly; and each name of theirs stands in it."""
+
+from __future__ import annotations
+
+import ast
+import os
+import re
+from typing import Iterator
+
+from tests import TOP
+
+# The faults of images, whose names may be those of pages too, and those of the library alone.
+IMAGES = "## Images"
+OF_THE_LIBRARY = {"TooManyRows"}
+# What the program alone says, and not the page for a browser: it has cursors and the system's files.
+OF_THE_PROGRAM = {"Open", "Read", "Write", "CursorOutside", "NotACursor"}
+# Of Python these are no classes: faults of an image are one, and Python itself has the system's.
+NO_CLASSES = OF_THE_PROGRAM | {"Memory", "BadHeader", "ShortRaster"}
+
+
+def read(*name: str) -> str:
+    with open(os.path.join(TOP, *name), encoding="utf-8") as file:
+        return file.read()
+
+
+def plain(text: str) -> str:
+    """A text of Markdown without its signs."""
+    return re.sub(r"\[([^\]]*)\]\([^)]*\)", r"\1", text).replace("`", "").strip()
+
+
+def table() -> dict[str, str]:
+    """What each name means: `Name`, `Name tag`, and `image Name` of faults of images."""
+    found = {}
+    for part in re.split(r"(?m)^(?=## )", read("docs", "TROUBLESHOOTING.md")):
+        for names, means in re.findall(r"^\| (`(?:fault[^`]*: |N\d )?[A-Z]\w+(?: \d+)?`) \| ([^|]*) \|", part, re.M):
+            name = re.sub(r"^(fault[^:]*: |N\d )", "", plain(names))
+            found[f"image {name}" if part.startswith(IMAGES) and name == "OutOfLimits" else name] = plain(means)
+    return found
+
+
+def notes() -> set[str]:
+    """The names that are of notes."""
+    return set(re.findall(r"^\| `N\d (\w+)` \|", read("docs", "TROUBLESHOOTING.md"), re.M))
+
+
+def in_manual() -> dict[str, str]:
+    """What faxpages(1) says of each name."""
+    text = read("man", "faxpages.1")
+    found, part = {}, ""
+    for piece in re.split(r"(?m)^(?=\.It Li |\.Ss |\.Sh )", text):
+        head, _, rest = piece.partition("\n")
+        part = head if head.startswith(".S") else part
+        name = re.fullmatch(r"\.It Li (?:fault[^:]*: |N\d )?([A-Z]\w+)(?: Ar tag)?", head)
+        if name:
+            key = f"image {name[1]}" if "image" in part and name[1] == "OutOfLimits" else name[1]
+            found[key] = words_of(rest)
+    return found
+
+
+def words_of(roff: str) -> str:
+    """The words of some lines of the manual page."""
+    lines = []
+    for line in roff.splitlines():
+        line = re.sub(r"^\.(?:Ql|Cm|Xr|Li|Pq|Fl|Ev|Pa) ", "", line)
+        lines += [] if line.startswith(".") else [line]
+    return re.sub(r" ([:;,.])(?= |$)", r"\1", " ".join(lines))
+
+
+def in_page() -> dict[str, str]:
+    """What the page for a browser says of each name."""
+    text = read("web", "texts.js")
+    faults = text.partition("    faults: {")[2].partition("    /** What is no fax")[0]
+    pieces = re.findall(r"^        ([A-Z]\w+?)(\d*): \[\"((?:[^\"]|\" \+\s*\")*)\"", faults, re.M)
+    return {f"{name} {tag}".strip(): re.sub(r'" \+\s*"', "", means) for name, tag, means in pieces}
+
+
+def in_python() -> dict[str, str]:
+    """How the docstring of each class of a fault begins."""
+    tree = ast.parse(read("python", "faxpages", "faults.py"))
+    return {it.name: " ".join((ast.get_docstring(it) or "").partition("\n\n")[0].split())
+            for it in tree.body if isinstance(it, ast.ClassDef)}
+
+
+def claims() -> Iterator[tuple[str, bool]]:
+    known = table()
+    yield "meanings: there is a table", len(known) > 30
+    manual, page, module = in_manual(), in_page(), in_python()
+    yield "meanings: faxpages(1) has the same names", manual.keys() == {
+        name for name in known if " " not in name or name.startswith("image")} - OF_THE_LIBRARY
+    yield "meanings: web/texts.js has the same names", page.keys() == {
+        name for name in known if not name.startswith("image")} - OF_THE_PROGRAM
+    yield "meanings: Python has a class for each fault", known.keys() & module.keys() == {
+        name for name in known if " " not in name} - NO_CLASSES - notes()
+    for name, means in known.items():
+        for where, said, is_whole in (("faxpages(1)", manual, False), ("web/texts.js", page, True),
+                                      ("Python", module, False)):
+            if name in said:
+                text = said[name] if is_whole else said[name][:len(means)]
+                yield f"meanings: {where}: {name}: {said[name]}: {means}", text == means
