@@ -92,7 +92,7 @@ class Wire:
 class Firefox(Browser):
     """One Firefox with one page."""
 
-    LATE = 384 * 2 ** 20
+    LATE = 512 * 2 ** 20
 
     def __init__(self, size: tuple[int, int] = (1280, 900)) -> None:
         self._folder = tempfile.mkdtemp()

@@ -1,0 +1,96 @@
+"""The package of web/npm, as its user has it: packed by npm, installed into an empty folder without a network, and called
+in Node. It says of samples, cases and damaged faxes what the program says, and its types are those that it says."""
+
+from __future__ import annotations
+
+import base64
+import json
+import os
+import re
+import shutil
+import subprocess
+import tempfile
+from typing import Generator
+
+from tests import TOP, Claim
+from tests.convert.files import get, put
+from tests.web import faxes
+
+TYPED = """import { FaxFault, Faxpages } from "faxpages";
+const faxpages: Faxpages = await Faxpages.load(new Uint8Array(8));
+const widths: number[] = faxpages.list(new Uint8Array(0)).pages.map((page) => page.width);
+const fault: FaxFault | null = faxpages.check(new Uint8Array(0)).fault;
+for (const { bytes } of faxpages.rows(new Uint8Array(0))) bytes.subarray(1);
+for (const { lost } of faxpages.salvage(new Uint8Array(0))) lost.map((it) => it.rows + widths.length);
+export const made: Uint8Array = faxpages.convert(new Uint8Array(0), "mmr");
+export const name: string = fault === null ? "" : fault.fault;
+"""
+WRONG = """import { Faxpages } from "faxpages";
+(await Faxpages.load()).convert(new Uint8Array(0), "gif");
+"""
+
+
+def run(folder: str, *words: str) -> tuple[int, str]:
+    ran = subprocess.run(words, cwd=folder, capture_output=True, check=False)
+    return ran.returncode, (ran.stdout + ran.stderr).decode()
+
+
+def claims(program: str) -> Generator[Claim, None, None]:
+    missing = [name for name in ("node", "npm", "tsc") if not shutil.which(name)]
+    if missing:
+        print(f"SKIPPED: the package of web/npm ({', '.join(missing)})")
+        return
+    with tempfile.TemporaryDirectory() as room:
+        shutil.copytree(f"{TOP}/web", f"{room}/sources/web")
+        shutil.copy(f"{TOP}/LICENSE", f"{room}/sources")
+        os.mkdir(f"{room}/user")
+        put(f"{room}/user/package.json", b'{"type": "module"}\n')
+        packing = run(f"{room}/sources/web/npm", "npm", "pack", "--silent", "--offline", "--pack-destination", room)
+        with open(f"{TOP}/VERSION", encoding="ascii") as version:
+            name = f"faxpages-{version.read().strip()}.tgz"
+        yield "npm: it is packed, with the version of the sources", packing, (0, f"{name}\n")
+        yield "npm: it is installed without a network", run(
+            f"{room}/user", "npm", "install", "--silent", "--offline", f"{room}/{name}")[0], 0
+        yield "npm: nothing else comes along", [
+            name for name in os.listdir(f"{room}/user/node_modules") if not name.startswith(".")], ["faxpages"]
+        yield "npm: the module is that of the page", get(
+            f"{room}/user/node_modules/faxpages/faxpages.wasm") == module_of_the_page(), True
+        yield from types(f"{room}/user")
+        yield from as_the_program(program, f"{room}/user", room)
+
+
+def module_of_the_page() -> bytes:
+    text = get(f"{TOP}/web/faxpages.wasm.js").decode()
+    return base64.b64decode(text.partition("`\n")[2].partition("`;")[0])
+
+
+def types(folder: str) -> Generator[Claim, None, None]:
+    """The types are there, and refuse what is wrong."""
+    for name, text, is_right in (("right", TYPED, True), ("wrong", WRONG, False)):
+        put(f"{folder}/{name}.mts", text.encode())
+        status, said = run(folder, "tsc", "--noEmit", "--strict", "--target", "es2022", "--module", "node16",
+                           "--moduleResolution", "node16", "--lib", "es2022,dom", f"{name}.mts")
+        yield f"npm: types of what is {name}: {said}", status == 0, is_right
+
+
+def as_the_program(program: str, folder: str, room: str) -> Generator[Claim, None, None]:
+    """Of each file it says, and converts, what the program does."""
+    shutil.copy(f"{TOP}/tests/web/said.mjs", folder)
+    paths = faxes.all_files(program, room) + [f"{TOP}/tests/runs/inputs/{name}" for name in sorted(
+        os.listdir(f"{TOP}/tests/runs/inputs")) if name.endswith(".pbm")]
+    status, text = run(folder, "node", "said.mjs", *paths)
+    yield "npm: it runs in Node", status, 0
+    told = json.loads(text)
+    print(f"(npm: Node {told['node']}, {len(paths)} files)")
+    yield "npm: files were read", len(told["told"]) == len(paths) > 100, True
+    for path, said in zip(paths, told["told"]):
+        name = os.path.basename(path)
+        for command in ("list", "rows", "check"):
+            wanted = re.sub(r"(?m)^next .*\n", "", faxes.said(program, command, path))
+            yield f"npm: {name}: {command}", said[command] + "\n", wanted
+        salvaged = [line for line in faxes.said(program, "salvage", path).splitlines() if line[:4] in ("row ", "lost")]
+        yield f"npm: {name}: salvage", [line for line in said["salvage"].splitlines() if line[:4] != "faul"], salvaged
+        for target in ("mmr", "mr", "mh", "pbm"):
+            ran = subprocess.run([program, "convert", "-o", target, path], capture_output=True, check=False)
+            made = base64.b64encode(ran.stdout).decode() if ran.returncode == 0 else ran.stderr.decode().strip()
+            yield f"npm: {name}: convert -o {target}", said[target] == made, True
