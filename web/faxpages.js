@@ -331,7 +331,7 @@ class App {
         }
         the("stop").hidden = !isReading;
         the("notes").hidden = !fax.isLong;
-        the("again").hidden = !fax.failure;
+        the("again").hidden = !fax.failure && fax.state !== "left";
         the("save").hidden = fax.pages === 0 || fax.isBusy();
         the("print").hidden = the("save").hidden;
         the("damaged").hidden = this.faxes.length < 2;

@@ -229,11 +229,13 @@ class View {
         this.view.scrollTo(0, this.sheet ? this.sheet.element.offsetTop - View.GAP : 0);
     }
 
-    /** Goes to a row.
+    /** Goes to a row; of a page that is wholly in sight, to its top.
      * @param {number} row */
     goTo(row) {
         const { sheet } = this;
-        if (sheet && this.turns === 0) {
+        if (sheet && sheet.element.offsetHeight + 2 * View.GAP <= this.view.clientHeight) {
+            this.toTop();
+        } else if (sheet && this.turns === 0) {
             const top = sheet.element.offsetTop + (row * sheet.size()[1]) / sheet.form.rows;
             this.view.scrollTo({ top: Math.max(sheet.element.offsetTop - View.GAP, top - this.view.clientHeight / 3) });
         }

@@ -65,6 +65,9 @@ class Browser:
         """The bytes of memory of the page's process, or of the largest of them; by a name of /proc."""
         raise NotImplementedError
 
+    def collect(self) -> None:
+        """Has the browser give back the memory that nothing uses any more, if it can be told to."""
+
     def close(self) -> None:
         raise NotImplementedError
 

@@ -181,6 +181,10 @@ class Chromium(Browser):
         with open(file, "wb") as out:
             out.write(base64.b64decode(self.call("Page.captureScreenshot", format="png")["data"]))
 
+    def collect(self) -> None:
+        self.call("HeapProfiler.collectGarbage")
+        self.run("new Promise((resolve) => setTimeout(resolve, 200))")
+
     def printed(self) -> bytes:
         return base64.b64decode(self.call("Page.printToPDF", printBackground=True)["data"])
 

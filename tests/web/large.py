@@ -85,6 +85,7 @@ def leaves(browser: Chromium, _program: str, room: str) -> Generator[Claim, None
     said = "You stopped the reading. Of 60,000 pages, those before page "
     yield "the verdict says so", browser.run("app.fax.verdict()").startswith(said), True
     browser.until('!document.getElementById("save").hidden')
+    yield "it can be read again", browser.run('document.getElementById("again").hidden'), False
     close_all(browser)
 
 

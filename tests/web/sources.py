@@ -81,5 +81,5 @@ def sources_are_in_form() -> Generator[Claim, None, None]:
     yield "each word of the page is one of texts.js", keys, set(re.findall(r'data-(?:text|label)="(\w+)"', page))
     yield "and no name is another", re.findall(r'aria-label="[^"]+"', page), []
     named = set(re.findall(r'(?:src|href)="([^":#,]+)"', page))
-    there = {os.path.basename(name) for name in glob.glob(f"{WEB}/*")}
+    there = {os.path.basename(name) for name in glob.glob(f"{WEB}/*.*")}
     yield "the page names what is there", named, there - {"index.html"}
