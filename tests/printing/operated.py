@@ -143,10 +143,7 @@ class Operator:
 
     def full(self) -> None:
         """A job while the disk is full: it is held, and goes on when there is room."""
-        with open(f"{self.folder}/filler", "wb") as file, contextlib.suppress(OSError):
-            while True:
-                file.write(b"x" * 65536)
-                file.flush()
+        fill(self.folder)
         job = self.print()
         (told,) = self.server.ended(job)
         is_held = told.state == "pending-held" and "No space left" in told.message
@@ -156,6 +153,13 @@ class Operator:
             self.room.program, "check", f"{self.folder}/{it}")[0]]  # fmt: skip
         self.room.claim("a full disk: nothing half written", whole, [])
         os.remove(f"{self.folder}/filler")
+
+
+def fill(folder: str) -> None:
+    """Leaves no room on the disk of a folder. What a file kept to be written would have no room when it is closed."""
+    with open(f"{folder}/filler", "wb", buffering=0) as file, contextlib.suppress(OSError):
+        while True:
+            file.write(b"x" * 65536)
 
 
 def parent_of(process: int) -> int | None:
@@ -188,10 +192,7 @@ def full_temporary_folder(room: Room, folder: str) -> None:
     if not os.path.exists(fax):
         made.others(room.made(""))
     pdf = made.pdf(room.made(""), "drawn-4.pdf", 4)
-    with open(f"{folder}/filler", "wb") as file, contextlib.suppress(OSError):
-        while True:
-            file.write(b"x" * 65536)
-            file.flush()
+    fill(folder)
     status, out, said = by_hand(room, False, "", fax, {"TMPDIR": folder})
     is_whole = status == 0 and out.endswith(b"%%EOF\n")
     room.claim(f"no room for the filter: {said}", is_whole or (status, out) == (1, b""))
