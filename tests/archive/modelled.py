@@ -9,7 +9,7 @@ import random
 import signal
 from unittest import mock
 
-from tests.archive.drawn import contents, playing
+from tests.archive.drawn import contents, going, playing
 from tests.archive.drawn.comparing import Before, Comparison, Difference
 from tests.archive.drawn.model import Words
 from tests.archive.drawn.operating import WORKERS, Episode
@@ -33,15 +33,16 @@ def episode_of(room: Room, name: str, faxes: list[bytes]) -> Episode:
     return episode
 
 
-def compared(episode: Episode, words: Words = Words()) -> str:
+def compared(episode: Episode, words: Words = Words(), trouble: playing.Trouble = playing.Trouble()) -> str:
     """Converts, and compares: what the model says of it, which is nothing where it finds all right."""
     job, world = episode.jobs[1], episode.world
     before = Before(world, job, False)
     given = ["convert", *map(os.fsdecode, (world.tree, world.target)), "--to", "mmr", "--table",
-             f"{os.fsdecode(world.tables)}/{job.table}", *(["--delete"] if words.delete else [])]
-    ran = playing.run(given, os.fsdecode(world.folder), playing.Trouble())
+             f"{os.fsdecode(world.tables)}/{job.table}", *(["--gone"] if words.gone else []), *(["--delete"] if words.delete else [])]
+    ran = playing.run(given, os.fsdecode(world.folder), trouble)
+    kind = Comparison if trouble.event is None else going.Gone
     try:
-        Comparison(episode, job, words, playing.Trouble(), before, ran).all()
+        kind(episode, job, words, trouble, before, ran).all()
     except Difference as difference:
         return str(difference)
     return ""
@@ -82,6 +83,19 @@ def changed(room: Room, *_given: object) -> None:
     room.claim("a fax that changed: its copy is cut", compared(episode), "")
 
 
+def renamed(room: Room, *_given: object) -> None:
+    """Where TARGET is renamed before a run opens it the copies are made again, and these are what counts."""
+    one, other = two()
+    episode = episode_of(room, "modelled renamed", [one, other])
+    world = episode.world
+    world.put(os.path.join(world.tree, NAMES[0]), one, 0o644)
+    room.claim("TARGET is renamed: before", compared(episode), "")
+    world.put(os.path.join(world.tree, NAMES[0]), other, 0o644)
+    goes = going.Goes(world.target, world.tree, False)
+    room.claim("TARGET is renamed", compared(episode, Words(gone=True, delete=True), playing.Trouble(1, event=goes)), "")
+    room.claim("TARGET is renamed: the fax is gone", os.listdir(world.tree), [])
+
+
 def going_on(room: Room, *_given: object) -> None:
     """A run that goes on looks at a copy that has another time, and its row stays as it was: then the copy is known so."""
     from faxpages.archive._table import Table
@@ -115,4 +129,4 @@ def killed(room: Room, *_given: object) -> None:
         playing.run(["table"], room("modelled killed"), playing.Trouble())
 
 
-PARTS: list[Part] = [rotted, changed, going_on, killed]
+PARTS: list[Part] = [rotted, changed, renamed, going_on, killed]

@@ -344,10 +344,11 @@ def seed_of_these_files() -> str:
 
 def operated(room: Room, *_given: object) -> None:
     """Some hundred steps of the drawn operator, by a seed that is printed; some of them by Dask, and some with a second
-    run at once, or with a TARGET that goes, of which the first ones may have none."""
+    run at once, with a TARGET that goes or with strangers at work, of which the first ones may have none."""
     seed = seed_of_these_files()
     drawn = [["400", seed], ["100", seed, "workers=0", "dask=0", "second=100"],
-             ["100", seed, "workers=0", "dask=0", "second=0", "folded=0", "going=100"]]
+             ["100", seed, "workers=0", "dask=0", "second=0", "folded=0", "going=100"],
+             ["100", seed, "workers=0", "dask=0", "second=0", "folded=0", "going=0", "strangers=100"]]
     if room.dask:
         drawn.append(["25", seed, "workers=0", "dask=100", "second=0"])
     for words in drawn:

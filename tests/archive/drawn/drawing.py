@@ -10,7 +10,7 @@ from typing import Dict, Optional, Tuple
 
 from tests.archive.drawn import cluster, contents, folding
 from tests.archive.drawn.comparing import Difference
-from tests.archive.drawn.operating import DASK, FOLDED, GOING, PLAIN, SECOND, WORKERS, Episode
+from tests.archive.drawn.operating import DASK, FOLDED, GOING, PLAIN, SECOND, STRANGERS, WORKERS, Episode
 
 import faxpages
 import faxpages.archive._main  # noqa: F401  so that each run has it already
@@ -21,7 +21,7 @@ MOST = 20
 # After how many steps it is told how many were right, for who ends a long run before its end.
 TELL = 500
 # How many of a hundred episodes are of each kind; the others are plain.
-SHARES = {WORKERS: 10, DASK: 3, SECOND: 3, FOLDED: 5, GOING: 10}
+SHARES = {WORKERS: 10, DASK: 3, SECOND: 3, FOLDED: 5, GOING: 10, STRANGERS: 0}
 
 
 def draw(program: str, steps: int, seed: str, only: str, shares: Dict[str, int],

@@ -51,8 +51,8 @@ class Gone(Comparison):
         self.claim(all(before[name] == entry for name, entry in after.items()), "changed in the tree")
         moved = os.fsencode(moved_of(room))
         there = set(self.after.target)
-        # Where TARGET was only renamed all copies are there still.
-        self.after.target = {**self.after.target, **(snapshot(moved) if os.path.isdir(moved) else {})}
+        # Where TARGET was only renamed all copies are there still, but for those that were made again.
+        self.after.target = {**(snapshot(moved) if os.path.isdir(moved) else {}), **self.after.target}
         deleted = set(before) - set(after)
         # Where it went before the run opened it, the copies were made again in the folder that has its name.
         late = {name for name in deleted & left_at(room) if not there.issuperset(self.job.copies_of(name)[:1])}

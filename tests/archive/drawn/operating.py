@@ -20,8 +20,10 @@ from tests.waiting import there_in, wait_for
 
 _NONE = Entry("none", 0, (0, 0), 0, b"")
 # What does the faxes of an episode: this very process; real workers; Dask; or the first two, with a second run at once;
-# or this process, and the copies stand in a folder that folds case, or TARGET goes amid most runs, which delete.
+# or this process, and the copies stand in a folder that folds case, or TARGET goes amid most runs, which delete, or
+# strangers' files and links come below TARGET all the time.
 PLAIN, WORKERS, DASK, SECOND, FOLDED, GOING = "plain", "workers", "dask", "second", "folded", "going"
+STRANGERS = "strangers"
 LACKING = ("data", "fields", "private", "bytes", "resolution")
 
 
@@ -42,7 +44,7 @@ class Episode:
         follow = not self.other_user and kind != GOING and rng.random() < 0.35
         dumps = shutil.which("tiffdump") is not None
         to = rng.choice([("mmr",), ("mmr",), ("mh", "--align"), ("mr", "--k", "2"), ("pbm",)])
-        fields = rng.random() < 0.4 and dumps
+        fields = (rng.random() < 0.4 or kind == STRANGERS) and dumps
         folds = kind == FOLDED
         self.jobs = [Job("check.sqlite", follow=follow), Job("copies.sqlite", to, follow, fields, folds=folds),
                      Job("others.sqlite", rng.choice([to, ("mmr",)]), follow, fields, folds=folds)]
@@ -93,6 +95,8 @@ class Episode:
                 self._back_up, self._restore, self._restore]
         if self.other_user:
             rare.append(self._close_or_open)
+        if self.kind == STRANGERS:
+            return common + [world.foreign] * 12 + [world.link_in_target] * 6 + [world.more] * 6
         # What TARGET took away with it comes again.
         return common * 3 + rare if self.kind != GOING else common + [world.more] * 20
 
