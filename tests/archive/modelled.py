@@ -96,6 +96,18 @@ def renamed(room: Room, *_given: object) -> None:
     room.claim("TARGET is renamed: the fax is gone", os.listdir(world.tree), [])
 
 
+def one_vanishes(room: Room, *_given: object) -> None:
+    """Of two faxes whose copies have one name where case is folded, and the same bytes, one goes: the other one's stays."""
+    one, _ = two()
+    episode = episode_of(room, "modelled vanishing", [one])
+    for name in NAMES:
+        episode.world.put(os.path.join(episode.world.tree, name), one, 0o644, 10**18)
+    room.claim("two faxes with one copy", compared(episode), "")
+    os.unlink(os.path.join(episode.world.tree, NAMES[0]))
+    for way in ("goes", "has gone"):
+        room.claim(f"two faxes with one copy: one {way}", compared(episode, Words(gone=True)), "")
+
+
 def going_on(room: Room, *_given: object) -> None:
     """A run that goes on looks at a copy that has another time, and its row stays as it was: then the copy is known so."""
     from faxpages.archive._table import Table
@@ -129,4 +141,4 @@ def killed(room: Room, *_given: object) -> None:
         playing.run(["table"], room("modelled killed"), playing.Trouble())
 
 
-PARTS: list[Part] = [rotted, changed, renamed, going_on, killed]
+PARTS: list[Part] = [rotted, changed, renamed, one_vanishes, going_on, killed]

@@ -288,7 +288,9 @@ class Comparison:
         stays = set(self._share()) if self.words.delete else set[bytes]()
         for path in (set(self.before.rows) | deleted | stays) - set(self.after.rows):
             for name in job.copies_of(path):
-                if path in self.after.tree or self.trouble.at:
+                # Where case is folded, it may be the copy of one that stays.
+                stay = job.folds and any(name in job.copies_of(it) for it in self.after.rows)
+                if path in self.after.tree or self.trouble.at or stay:
                     maybe.add(name)
                 if self._holds(name, path):
                     ours.pop(name, None)
