@@ -20,6 +20,10 @@ _T4_OPTIONS, _TILE_OFFSETS = 292, 324
 _CLASSIC = (b"II*\0", b"MM\0*")
 # Compression: rows of T.4 without EOLs, each from a byte on; T.4; T.6.
 _BARE, _T4, _T6 = 2, 3, 4
+# Fields of a fax that have one number. Of one with more, or that stands twice, Pillow, libtiff and faxpages take another.
+_SINGLE = frozenset((pillow.IMAGEWIDTH, pillow.IMAGELENGTH, pillow.BITSPERSAMPLE, pillow.COMPRESSION,
+                     pillow.PHOTOMETRIC_INTERPRETATION, pillow.FILLORDER, pillow.SAMPLESPERPIXEL, pillow.ROWSPERSTRIP,
+                     _T4_OPTIONS))
 # The types SHORT and LONG of a field.
 _KINDS = {3: "H", 4: "L"}
 
@@ -102,6 +106,7 @@ class TiffImageFile(pillow.TiffImageFile):
         at, page = self.fp.tell(), self.tell()
         try:
             self._follow_chain()
+            _see_single(self)
             coding = "mmr" if form.compression == _T6 else "mr" if _t4_options(self) & 1 else "mh"
             for first, rows, data in _strips_of(self, form):
                 fault = _fault_of(data, rows, form, coding)
@@ -225,6 +230,17 @@ def _chain_of(file: Any) -> Tuple[int, Optional[Fault]]:
         seen.add(at)
         at = directory.after
     return len(seen), None
+
+
+def _see_single(image: TiffImageFile) -> None:
+    """Looks whether each field of one number stands once, and has one."""
+    order, first = _order_of(image.fp)
+    directory = _directory_at(image.fp, image.tag_v2.offset, order) if first else None
+    seen: Set[int] = set()
+    for tag, _, count, _ in struct.iter_unpack(order + "HHL4s", directory.entries if directory else b""):
+        if tag in _SINGLE and (tag in seen or count != 1):
+            raise BadField("BadField", image.tell(), 0, tag)
+        seen.add(tag)
 
 
 def _t4_options(image: TiffImageFile) -> int:

@@ -22,6 +22,7 @@ import pickle
 import random
 import re
 import shutil
+import struct
 import subprocess
 import sys
 import tempfile
@@ -217,6 +218,24 @@ def put_others(folder: str) -> None:
             subprocess.run(["tiffcp", *words, f"{folder}/page-group4.tif", f"{folder}/tiffcp-{name}.tif"], check=True)
 
 
+def put_mistaken(folder: str) -> None:
+    """Writes faxes of which a field that has one number stands twice, or has more: what one reader takes another does not."""
+    with open(f"{TOP}/samples/three-mmr-rows.tif", "rb") as file:
+        data = file.read()
+    begin, = struct.unpack_from("<L", data, 4)
+    count, = struct.unpack_from("<H", data, begin)
+    entries = [struct.unpack_from("<HHLL", data, begin + 2 + 12 * at) for at in range(count)]
+    at = len(data) + len(data) % 2
+    ways = {"twice-262": [it for one in entries for it in ([one, (262, 3, 1, 1 - one[3])] if one[0] == 262 else [one])],
+            "many-278": [(278, 4, 33, at) if one[0] == 278 else one for one in entries],
+            "none-278": [(278, 3, 0, 3) if one[0] == 278 else one for one in entries]}
+    for name, changed_entries in ways.items():
+        rows = struct.pack("<33L", 3, *[1] * 32)
+        directory = struct.pack("<H", len(changed_entries)) + b"".join(struct.pack("<HHLL", *it) for it in changed_entries)
+        with open(f"{folder}/mistaken-{name}.tif", "wb") as file:
+            file.write(data[:4] + struct.pack("<L", at + len(rows)) + data[8:].ljust(at - 8, b"\0") + rows + directory + bytes(4))
+
+
 def put_damaged(folder: str) -> None:
     """Writes damaged faxes: bytes are changed, or the end is cut."""
     draw, names = random.Random(720), sorted(name for name in os.listdir(folder) if not name.startswith("high"))
@@ -259,7 +278,19 @@ def is_refusal(name: str, way: str, one: str, other: str) -> bool:
     """Whether what comes with the plugin is a refusal of a file that is damaged, where Pillow alone gave something."""
     if way == "parse" and one.startswith("OSError") and other.startswith("OSError"):
         return True
-    return REFUSED.search(other) is not None and faults_of(name) != []
+    return REFUSED.search(other) is not None and (faults_of(name) != [] or is_mistaken(name))
+
+
+def is_mistaken(name: str) -> bool:
+    """Whether a field of one number stands twice in the first directory of a file, or has no count of one."""
+    with open(name, "rb") as file:
+        data = file.read()
+    order = "<" if data[:2] == b"II" else ">"
+    begin, = struct.unpack_from(order + "L", data, 4)
+    count, = struct.unpack_from(order + "H", data, begin)
+    entries = [struct.unpack_from(order + "HHL", data, begin + 2 + 12 * at) for at in range(count)]
+    single = [(tag, many) for tag, _, many in entries if tag in (256, 257, 258, 259, 262, 266, 277, 278, 292)]
+    return len({tag for tag, _ in single}) < len(single) or any(many != 1 for _, many in single)
 
 
 def compare(claims: Claims, folder: str) -> None:
@@ -272,6 +303,9 @@ def compare(claims: Claims, folder: str) -> None:
             refusals += 1
             claims.see(f"{name}, {way}: {other[:300]}, and not {one[:300]}",
                        is_refusal(f"{folder}/{name}", way, one, other))
+    for name, tag in (("twice-262", 262), ("many-278", 278), ("none-278", 278)):
+        found = registered[f"mistaken-{name}.tif", "frames"]
+        claims.see(f"{name} is refused: {found}", f"BadField {tag}" in found)
     claims.see("the same files", plain.keys() == registered.keys() and len(plain) > 1000)
     claims.see(f"damage is refused {refusals} times", refusals > DAMAGED // 2)
     for name in sorted({name for name, _ in plain}):
@@ -325,6 +359,7 @@ def main() -> int:
             shutil.copy(name, folder)
         put_others(folder)
         put_damaged(folder)
+        put_mistaken(folder)
         compare(claims, folder)
         in_other_processes(claims, folder)
         large(claims, folder)
