@@ -176,6 +176,24 @@ def narrow(browser: Chromium, _program: str, _room: str) -> Generator[Claim, Non
     browser.call("Emulation.setEmulatedMedia", features=[])
 
 
+def forced(browser: Chromium, _program: str, _room: str) -> Generator[Claim, None, None]:
+    """With colours that the system forces, what is chosen is told by its outline, and pages by theirs."""
+    browser.run("while (app.fax) app.close()")
+    browser.choose("#choose", SAMPLE, f"{TOP}/samples/one-mh-page.tif")
+    browser.until("app.faxes.length === 2 && app.faxes.every((fax) => fax.state === 'done') && app.view.form !== null")
+    browser.until("document.querySelectorAll('#thumbs [role=option]').length === 3")
+    outlines = """["#files [aria-pressed=true]", "#files [aria-pressed=false]", "#thumbs [aria-selected=true]",
+        "#thumbs [aria-selected=false]", ".sheet"].map((it) => {
+            const style = getComputedStyle(document.querySelector(it));
+            return style.outlineStyle === "none" ? "none" : style.outlineWidth;
+        })"""
+    browser.call("Emulation.setEmulatedMedia", features=[{"name": "forced-colors", "value": "active"}])
+    browser.until("matchMedia('(forced-colors: active)').matches")
+    yield "forced colours: outlines", browser.run(outlines), ["3px", "none", "3px", "none", "1px"]
+    browser.call("Emulation.setEmulatedMedia", features=[])
+    browser.run("while (app.fax) app.close()")
+
+
 def page_first(browser: Chromium, _program: str, _room: str) -> Generator[Claim, None, None]:
     """On a phone, and at 200 percent, the page begins in the first screen: all else is folded, and can be opened."""
     opened(browser)

@@ -1,5 +1,5 @@
-"""What a browser can do for the tests, whichever it is. Nothing waits for a fixed time: an event, an answer or a state of
-the page is waited for, at most some minutes."""
+"""What a browser can do for the tests, whichever it is. Nothing waits for a fixed time: an event, an answer or a state
+of the page is waited for, at most some minutes."""
 
 from __future__ import annotations
 

@@ -1,5 +1,5 @@
-"""What a file may hold that the page opens, and what the page has to say and to show of it: by the program, and by plain
-counting."""
+"""What a file may hold that the page opens, and what the page has to say and to show of it: by the program, and by
+plain counting."""
 
 from __future__ import annotations
 
@@ -103,8 +103,8 @@ def note_line(line: str) -> str:
 
 
 def all_contents(program: str, room: str) -> list[Content]:
-    """Faxes that are whole, all of one length, so that none is known by it; damaged ones; one that takes long to be read;
-    and what is no fax. No two have the same verdict."""
+    """Faxes that are whole, all of one length, so that none is known by it; damaged ones; one that takes long to be
+    read; and what is no fax. No two have the same verdict."""
     faxes_drawn = [faxes.drawn(program, 500 + number, 1 + number % 5) for number in range(10)]
     most = max(map(len, faxes_drawn))
     marks = [pages.draw_row(random.Random(row), "marks", 40, row, 0) for row in range(30)]

@@ -17,8 +17,8 @@ from tests.web.browser import MOST, Browser, Failed, memory_of
 
 # It asks nothing of anybody, and keeps what it draws as it is.
 SETTINGS: dict[str, object] = {
-    "app.normandy.enabled": False, "app.update.disabledForTesting": True, "browser.safebrowsing.downloads.enabled": False,
-    "browser.safebrowsing.malware.enabled": False, "browser.safebrowsing.phishing.enabled": False,
+    "app.normandy.enabled": False, "app.update.disabledForTesting": True,
+    "browser.safebrowsing.downloads.enabled": False, "browser.safebrowsing.malware.enabled": False, "browser.safebrowsing.phishing.enabled": False,
     "browser.shell.checkDefaultBrowser": False, "browser.startup.page": 0, "browser.aboutwelcome.enabled": False,
     "datareporting.policy.dataSubmissionEnabled": False, "extensions.update.enabled": False,
     "layout.css.devPixelsPerPx": "1.0", "network.captive-portal-service.enabled": False,

@@ -1,5 +1,5 @@
-"""Moving among pages and files by hands: scrolling from page to page, dragging, zooming by the wheel and by two fingers,
-keys, the whole screen, folders, pasting and copying."""
+"""Moving among pages and files by hands: scrolling from page to page, dragging, zooming by the wheel and by two
+fingers, keys, the whole screen, folders, pasting and copying."""
 
 from __future__ import annotations
 
@@ -19,6 +19,9 @@ PAGES = 4
 WIDE, HIGH = 800, 900
 AT = "[app.page, Number(document.getElementById('page').value), document.querySelectorAll('.current').length]"
 TOP = "app.view.sheet.element.getBoundingClientRect().top"
+# Where each page begins on the screen.
+TOPS = """Object.fromEntries([...app.view.sheets.values()].map(
+    (it) => [it.page, it.element.getBoundingClientRect().top]))"""
 # Waits until what was scrolled is painted and said.
 PAINTED = "new Promise((resolve) => requestAnimationFrame(() => setTimeout(resolve, 100)))"
 
@@ -39,19 +42,20 @@ def scrolling(browser: Browser, program: str, room: str) -> Generator[Claim, Non
     opened(browser, program, room)
     met, jumps = [0], []
     for _ in range(200):
-        before, page = browser.run(f"[{TOP}, app.page]")
+        before = browser.run(TOPS)
         browser.run(f"app.view.view.scrollBy(0, 60); {PAINTED}")
-        told = browser.run(f"[{TOP}, app.page, app.view.view.scrollTop + app.view.view.clientHeight >= "
-                           "app.view.view.scrollHeight - 1]")
-        if told[1] == page and not told[2] and abs(before - told[0] - 60) > 1:
-            jumps.append((before, told))
-        met += [told[1]] * (told[1] != met[-1])
-        if told[2] and told[1] == PAGES - 1:
+        after, page, is_end = browser.run(f"[{TOPS}, app.page, app.view.view.scrollTop + app.view.view.clientHeight >= "
+                                          "app.view.view.scrollHeight - 1]")
+        moved = [before[it] - top for it, top in after.items() if it in before]
+        jumps += [moved] * (not is_end and (not moved or any(abs(it - 60) > 1 for it in moved)))
+        met += [page] * (page != met[-1])
+        if is_end and page == PAGES - 1:
             break
     yield "each page is met", met, list(range(PAGES))
     yield "nothing jumps", jumps, []
     yield "the number of the page says so", browser.run(AT), [PAGES - 1, PAGES, 1]
-    browser.until("[...app.view.sheets.values()].every((it) => [...it.tiles.values()].every((one) => one.dataset.drawn))")
+    browser.until("""[...app.view.sheets.values()].every(
+        (sheet) => [...sheet.tiles.values()].every((tile) => tile.dataset.drawn))""")
     yield "few pages stand there", browser.run("app.view.sheets.size"), 2
     browser.run("app.goTo(1)")
     yield "a page that is gone to begins at the top", browser.run(
@@ -180,7 +184,9 @@ def copying(browser: Chromium, program: str, room: str) -> Generator[Claim, None
         draw.drawImage(image, 0, 0);
         const { data } = draw.getImageData(0, 0, image.width, image.height);
         let text = "";
-        for (let at = 0; at < data.length; at += 4) text += data[at] === 0 ? "\\x01" : data[at] === 255 ? "\\0" : "\\x02";
+        for (let at = 0; at < data.length; at += 4) {
+            text += data[at] === 0 ? "\\x01" : data[at] === 255 ? "\\0" : "\\x02";
+        }
         return [image.width, image.height, btoa(text)];
     })""")
     wanted = faxes.pels_of_pbm(faxes.convert(program, data, "-o", "pbm"))[0]

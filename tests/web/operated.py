@@ -1,6 +1,6 @@
 """A drawn operator of the page: files are opened, switched, closed, saved, deleted and written over, their reading is
-stopped and their workers break down, and what the page asks of workers is held back meanwhile. After some steps all that
-is seen is compared with a plain model: whose picture, which verdict, how many workers, how much memory.
+stopped and their workers break down, and what the page asks of workers is held back meanwhile. After some steps all
+that is seen is compared with a plain model: whose picture, which verdict, how many workers, how much memory.
 
 An episode is drawn by the seed and its number alone, and begins with no file open. With FAXPAGES_EPISODE in the
 environment that one alone is drawn, and its steps are printed."""
@@ -66,7 +66,8 @@ SEEN = f"""(() => {{
     return JSON.stringify({{
         files: [...document.querySelectorAll("#files button")].map((it) => [it.firstChild.textContent, it.className,
             it.getAttribute("aria-pressed")]),
-        none: document.getElementById("fax").hidden, name: text("name"), verdict: text("verdict"), title: document.title,
+        none: document.getElementById("fax").hidden, name: text("name"), verdict: text("verdict"),
+        title: document.title,
         look: document.getElementById("verdict").className, page: document.getElementById("page").value, of: text("of"),
         size: view.form && [view.form.width, view.form.rows], drawn: view.sheet && drawn(view.sheet),
         shrunk: view.sheet && isShrunk(view.sheet),
@@ -296,8 +297,8 @@ class Operator:
         if names != [it.name for it in self.opened] or pressed != shown or seen["none"] != (not self.opened):
             wanted = [it.name for it in self.opened]
             first = next((at for at, (one, other) in enumerate(zip(names, wanted)) if one != other), len(wanted))
-            wrong.append(f"the list has {len(names)} files, and not {len(wanted)}, others from {first} on, and of these "
-                         f"{pressed} is chosen, and not {shown}; none is open: {seen['none']}")
+            wrong.append(f"the list has {len(names)} files, and not {len(wanted)}, others from {first} on, and of "
+                         f"these {pressed} is chosen, and not {shown}; none is open: {seen['none']}")
         wrong += [f"{it.name} looks {look} in the list" for it, (_, look, _) in zip(self.opened, seen["files"])
                   if not it.befell and look != it.held[0].look]
         if seen["workers"] != seen["owned"] or seen["workers"] > min(MOST_WORKERS, len(self.opened)):

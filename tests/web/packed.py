@@ -1,5 +1,5 @@
-"""The package of web/npm, as its user has it: packed by npm, installed into an empty folder without a network, and called
-in Node. It says of samples, cases and damaged faxes what the program says, and its types are those that it says."""
+"""The package of web/npm, as its user has it: packed by npm, installed into an empty folder without a network, and
+called in Node. It says of samples, cases and damaged faxes what the program says, and its types are those that it says."""
 
 from __future__ import annotations
 

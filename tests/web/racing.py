@@ -220,25 +220,36 @@ def closing(browser: Browser, program: str, room: str) -> Generator[Claim, None,
 
 def rewritten(browser: Browser, program: str, room: str) -> Generator[Claim, None, None]:
     """A file that is written over on the disk is read anew, or said to be changed: it is never shown under the old
-    words."""
+    words. Where its time and its length are the old ones, its bytes tell that it is another."""
+    for keeps in (False, True):
+        said = written_over(browser, program, room, keeps)
+        wanted = "The file was changed on the disk, and was read again. This fax is whole: 2 pages, 60 rows."
+        is_told = "gone from its place" in said or "was changed on the disk: open it again" in said
+        yield f"it is read anew, or said to be changed: {said}", said == wanted or (is_told and not keeps), True
+        if said == wanted:
+            yield "its thumbnails are the new ones", browser.until(THUMBS), [255] * 2
+            yield "of a page that is gone the last one is shown", browser.run(
+                "[document.getElementById('page').value, app.view.page]"), ["2", 1]
+        close_all(browser)
+
+
+def written_over(browser: Browser, program: str, room: str, keeps: bool) -> str:
+    """Writes over a file whose third page was looked at, and that has no worker; what is said once it is looked at."""
     browser.run(WATCH)
-    names = [put(f"{room}/again-{number}.tif", plain(program, 255)) for number in range(8)]
+    old, new = plain(program, 255), plain(program, 0, count=2, rows=30)
+    names = [put(f"{room}/again-{number}.tif", old) for number in range(8)]
     browser.choose("#choose", *names)
     browser.until("app.faxes.length === 8 && app.faxes.every((fax) => fax.state === 'done')")
-    browser.run("for (const fax of app.faxes.slice(1)) app.show(fax)")
+    browser.run("for (const fax of app.faxes.slice(1)) { app.show(fax); app.goTo(2); }")
     browser.until("app.faxes.filter((fax) => fax.life.worker).length <= 5")
-    at = browser.run("app.faxes.findIndex((fax) => !fax.life.worker)")
-    put(names[at], plain(program, 0, count=2, rows=30))
-    os.utime(names[at], (10 ** 9, 10 ** 9))
+    at: int = browser.run("app.faxes.findIndex((fax) => !fax.life.worker && fax.at === 2)")
+    before = os.stat(names[at]).st_mtime_ns
+    put(names[at], new.ljust(len(old), b"\0") if keeps else new)
+    os.utime(names[at], ns=(before, before) if keeps else (10 ** 18, 10 ** 18))
     browser.run(f"app.show(app.faxes[{at}])")
     browser.until(f'/was changed/.test({VERDICT}) && !app.fax.isBusy() && {VERDICT} === app.fax.verdict()', SOON)
-    said = browser.run(VERDICT)
-    is_anew = said == "The file was changed on the disk, and was read again. This fax is whole: 2 pages, 60 rows."
-    is_told = "gone from its place" in said or "was changed on the disk: open it again" in said
-    yield f"it is read anew, or said to be changed: {said}", is_anew or is_told, True
-    if is_anew:
-        yield "its thumbnails are the new ones", browser.until(THUMBS), [255] * 2
-    close_all(browser)
+    said: str = browser.run(VERDICT)
+    return said
 
 
 PARTS: list[Part] = [thumbnails, results, bare_again, gone, crashes, closing, rewritten]

@@ -49,9 +49,10 @@ function rows(file, widths, lines) {
 
 function check(file, lines) {
     const { pages, rows: count, notes, fault } = faxpages.check(file);
-    lines.push(...notes.map(({ page, strip, number, name }) =>
-        `note page ${page}${strip === null ? "" : ` strip ${strip}`}: N${number} ${name}`), `pages ${pages} rows ${count}`,
-    ...(fault ? [fault.message] : []));
+    lines.push(
+        ...notes.map(({ page, strip, number, name }) =>
+            `note page ${page}${strip === null ? "" : ` strip ${strip}`}: N${number} ${name}`),
+        `pages ${pages} rows ${count}`, ...(fault ? [fault.message] : []));
 }
 
 function salvage(file, lines) {

@@ -1,5 +1,5 @@
-"""The sources of the page: the library inside is of these sources, all words stand in one file, and nothing names another
-place."""
+"""The sources of the page: the library inside is of these sources, all words stand in one file, and nothing names
+another place."""
 
 from __future__ import annotations
 

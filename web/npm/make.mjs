@@ -13,6 +13,6 @@ writeFileSync(join(here, "faxpages.mjs"), ["library.js", "salvaging.js", "npm/ap
 const [, packed] = /`\n([^`]*)`/.exec(read("faxpages.wasm.js"));
 writeFileSync(join(here, "faxpages.wasm"), Buffer.from(packed, "base64"));
 copyFileSync(join(web, "..", "LICENSE"), join(here, "LICENSE"));
-execFileSync("tsc", ["--allowJs", "--checkJs", "--declaration", "--emitDeclarationOnly", "--strict", "--target", "es2022",
-    "--module", "es2022", "--moduleResolution", "node", "--lib", "es2022,dom", "--outDir", here,
+execFileSync("tsc", ["--allowJs", "--checkJs", "--declaration", "--emitDeclarationOnly", "--strict",
+    "--target", "es2022", "--module", "es2022", "--moduleResolution", "node", "--lib", "es2022,dom", "--outDir", here,
     join(here, "faxpages.mjs")], { stdio: ["ignore", 2, 2] });
