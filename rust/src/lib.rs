@@ -49,6 +49,7 @@ mod receiving;
 mod rows;
 mod salvaged;
 mod strip;
+mod words;
 mod writer;
 
 pub use cursor::Cursor;
@@ -58,6 +59,7 @@ pub use receiving::StripReader;
 pub use rows::{Row, RowChanges, RowFormat, RowRuns, Rows};
 pub use salvaged::{Salvaged, Stretch};
 pub use strip::{code_strip, code_strip_runs, Strip, StripForm, StripReport, StripRows};
+pub use words::UnknownWord;
 pub use writer::Writer;
 
 use error::{refused, stopped};
@@ -75,10 +77,13 @@ const MOST_OUTPUT: usize = 1 << 28;
 #[derive(Clone, Copy, Debug, PartialEq, Eq, Hash)]
 pub enum Coding {
     /// T.4, one-dimensional.
+    #[doc(alias = "Group 3")]
     Mh,
     /// T.4, two-dimensional.
+    #[doc(alias = "Group 3, two-dimensional")]
     Mr,
     /// T.6.
+    #[doc(alias = "Group 4")]
     Mmr,
 }
 
@@ -104,7 +109,7 @@ pub enum Unit {
 }
 
 /// The form of a page.
-#[derive(Clone, Copy, Debug, PartialEq, Eq)]
+#[derive(Clone, Copy, Debug, PartialEq, Eq, Hash)]
 pub struct Form {
     /// The page's number.
     pub page: u32,
@@ -263,7 +268,7 @@ pub enum Target {
 }
 
 /// How a file is written.
-#[derive(Clone, Copy, Debug, PartialEq, Eq)]
+#[derive(Clone, Copy, Debug, PartialEq, Eq, Hash)]
 pub struct Options {
     /// What the file is turned into.
     pub target: Target,

@@ -18,7 +18,7 @@ const BYTES: usize = 1 << 17;
 const MOST_BYTES: usize = 536_870_911;
 
 /// The form of a strip.
-#[derive(Clone, Copy, Debug, PartialEq, Eq)]
+#[derive(Clone, Copy, Debug, PartialEq, Eq, Hash)]
 pub struct StripForm {
     /// The pels of a row, 1 to 65,535.
     pub width: u32,

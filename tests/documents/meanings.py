@@ -82,10 +82,19 @@ def in_python() -> dict[str, str]:
             for it in tree.body if isinstance(it, ast.ClassDef)}
 
 
+def in_rust() -> dict[str, str]:
+    """What the crate for Rust says of each fault of a file or a strip."""
+    pieces = re.findall(r'^ +Fault::(\w+?)(?:\((\d+|_)\))? => (?:\{\s+)?"(.*)",?$', read("rust", "src", "words.rs"), re.M)
+    return {f"{name} {tag.strip('_')}".strip(): means for name, tag, means in pieces}
+
+
 def claims() -> Iterator[tuple[str, bool]]:
     known = table()
     yield "meanings: there is a table", len(known) > 30
-    manual, page, module = in_manual(), in_page(), in_python()
+    manual, page, module, crate = in_manual(), in_page(), in_python(), in_rust()
+    of_others = OF_THE_PROGRAM | notes() | {"Memory", "BadHeader", "ShortRaster", "UnknownInput", "OutputTooLarge"}
+    yield "meanings: Rust explains each fault", crate.keys() == {
+        name for name in known if not name.startswith("image")} - of_others
     yield "meanings: faxpages(1) has the same names", manual.keys() == {
         name for name in known if " " not in name or name.startswith("image")} - OF_THE_LIBRARY
     yield "meanings: web/texts.js has the same names", page.keys() == {
@@ -94,7 +103,7 @@ def claims() -> Iterator[tuple[str, bool]]:
         name for name in known if " " not in name} - NO_CLASSES - notes()
     for name, means in known.items():
         for where, said, is_whole in (("faxpages(1)", manual, False), ("web/texts.js", page, True),
-                                      ("Python", module, False)):
+                                      ("Python", module, False), ("Rust", crate, True)):
             if name in said:
                 text = said[name] if is_whole else said[name][:len(means)]
                 yield f"meanings: {where}: {name}: {said[name]}: {means}", text == means
