@@ -10,10 +10,14 @@ class Gathering {
      * @param {DataTransfer} dropped @returns {Promise<File[]>} */
     static async dropped(dropped) {
         const files = [...dropped.files];
-        const entries = [...dropped.items].map((item) => item.webkitGetAsEntry?.() ?? null);
-        const folders = entries.map((entry) => (entry?.isDirectory ? entry : null));
-        const all = await Promise.all(folders.map((folder) => folder && Gathering.below(folder)));
-        return all.flatMap((below, at) => (below ? Gathering.ofFolder(below) : files[at] ?? []));
+        // Text may have been dropped along with them. A folder is one of the files too.
+        const items = [...dropped.items].filter(({ kind }) => kind === "file");
+        const entries = items.map((item) => item.webkitGetAsEntry?.() ?? null);
+        const all = await Promise.all(entries.map((entry) => (entry?.isDirectory ? Gathering.below(entry) : null)));
+        return files.flatMap((file, at) => {
+            const below = all[at];
+            return below ? Gathering.ofFolder(below) : file;
+        });
     }
 
     /** @param {FileSystemEntry} entry @returns {Promise<File[]>} */
