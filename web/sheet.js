@@ -7,6 +7,8 @@ class Sheet {
     /** So many tiles of the page that is looked at are drawn also where they are out of sight. */
     static MOST_WHOLE = 6;
     static MOST_MARKS = 200;
+    /** Inches of paper that is shorter than what faxes are sent on, as in faxpages.css. */
+    static SHORT = 10.98;
     /** Of more marks each says what it is only under the mouse, so that the page can be read. */
     static MOST_SAID = 2;
 
@@ -61,6 +63,7 @@ class Sheet {
         this.paper.style.transform = ["none", `translate(${high}px, 0) rotate(90deg)`,
             `translate(${wide}px, ${high}px) rotate(180deg)`, `translate(0, ${wide}px) rotate(270deg)`][turns];
         this.element.style.setProperty("--print-scale", String(this.printScale()));
+        this.element.style.setProperty("--short-scale", String(this.printScale() * this.shortening()));
         this.paper.classList.toggle("sharp", this.scale * devicePixelRatio >= 1);
         for (const [key, canvas] of this.tiles) {
             this.place(canvas, key);
@@ -71,6 +74,14 @@ class Sheet {
     /** By how much a sheet of paper shows the page larger than the screen: 96 pels of a style are an inch. */
     printScale() {
         return (96 * Pdf.inches(this.form, this.form.width, this.form.across)) / this.size()[0];
+    }
+
+    /** By how much a page that is longer than paper of 11 inches is made smaller there, to be on one sheet. */
+    shortening() {
+        const { form } = this;
+        const down = this.view.turns % 2 ? Pdf.inches(form, form.width, form.across)
+            : Pdf.inches(form, form.rows, form.down);
+        return Math.min(1, Sheet.SHORT / down);
     }
 
     /** The size of the page on the screen before it is turned. */

@@ -251,7 +251,15 @@ def printed_whole(browser: Browser, program: str, room: str) -> Generator[Claim,
     width, _, raster = found(rb"\AP5\s+(\d+)\s+(\d+)\s+255\s(.*)", get(f"{room}/band.pgm"), re.S).groups()
     greys = [raster[int(width) * row + 60] for row in (10, 100, 170, 185, 195)]
     yield "white, and the band", [grey // 128 for grey in greys], [1, 1, 1, 0, 0]
-    browser.run("app.view.setZoom('whole')")
+    browser.run("app.view.setZoom('whole'); while (app.fax) app.close()")
+    # 11.7 inches, on paper of 11.
+    long = faxes.convert(program, pages.image(1600, [(1 << 1600) - 1] * 2293), "-o", "mmr")
+    browser.choose("#choose", put(f"{room}/long.tif", long))
+    browser.until('app.fax && app.fax.state === "done" && app.view.sheet.tiles.size > 0 && '
+                  "[...app.view.sheet.tiles.values()].every((tile) => tile.dataset.drawn)")
+    made = put(f"{room}/long.pdf", browser.printed())
+    told = subprocess.run(["pdfinfo", made], capture_output=True, check=True).stdout.decode()
+    yield "a fax that is longer than the paper is on one sheet", found(r"Pages: +(\d+)", told)[1], "1"
 
 
 def refusals(browser: Browser, _program: str, _room: str) -> Generator[Claim, None, None]:
