@@ -122,6 +122,22 @@ def going_on(room: Room, *_given: object) -> None:
         room.claim(f"a run that {way}", compared(episode), "")
 
 
+def unknown(room: Room, *_given: object) -> None:
+    """Where TARGET went, a table may know more of a copy than the model: then it is not known whether a run looks at it."""
+    one, _ = two()
+    episode = episode_of(room, "modelled unknown", [one])
+    episode.world.put(os.path.join(episode.world.tree, NAMES[0]), one, 0o644)
+    room.claim("a copy that is known", compared(episode), "")
+    table, copy = episode.jobs[1].table, os.path.join(episode.world.target, NAMES[0])
+    episode.model.stood[table].clear()
+    episode.model.maybe[table].add(NAMES[0])
+    when = os.stat(copy).st_mtime_ns
+    with open(copy, "r+b") as file:
+        file.write(b"of")
+    os.utime(copy, ns=(when, when))
+    room.claim("a copy that only its table knows", compared(episode), "")
+
+
 def late_fork() -> int:
     """A child that does not run, as on a machine with much to do."""
     process = FORK()
@@ -141,4 +157,4 @@ def killed(room: Room, *_given: object) -> None:
         playing.run(["table"], room("modelled killed"), playing.Trouble())
 
 
-PARTS: list[Part] = [rotted, changed, renamed, one_vanishes, going_on, killed]
+PARTS: list[Part] = [rotted, changed, renamed, one_vanishes, going_on, unknown, killed]

@@ -365,9 +365,10 @@ class Comparison:
     def _is_done_alike(self, path: bytes) -> bool:
         """Whether a fax was done though its row is as it was, since a run that goes on has the number that it had. Where
         it is not known, nothing is sure of its copy."""
-        if path in self.due and self.troubled:
+        sure = path in self.due and not self.troubled and path not in self._perhaps_due()
+        if path in self.due and not sure:
             self.model.maybe.setdefault(self.job.table, set()).update(self._copies(path))
-        return path in self.due and not self.troubled
+        return sure
 
     def _leads_nowhere_now(self, path: bytes) -> bool:
         """Whether this is a link to a fax that the first of two runs deleted, so that the second one found it so."""
