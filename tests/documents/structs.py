@@ -101,9 +101,13 @@ def claims() -> Iterator[tuple[str, bool]]:
     yield "each struct has its place there", names == [struct.name for struct in structs()] and len(names) > 10
 
 
+def write() -> None:
+    with open(os.path.join(TOP, PLACE), "w", encoding="utf-8") as file:
+        file.write(document())
+
+
 if __name__ == "__main__":
     if sys.argv[1:] == ["--write"]:
-        with open(os.path.join(TOP, PLACE), "w", encoding="utf-8") as out:
-            out.write(document())
+        write()
     else:
         sys.stdout.write(asserts())
