@@ -64,6 +64,7 @@ impl<'a> Strips<'a> {
         requires { s < self.now.count }
         ensures bytes { IfOk result (λ bytes. bytes_of self.now.directory s ≡ Some bytes.now) }
         ensures len { IfOk result (λ bytes. length bytes.now ≤ 4294967295) }
+        ensures within { IfOk result (λ bytes. length bytes.now ≤ length self.now.directory.file) }
         ensures outside { OnErr result (bytes_of self.now.directory s ≡ None) }
         ensures fault { IfErr result (λ fault. fault ≡ FileFault.StripOutside) }
     {
@@ -82,6 +83,7 @@ impl<'a> Strips<'a> {
         requires { s < self.now.count }
         ensures bytes { result.now ≡ inside_of self.now.directory s }
         ensures len { length result.now ≤ 4294967295 }
+        ensures within { length result.now ≤ length self.now.directory.file }
     {
         let file = self.directory.file();
         let offset = file.value_at(&self.offsets, s) as usize;

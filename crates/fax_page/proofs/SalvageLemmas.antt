@@ -49,7 +49,7 @@ at_one n zero b = grind arith
 at_one n (suc zeros) b = grind (arith, at_one (suc n) zeros b)
 
 -- after some of the zeros
-drop_zeros : (n zeros : ℕ) (b : List Bool) → n ≤ zeros
+pub drop_zeros : (n zeros : ℕ) (b : List Bool) → n ≤ zeros
     → drop n (replicate zeros false ++ b) ≡ replicate (zeros - n) false ++ b
 drop_zeros zero zeros b few =
     let all : zeros ≡ zeros - 0 = omega arith in

@@ -153,6 +153,13 @@ pub fn lost_bits_do_not_matter()
     ensures { Salvage.LostBitsDoNotMatter }
 {}
 
+/// A row that is due after one that is found or lost begins among the bits from that one on.
+pub fn due_rows_stand_in_strips()
+    ensures { Salvage.DueRowsStandInStrips }
+{
+    lines_are_read_in_one_way();
+}
+
 /// A strip that is read wholly loses nothing: its rows are those that are found where all are.
 pub fn whole_strips_are_found()
     ensures { Salvage.FindsWholeStrips }

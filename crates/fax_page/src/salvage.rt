@@ -2,7 +2,7 @@
 ghost use Rattle.std.specs.Prelude.{◌≤◌, length};
 
 use crate::reader::StripReader;
-use crate::{RowsEnd, StripFault, StripForm};
+use crate::{PlaceFault, RowBefore, RowsEnd, StripFault, StripForm};
 use fax_rows::{Memory, Row};
 use std::alloc::Global;
 use std::marker::Model;
@@ -54,9 +54,21 @@ impl<'a> SalvageReader<'a> {
     ghost use Rattle.fax_bits.specs.Bits.{bits};
     ghost use Rattle.fax_page.specs.Strip.{most_rows};
     ghost use Rattle.fax_page.specs.Uncounted.{EndsSo};
-    ghost use Rattle.fax_page.specs.code.Salvage.{IsOverLost};
-    ghost use Rattle.fax_page.specs.views.Salvage.{IsSalvageStep, salvage_beginning};
+    ghost use Rattle.fax_page.specs.code.Salvage.{IsOverLost, salvaging};
+    ghost use Rattle.fax_page.specs.views.Salvage.{IsSalvageInside, IsSalvageStep};
+    ghost use Rattle.fax_page.specs.views.Salvage.{salvage_beginning};
     ghost use Rattle.fax_page.specs.views.Strip.{IsStripForm};
+
+    /// Before the row that is due in a strip, of which no fault was told, and no row before it is lost.
+    fn of(reader: StripReader<'a>) -> Self
+        requires { reader.fault ≡ None }
+        ensures { result ≡ salvaging reader.entry None }
+    {
+        SalvageReader {
+            reader,
+            before: None,
+        }
+    }
 
     /// Before the first row of a strip in at most 4,294,967,295 bytes. It takes all the memory that
     /// strips of this width need.
@@ -69,11 +81,31 @@ impl<'a> SalvageReader<'a> {
         requires limits { IsStripForm form }
         ensures { IfOk result (λ s. s ≡ salvage_beginning form (bits form.order bytes.now)) }
     {
-        let reader = StripReader::new(alloc, bytes, form)?;
-        Ok(SalvageReader {
-            reader,
-            before: None,
-        })
+        Ok(SalvageReader::of(StripReader::new(alloc, bytes, form)?))
+    }
+
+    /// Before row `row` of a strip in at most 4,294,967,295 bytes, after so many of its bits, with
+    /// this row before it, which is not lost. It takes all the memory that strips of this width need.
+    ///
+    /// # Errors
+    ///
+    /// `Outside` where the strip has fewer bits, or no row of its width has the runs of the row
+    /// before. `Memory` where a growth was refused.
+    pub fn inside(
+        alloc: Global,
+        bytes: &'a [u8],
+        form: StripForm,
+        row: u32,
+        bits: u32,
+        before: RowBefore,
+    ) -> Result<Self, PlaceFault>
+        requires count { length bytes.now ≤ 4294967295 }
+        requires limits { IsStripForm form }
+        requires due { row < form.rows }
+        ensures { IsSalvageInside form bytes.now row bits before.entry result }
+    {
+        let reader = StripReader::inside(alloc, bytes, form, row, bits, before)?;
+        Ok(SalvageReader::of(reader))
     }
 
     /// Goes before the first row of another strip of the same coding, order and width, with 1 to
@@ -139,6 +171,13 @@ impl<'a> SalvageReader<'a> {
         ensures { EndsSo self.now.form.coding self.now.row self.now.due None result }
     {
         self.reader.uncounted_end()
+    }
+
+    /// How many bits of the strip are left from the row that is due on.
+    pub fn bits_due(&self) -> u64
+        ensures { result ≡ length self.now.due }
+    {
+        self.reader.bits_due()
     }
 
     /// The row that was found last, or a white one: the reference of the row that is due.

@@ -18,8 +18,12 @@ use Rattle.fax_files.specs.Page.{strip_form}
 use Rattle.fax_files.specs.laws.Files.{IsWholeForm}
 use Rattle.fax_files.specs.views.Page.{IsPageForm}
 use Rattle.fax_files.specs.views.Tiff.{PageStrips, TiffDirectory, bytes_of, form_of, inside_of}
-use Rattle.fax_walk.specs.code.Salvage.{IsInPage}
-use Rattle.fax_page.specs.laws.Salvage.{FindsWholeStrips}
+use Rattle.fax_walk.specs.code.Salvage.{IsInPage, StandsInStrip, seen_from}
+use Rattle.fax_walk.specs.views.RowsFrom.{EndsWithPage}
+use Rattle.fax_page.specs.laws.Salvage.{DueRowsStandInStrips, FindsWholeStrips}
+use Rattle.fax_page.specs.views.Salvage.{IsRestOf}
+use Rattle.std.proofs.Common.{drop, length}
+use Rattle.std.proofs.lemmas.List.{drop-drop, length-drop}
 use Rattle.std.specs.Prelude.{◌&&◌}
 use Rattle.std.proofs.Common.{subst}
 use Rattle.fax_walk.specs.Items.{exchanged}
@@ -232,6 +236,30 @@ module _ (old : RowsState) (limits : IsPageForm old.form) (inside : old.strip < 
       let below = whole.needed old.strip inside in
       omega (arith, few, rows_are, below)
 
+  -- no strip is left after the last one
+  none_later : (strips : List (List PageRow)) → old.strip + 1 ≡ old.form.strips
+      → AreStripsLeft old.directory.file (page_with old.directory old.form) (old.strip + 1) strips → strips ≡ []
+  none_later [] last is = refl
+  none_later (rows ∷ strips) last is = absurd (omega (arith, last, is.0))
+
+  -- and no row after its last row
+  none_left : (reader : SalvageState) (rows : List PageRow) → reader.row ≡ reader.form.rows
+      → old.strip + 1 ≡ old.form.strips → AreRowsLeft (record old { reader = reader }) rows → rows ≡ []
+  none_left reader rows all last (own, strips, is, others, rows_are) =
+      let none = none_after reader.form reader.row reader.before reader.reference reader.due own all is in
+      let no_strips = none_later strips last others in
+      rows_are ∙ rw (none, no_strips) refl
+
+  -- where its last row is passed
+  pub ends_with_page : (reader : SalvageState) → reader.form.rows ≡ old.reader.form.rows
+      → reader.row ≤ old.reader.form.rows → (clean : Bool)
+      → EndsWithPage (seen_from (record old { reader = reader; clean = clean }) [])
+  ends_with_page reader same few clean due rows is =
+      let below = whole.needed old.strip inside in
+      let all : old.strip * n + old.reader.form.rows ≡ old.form.rows = omega (arith, due, few, rows_are, below) in
+      let gone : reader.row ≡ reader.form.rows = omega (arith, due, all, same) in
+      none_left reader rows gone (last_strip all) is
+
   module _ (before : RowsState) (enters : EntersStrip before old) where
     pub no_part : FindsWholeStrips → (old.clean ≡ true → AreWholeBefore old.directory old.form old.strip)
         → (old.clean ≡ true → IsCleanSoFar old.directory old.form old.strip old.reader)
@@ -246,24 +274,11 @@ module _ (old : RowsState) (limits : IsPageForm old.form) (inside : old.strip < 
           enters.same_row,
           due,
           ([], [], all, last, refl),
-          (λ rows is. none_left rows all last is),
+          (λ rows is. none_left old.reader rows all last is),
           λ clean. subst (AreWholeBefore old.directory old.form) last
               (whole_after old.directory old.form old.strip (whole_before clean)
               (whole_strip law old.directory old.form old.strip old.reader (clean_now clean) all)),
         )
-      where
-        none_later : (strips : List (List PageRow)) → old.strip + 1 ≡ old.form.strips
-            → AreStripsLeft old.directory.file (page_with old.directory old.form) (old.strip + 1) strips → strips ≡ []
-        none_later [] last is = refl
-        none_later (rows ∷ strips) last is = absurd (omega (arith, last, is.0))
-
-        none_left : (rows : List PageRow) → old.reader.row ≡ old.reader.form.rows → old.strip + 1 ≡ old.form.strips
-            → AreRowsLeft old rows → rows ≡ []
-        none_left rows all last (own, strips, is, others, rows_are) =
-            let none = none_after old.reader.form old.reader.row old.reader.before old.reader.reference old.reader.due
-            own all is in
-            let no_strips = none_later strips last others in
-            rows_are ∙ rw (none, no_strips) refl
 
     -- a row is found
     found_part : (reader : SalvageState) → FindsRow old.reader reader
@@ -287,6 +302,8 @@ module _ (old : RowsState) (limits : IsPageForm old.form) (inside : old.strip < 
           },
           omega (arith, row_next, enters.same_row),
           omega (arith, row_next, within),
+          none,
+          ends_with_page reader (ap (λ (f : StripForm). f.rows) form_same) (omega (arith, row_next, finds.due)) clean,
         )
 
     -- rows are lost from the one that was due on
@@ -443,6 +460,34 @@ step_form old new (in_strip.Lost fault count) (due, is_lost, after) = lost_form 
 step_form old new (in_strip.Unended count) (row, rest, read, eol_due, below, after) =
     lost_form old new MissingEol count (omega (arith, eol_due.1)) after
 
+-- a row was due
+step_due : (old new : SalvageState) (salvaged : Salvaged) → IsSalvageStep old (Some salvaged) new
+    → old.row < old.form.rows
+step_due old new in_strip.Found finds = finds.due
+step_due old new (in_strip.Lost fault count) (due, is_lost, after) = due
+step_due old new (in_strip.Unended count) (row, rest, read, eol_due, below, after) = omega (arith, eol_due.1)
+
+-- the rest of a rest
+rest_of_rest : (all middle last : List Bool) → IsRestOf all middle → IsRestOf middle last → IsRestOf all last
+rest_of_rest all middle last (n, within, is) (more, fits, ends) =
+    let count : length middle ≡ length all - n = ap (λ (l : List Bool). length l) (sym is) ∙ length-drop n all in (
+      n + more,
+      omega (arith, within, fits, count),
+      sym (drop-drop more n all) ∙ ap (drop more) is ∙ ends,
+    )
+
+-- a strip that is begun stands in its bits
+stands_begun : (directory : TiffDirectory) (form : PageForm) (s : ℕ) (bytes : List ℕ) (whole : Bool)
+    (reader : SalvageState)
+    → AreBytesLeft directory s bytes whole
+    → reader ≡ salvage_beginning (strip_form form s) (bits form.order bytes)
+    → StandsInStrip directory form s whole reader
+stands_begun directory form s bytes whole reader left begins = record {
+  bytes = bytes;
+  left = left;
+  due = λ _. (0, omega arith, sym (ap (λ (s : SalvageState). s.due) begins));
+}
+
 module _ (strips : PageStrips) (form : PageForm) where
   -- before the first row of a page
   pub begun_in_page : (bytes : List ℕ) (whole : Bool) (reader : SalvageState) → form_of strips.directory ≡ Ok form
@@ -456,6 +501,7 @@ module _ (strips : PageStrips) (form : PageForm) where
     inside = grind (arith, limits);
     reader_form = ap (λ (s : SalvageState). s.form) begins;
     within = let none : reader.row ≡ 0 = ap (λ (s : SalvageState). s.row) begins in omega (arith, none);
+    stands = stands_begun strips.directory form 0 bytes whole reader left begins;
     whole_before = λ is s below. absurd (omega (arith, below));
     clean_now = λ is. clean_begun strips.directory form 0 bytes reader (rw is at left) begins;
   }
@@ -478,6 +524,7 @@ module _ (strips : PageStrips) (form : PageForm) where
             inside = omega (arith, old.inside, more);
             reader_form = ap (λ (s : SalvageState). s.form) begins;
             within = let none : new.row ≡ 0 = ap (λ (s : SalvageState). s.row) begins in omega (arith, none);
+            stands = stands_begun strips.directory form (strip + 1) bytes all new left begins;
             whole_before = λ is. whole_after strips.directory form strip (old.whole_before (split is).0)
                 (whole_strip law strips.directory form strip reader (old.clean_now (split is).0)
                 (omega (arith, gone, rows_are, old.within)));
@@ -485,10 +532,10 @@ module _ (strips : PageStrips) (form : PageForm) where
           }
 
       -- after a row, or more
-      pub read_in_page : (salvaged : Salvaged) (now : Bool) (new : SalvageState)
+      pub read_in_page : DueRowsStandInStrips → (salvaged : Salvaged) (now : Bool) (new : SalvageState)
           → IsSalvageStep reader (Some salvaged) new
           → (now ≡ true → (clean ≡ true) × (is_found salvaged ≡ true)) → IsInPage strips form strip whole now new
-      read_in_page salvaged now new step split =
+      read_in_page law salvaged now new step split =
           let form_is = step_form reader new salvaged step in
           let rows_are : new.form.rows ≡ reader.form.rows = ap (λ (f : StripForm). f.rows) form_is.0 in
           record {
@@ -498,6 +545,12 @@ module _ (strips : PageStrips) (form : PageForm) where
             inside = old.inside;
             reader_form = form_is.0 ∙ old.reader_form;
             within = omega (arith, form_is.1, rows_are);
+            stands = record {
+              bytes = old.stands.bytes;
+              left = old.stands.left;
+              due = λ is. rest_of_rest (bits form.order old.stands.bytes) reader.due new.due
+                  (old.stands.due (step_due reader new salvaged step)) (law reader new salvaged step is);
+            };
             whole_before = λ is. old.whole_before (split is).0;
             clean_now = λ is. clean_after strips.directory form strip reader new salvaged (old.clean_now (split is).0)
                 step

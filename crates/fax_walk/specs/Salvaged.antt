@@ -1,20 +1,20 @@
 -- What is left of a damaged file: page after page of its chain, also after one that is refused,
 -- each row that is found, and each stretch of rows that are lost.
 -- A definition without a citation is this project's profile.
-use Rattle.std.specs.Prelude.{◌≡◌, ℕ, ◌+◌, ◌<◌, Bool, true, false, List, [], ◌∷◌, ◌++◌, map}
-use Rattle.std.specs.Prelude.{flat_map, Option, Some, None, Result, Ok, Err}
+use Rattle.std.specs.Prelude.{◌≡◌, ℕ, ◌+◌, ◌*◌, ◌<◌, Bool, true, false, List, [], ◌∷◌, ◌++◌, map}
+use Rattle.std.specs.Prelude.{drop, flat_map, Option, Some, None, Result, Ok, Err}
 use Rattle.fax_bits.specs.Bits.{bits}
 use Rattle.fax_rows.specs.Rows.{Colour}
 use Rattle.fax_page.specs.declared.StripFault.TheVariants.{MissingEol}
 use Rattle.fax_page.specs.declared.StripForm.{StripForm}
-use Rattle.fax_page.specs.Salvage.{SalvagedRow, found, lost, unended, IsSalvagedStrip}
+use Rattle.fax_page.specs.Salvage.{SalvagedRow, found, lost, unended, AreSalvaged, IsSalvagedStrip}
 use Rattle.fax_files.specs.declared.FileFault.{FileFault}
 use Rattle.fax_files.specs.declared.FileFault.TheVariants.{StripOutside}
 use Rattle.fax_files.specs.declared.Endian.{Endian}
 use Rattle.fax_files.specs.Directory.{Header, IsChain, header}
 use Rattle.fax_files.specs.Page.{bytes_inside, page, strip_bytes, strip_form}
 use Rattle.fax_walk.specs.Pages.{Cause, File, Strip, FilePage, PageForm}
-use Rattle.fax_walk.specs.Items.{exchanged}
+use Rattle.fax_walk.specs.Items.{Inner, exchanged}
 
 -- a row of a page: it is found, with these pels, or lost, for this cause
 abbrev pub PageRow : Type 0
@@ -56,6 +56,24 @@ abbrev pub AreRowsOfPage : List ℕ → FilePage → List PageRow → Type 0
 AreRowsOfPage file here rows =
     (strips : List (List PageRow)) × AreStripsLeft file here 0 strips
     × (rows ≡ flat_map (λ rows. rows) strips)
+
+-- row r of a page is row i of strip s (TIFF 6.0, RowsPerStrip)
+pub record IsRowOfStrip (form : PageForm) (r s i : ℕ) : Type 0 where
+  pub strip : s < form.strips
+  pub row : i < (strip_form form s).rows
+  pub place : r ≡ s * form.rows_per_strip + i
+
+-- what is left of a page from row i of strip s on, where it is read after so many bits of the
+-- strip and over this row, which is not lost: the rows of the strip from there on, and those of the
+-- strips after it
+abbrev pub AreRowsFrom : List ℕ → FilePage → ℕ → ℕ → Inner → List PageRow → Type 0
+AreRowsFrom file here s i at rows =
+    let left = strip_left here file s in
+    (own : List SalvagedRow) × (strips : List (List PageRow))
+    × AreSalvaged (strip_form here.form s) i None at.reference
+    (drop at.bits (bits here.form.order left.0)) own
+    × AreStripsLeft file here (s + 1) strips
+    × (rows ≡ map (on_page here.form left.1) own ++ flat_map (λ rows. rows) strips)
 
 -- what becomes of a row of a strip with no file around it
 abbrev pub strip_row : SalvagedRow → PageRow

@@ -5,3 +5,4 @@ pub mod Parts
 pub mod Lent
 pub mod Salvage
 pub mod RowsLeft
+pub mod RowsFrom

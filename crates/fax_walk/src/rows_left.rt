@@ -1,16 +1,17 @@
 //! The rows that are left of a page, or of a strip with no file around it, one after another.
-ghost use Rattle.std.specs.Prelude.{◌≡◌, ◌≤◌, IfErr, IfOk, Err, Ok, length};
+ghost use Rattle.std.specs.Prelude.{◌≡◌, ◌<◌, ◌≤◌, IfErr, IfOk, Err, Ok, length};
 ghost use Rattle.fax_files.specs.views.Page.{IsPageForm};
 ghost use Rattle.fax_walk.specs.Pages.{IsPageAt};
 ghost use Rattle.fax_walk.specs.code.RowsLeft as Spec;
 
 use crate::opening::DuePage;
+use crate::rows_from::RowsFrom;
 use crate::salvage_rows::{PagePart, part_of};
 use crate::shown_rows::ShownRows;
 use crate::{Cursor, End};
 use fax_bits::Memory;
 use fax_files::PageForm;
-use fax_page::{RowsEnd, SalvageReader, StripForm, UncountedSalvage};
+use fax_page::{PlaceFault, RowBefore, RowsEnd, SalvageReader, StripForm, UncountedSalvage};
 use fax_rows::Row;
 use std::alloc::Global;
 use std::marker::Model;
@@ -69,6 +70,7 @@ impl<'a> Model for PageLeft<'a> {
 }
 
 impl<'a> PageLeft<'a> {
+    ghost use Rattle.fax_walk.specs.views.RowsFrom.{IsBegunFrom, IsNotBegunFrom};
     ghost use Rattle.fax_walk.specs.views.RowsLeft.{IsFoundPage, IsRowsStart, of_page};
 
     /// The page of a file with this number, from 0, also after pages that are refused. It takes no
@@ -108,6 +110,27 @@ impl<'a> PageLeft<'a> {
         Ok(RowsLeft {
             left: Left::Page(rows),
         })
+    }
+
+    /// Before row `row`, after so many of the bits that the file has of its strip, with this row before
+    /// it. It takes all the memory that the page needs.
+    ///
+    /// # Errors
+    ///
+    /// `Outside` where the file has fewer bits of the strip, or no row of the page's width has the runs
+    /// of the row before. `Memory` where a growth was refused.
+    pub fn rows_from(
+        self,
+        alloc: Global,
+        row: u32,
+        bits: u32,
+        before: RowBefore,
+    ) -> Result<RowsFrom<'a>, PlaceFault>
+        requires { row < self.here.form.rows }
+        ensures ok { IfOk result (IsBegunFrom self.entry row bits before.entry) }
+        ensures err { IfErr result (IsNotBegunFrom self.entry row bits before.entry) }
+    {
+        RowsFrom::open(alloc, self.due.form, self.due.strips, row, bits, before)
     }
 }
 
@@ -166,8 +189,8 @@ impl<'a> RowsLeft<'a> {
     }
 
     /// Before the first of the rows in at most 4,294,967,295 bytes that nobody counted, with their
-    /// number and their end. How many rows the form says does not matter. It takes all the memory that rows of this width
-    /// need, and goes through the rows once to count them.
+    /// number and their end. How many rows the form says does not matter. It takes all the memory that
+    /// rows of this width need, and goes through the rows once to count them.
     ///
     /// # Errors
     ///

@@ -1,5 +1,5 @@
 //! The rows of a page that are left, as they are handed out.
-ghost use Rattle.std.specs.Prelude.{◌≡◌, IfOk, List, Ok, length};
+ghost use Rattle.std.specs.Prelude.{◌≡◌, ◌<◌, ◌≤◌, IfErr, IfOk, List, Ok, length};
 ghost use Rattle.fax_files.specs.views.Page.{IsPageForm};
 ghost use Rattle.fax_files.specs.views.Tiff.{form_of};
 ghost use Rattle.fax_walk.specs.Salvaged.{PageRow};
@@ -7,9 +7,10 @@ ghost use Rattle.fax_walk.specs.code.Salvage as Left;
 ghost use Rattle.fax_walk.specs.code.ShownRows as Spec;
 
 use crate::page::{row_for_exchange, set_exchanged};
-use crate::salvage_rows::{PagePart, SalvageRows};
+use crate::salvage_rows::{PagePart, PlaceInStrip, SalvageRows};
 use fax_bits::Memory;
 use fax_files::{PageForm, Strips};
+use fax_page::{PlaceFault, RowBefore};
 use fax_rows::Row;
 use std::alloc::Global;
 use std::marker::Model;
@@ -46,6 +47,32 @@ impl<'a> ShownRows<'a> {
         Ok(ShownRows { rows, exchanged })
     }
 
+    /// Before row `row` of a page, after so many bits of its strip, with this row before it. It takes all
+    /// the memory that the page needs.
+    pub fn open_at(
+        alloc: Global,
+        form: PageForm,
+        strips: Strips<'a>,
+        row: u32,
+        bits: u32,
+        before: RowBefore,
+    ) -> Result<Self, PlaceFault>
+        requires form { form_of strips.directory ≡ Ok form }
+        requires limits { IsPageForm form }
+        requires count { strips.count ≡ form.strips }
+        requires due { row < form.rows }
+        ensures ok { IfOk result
+            (λ s. Left.IsBegunAt strips.entry.directory form row bits before.entry s.rows) }
+        ensures err { IfErr result
+            (Left.IsNotBegunAt strips.entry.directory form row bits before.entry) }
+    {
+        let rows = SalvageRows::begin_at(alloc, form, strips, row, bits, before)?;
+        match row_for_exchange(alloc, &form) {
+            Ok(exchanged) => Ok(ShownRows { rows, exchanged }),
+            Err(_memory) => Err(PlaceFault::Memory),
+        }
+    }
+
     /// What becomes of the row that is due, or `None` after the page's last one.
     pub fn next_part(&mut self) -> Option<PagePart>
         ensures { Spec.IsShownPart self.old result self.new }
@@ -55,6 +82,14 @@ impl<'a> ShownRows<'a> {
             set_exchanged(row, self.rows.reference());
         }
         part
+    }
+
+    /// Where the row that is due is read in its strip, as `SalvageRows::place` has it.
+    pub fn place(&self) -> Option<PlaceInStrip<'_>>
+        requires { length self.now.rows.directory.file ≤ 536870911 }
+        ensures { Left.IsPlaceOf self.now.rows result }
+    {
+        self.rows.place()
     }
 
     /// The row that was found last, as it is handed out.

@@ -1,7 +1,12 @@
 -- A damaged strip of which the rows that are left are read, one after another.
-use Rattle.std.specs.Prelude.{◌≡◌, ℕ, ◌+◌, ◌-◌, ◌<◌, Bool, List, Option, Some}
-use Rattle.std.specs.Prelude.{None, MatchOption}
+use Rattle.std.specs.Prelude.{◌≡◌, ℕ, ◌+◌, ◌-◌, ◌*◌, ◌<◌, ◌≤◌, Bool, List, length, drop, Option}
+use Rattle.std.specs.Prelude.{Some, None, MatchOption, Result, Ok, Err}
+use Rattle.fax_bits.specs.Bits.{bits}
 use Rattle.fax_bits.specs.declared.Colour.{Colour}
+use Rattle.fax_page.specs.declared.PlaceFault.{PlaceFault}
+use Rattle.fax_page.specs.declared.PlaceFault.TheVariants.{Memory, Outside}
+use Rattle.fax_page.specs.declared.RowBefore.{RowBefore}
+use Rattle.fax_page.specs.views.Reader.{IsBefore}
 use Rattle.fax_page.specs.declared.StripForm.{StripForm}
 use Rattle.fax_page.specs.declared.StripFault.{StripFault}
 use Rattle.fax_page.specs.declared.StripFault.TheVariants.{MissingEol}
@@ -19,10 +24,29 @@ pub record SalvageState : Type 0 where
   pub reference : List Colour
   pub before : Option StripFault
 
+-- before row i of a strip, which begins with these bits, over this row, which is not lost
+abbrev pub salvage_from : StripForm → ℕ → List Bool → List Colour → SalvageState
+salvage_from form i due reference =
+    record { form = form; row = i; due = due; reference = reference; before = None }
+
 -- before the first row of these bits
 abbrev pub salvage_beginning : StripForm → List Bool → SalvageState
-salvage_beginning form b =
-    record { form = form; row = 0; due = b; reference = white_row form.width; before = None }
+salvage_beginning form b = salvage_from form 0 b (white_row form.width)
+
+-- before row i of the bytes, after so many bits, with this row before it; or there is no such
+-- place, or memory was refused
+abbrev pub IsSalvageInside : StripForm → List ℕ → ℕ → ℕ → RowBefore
+    → Result SalvageState PlaceFault → Type 0
+IsSalvageInside form bytes i place before (Ok state) =
+    (place ≤ 8 * length bytes) × IsBefore form.width before state.reference
+    × (state ≡ salvage_from form i (drop place (bits form.order bytes)) state.reference)
+IsSalvageInside form bytes i place before (Err Outside) =
+    place ≤ 8 * length bytes → (row : List Colour) → IsBefore form.width before row → ⊥
+IsSalvageInside form bytes i place before (Err Memory) = place ≤ 8 * length bytes
+
+-- these bits are what is left of others after so many of them
+abbrev pub IsRestOf : List Bool → List Bool → Type 0
+IsRestOf all rest = (n : ℕ) × (n ≤ length all) × (drop n all ≡ rest)
 
 -- so many rows are lost from the one that was due on, for this cause: that one alone, and the next
 -- one is due at the next EOL; or all, where no EOL is left

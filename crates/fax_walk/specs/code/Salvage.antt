@@ -7,7 +7,9 @@ use Rattle.fax_page.specs.declared.StripFault.TheVariants.{MissingEol}
 use Rattle.fax_page.specs.declared.salvage.Salvaged.{Salvaged}
 use Rattle.fax_page.specs.declared.salvage.Salvaged.TheVariants as in_strip
 use Rattle.fax_page.specs.Salvage.{SalvagedRow, found, AreSalvaged, IsSalvagedStrip}
-use Rattle.fax_page.specs.views.Salvage.{SalvageState}
+use Rattle.fax_page.specs.declared.PlaceFault.{PlaceFault}
+use Rattle.fax_page.specs.declared.RowBefore.{RowBefore}
+use Rattle.fax_page.specs.views.Salvage.{IsRestOf, SalvageState}
 use Rattle.fax_files.specs.FaultNames.{StripFault}
 use Rattle.fax_files.specs.declared.FileFault.TheVariants.{StripOutside}
 use Rattle.fax_files.specs.Page.{strip_form}
@@ -20,6 +22,10 @@ use Rattle.fax_walk.specs.Items.{exchanged}
 use Rattle.fax_walk.specs.Pages.{Cause, File, Strip, PageForm}
 use Rattle.fax_walk.specs.Salvaged.{PageRow, AreStripsLeft, on_page, strip_left}
 use Rattle.fax_walk.specs.code.Opening.{page_with}
+use Rattle.fax_walk.specs.declared.salvage_rows.PlaceInStrip.{PlaceInStrip}
+use Rattle.fax_walk.specs.views.RowsFrom.{RowsFromView, EndsWithPage, IsBegunFrom}
+use Rattle.fax_walk.specs.views.RowsFrom.{IsNotBegunFrom, IsPlaceNow}
+use Rattle.fax_walk.specs.views.RowsLeft.{FoundPage}
 
 -- the cause for which a row of a strip is lost, which lies wholly in the file or does not
 abbrev pub cause_of : StripFault → Bool → Cause
@@ -76,6 +82,13 @@ pub record IsCleanSoFar (directory : TiffDirectory) (form : PageForm) (strip : �
       → IsSalvagedStrip (strip_form form strip) (bits form.order bytes)
       (map (λ row. found row) rows ++ own)
 
+-- the row that is due begins among the bits that the file has of its strip
+pub record StandsInStrip (directory : TiffDirectory) (form : PageForm) (strip : ℕ) (whole : Bool)
+    (reader : SalvageState) : Type 0 where
+  pub bytes : List ℕ
+  pub left : AreBytesLeft directory strip bytes whole
+  pub due : reader.row < reader.form.rows → IsRestOf (bits form.order bytes) reader.due
+
 -- a strip of the page is gone through
 pub record IsInPage (strips : PageStrips) (form : PageForm) (strip : ℕ) (whole clean : Bool)
     (reader : SalvageState) : Type 0 where
@@ -85,6 +98,7 @@ pub record IsInPage (strips : PageStrips) (form : PageForm) (strip : ℕ) (whole
   pub inside : strip < form.strips
   pub reader_form : reader.form ≡ strip_form form strip
   pub within : reader.row ≤ reader.form.rows
+  pub stands : StandsInStrip strips.directory form strip whole reader
   pub whole_before : clean ≡ true → AreWholeBefore strips.directory form strip
   pub clean_now : clean ≡ true → IsCleanSoFar strips.directory form strip reader
 
@@ -129,6 +143,17 @@ pub record GoesOverRows (old : RowsState) (over : List PageRow) (new : RowsState
   pub stays : StaysOnPage old new
   pub followed : (rows : List PageRow) → AreRowsLeft new rows → AreRowsLeft old (over ++ rows)
 
+-- a page that is gone through, as contracts see it that begin at a place
+abbrev pub seen_from : RowsState → List Colour → RowsFromView
+seen_from state last = record {
+  file = state.directory.file;
+  here = page_with state.directory state.form;
+  strip = state.strip;
+  whole = state.whole;
+  reader = state.reader;
+  last = last;
+}
+
 -- what a call for the next row answers
 abbrev pub IsPart : RowsState → Option PagePart → RowsState → Type 0
 IsPart old None new =
@@ -138,6 +163,27 @@ IsPart old None new =
 IsPart old (Some Found) new =
     GoesOverRows old (Ok (exchanged new.form new.reader.reference) ∷ []) new
     × (row_due new ≡ row_due old + 1) × (row_due new ≤ new.form.rows)
+    × (new.reader.before ≡ None) × EndsWithPage (seen_from new [])
 IsPart old (Some (Lost rows cause)) new =
     GoesOverRows old (replicate rows (Err cause)) new × (0 < rows)
     × (row_due new ≡ row_due old + rows) × (row_due new ≤ new.form.rows)
+
+-- a page with a directory and a form
+abbrev pub page_of : TiffDirectory → PageForm → FoundPage
+page_of directory form =
+    record { file = directory.file; here = page_with directory form }
+
+-- before row r of a page, at a place of its strip
+abbrev pub IsBegunAt : TiffDirectory → PageForm → ℕ → ℕ → RowBefore → RowsState → Type 0
+IsBegunAt directory form r bits before state =
+    (state.directory ≡ directory) × (state.form ≡ form)
+    × IsBegunFrom (page_of directory form) r bits before (seen_from state [])
+
+-- or there is no such place, or memory was refused
+abbrev pub IsNotBegunAt : TiffDirectory → PageForm → ℕ → ℕ → RowBefore → PlaceFault → Type 0
+IsNotBegunAt directory form r bits before fault =
+    IsNotBegunFrom (page_of directory form) r bits before fault
+
+-- where the row that is due is read
+abbrev pub IsPlaceOf : RowsState → Option PlaceInStrip → Type 0
+IsPlaceOf state lent = IsPlaceNow (seen_from state []) lent

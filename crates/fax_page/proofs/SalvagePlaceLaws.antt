@@ -1,0 +1,137 @@
+-- A row that is due after others begins among the bits of the strip.
+use Rattle.std.proofs.Common.{◌≡◌, ℕ, zero, suc, ◌+◌, ◌-◌, ◌<◌, ◌≤◌, List, [], ◌∷◌, ◌++◌, length, drop, replicate}
+use Rattle.std.proofs.Common.{Bool, true, false, Option, Some, None, refl, ap, sym, ◌∙◌, arith, inl, inr, subst}
+use Rattle.std.proofs.lemmas.List.{length-drop, drop-drop}
+use Rattle.std.specs.Prelude.{◌⊎◌, nat_le, if◌then◌else◌, option_map, MatchOption}
+use Rattle.std.proofs.lemmas.Bool.{cases_lt}
+use Rattle.std.proofs.lemmas.Bool.Decides.{nat_tests}
+use Rattle.fax_bits.specs.declared.Colour.{Colour}
+use Rattle.fax_page.specs.declared.salvage.Salvaged.{Salvaged}
+use Rattle.fax_page.specs.declared.salvage.Salvaged.TheVariants.{Found, Lost, Unended}
+use Rattle.fax_page.specs.Lines.{Coding, Mh, Mr, Mmr, StripFault, StripForm, white_row}
+use Rattle.fax_page.specs.Strip.{end_of_line}
+use Rattle.fax_page.specs.Salvage.{IsSoughtFrom, after_eol, next_due}
+use Rattle.fax_page.specs.laws.Salvage.{DueRowsStandInStrips}
+use Rattle.fax_page.specs.laws.Strips.{ReadsLinesOneWay}
+use Rattle.fax_page.specs.views.Salvage.{FindsRow, IsAfterLost, IsRestOf, IsSalvageStep, SalvageState}
+use Rattle.fax_page.proofs.BegunLemmas.{started}
+use Rattle.fax_page.proofs.RestLemmas.{start_among}
+use Rattle.fax_page.proofs.SalvageLemmas.{drop_zeros}
+
+-- the rest of a rest
+pub rest_of_rest : (all middle last : List Bool) → IsRestOf all middle → IsRestOf middle last → IsRestOf all last
+rest_of_rest all middle last (n, within, is) (more, fits, ends) =
+    let count : length middle ≡ length all - n = ap length (sym is) ∙ length-drop n all in (
+      n + more,
+      omega (arith, within, fits, count),
+      sym (drop-drop more n all) ∙ ap (drop more) is ∙ ends,
+    )
+
+all_of : (all : List Bool) → IsRestOf all all
+all_of all = (0, omega arith, refl)
+
+-- one zero more
+one_more : (n : ℕ) (b : List Bool) → replicate n false ++ false ∷ b ≡ replicate (suc n) false ++ b
+one_more zero b = refl
+one_more (suc n) b = ap (λ (l : List Bool). false ∷ l) (one_more n b)
+
+-- what stands after zeros and a 1
+after_one : (n : ℕ) (b : List Bool) → IsRestOf (replicate n false ++ true ∷ b) b
+after_one zero b = (1, omega arith, refl)
+after_one (suc n) b =
+    let rest = after_one n b in (suc rest.0, omega (arith, rest.1), rest.2)
+
+length_zeros : (n : ℕ) (b : List Bool) → length (replicate n false ++ b) ≡ n + length b
+length_zeros zero b = omega arith
+length_zeros (suc n) b = let rest = length_zeros n b in omega (arith, rest)
+
+-- the first EOL after so many zeros is among them and the bits
+eol_among : (n : ℕ) (b rest : List Bool) → after_eol n b ≡ Some rest
+    → IsRestOf (replicate n false ++ b) (end_of_line ++ rest)
+eol_among n [] rest none = cc
+eol_among n (false ∷ b) rest some =
+    subst (λ (l : List Bool). IsRestOf l (end_of_line ++ rest)) (sym (one_more n b)) (eol_among (suc n) b rest some)
+eol_among n (true ∷ b) rest some = by_count (eol_among 0 b rest) (cases_lt n 11)
+  where
+    by_count : (after_eol 0 b ≡ Some rest → IsRestOf b (end_of_line ++ rest)) → (n < 11) ⊎ (11 ≤ n)
+        → IsRestOf (replicate n false ++ true ∷ b) (end_of_line ++ rest)
+    by_count later_eol (inl few) =
+        let later : after_eol 0 b ≡ Some rest = grind (arith, some, few, nat_tests) in
+        rest_of_rest (replicate n false ++ true ∷ b) b (end_of_line ++ rest) (after_one n b) (later_eol later)
+    by_count later_eol (inr enough) =
+        let here : b ≡ rest = grind (arith, some, enough, nat_tests) in
+        let eleven : n - (n - 11) ≡ 11 = omega (arith, enough) in (
+          n - 11,
+          omega (arith, length_zeros n (true ∷ b)),
+          drop_zeros (n - 11) n (true ∷ b) (omega arith)
+              ∙ ap (λ k. replicate k false ++ true ∷ b) eleven
+              ∙ ap (λ (l : List Bool). end_of_line ++ l) here,
+        )
+
+-- where the next row is due is among the bits from which its EOL is looked for
+due_among : (coding : Coding) (from due : List Bool) → next_due coding from ≡ Some due → IsRestOf from due
+due_among Mh from due some = by_rest (after_eol 0 from) refl some
+  where
+    by_rest : (found : Option (List Bool)) → after_eol 0 from ≡ found
+        → option_map (λ rest. end_of_line ++ rest) found ≡ Some due → IsRestOf from due
+    by_rest None is some = cc
+    by_rest (Some rest) is some =
+        let same : end_of_line ++ rest ≡ due = cc in
+        subst (IsRestOf from) same (eol_among 0 from rest is)
+due_among Mr from due some = by_rest (after_eol 0 from) refl some
+  where
+    by_rest : (found : Option (List Bool)) → after_eol 0 from ≡ found
+        → option_map (λ rest. end_of_line ++ rest) found ≡ Some due → IsRestOf from due
+    by_rest None is some = cc
+    by_rest (Some rest) is some =
+        let same : end_of_line ++ rest ≡ due = cc in
+        subst (IsRestOf from) same (eol_among 0 from rest is)
+due_among Mmr from due some = cc
+
+-- an EOL is looked for among the bits of a lost row
+sought_among : (coding : Coding) (i : ℕ) (b from : List Bool) → IsSoughtFrom coding i b from → IsRestOf b from
+sought_among coding i b from (inl (dimension, start)) =
+    start_among coding i b dimension from (started coding i b dimension from start)
+sought_among coding i b from (inr (inl (missing, same))) = subst (IsRestOf b) (sym same) (all_of b)
+sought_among coding i b from (inr (inr (ends, none))) =
+    let nothing : drop (length b) b ≡ from = all_dropped b ∙ sym none in
+    (length b, omega arith, nothing)
+  where
+    all_dropped : (b : List Bool) → drop (length b) b ≡ []
+    all_dropped [] = refl
+    all_dropped (bit ∷ b) = all_dropped b
+
+-- after a lost row
+lost_among : (old new : SalvageState) (fault : StripFault) (rows : ℕ) → IsAfterLost old fault rows new
+    → new.row < new.form.rows → IsRestOf old.due new.due
+lost_among old new fault rows (from, sought, after) due =
+    by_due (next_due old.form.coding from) refl after
+  where
+    by_due : (o : Option (List Bool)) → next_due old.form.coding from ≡ o
+        → MatchOption o
+        ((rows ≡ old.form.rows - old.row) × (new.form ≡ old.form) × (new.row ≡ old.form.rows))
+        (λ b. (rows ≡ 1) × (new ≡ record {
+          form = old.form;
+          row = old.row + 1;
+          due = b;
+          reference = white_row old.form.width;
+          before = Some fault;
+        }))
+        → IsRestOf old.due new.due
+    by_due None is all =
+        let same : new.form.rows ≡ old.form.rows = ap (λ (f : StripForm). f.rows) all.1 in
+        absurd (omega (arith, due, all.2, same))
+    by_due (Some b) is one =
+        let due_is : new.due ≡ b = ap (λ (s : SalvageState). s.due) one.1 in
+        subst (IsRestOf old.due) (sym due_is)
+        (rest_of_rest old.due from b (sought_among old.form.coding old.row old.due from sought)
+        (due_among old.form.coding from b is))
+
+-- after each row
+pub due_rows_stand : ((form : StripForm) (i : ℕ) (reference : List Colour) → ReadsLinesOneWay form i reference)
+    → DueRowsStandInStrips
+due_rows_stand reads old new Found finds due =
+    (reads old.form old.row old.reference).rest old.due 0 new.reference new.due finds.read.line
+due_rows_stand reads old new (Lost fault rows) (within, is_lost, after) due = lost_among old new fault rows after due
+due_rows_stand reads old new (Unended rows) (row, rest, read, eol_due, below, after) due =
+    lost_among old new _ rows after due

@@ -1,0 +1,281 @@
+-- A page whose rows are gone through from a place on.
+use Rattle.std.proofs.Common.{◌≡◌, ℕ, ◌+◌, ◌-◌, ◌*◌, ◌/◌, ◌<◌, ◌≤◌, List, [], ◌∷◌, ◌++◌, length, drop, map, replicate}
+use Rattle.std.proofs.Common.{Bool, false, Option, Some, None, Ok, Err, refl, sym, ap, ◌∙◌, arith, subst}
+use Rattle.std.specs.Prelude.{◌≢◌, flat_map}
+use Rattle.fax_walk.specs.declared.salvage_rows.PlaceInStrip.{PlaceInStrip}
+use Rattle.std.proofs.lemmas.List.{length-drop, length-replicate}
+use Rattle.fax_bits.specs.Bits.{bits}
+use Rattle.fax_bits.specs.declared.FillOrder.{FillOrder}
+use Rattle.fax_rows.specs.Rows.{Colour, White}
+use Rattle.fax_page.specs.Lines.{white_row}
+use Rattle.fax_page.specs.Salvage.{SalvagedRow}
+use Rattle.fax_page.specs.declared.PlaceFault.{PlaceFault}
+use Rattle.fax_page.specs.declared.PlaceFault.TheVariants.{Memory, Outside}
+use Rattle.fax_page.specs.declared.RowBefore.{RowBefore}
+use Rattle.fax_page.specs.declared.StripForm.{StripForm}
+use Rattle.fax_page.specs.views.Reader.{IsBefore}
+use Rattle.fax_page.specs.views.Salvage.{IsSalvageInside, SalvageState, salvage_from}
+use Rattle.fax_files.specs.declared.PageForm.{PageForm}
+use Rattle.fax_files.specs.Page.{strip_form}
+use Rattle.fax_files.specs.views.Page.{IsPageForm}
+use Rattle.fax_files.specs.views.Tiff.{PageStrips, TiffDirectory, form_of}
+use Rattle.fax_walk.specs.Pages.{FilePage}
+use Rattle.fax_walk.specs.Salvaged.{PageRow, AreRowsFrom, AreStripsLeft, IsRowOfStrip, on_page}
+use Rattle.fax_walk.specs.code.Opening.{page_with}
+use Rattle.fax_walk.specs.code.Salvage.{AreBytesLeft, IsBegunAt, IsInPage, IsNotBegunAt, IsPlaceOf}
+use Rattle.fax_walk.specs.code.Salvage.{GoesOverRows, RowsState, row_due, seen_from}
+use Rattle.fax_walk.specs.code.ShownRows.{IsShownPart, ShownState}
+use Rattle.fax_walk.specs.declared.salvage_rows.PagePart.{PagePart}
+use Rattle.fax_walk.specs.declared.salvage_rows.PagePart.TheVariants.{Found, Lost}
+use Rattle.fax_walk.specs.Items.{exchanged}
+use Rattle.fax_walk.specs.views.RowsFrom.{IsNextFrom, PassesOver}
+use Rattle.fax_walk.proofs.OpenPageLemmas.{whole_of}
+use Rattle.fax_walk.proofs.SalvageRowLemmas.{none_after}
+use Rattle.fax_walk.proofs.StripPlaceLemmas.{in_strip}
+
+abbrev state_of : TiffDirectory → PageForm → ℕ → Bool → SalvageState → RowsState
+state_of directory form s whole reader = record {
+  directory = directory;
+  form = form;
+  strip = s;
+  whole = whole;
+  clean = false;
+  reader = reader;
+}
+
+-- a row of a strip is a row of one strip alone
+one_strip : (form : PageForm) (r s i : ℕ) → IsRowOfStrip form r s i → r / form.rows_per_strip ≡ s
+one_strip form r s i there =
+    (in_strip form.rows_per_strip s i r (omega (arith, there.row)) there.place).0
+
+-- the strip that holds a row
+pub holds_row : (form : PageForm) (r s : ℕ) → IsPageForm form → r < form.rows → s ≡ r / form.rows_per_strip
+    → IsRowOfStrip form r s (r - s * form.rows_per_strip)
+holds_row form r s limits due s_is =
+    let whole = whole_of form limits in
+    let n = form.rows_per_strip in
+    let there : s * n ≤ r = grind (arith, s_is) in
+    let below : r < s * n + n = grind (arith, s_is, whole.some_in_strip) in
+    let enough = whole.enough in
+    record {
+      strip = grind (arith, whole.enough, due, there);
+      row = omega (arith, there, below, due);
+      place = omega (arith, there);
+    }
+
+module _ (strips : PageStrips) (form : PageForm) (r s i place : ℕ) (bytes : List ℕ) (whole : Bool)
+    (before : RowBefore)
+    (left : AreBytesLeft strips.directory s bytes whole) where
+  abbrev here : FilePage
+  here = page_with strips.directory form
+
+  module _ (reader : SalvageState) (there : IsRowOfStrip form r s i) (within : place ≤ 8 * length bytes)
+      (reader_is : reader ≡ salvage_from (strip_form form s) i (drop place (bits form.order bytes)) reader.reference)
+    where
+      -- before a row inside the strip
+      pub begun_at_in_page : form_of strips.directory ≡ Ok form → IsPageForm form → strips.count ≡ form.strips
+          → length (bits form.order bytes) ≡ 8 * length bytes → IsInPage strips form s whole false reader
+      begun_at_in_page form_is limits counted len = record {
+        form_is = form_is;
+        limits = limits;
+        counted = counted;
+        inside = there.strip;
+        reader_form = ap (λ (s : SalvageState). s.form) reader_is;
+        within =
+            let row_is : reader.row ≡ i = ap (λ (s : SalvageState). s.row) reader_is in
+            let rows_are : reader.form.rows ≡ (strip_form form s).rows =
+            ap (λ (s : SalvageState). s.form.rows) reader_is in
+            omega (arith, row_is, rows_are, there.row);
+        stands = record {
+          bytes = bytes;
+          left = left;
+          due = λ _. (place, omega (arith, within, len), sym (ap (λ (s : SalvageState). s.due) reader_is));
+        };
+        whole_before = λ is. absurd cc;
+        clean_now = λ is. absurd cc;
+      }
+
+      -- what is left from there on
+      pub begun_at : IsBefore form.width before reader.reference
+          → IsBegunAt strips.directory form r place before (state_of strips.directory form s whole reader)
+      begun_at reference = (
+        refl,
+        refl,
+        record {
+          file_is = refl;
+          here_is = refl;
+          row_is =
+              let row_is : reader.row ≡ i = ap (λ (s : SalvageState). s.row) reader_is in
+              omega (arith, row_is, there.place);
+          s = s;
+          i = i;
+          at = record { bits = place; reference = reader.reference };
+          there = there;
+          inner = record { bits_are = refl; within = rw (left form) within; reference = reference };
+          rows_are = λ rows is. rw (left form) (is.0, is.1, rw reader_is at is.2, is.3, is.4);
+        },
+      )
+
+  -- there is no such place
+  pub not_begun_at : (fault : PlaceFault) → s ≡ r / form.rows_per_strip → i ≡ r - s * form.rows_per_strip
+      → IsSalvageInside (strip_form form s) bytes i place before (Err fault)
+      → IsNotBegunAt strips.directory form r place before fault
+  not_begun_at Outside s_is i_is none = λ s' i' there at inner.
+      let same : s' ≡ s = sym (one_strip form r s' i' there) ∙ sym s_is in
+      let its = rw same at inner in
+      none (rw (left form) at its.within) at.reference its.reference
+  not_begun_at Memory s_is i_is fits = λ s' i' there.
+      let same : s' ≡ s = sym (one_strip form r s' i' there) ∙ sym s_is in
+      rw (same, left form) fits
+
+-- the bytes of a strip are the same
+one_bytes : (directory : TiffDirectory) (form : PageForm) (s : ℕ) (bytes others : List ℕ) (whole another : Bool)
+    → AreBytesLeft directory s bytes whole → AreBytesLeft directory s others another
+    → (bytes ≡ others) × (whole ≡ another)
+one_bytes directory form s bytes others whole another left also =
+    let same = sym (left form) ∙ also form in (
+      ap (λ (pair : List ℕ × Bool). pair.0) same,
+      ap (λ (pair : List ℕ × Bool). pair.1) same,
+    )
+
+module _ (strips : PageStrips) (form : PageForm) (s : ℕ) (whole clean : Bool) (reader : SalvageState)
+    (is : IsInPage strips form s whole clean reader) where
+  abbrev at_place : RowsState
+  at_place = record {
+    directory = strips.directory;
+    form = form;
+    strip = s;
+    whole = whole;
+    clean = clean;
+    reader = reader;
+  }
+
+  abbrev its_page : FilePage
+  its_page = page_with strips.directory form
+
+  rows_of_strip : reader.form.rows ≡ (strip_form form s).rows
+  rows_of_strip = ap (λ (f : StripForm). f.rows) is.reader_form
+
+  -- the strip is gone through, and the next one begins with the row
+  pub place_next : reader.row ≡ (strip_form form s).rows → IsPlaceOf at_place None
+  place_next gone before due =
+      let its = whole_of form is.limits in
+      let m = form.rows_per_strip in
+      let full : reader.row ≡ m = omega (arith, gone, due) in
+      let there : s * m + m ≡ (s + 1) * m = omega arith in
+      let later : (s + 1) * m < form.rows = omega (arith, due, full, there) in
+      let more : s + 1 < form.strips = grind (arith, its.enough, later) in (
+        s + 1,
+        0,
+        record { strip = more; row = omega (arith, later, its.some_in_strip); place = omega (arith, full, there) },
+        omega arith,
+        length-replicate form.width White,
+        (λ _. refl),
+        λ rows left. next_rows rows left.0 left.1 more
+            (none_after reader.form reader.row reader.before reader.reference reader.due left.0
+            (gone ∙ sym rows_of_strip) left.2) left.3 left.4,
+      )
+    where
+      next_rows : (rows : List PageRow) (own : List SalvagedRow) (others : List (List PageRow)) → s + 1 < form.strips
+          → own ≡ [] → AreStripsLeft strips.directory.file its_page (s + 1) others
+          → rows ≡ map (on_page form whole) own ++ flat_map (λ rows. rows) others
+          → AreRowsFrom strips.directory.file its_page (s + 1) 0 (record { bits = 0; reference = white_row form.width })
+          rows
+      next_rows rows own [] more none are rows_are = absurd (omega (arith, more, are))
+      next_rows rows own (first ∷ others) more none (some, (its, salvaged, first_is), are) rows_are =
+          (its, others, salvaged, are, rows_are ∙ rw none (rw first_is refl))
+
+  module _ (bytes : List ℕ) (another : Bool) (not_gone : reader.row ≢ (strip_form form s).rows)
+      (left : AreBytesLeft strips.directory s bytes another)
+      (len : (order : FillOrder) (bytes : List ℕ) → length (bits order bytes) ≡ 8 * length bytes) where
+    same : bytes ≡ is.stands.bytes
+    same = (one_bytes strips.directory form s bytes is.stands.bytes another whole left is.stands.left).0
+
+    inside : reader.row < reader.form.rows
+    inside = omega (arith, is.within, not_gone, rows_of_strip)
+
+    abbrev n : ℕ
+    n = (is.stands.due inside).0
+
+    abbrev Counted : Type 0
+    Counted = (n ≤ 8 * length bytes) × (length reader.due ≡ 8 * length bytes - n)
+
+    counted : Counted
+    counted =
+        let here = is.stands.due inside in
+        let count : length (bits form.order is.stands.bytes) ≡ 8 * length bytes =
+        len form.order is.stands.bytes ∙ ap (λ (l : List ℕ). 8 * length l) (sym same) in
+        let rest : length reader.due ≡ length (bits form.order is.stands.bytes) - n =
+        sym (ap (λ (l : List Bool). length l) here.2) ∙ length-drop n (bits form.order is.stands.bytes) in
+        (omega (arith, here.1, count), omega (arith, rest, count))
+
+    -- so many bits are left
+    pub due_fits : length reader.due ≤ 8 * length bytes
+    due_fits = omega (arith, counted)
+
+    -- the row stands inside the strip
+    pub place_here : (lent : PlaceInStrip) → lent.bits ≡ 8 * length bytes - length reader.due
+        → lent.reference.now ≡ reader.reference → length lent.reference.now ≡ reader.form.width
+        → IsPlaceOf at_place (Some lent)
+    place_here lent bits_are reference_is width before due =
+        let here = is.stands.due inside in
+        let place : lent.bits ≡ n = omega (arith, bits_are, counted) in
+        let bits_left : drop lent.bits (bits form.order is.stands.bytes) ≡ reader.due =
+        ap (λ k. drop k (bits form.order is.stands.bytes)) place ∙ here.2 in
+        let fits : lent.bits ≤ 8 * length is.stands.bytes =
+        omega (arith, place, counted, ap (λ (l : List ℕ). length l) same) in (
+          s,
+          reader.row,
+          record { strip = is.inside; row = omega (arith, inside, rows_of_strip); place = refl },
+          rw (is.stands.left form) fits,
+          width ∙ ap (λ (f : StripForm). f.width) is.reader_form,
+          (λ none. absurd cc),
+          λ rows (own, others, salvaged, are, rows_are). rw (is.stands.left form) (
+            own,
+            others,
+            rw (is.reader_form, before, sym reference_is, sym bits_left) at salvaged,
+            are,
+            rows_are,
+          ),
+        )
+
+-- a row that a reader begins before has its place in its strip
+pub begun_fits : (directory : TiffDirectory) (form : PageForm) (r bits : ℕ) (before : RowBefore) (state : RowsState)
+    → IsBegunAt directory form r bits before state → IsNotBegunAt directory form r bits before Memory
+begun_fits directory form r bits before state (same, also, begun) s i there =
+    let one : s ≡ begun.s = sym (one_strip form r s i there) ∙ one_strip form r begun.s begun.i begun.there in
+    rw one begun.inner.within
+
+-- rows of a page are passed
+passes_over : (old new : ShownState) (over : List PageRow) → GoesOverRows old.rows over new.rows
+    → row_due new.rows ≡ row_due old.rows + length over → row_due new.rows ≤ new.rows.form.rows
+    → PassesOver (seen_from old.rows old.shown) over (seen_from new.rows new.shown)
+passes_over old new over goes next within = record {
+  same_file = ap (λ (d : TiffDirectory). d.file) goes.stays.0;
+  same_here = rw (goes.stays.0, goes.stays.1) refl;
+  next = next;
+  within = let same : new.rows.form.rows ≡ old.rows.form.rows = ap (λ (f : PageForm). f.rows) goes.stays.1 in
+      omega (arith, within, same);
+  followed = goes.followed;
+}
+
+-- what became of the row that was due
+pub next_from : (old new : ShownState) (part : Option PagePart) → IsShownPart old part new
+    → IsNextFrom (seen_from old.rows old.shown) part (seen_from new.rows new.shown)
+next_from old new None ((goes, same, all, are, none, _), shown) =
+    (passes_over old new [] goes (omega (arith, same)) (omega (arith, all)), all, are, none)
+next_from old new (Some Found) ((goes, next, within, before, ends), shown) =
+    let here : PageRow = Ok (exchanged new.rows.form new.rows.reader.reference) in
+    let same : here ≡ Ok new.shown = ap (λ (row : List Colour). Ok row) (sym shown) in (
+      subst
+          (λ (row : PageRow). PassesOver (seen_from old.rows old.shown) (row ∷ []) (seen_from new.rows new.shown))
+          same
+          (passes_over old new (here ∷ []) goes next within),
+      before,
+      ends,
+    )
+next_from old new (Some (Lost rows cause)) ((goes, some, next, within), shown) = (
+  some,
+  passes_over old new (replicate rows (Err cause)) goes
+      (next ∙ ap (λ n. row_due old.rows + n) (sym (length-replicate rows (Err cause)))) within,
+)
