@@ -41,8 +41,8 @@
 #include <stdint.h>
 
 /* The version of this header, as text and as a number; faxpages_version tells the library's. */
-#define FAXPAGES_VERSION "1.7.0"
-#define FAXPAGES_VERSION_NUMBER 10700
+#define FAXPAGES_VERSION "1.8.0"
+#define FAXPAGES_VERSION_NUMBER 10800
 
 #ifdef __cplusplus
 extern "C" {
@@ -263,6 +263,36 @@ uint32_t faxpages_salvage(const uint8_t *file, size_t file_len, uint32_t page,
                           struct faxpages_form *form, uint8_t *out, size_t out_room, size_t stride,
                           struct faxpages_lost *lost, size_t lost_room,
                           struct faxpages_told *told);
+
+/* Writes what is left of a page from a place on, as much as has room: the rows that are found, one
+ * after another in `stride` bytes each, as faxpages_salvage has them, and nothing for rows that
+ * are lost; and the stretches of these. So of the rows from the place's on, up to the row that is
+ * told, those that stand in no stretch are found, in order. Begin with {page, 0, 0, 0}, and call
+ * while it is DONE: the stretches of all calls are those that faxpages_salvage writes. That ends
+ * for any file if a row and a stretch have room, and no row is read twice.
+ *
+ * DONE after a row that is found, where `out` has no room for one more row, or `lost` for one more
+ * stretch; END after the page's last row. `count` of `told` says how many rows were written,
+ * `used` how many stretches, and `page` and `row` are those of the place after them, which is left
+ * there with its runs; no other run is changed.
+ *
+ * In this order: NO_OPTIONS, if file_len is more than 536870911, or runs_room less than
+ * FAXPAGES_RUNS: then nothing is told. END, if the file has exactly `page` pages, OUTSIDE, if it
+ * has fewer, or FAULT, as faxpages_salvage has it; NO_ROOM, if no row has room, since `stride` is
+ * less than (width + 7) / 8, or out_room less than `stride`, or if lost_room is 0; END, at the row
+ * after the page's last one, where `row` is that of the form; OUTSIDE, at a row after that, at one
+ * inside a strip where the place has no runs, at bits after those that the file has of the strip,
+ * or with runs that no row of the width has; or MEMORY, which may come before the runs are looked
+ * at. Then nothing else is written, and the place stays.
+ *
+ * Any place may be given: row `row` is read after `bits` bits of its strip, over a row of these
+ * runs, which counts as found. With no runs it is the first row of a strip, and `bits` do not
+ * matter. Each call follows the chain of directories up to its page, so ask for thousands of rows
+ * a call. */
+uint32_t faxpages_salvage_from(const uint8_t *file, size_t file_len, struct faxpages_place *place,
+                               uint32_t *runs, size_t runs_room, uint8_t *out, size_t out_room,
+                               size_t stride, struct faxpages_lost *lost, size_t lost_room,
+                               struct faxpages_told *told);
 
 /* The form of a strip of rows with no file around it, as a fax is on the line, or in a PDF. */
 struct faxpages_strip {

@@ -16,3 +16,4 @@ pub mod EndingLemmas
 pub mod RunRowLemmas
 pub mod PartLemmas
 pub mod SalvagedLemmas
+pub mod SalvagedFromLemmas

@@ -1,6 +1,7 @@
 -- What is left of a damaged page or strip in a raster, and the rows that are lost.
 -- A definition without a citation is this project's profile.
 use Rattle.std.specs.Prelude.{ℕ, List, [], ◌∷◌, replicate, Ok, Err}
+use Rattle.fax_rows.specs.Rows.{Colour}
 use Rattle.fax_files.specs.declared.Cause.{Cause}
 use Rattle.fax_walk.specs.Salvaged.{PageRow, LeftItem, row_found, rows_lost, page_refused}
 use Rattle.fax_walk.specs.Salvaged.{page_items}
@@ -24,6 +25,16 @@ lost_of (row_found p r row ∷ items) = lost_of items
 lost_of (rows_lost p r rows cause ∷ items) = lost_rows r rows cause ∷ lost_of items
 lost_of (page_refused p fault ∷ items) = lost_of items
 
+-- the stretches of lost rows among those of page p from row r on
+abbrev pub lost_from : ℕ → ℕ → List PageRow → List FaxLost
+lost_from p r rows = lost_of (page_items p r rows)
+
 -- the stretches of lost rows among all rows of page p
 abbrev pub lost_among : ℕ → List PageRow → List FaxLost
-lost_among p rows = lost_of (page_items p 0 rows)
+lost_among p rows = lost_from p 0 rows
+
+-- the rows among these that are found
+abbrev pub found_of : List PageRow → List (List Colour)
+found_of [] = []
+found_of (Ok row ∷ rows) = row ∷ found_of rows
+found_of (Err cause ∷ rows) = found_of rows

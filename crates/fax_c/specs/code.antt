@@ -6,3 +6,4 @@ pub mod Writing
 pub mod Conversion
 pub mod StripParts
 pub mod Salvaged
+pub mod SalvagedFrom

@@ -9,3 +9,4 @@ pub mod Written
 pub mod Ended
 pub mod StripParts
 pub mod Salvaged
+pub mod SalvagedFrom

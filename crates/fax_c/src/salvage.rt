@@ -53,7 +53,7 @@ impl FaxLost {
 }
 
 /// The stretch that ends before a row of a page, with so many rows more, which are lost for this cause.
-fn longer(lost: Option<Stretch>, page: u32, row: u32, rows: u32, cause: Cause) -> Stretch
+pub(crate) fn longer(lost: Option<Stretch>, page: u32, row: u32, rows: u32, cause: Cause) -> Stretch
     requires { Walk.HasRoom lost rows }
     ensures { result ≡ Walk.longer lost page row rows cause }
 {
@@ -73,7 +73,7 @@ fn longer(lost: Option<Stretch>, page: u32, row: u32, rows: u32, cause: Cause) -
 
 /// Writes a stretch that has ended, if one has, after so many others, where it has room, and answers
 /// how many there are now.
-fn put_stretch(ended: Option<Stretch>, lost: &mut [FaxLost], count: usize) -> usize
+pub(crate) fn put_stretch(ended: Option<Stretch>, lost: &mut [FaxLost], count: usize) -> usize
     requires { count ≤ 1000000 }
     ensures { Code.IsStretchPut ended lost.old count result lost.new }
 {
@@ -101,7 +101,7 @@ fn holds_rows(len: usize, width: u32, rows: u32, stride: usize) -> bool
 }
 
 /// Writes a row that is found into a raster that has room for it, and answers where it ends.
-fn put_found(row: &Row, stride: usize, out: &mut [u8], at: usize) -> usize
+pub(crate) fn put_found(row: &Row, stride: usize, out: &mut [u8], at: usize) -> usize
     requires short { Coded.packed_len (length row.now) ≤ stride }
     requires room { at + stride ≤ length out.old }
     ensures { IsPutAt (padded_row stride row.now) out.old at (Some result) out.new }

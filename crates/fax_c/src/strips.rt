@@ -20,7 +20,7 @@ use fax_walk::{Cursor, End};
 use std::alloc::Global;
 
 /// The most bytes of a strip that is read: so each place of a bit in it has 32 bits.
-const MOST_BYTES: usize = 536_870_911;
+pub(crate) const MOST_BYTES: usize = 536_870_911;
 
 /// So many runs hold those of any row.
 pub(crate) const MOST_RUNS: usize = 65_536;
@@ -37,7 +37,7 @@ pub(crate) fn readable_form(strip: &[u8], given: &FaxStrip) -> Option<StripForm>
 }
 
 /// The row before a place: white where it has no runs. `None` where they are not in their room.
-fn row_before<'a>(place: &FaxPlace, runs: &'a [u32]) -> Option<RowBefore<'a>>
+pub(crate) fn row_before<'a>(place: &FaxPlace, runs: &'a [u32]) -> Option<RowBefore<'a>>
     ensures { Code.IsRowBefore place.now runs.now result }
 {
     if place.runs == 0 {

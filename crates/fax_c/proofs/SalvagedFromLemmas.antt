@@ -1,0 +1,670 @@
+-- What is left of a page from a place on, written row after row.
+use Rattle.std.proofs.Common.{◌≡◌, ℕ, zero, suc, ◌+◌, ◌*◌, ◌%◌, ◌<◌, ◌≤◌, List, [], ◌∷◌, ◌++◌, length}
+use Rattle.std.proofs.Common.{take, drop}
+use Rattle.std.proofs.Common.{replicate, Bool, true, false, Option, Some, None, Ok, Err, refl, sym, ap, ◌∙◌, arith}
+use Rattle.std.proofs.Common.{append_assoc, append-nil, length-append, inl, inr, subst}
+use Rattle.std.specs.Prelude.{◌⊎◌, ◌≢◌, flat_map, not}
+use Rattle.std.proofs.lemmas.Grind.{flat_map-append}
+use Rattle.std.proofs.lemmas.List.{length-replicate, length_push}
+use Rattle.fax_rows.specs.Rows.{Colour, White, runs_of}
+use Rattle.fax_rows.specs.Coded.{packed_len}
+use Rattle.std.proofs.lemmas.Nat.{mod-mul-add}
+use Rattle.fax_page.specs.Lines.{white_row}
+use Rattle.fax_page.specs.declared.PlaceFault.TheVariants.{Outside as no_such_place}
+use Rattle.fax_page.specs.declared.RowBefore.{RowBefore}
+use Rattle.fax_page.specs.declared.RowBefore.TheVariants.{Runs, White as White_row_before}
+use Rattle.fax_page.specs.views.Reader.{IsBefore}
+use Rattle.fax_files.specs.declared.Cause.{Cause}
+use Rattle.fax_walk.specs.declared.cursor.Cursor.{Cursor}
+use Rattle.fax_walk.specs.declared.end.End.TheVariants.{Fault, Proper, Outside}
+use Rattle.fax_walk.specs.declared.salvage.Stretch.{Stretch}
+use Rattle.fax_walk.specs.declared.salvage_rows.PagePart.TheVariants.{Found, Lost}
+use Rattle.fax_walk.specs.declared.salvage_rows.PlaceInStrip.{PlaceInStrip}
+use Rattle.fax_walk.specs.Items.{Inner}
+use Rattle.fax_walk.specs.Pages.{FilePage}
+use Rattle.fax_walk.specs.Salvaged.{PageRow, LeftItem, row_found, page_items}
+use Rattle.fax_walk.specs.Salvaged.{AreRowsFrom, IsRowOfStrip}
+use Rattle.fax_walk.specs.views.RowsFrom.{RowsFromView, AreLeftNow, EndsWithPage, IsNextFrom, IsPlaceNow}
+use Rattle.fax_walk.specs.views.RowsFrom.{IsInnerOf, IsNotBegunFrom, PassesOver, row_due}
+use Rattle.fax_walk.specs.code.SalvagePage.{longer, rows_of, with_lost}
+use Rattle.fax_walk.proofs.SalvagePageLemmas.{lost_on}
+use Rattle.fax_c.specs.declared.filled.Filled.{Filled}
+use Rattle.fax_c.specs.declared.filled.Stop.{Stop}
+use Rattle.fax_c.specs.declared.filled.Stop.TheVariants.{Done, Ended, Memory, NoRoom}
+use Rattle.fax_c.specs.declared.places.FaxPlace.{FaxPlace}
+use Rattle.fax_c.specs.declared.salvage.FaxLost.{FaxLost}
+use Rattle.fax_c.specs.declared.salvage_from.Ahead.{Ahead}
+use Rattle.fax_c.specs.Raster.{padded_row}
+use Rattle.fax_c.specs.Salvaged.{found_of, lost_from, lost_of}
+use Rattle.fax_c.specs.code.Put.{IsPutAt}
+use Rattle.fax_c.specs.code.Salvaged.{IsStretchPut, stretch_lost}
+use Rattle.fax_c.specs.code.SalvagedFrom.{AreRowsFilled, EndsOrGoesOn, IsAhead, IsStopBefore, IsToldAfter}
+use Rattle.fax_c.specs.code.SalvagedFrom.{IsToldPlace, stretches_of}
+use Rattle.fax_c.specs.code.Strips.{IsRowBefore}
+use Rattle.fax_c.specs.views.Salvaged.{none_filled_at}
+use Rattle.fax_c.specs.views.Places.{HasRuns, cursor_of, place_at}
+use Rattle.fax_c.specs.views.SalvagedFrom.{EndsFound, HasRoom, HasRoomFor, IsFull}
+use Rattle.fax_c.specs.views.SalvagedFrom.{IsPlaceOn, WritesFrom, WritesNone}
+use Rattle.fax_c.proofs.ListLemmas.{more_put, one_set}
+use Rattle.fax_c.proofs.PlaceLemmas.{has_a_run}
+use Rattle.fax_c.proofs.StripLemmas.{due_told}
+use Rattle.fax_c.proofs.PaddedLemmas.{fills_stride}
+
+pub not_true : (b : Bool) → not b ≡ true → b ≡ false
+not_true true is = cc
+not_true false is = refl
+
+pub not_false : (b : Bool) → not b ≡ false → b ≡ true
+not_false true is = refl
+not_false false is = cc
+
+-- the rows that are found among some and among others
+found_append : (rows others : List PageRow) → found_of (rows ++ others) ≡ found_of rows ++ found_of others
+found_append [] others = refl
+found_append (Ok row ∷ rows) others = ap (λ (l : List (List Colour)). row ∷ l) (found_append rows others)
+found_append (Err cause ∷ rows) others = found_append rows others
+
+none_found : (n : ℕ) (cause : Cause) → found_of (replicate n (Err cause)) ≡ []
+none_found zero cause = refl
+none_found (suc n) cause = none_found n cause
+
+-- no more are found than there are
+pub found_few : (rows : List PageRow) → length (found_of rows) ≤ length rows
+found_few [] = omega arith
+found_few (Ok row ∷ rows) = let few = found_few rows in omega (arith, few)
+found_few (Err cause ∷ rows) = let few = found_few rows in omega (arith, few)
+
+-- rows that are passed one after another
+passes_on : (a b c : RowsFromView) (first later : List PageRow) → PassesOver a first b → PassesOver b later c
+    → PassesOver a (first ++ later) c
+passes_on a b c first later one two = record {
+  same_file = two.same_file ∙ one.same_file;
+  same_here = two.same_here ∙ one.same_here;
+  next = omega (arith, one.next, two.next, length-append first later);
+  within =
+      let same : b.here.form.rows ≡ a.here.form.rows = ap (λ (p : FilePage). p.form.rows) one.same_here in
+      omega (arith, two.within, same);
+  followed = λ rows is.
+      subst (AreLeftNow a) (sym (append_assoc first later rows)) (one.followed (later ++ rows) (two.followed rows is));
+}
+
+passes_none : (a : RowsFromView) → row_due a ≤ a.here.form.rows → PassesOver a [] a
+passes_none a within = record {
+  same_file = refl;
+  same_here = refl;
+  next = omega arith;
+  within = within;
+  followed = λ rows is. is;
+}
+
+-- a stretch that a row ends which is found
+lost_then : (lost : Option Stretch) (page row : ℕ) (pels : List Colour) (items : List LeftItem)
+    → lost_of (with_lost lost (row_found page row pels ∷ items)) ≡ stretches_of lost ++ lost_of items
+lost_then None page row pels items = refl
+lost_then (Some stretch) page row pels items = refl
+
+lost_last : (lost : Option Stretch) → lost_of (with_lost lost []) ≡ stretches_of lost ++ []
+lost_last None = refl
+lost_last (Some stretch) = refl
+
+module _ (first : RowsFromView) (page row : ℕ) where
+  -- rows are passed that are all lost
+  pub record AreLostSoFar (now : RowsFromView) (due : ℕ) (lost : Option Stretch) : Type 0 where
+    pub over : List PageRow
+    pub passes : PassesOver first over now
+    pub due_is : due ≡ row + length over
+    pub at : row_due now ≡ due
+    pub none : found_of over ≡ []
+    pub items : (rows : List PageRow) → page_items page row (over ++ rows) ≡ with_lost lost (page_items page due rows)
+    pub few : rows_of lost ≤ due
+
+  pub none_lost : row_due first ≡ row → row ≤ first.here.form.rows → AreLostSoFar first row None
+  none_lost at within = record {
+    over = [];
+    passes = passes_none first (omega (arith, at, within));
+    due_is = omega arith;
+    at = at;
+    none = refl;
+    items = λ rows. refl;
+    few = omega arith;
+  }
+
+  module _ (now new : RowsFromView) (due : ℕ) (lost : Option Stretch) (so_far : AreLostSoFar now due lost) where
+    -- where rows are due on a page
+    pub due_within : (over : List PageRow) → PassesOver now over new → due + length over ≤ first.here.form.rows
+    due_within over passes =
+        let same : now.here.form.rows ≡ first.here.form.rows =
+        ap (λ (p : FilePage). p.form.rows) so_far.passes.same_here in
+        omega (arith, passes.next, passes.within, same, so_far.at)
+
+    -- more are lost
+    pub more_lost : (n : ℕ) (cause : Cause) → IsNextFrom now (Some (Lost n cause)) new
+        → AreLostSoFar new (due + n) (Some (longer lost page due n cause))
+    more_lost n cause (some, passes) =
+        let others : List PageRow = replicate n (Err cause) in
+        let len : length others ≡ n = length-replicate n (Err cause) in
+        record {
+          over = so_far.over ++ others;
+          passes = passes_on first now new so_far.over others so_far.passes passes;
+          due_is = omega (arith, so_far.due_is, length-append so_far.over others, len);
+          at = omega (arith, passes.next, so_far.at, len);
+          none = found_append so_far.over others
+              ∙ ap (λ (l : List (List Colour)). l ++ found_of others) so_far.none ∙ none_found n cause;
+          items = λ rows. ap (page_items page row) (append_assoc so_far.over others rows)
+              ∙ so_far.items (others ++ rows) ∙ lost_on lost page due n cause rows some;
+          few = longer_few lost so_far.few;
+        }
+      where
+        longer_few : (lost : Option Stretch) → rows_of lost ≤ due
+            → rows_of (Some (longer lost page due n cause)) ≤ due + n
+        longer_few None few = omega arith
+        longer_few (Some stretch) few = omega (arith, few)
+
+    -- the next one is found
+    pub found_ahead : IsNextFrom now (Some Found) new
+        → IsAhead first page row (record { row = due + 1; lost = lost; found = true }) new
+    found_ahead (passes, none, ends) =
+        let last : List PageRow = Ok new.last ∷ [] in
+        record {
+          over = so_far.over ++ last;
+          passes = passes_on first now new so_far.over last so_far.passes passes;
+          row_is = omega (arith, so_far.due_is, length_push so_far.over (Ok new.last));
+          lost_are = λ rows _. ap (λ (l : List PageRow). lost_from page row l) (append_assoc so_far.over last rows)
+              ∙ ap lost_of (so_far.items (Ok new.last ∷ rows))
+              ∙ lost_then lost page due new.last (page_items page (due + 1) rows);
+          found = λ _. (
+            found_append so_far.over last ∙ ap (λ (l : List (List Colour)). l ++ new.last ∷ []) so_far.none,
+            (so_far.over, new.last, refl),
+            none,
+            ends,
+          );
+          ended = λ not. absurd cc;
+        }
+
+    -- no other is left
+    pub none_ahead : IsNextFrom now None new
+        → IsAhead first page row (record { row = due; lost = lost; found = false }) new
+    none_ahead (passes, all, are, alone) = record {
+      over = so_far.over ++ [];
+      passes = passes_on first now new so_far.over [] so_far.passes passes;
+      row_is = omega (arith, so_far.due_is, length-append so_far.over []);
+      lost_are = λ rows none. rw (none refl) (
+          ap (λ (l : List PageRow). lost_from page row l) (append_assoc so_far.over [] [])
+          ∙ ap lost_of (so_far.items [])
+          ∙ lost_last lost
+          );
+      found = λ is. absurd cc;
+      ended = λ _. (ap found_of (append-nil so_far.over) ∙ so_far.none, all, alone);
+    }
+
+-- stretches are written after others, where one more has room
+stretches_put : (closed old now new : List FaxLost) (ahead : Option Stretch) (count to : ℕ)
+    → now ≡ closed ++ drop count old → count ≡ length closed → length now ≡ length old → count < length old
+    → IsStretchPut ahead now count to new
+    → (new ≡ (closed ++ stretches_of ahead) ++ drop to old) × (to ≡ length (closed ++ stretches_of ahead))
+    × (to ≤ length old) × (to ≤ count + 1)
+stretches_put closed old now new None count to so_far count_is len room (to_is, is) =
+    let same : closed ++ [] ≡ closed = append-nil closed in (
+      is ∙ so_far ∙ rw (same, to_is) refl,
+      to_is ∙ count_is ∙ ap (λ (l : List FaxLost). length l) (sym same),
+      omega (arith, to_is, room),
+      omega (arith, to_is),
+    )
+stretches_put closed old now new (Some stretch) count to so_far count_is len room (to_is, put) = elim put [
+  | inl (there, is) ↦ (
+    is ∙ one_set closed old now count (stretch_lost stretch) (sym count_is) room so_far
+        ∙ ap (λ n. (closed ++ stretch_lost stretch ∷ []) ++ drop n old) (sym to_is),
+    to_is ∙ ap (λ n. n + 1) count_is ∙ sym (length_push closed (stretch_lost stretch)),
+    omega (arith, to_is, room),
+    omega (arith, to_is),
+  )
+  | inr (full, is) ↦ absurd (omega (arith, full, len, room))
+]
+
+module _ (first : RowsFromView) (page row stride : ℕ) (old : List ℕ) (old_lost : List FaxLost) where
+  -- so much is written
+  pub record AreWrittenSoFar (now : RowsFromView) (due count used stretches : ℕ) (out : List ℕ) (lost : List FaxLost)
+      : Type 0 where
+    pub over : List PageRow
+    pub passes : PassesOver first over now
+    pub due_is : due ≡ row + length over
+    pub at : row_due now ≡ due
+    pub count_is : count ≡ length (found_of over)
+    pub bytes : length (flat_map (padded_row stride) (found_of over)) ≡ used
+    pub used_is : used ≡ count * stride
+    pub within : used ≤ length old
+    pub written : out ≡ flat_map (padded_row stride) (found_of over) ++ drop used old
+    pub closed : List FaxLost
+    pub stretches_are : (rows : List PageRow) → lost_from page row (over ++ rows) ≡ closed ++ lost_from page due rows
+    pub stretches_is : stretches ≡ length closed
+    pub put : lost ≡ closed ++ drop stretches old_lost
+    pub fits : stretches ≤ length old_lost
+    pub few : stretches + row ≤ due
+    pub ends : ((used ≡ 0) × (stretches ≡ 0))
+        ⊎ (EndsFound over × (now.reader.before ≡ None) × EndsWithPage now)
+
+  pub nothing_written : row_due first ≡ row → row ≤ first.here.form.rows → AreWrittenSoFar first row 0 0 0 old old_lost
+  nothing_written at within = record {
+    over = [];
+    passes = passes_none first (omega (arith, at, within));
+    due_is = omega arith;
+    at = at;
+    count_is = refl;
+    bytes = refl;
+    used_is = omega arith;
+    within = omega arith;
+    written = refl;
+    closed = [];
+    stretches_are = λ rows. refl;
+    stretches_is = refl;
+    put = refl;
+    fits = omega arith;
+    few = omega arith;
+    ends = inl (refl, refl);
+  }
+
+  module _ (now new : RowsFromView) (due count used stretches : ℕ) (out : List ℕ) (lost : List FaxLost)
+      (so_far : AreWrittenSoFar now due count used stretches out lost) (ahead : Ahead)
+      (next : IsAhead now page due ahead new) (len_lost : length lost ≡ length old_lost)
+      (room : stretches < length old_lost) (to : ℕ) (new_lost : List FaxLost)
+      (stretch : IsStretchPut ahead.lost lost stretches to new_lost) where
+    abbrev its_over : List PageRow
+    its_over = so_far.over ++ next.over
+
+    its_passes : PassesOver first its_over new
+    its_passes = passes_on first now new so_far.over next.over so_far.passes next.passes
+
+    abbrev its_closed : List FaxLost
+    its_closed = so_far.closed ++ stretches_of ahead.lost
+
+    due_next : ahead.row ≡ row + length its_over
+    due_next = omega (arith, next.row_is, so_far.due_is, length-append so_far.over next.over)
+
+    its_lost : (rows : List PageRow) → (ahead.found ≡ false → rows ≡ [])
+        → lost_from page row (its_over ++ rows) ≡ its_closed ++ lost_from page ahead.row rows
+    its_lost rows none =
+        ap (λ (l : List PageRow). lost_from page row l) (append_assoc so_far.over next.over rows)
+        ∙ so_far.stretches_are (next.over ++ rows)
+        ∙ ap (λ (l : List FaxLost). so_far.closed ++ l) (next.lost_are rows none)
+        ∙ sym (append_assoc so_far.closed (stretches_of ahead.lost) (lost_from page ahead.row rows))
+
+    abbrev ThePut : Type 0
+    ThePut =
+        (new_lost ≡ its_closed ++ drop to old_lost) × (to ≡ length its_closed) × (to ≤ length old_lost)
+        × (to ≤ stretches + 1)
+
+    its_put : ThePut
+    its_put = stretches_put so_far.closed old_lost lost new_lost ahead.lost stretches to so_far.put so_far.stretches_is
+        len_lost room stretch
+
+    -- a row that is found
+    pub one_more : ahead.found ≡ true → length new.last ≡ new.here.form.width
+        → packed_len first.here.form.width ≤ stride → length out ≡ length old → (end : ℕ) (new_out : List ℕ)
+        → IsPutAt (padded_row stride new.last) out used (Some end) new_out
+        → AreWrittenSoFar new ahead.row (count + 1) end to new_out new_lost
+    one_more is width fits len_out end new_out (end_is, inside, new_is) =
+        let (alone, ends, none, with_page) = next.found is in
+        let same_width : length new.last ≡ first.here.form.width =
+        width ∙ ap (λ (p : FilePage). p.form.width) its_passes.same_here in
+        let short : packed_len (length new.last) ≤ stride = rw same_width fits in
+        let fills = fills_stride stride new.last short in
+        let front = flat_map (padded_row stride) (found_of so_far.over) in
+        let rows_are : found_of its_over ≡ found_of so_far.over ++ new.last ∷ [] =
+        found_append so_far.over next.over ∙ ap (λ (l : List (List Colour)). found_of so_far.over ++ l) alone in
+        let bytes_are : flat_map (padded_row stride) (found_of its_over) ≡ front ++ padded_row stride new.last =
+        ap (λ (l : List (List Colour)). flat_map (padded_row stride) l) rows_are
+        ∙ flat_map-append (padded_row stride) (found_of so_far.over) (new.last ∷ [])
+        ∙ ap (λ (l : List ℕ). front ++ l) (append-nil (padded_row stride new.last)) in
+        let sum : (count + 1) * stride ≡ count * stride + stride = omega arith in
+        record {
+          over = its_over;
+          passes = its_passes;
+          due_is = due_next;
+          at = omega (arith, next.passes.next, next.row_is, so_far.at);
+          count_is = ap (λ n. n + 1) so_far.count_is ∙ sym (length_push (found_of so_far.over) new.last)
+              ∙ ap (λ (l : List (List Colour)). length l) (sym rows_are);
+          bytes = ap (λ (l : List ℕ). length l) bytes_are ∙ length-append front (padded_row stride new.last)
+              ∙ ap (λ n. n + length (padded_row stride new.last)) so_far.bytes ∙ sym end_is;
+          used_is = omega (arith, end_is, fills, so_far.used_is, sum);
+          within = omega (arith, inside, len_out);
+          written = more_put front old out (padded_row stride new.last) new_out used end so_far.bytes so_far.written
+              end_is new_is
+              ∙ ap (λ (l : List ℕ). l ++ drop end old) (sym bytes_are);
+          closed = its_closed;
+          stretches_are = λ rows. its_lost rows (λ not. absurd (let apart : true ≡ false = sym is ∙ not in cc));
+          stretches_is = its_put.1;
+          put = its_put.0;
+          fits = its_put.2;
+          few =
+              let some : 0 < length next.over = ends_some next.over ends in
+              omega (arith, its_put.3, so_far.few, next.row_is, some);
+          ends = inr (ends_later so_far.over next.over ends, none, with_page);
+        }
+      where
+        ends_some : (over : List PageRow) → EndsFound over → 0 < length over
+        ends_some over (before, row, is) =
+            let len = ap (λ (l : List PageRow). length l) is ∙ length_push before (Ok row) in omega (arith, len)
+
+        ends_later : (over later : List PageRow) → EndsFound later → EndsFound (over ++ later)
+        ends_later over later (before, row, is) = (
+          over ++ before,
+          row,
+          ap (λ (l : List PageRow). over ++ l) is ∙ sym (append_assoc over before (Ok row ∷ [])),
+        )
+
+    -- no other row is left
+    pub ended : ahead.found ≡ false → AreRowsFilled page row stride first old old_lost
+        (record { cursor = record { page = page; row = ahead.row }; count = count; used = to; stop = Ended Proper }) new
+        out new_lost
+    ended is =
+        let (none, all, alone) = next.ended is in
+        let found_are : found_of its_over ≡ found_of so_far.over =
+        found_append so_far.over next.over ∙ ap (λ (l : List (List Colour)). found_of so_far.over ++ l) none
+        ∙ append-nil (found_of so_far.over) in
+        let lost_are : lost_from page row its_over ≡ its_closed =
+        ap (λ (l : List PageRow). lost_from page row l) (sym (append-nil its_over)) ∙ its_lost [] (λ _. refl)
+        ∙ append-nil its_closed in
+        let at : row_due new ≡ ahead.row = omega (arith, next.passes.next, next.row_is, so_far.at) in
+        record {
+          same_file = its_passes.same_file;
+          same_here = its_passes.same_here;
+          row_is = ap (λ n. record { page = page; row = n }) (sym at);
+          within = omega (arith, all);
+          ends = inl all;
+          with_page = λ _. alone;
+          written = λ rest left. (
+            its_over ++ rest,
+            its_passes.followed rest left,
+            record {
+              over = its_over;
+              split = refl;
+              count = so_far.count_is ∙ ap (λ (l : List (List Colour)). length l) (sym found_are);
+              used = its_put.1 ∙ ap (λ (l : List FaxLost). length l) (sym lost_are);
+              cursor = ap (λ n. record { page = page; row = n }) due_next;
+              written = so_far.written
+                  ∙ ap (λ (l : List (List Colour)). flat_map (padded_row stride) l ++ drop used old) (sym found_are)
+                  ∙ ap (λ n. flat_map (padded_row stride) (found_of its_over) ++ drop n old) so_far.used_is;
+              lost_are = its_put.0 ∙ ap (λ (l : List FaxLost). l ++ drop to old_lost) (sym lost_are);
+              stops = alone rest left;
+            },
+          );
+        }
+
+  -- no more has room
+  pub is_done : (now : RowsFromView) (due count used stretches : ℕ) (out : List ℕ) (lost : List FaxLost)
+      → AreWrittenSoFar now due count used stretches out lost → HasRoom (length old) 0 stride 0 (length old_lost)
+      → IsFull (length old) used stride stretches (length old_lost)
+      → AreRowsFilled page row stride first old old_lost
+      (record { cursor = record { page = page; row = due }; count = count; used = stretches; stop = Done }) now out lost
+  is_done now due count used stretches out lost so_far room full =
+      let (ends, none, with_page) = it_ends so_far.ends in
+      let lost_are : lost_from page row so_far.over ≡ so_far.closed =
+      ap (λ (l : List PageRow). lost_from page row l) (sym (append-nil so_far.over)) ∙ so_far.stretches_are []
+      ∙ append-nil so_far.closed in
+      let rows_same : now.here.form.rows ≡ first.here.form.rows =
+      ap (λ (p : FilePage). p.form.rows) so_far.passes.same_here in
+      record {
+        same_file = so_far.passes.same_file;
+        same_here = so_far.passes.same_here;
+        row_is = ap (λ n. record { page = page; row = n }) (sym so_far.at);
+        within = omega (arith, so_far.passes.within, rows_same);
+        ends = inr none;
+        with_page = with_page;
+        written = λ rest left. (
+          so_far.over ++ rest,
+          so_far.passes.followed rest left,
+          record {
+            over = so_far.over;
+            split = refl;
+            count = so_far.count_is;
+            used = so_far.stretches_is ∙ ap (λ (l : List FaxLost). length l) (sym lost_are);
+            cursor = ap (λ n. record { page = page; row = n }) so_far.due_is;
+            written = so_far.written
+                ∙ ap (λ n. flat_map (padded_row stride) (found_of so_far.over) ++ drop n old) so_far.used_is;
+            lost_are = so_far.put ∙ ap (λ (l : List FaxLost). l ++ drop stretches old_lost) (sym lost_are);
+            stops = (ends, rw (← so_far.used_is) full);
+          },
+        );
+      }
+    where
+      it_ends : ((used ≡ 0) × (stretches ≡ 0))
+          ⊎ (EndsFound so_far.over × (now.reader.before ≡ None) × EndsWithPage now)
+          → EndsFound so_far.over × (now.reader.before ≡ None) × EndsWithPage now
+      it_ends (inl (none, no_stretch)) = elim full [
+        | inl short ↦ absurd (omega (arith, short, none, room.0))
+        | inr few ↦ absurd (omega (arith, few, no_stretch, room.1))
+      ]
+      it_ends (inr so) = so
+
+-- the place of the row that is due, which its strip begins with
+pub told_at : (left : RowsFromView) (cursor : Cursor) (place : FaxPlace) (runs : List ℕ) → place ≡ place_at cursor
+    → cursor.row ≡ row_due left → cursor.row ≢ left.here.form.rows → EndsOrGoesOn left → IsPlaceNow left None
+    → IsToldAfter left cursor place runs runs
+told_at left cursor place runs place_is row_is more (within, ends) placed =
+    let due : row_due left < left.here.form.rows = omega (arith, within, row_is, more) in
+    let row_there : place.row ≡ row_due left = ap (λ (p : FaxPlace). p.row) place_is ∙ row_is in
+    let (s, i, there, fits, width, first, rows_are) = placed (goes_on ends) due in (
+      ap cursor_of place_is,
+      refl,
+      inr (
+        s,
+        i,
+        record { bits = 0; reference = white_row left.here.form.width },
+        record {
+          row = rw row_there there;
+          within = fits;
+          width = width;
+          so = inl (ap (λ (p : FaxPlace). p.runs) place_is, first refl, refl, refl);
+        },
+        rows_are,
+      ),
+    )
+  where
+    goes_on : (row_due left ≡ left.here.form.rows) ⊎ (left.reader.before ≡ None) → left.reader.before ≡ None
+    goes_on (inl all) = absurd (omega (arith, all, row_is, more))
+    goes_on (inr none) = none
+
+-- or it stands inside its strip
+pub told_inside : (left : RowsFromView) (cursor : Cursor) (place : FaxPlace) (old_runs runs : List ℕ)
+    (lent : PlaceInStrip) → cursor_of place ≡ cursor → place.bits ≡ lent.bits
+    → cursor.row ≡ row_due left → cursor.row ≢ left.here.form.rows → EndsOrGoesOn left
+    → IsPlaceNow left (Some lent) → IsPutAt (runs_of lent.reference.now) old_runs 0 (Some place.runs) runs
+    → IsToldAfter left cursor place old_runs runs
+told_inside left cursor place old_runs runs lent cursor_is bits_are row_is more (within, ends) placed put =
+    let due : row_due left < left.here.form.rows = omega (arith, within, row_is, more) in
+    let row_there : place.row ≡ row_due left = ap (λ (c : Cursor). c.row) cursor_is ∙ row_is in
+    let (s, i, there, fits, width, first, rows_are) = placed (goes_on ends) due in
+    let told = due_told left.here.form.width lent.reference.now (row_due left) lent.bits place.runs cursor.page old_runs
+    runs width put in (
+      cursor_is,
+      told.2,
+      inr (
+        s,
+        i,
+        record { bits = lent.bits; reference = lent.reference.now },
+        record {
+          row = rw row_there there;
+          within = fits;
+          width = width;
+          so = inr (told.0, sym bits_are, runs_told told.1.reference);
+        },
+        rows_are,
+      ),
+    )
+  where
+    goes_on : (row_due left ≡ left.here.form.rows) ⊎ (left.reader.before ≡ None) → left.reader.before ≡ None
+    goes_on (inl all) = absurd (omega (arith, all, row_is, more))
+    goes_on (inr none) = none
+
+    runs_told : ((place.runs ≡ 0) × (lent.reference.now ≡ white_row left.here.form.width))
+        ⊎ (HasRuns place runs × (runs_of lent.reference.now ≡ take place.runs runs))
+        → runs_of lent.reference.now ≡ take place.runs runs
+    runs_told (inl (none, _)) = absurd (has_some none)
+      where
+        has_some : place.runs ≡ 0 → ⊥
+        has_some none = omega (arith, none, put.0, has_a_run White 0 lent.reference.now)
+    runs_told (inr (_, is)) = is
+
+-- nothing is looked for at a place, for this reason
+module _ (file : List ℕ) (here : FilePage) (stride : ℕ) (place : FaxPlace) (runs old : List ℕ)
+    (old_lost : List FaxLost) where
+  abbrev m : ℕ
+  m = here.form.rows_per_strip
+
+  pub none_before : (stop : Stop) (filled : Filled) → 0 < m
+      → IsStopBefore here.form place stride (length old) (length old_lost) (Some stop)
+      → filled ≡ none_filled_at (cursor_of place) stop
+      → WritesFrom file here stride place runs old old_lost filled place runs old old_lost
+  none_before stop filled some why filled_is =
+      let stop_is : filled.stop ≡ stop = ap (λ (f : Filled). f.stop) filled_is in
+      inr (
+        rw stop_is (none_for stop why),
+        filled_is ∙ ap (none_filled_at (cursor_of place)) (sym stop_is),
+        refl,
+        refl,
+        refl,
+        refl,
+      )
+    where
+      none_for : (stop : Stop) → IsStopBefore here.form place stride (length old) (length old_lost) (Some stop)
+          → WritesNone file here stride place runs (length old) (length old_lost) stop
+      none_for Done why = absurd why
+      none_for Memory why = absurd why
+      none_for (Ended (Fault p r cause)) why = absurd why
+      none_for NoRoom full = full
+      none_for (Ended Proper) why = why
+      none_for (Ended Outside) (room, more, out) = (room, more, λ s i at its. nowhere s i at its out)
+        where
+          nowhere : (s i : ℕ) (at : Inner) → IsPlaceOn file here place runs s i at
+              → (here.form.rows < place.row) ⊎ ((place.runs ≡ 0) × (place.row % m ≢ 0)) → ⊥
+          nowhere s i at its (inl past) = omega (arith, past, its.row.row, its.row.place)
+          nowhere s i at its (inr (none, inside)) = elim its.so [
+            | inl first ↦
+                let row_is : place.row ≡ s * m + 0 = its.row.place ∙ ap (λ n. s * m + n) first.1 in
+                inside (rw row_is (mod-mul-add s m 0 some))
+            | inr has ↦ omega (arith, none, has.0.0)
+          ]
+
+  -- what a place of the caller's is
+  module _ (bits : ℕ) (row_before : RowBefore) (before : IsRowBefore place runs (Some row_before))
+      (none : place.runs ≡ 0 → bits ≡ 0) (some_bits : place.runs ≢ 0 → bits ≡ place.bits) where
+    pub inner_is : (s i : ℕ) (at : Inner) → IsPlaceOn file here place runs s i at
+        → IsInnerOf file here s bits row_before at
+    inner_is s i at its = by_before row_before before
+      where
+        by_before : (row_before : RowBefore) → IsRowBefore place runs (Some row_before)
+            → IsInnerOf file here s bits row_before at
+        by_before White_row_before is = elim its.so [
+          | inl (_, _, at_none, white) ↦ record {
+            bits_are = at_none ∙ sym (none is);
+            within = omega (arith, its.within, at_none, none is);
+            reference = white;
+          }
+          | inr (has, _, _) ↦ absurd (omega (arith, is, has.0))
+        ]
+        by_before (Runs those) (has, those_are) = elim its.so [
+          | inl (no_runs, _, _, _) ↦ absurd (omega (arith, no_runs, has.0))
+          | inr (_, at_bits, runs_are) ↦
+              let same : bits ≡ place.bits = some_bits (λ zero. omega (arith, zero, has.0)) in record {
+                bits_are = at_bits ∙ sym same;
+                within = omega (arith, its.within, at_bits, same);
+                reference = (its.width, runs_are ∙ sym those_are);
+              }
+        ]
+
+    pub place_is : 0 < m → (place.runs ≡ 0 → place.row % m ≡ 0) → (s i : ℕ) (at : Inner)
+        → IsRowOfStrip here.form place.row s i → IsInnerOf file here s bits row_before at
+        → IsPlaceOn file here place runs s i at
+    place_is some first s i at there inner = record {
+      row = there;
+      within = omega (arith, inner.within, inner.bits_are);
+      width = wide row_before inner.reference;
+      so = by_before row_before before inner.reference;
+    }
+      where
+        wide : (row_before : RowBefore) → IsBefore here.form.width row_before at.reference
+            → length at.reference ≡ here.form.width
+        wide White_row_before white = ap (λ (l : List Colour). length l) white ∙ length-replicate here.form.width _
+        wide (Runs those) (width, _) = width
+
+        by_before : (row_before : RowBefore) → IsRowBefore place runs (Some row_before)
+            → IsBefore here.form.width row_before at.reference
+            → ((place.runs ≡ 0) × (i ≡ 0) × (at.bits ≡ 0) × (at.reference ≡ white_row here.form.width))
+            ⊎ (HasRuns place runs × (at.bits ≡ place.bits) × (runs_of at.reference ≡ take place.runs runs))
+        by_before White_row_before is white =
+            let less : i < m = omega (arith, there.row) in
+            let rest : place.row % m ≡ i = rw there.place (mod-mul-add s m i less) in
+            inl (is, sym rest ∙ first is, inner.bits_are ∙ none is, white)
+        by_before (Runs those) (has, those_are) (_, runs_are) =
+            let same : bits ≡ place.bits = some_bits (λ zero. omega (arith, zero, has.0)) in
+            inr (has, inner.bits_are ∙ same, runs_are ∙ those_are)
+
+  -- what is left from the place on is written
+  pub all_from : (first new : RowsFromView) (filled : Filled) (bits : ℕ) (row_before : RowBefore) (place' : FaxPlace)
+      (new_runs out : List ℕ) (lost : List FaxLost) (s i : ℕ) (at : Inner) (rest : List PageRow)
+      → HasRoomFor here.form.width stride (length old) (length old_lost)
+      → IsPlaceOn file here place runs s i at
+      → ((rows : List PageRow) → AreLeftNow first rows → AreRowsFrom file here s i at rows)
+      → first.file ≡ file → first.here ≡ here
+      → AreRowsFilled place.page place.row stride first old old_lost filled new out lost
+      → AreLeftNow new rest → IsToldAfter new filled.cursor place' runs new_runs
+      → WritesFrom file here stride place runs old old_lost filled place' new_runs out lost
+  all_from first new filled bits row_before place' new_runs out lost s i at rest room its rows_are file_is here_is
+      written left told =
+      let (rows, are, now) = written.written rest left in
+      let same_file : new.file ≡ file = written.same_file ∙ file_is in
+      let same_here : new.here ≡ here = written.same_here ∙ here_is in
+      inl (
+        room,
+        s,
+        i,
+        at,
+        its,
+        rows,
+        rest,
+        rows_are rows are,
+        now,
+        (told.0, told.1, after same_file same_here told.2),
+      )
+    where
+      after : new.file ≡ file → new.here ≡ here → IsToldPlace new filled.cursor place' new_runs
+          → ((filled.cursor.row ≡ here.form.rows) × (place' ≡ place_at filled.cursor) × (rest ≡ []))
+          ⊎ ((s : ℕ) × (i : ℕ) × (at : Inner) × IsPlaceOn file here place' new_runs s i at
+          × AreRowsFrom file here s i at rest)
+      after same_file same_here (inl (all, is)) =
+          let same : here.form.rows ≡ new.here.form.rows = ap (λ (p : FilePage). p.form.rows) (sym same_here) in
+          let row_is : filled.cursor.row ≡ row_due new = ap (λ (c : Cursor). c.row) written.row_is in
+          inl (all ∙ sym same, is, written.with_page (sym row_is ∙ all) rest left)
+      after same_file same_here (inr (s, i, at, there, rests)) = inr (
+        s,
+        i,
+        at,
+        subst (λ (f : List ℕ). IsPlaceOn f here place' new_runs s i at) same_file
+            (subst (λ (p : FilePage). IsPlaceOn new.file p place' new_runs s i at) same_here there),
+        subst (λ (f : List ℕ). AreRowsFrom f here s i at rest) same_file
+            (subst (λ (p : FilePage). AreRowsFrom new.file p s i at rest) same_here (rests rest left)),
+      )
+
+  -- no row of the page is due at the place
+  pub nowhere_from : (bits : ℕ) (row_before : RowBefore) (before : IsRowBefore place runs (Some row_before))
+      (none : place.runs ≡ 0 → bits ≡ 0) (some_bits : place.runs ≢ 0 → bits ≡ place.bits) (filled : Filled)
+      → HasRoomFor here.form.width stride (length old) (length old_lost) → place.row < here.form.rows
+      → IsNotBegunFrom (record { file = file; here = here }) place.row bits row_before no_such_place
+      → filled ≡ none_filled_at (cursor_of place) (Ended Outside)
+      → WritesFrom file here stride place runs old old_lost filled place runs old old_lost
+  nowhere_from bits row_before before none some_bits filled room due not filled_is =
+      let stop_is : filled.stop ≡ Ended Outside = ap (λ (f : Filled). f.stop) filled_is in
+      let why : WritesNone file here stride place runs (length old) (length old_lost) (Ended Outside) = (
+        room,
+        (λ all. omega (arith, due, all)),
+        λ s i at its. not s i its.row at (inner_is bits row_before before none some_bits s i at its),
+      )
+      in
+      inr (
+        rw stop_is why,
+        filled_is ∙ ap (none_filled_at (cursor_of place)) (sym stop_is),
+        refl,
+        refl,
+        refl,
+        refl,
+      )

@@ -1,0 +1,134 @@
+-- What is left of a damaged page from a place on, told.
+use Rattle.std.specs.Prelude.{◌≡◌, ◌≢◌, ℕ, ◌+◌, ◌-◌, ◌*◌, ◌<◌, ◌≤◌, ◌⊎◌, List, [], ◌∷◌, ◌++◌}
+use Rattle.std.specs.Prelude.{length, take, drop, flat_map, Ok, Err}
+use Rattle.fax_rows.specs.Rows.{Colour, runs_of}
+use Rattle.fax_rows.specs.Coded.{packed_len}
+use Rattle.fax_page.specs.Lines.{white_row}
+use Rattle.fax_walk.specs.declared.cursor.Cursor.{Cursor}
+use Rattle.fax_walk.specs.declared.end.End.{End}
+use Rattle.fax_walk.specs.declared.end.End.TheVariants.{Proper, Outside}
+use Rattle.fax_walk.specs.Items.{Inner}
+use Rattle.fax_walk.specs.Pages.{FilePage, IsPageAt}
+use Rattle.fax_walk.specs.Salvaged.{PageRow, AreRowsFrom, IsRowOfStrip, strip_left}
+use Rattle.fax_c.specs.declared.filled.Filled.{Filled}
+use Rattle.fax_c.specs.declared.filled.Stop.{Stop}
+use Rattle.fax_c.specs.declared.filled.Stop.TheVariants.{Done, Ended, Memory, NoRoom}
+use Rattle.fax_c.specs.declared.places.FaxPlace.{FaxPlace}
+use Rattle.fax_c.specs.declared.salvage.FaxLost.{FaxLost}
+use Rattle.fax_c.specs.declared.told.FaxTold.{FaxTold}
+use Rattle.fax_c.specs.Raster.{padded_row}
+use Rattle.fax_c.specs.Salvaged.{found_of, lost_from}
+use Rattle.fax_c.specs.Told.{IsTold}
+use Rattle.fax_c.specs.views.Places.{HasRuns, cursor_of, most_runs, place_at}
+use Rattle.fax_c.specs.views.Salvaged.{none_filled_at}
+
+-- the most bytes of a file that is read so: each place of a bit in it has 32 bits
+abbrev pub most_bytes : ℕ
+most_bytes = 536870911
+
+-- so many bytes, of which some are used, have room for one more row, and a table one for one more
+-- stretch
+abbrev pub HasRoom : ℕ → ℕ → ℕ → ℕ → ℕ → Type 0
+HasRoom len used stride stretches room = (stride ≤ len - used) × (stretches < room)
+
+-- or one of both has not
+abbrev pub IsFull : ℕ → ℕ → ℕ → ℕ → ℕ → Type 0
+IsFull len used stride stretches room = (len - used < stride) ⊎ (room ≤ stretches)
+
+-- a row of a width has room, and a stretch
+abbrev pub HasRoomFor : ℕ → ℕ → ℕ → ℕ → Type 0
+HasRoomFor width stride len room = (packed_len width ≤ stride) × HasRoom len 0 stride 0 room
+
+-- a place of the caller's is row i of strip s of a page, read so: at the strip's beginning, where
+-- it has no runs; else after its bits, and over the row with its runs
+pub record IsPlaceOn (file : List ℕ) (here : FilePage) (place : FaxPlace) (runs : List ℕ) (s i : ℕ)
+    (at : Inner) : Type 0 where
+  pub row : IsRowOfStrip here.form place.row s i
+  pub within : at.bits ≤ 8 * length (strip_left here file s).0
+  pub width : length at.reference ≡ here.form.width
+  pub so : ((place.runs ≡ 0) × (i ≡ 0) × (at.bits ≡ 0) × (at.reference ≡ white_row here.form.width))
+      ⊎ (HasRuns place runs × (at.bits ≡ place.bits)
+      × (runs_of at.reference ≡ take place.runs runs))
+
+-- the last of these rows is found
+abbrev pub EndsFound : List PageRow → Type 0
+EndsFound rows = (before : List PageRow) × (row : List Colour) × (rows ≡ before ++ Ok row ∷ [])
+
+-- why no more is written after these rows: there is no room for one more row or one more stretch,
+-- and the last of them is found; or no other row is left of the page
+abbrev pub StopsAfter : List PageRow → List PageRow → ℕ → ℕ → ℕ → ℕ → ℕ → Stop → Type 0
+StopsAfter over rest len used stride stretches room Done =
+    EndsFound over × IsFull len used stride stretches room
+StopsAfter over rest len used stride stretches room (Ended Proper) = rest ≡ []
+StopsAfter over rest len used stride stretches room stop = ⊥
+
+-- of these rows, which are left from row r of a page on, the first ones are written: those that are
+-- found one after another, each in so many bytes, and the stretches of those that are lost; nothing
+-- else is changed
+pub record AreFirstWritten (page r stride : ℕ) (rows rest : List PageRow) (old : List ℕ)
+    (old_lost : List FaxLost) (filled : Filled) (new : List ℕ) (lost : List FaxLost) : Type 0 where
+  pub over : List PageRow
+  pub split : rows ≡ over ++ rest
+  pub count : filled.count ≡ length (found_of over)
+  pub used : filled.used ≡ length (lost_from page r over)
+  pub cursor : filled.cursor ≡ record { page = page; row = r + length over }
+  pub written : new ≡ flat_map (padded_row stride) (found_of over)
+      ++ drop (filled.count * stride) old
+  pub lost_are : lost ≡ lost_from page r over ++ drop filled.used old_lost
+  pub stops : StopsAfter over rest (length old) (filled.count * stride) stride filled.used
+      (length old_lost) filled.stop
+
+-- the place after the rows that were written, from which on this is left, and no run but its own is
+-- changed: a place of the page, or the one after its last row
+abbrev pub IsPlaceAfter : List ℕ → FilePage → List PageRow → Cursor → FaxPlace → List ℕ → List ℕ
+    → Type 0
+IsPlaceAfter file here rest cursor place old_runs runs =
+    (cursor_of place ≡ cursor) × (drop place.runs runs ≡ drop place.runs old_runs)
+    × (((cursor.row ≡ here.form.rows) × (place ≡ place_at cursor) × (rest ≡ []))
+    ⊎ ((s : ℕ) × (i : ℕ) × (at : Inner) × IsPlaceOn file here place runs s i at
+    × AreRowsFrom file here s i at rest))
+
+-- why nothing is written from a place on: no row and no stretch has room; or no row of the page is
+-- left, or it is no place of the page, or memory was refused
+abbrev pub WritesNone : List ℕ → FilePage → ℕ → FaxPlace → List ℕ → ℕ → ℕ → Stop → Type 0
+WritesNone file here stride place runs len room NoRoom =
+    HasRoomFor here.form.width stride len room → ⊥
+WritesNone file here stride place runs len room (Ended Proper) =
+    HasRoomFor here.form.width stride len room × (place.row ≡ here.form.rows)
+WritesNone file here stride place runs len room (Ended Outside) =
+    HasRoomFor here.form.width stride len room × (place.row ≢ here.form.rows)
+    × ((s i : ℕ) (at : Inner) → IsPlaceOn file here place runs s i at → ⊥)
+WritesNone file here stride place runs len room Memory =
+    HasRoomFor here.form.width stride len room × (place.row < here.form.rows)
+WritesNone file here stride place runs len room stop = ⊥
+
+-- what is left of a page from a place on is written, which is then the one after it; or nothing is,
+-- and nothing is changed
+abbrev pub WritesFrom : List ℕ → FilePage → ℕ → FaxPlace → List ℕ → List ℕ → List FaxLost → Filled
+    → FaxPlace → List ℕ → List ℕ → List FaxLost → Type 0
+WritesFrom file here stride old_place old_runs old old_lost filled place runs new lost =
+    (HasRoomFor here.form.width stride (length old) (length old_lost)
+    × (s : ℕ) × (i : ℕ) × (at : Inner) × IsPlaceOn file here old_place old_runs s i at
+    × (rows : List PageRow) × (rest : List PageRow) × AreRowsFrom file here s i at rows
+    × AreFirstWritten old_place.page old_place.row stride rows rest old old_lost filled new lost
+    × IsPlaceAfter file here rest filled.cursor place old_runs runs)
+    ⊎ (WritesNone file here stride old_place old_runs (length old) (length old_lost) filled.stop
+    × (filled ≡ none_filled_at (cursor_of old_place) filled.stop)
+    × (place ≡ old_place) × (runs ≡ old_runs) × (new ≡ old) × (lost ≡ old_lost))
+
+-- a page has the number of a place, and what is left of it is written and told; or there is no such
+-- page; or the file is too long, or not all runs of any row have room; then nothing is changed
+abbrev pub TellsSalvagedFrom : List ℕ → ℕ → FaxPlace → List ℕ → List ℕ → List FaxLost → FaxPlace
+    → List ℕ → List ℕ → List FaxLost → FaxTold → FaxTold → ℕ → Type 0
+TellsSalvagedFrom file stride old_place old_runs old old_lost place runs new lost old_told told
+    status =
+    ((length file ≤ most_bytes) × (most_runs ≤ length old_runs)
+    × (filled : Filled) × IsTold filled told status
+    × (((here : FilePage) × IsPageAt file (record { page = old_place.page; row = 0 }) (Ok here)
+    × WritesFrom file here stride old_place old_runs old old_lost filled place runs new lost)
+    ⊎ ((end : End) × IsPageAt file (record { page = old_place.page; row = 0 }) (Err end)
+    × (filled ≡ none_filled_at (cursor_of old_place) (Ended end))
+    × (place ≡ old_place) × (runs ≡ old_runs) × (new ≡ old) × (lost ≡ old_lost))))
+    ⊎ ((status ≡ 7) × (length file ≤ most_bytes → most_runs ≤ length old_runs → ⊥)
+    × (place ≡ old_place) × (runs ≡ old_runs) × (new ≡ old) × (lost ≡ old_lost)
+    × (told ≡ old_told))
