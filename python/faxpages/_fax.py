@@ -19,7 +19,8 @@ from ._image import Image
 from ._raster import Raster, dpi_of
 from ._report import Report, check
 from ._rows import ROWS, Ahead, Row, read
-from ._salvaged import Salvaged, salvage_page
+from ._salvaged import Salvaged, Stretch, salvage_page
+from ._salvaged_rows import salvaged_rows
 from ._source import ReadableBuffer, Source, bytes_of, own
 from ._told import MOST, fraction, number_of, stopped
 from .faults import Fault, OutsideError
@@ -200,6 +201,17 @@ class Page:
         """
         like = Raster(self.width, 0, b"", self.x, self.y, self.unit)
         return salvage_page(self.fax._data, self.number, self.rows, like)
+
+    def salvaged_rows(self) -> Iterator[Union[Row, Stretch]]:
+        """The same, one after another from the top down: a Row for each row that is found, and a Stretch for those that
+        are lost. It takes memory for some thousand rows, however many the form says, and no row is read twice.
+
+        >>> for left in faxpages.open("samples/three-pages.tif").page(2).salvaged_rows():
+        ...     print(left)
+        Row(page=2, number=0, width=8, packed=b'\\x18')
+        Stretch(first=1, rows=1, name='DataEnds')
+        """
+        return salvaged_rows(self.fax._data, self.number, self.width)
 
     def _read(self, partial: bool) -> Tuple[bytes, Optional[Fault]]:
         """The bytes of the rows before a fault, and the fault, if it is not to be raised."""

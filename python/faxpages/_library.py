@@ -138,6 +138,8 @@ CALLS = {
     "faxpages_changes_from": (U32, FILE + [ctypes.POINTER(Place)] + NUMBERS * 3 + [ctypes.POINTER(Told)]),
     "faxpages_salvage": (
         U32, FILE + [U32, ctypes.POINTER(Form)] + NUMBERS + [SIZE] + NUMBERS + [ctypes.POINTER(Told)]),
+    "faxpages_salvage_from": (
+        U32, FILE + [ctypes.POINTER(Place)] + NUMBERS * 2 + [SIZE] + NUMBERS + [ctypes.POINTER(Told)]),
     "faxpages_salvage_strip": (
         U32, FILE + [ctypes.POINTER(Strip)] + NUMBERS + [SIZE] + NUMBERS + [ctypes.POINTER(Told)]),
     "faxpages_check": (U32, FILE + [ctypes.c_void_p, SIZE, ctypes.POINTER(Report)]),

@@ -57,7 +57,7 @@ pub use error::{Error, Fault, Invalid, PbmFault};
 pub use page::{Filled, Page, Pages};
 pub use receiving::StripReader;
 pub use rows::{Row, RowChanges, RowFormat, RowRuns, Rows};
-pub use salvaged::{Salvaged, Stretch};
+pub use salvaged::{Left, Salvaged, SalvagedRows, Stretch};
 pub use strip::{code_strip, code_strip_runs, Strip, StripForm, StripReport, StripRows};
 pub use words::UnknownWord;
 pub use writer::Writer;
@@ -394,6 +394,30 @@ impl<'a> Fax<'a> {
         salvaged::page(self.file, page, form.width, form.rows)
     }
 
+    /// The same, one after another from the top down: each row that is found, and each stretch of rows that are lost. It
+    /// takes memory for some thousand rows, however many the form says, and no row is read twice.
+    ///
+    /// # Errors
+    ///
+    /// As [`Fax::form`], or [`Error::Memory`].
+    ///
+    /// ```
+    /// # let mut writer = faxpages::Writer::new(1)?;
+    /// # writer.add(&faxpages::Form::new(8, 20, faxpages::Coding::Mmr), 1, &[0; 20], 1)?;
+    /// # let mut file = writer.finish()?;
+    /// file[9..14].fill(0); // after the bits of eight white rows
+    /// for left in faxpages::Fax::new(&file).salvaged_rows(0)? {
+    ///     match left? {
+    ///         faxpages::Left::Row(row) => assert_eq!(row.runs(), [8]),
+    ///         faxpages::Left::Lost(lost) => assert_eq!((lost.first, lost.rows), (8, 12)),
+    ///     }
+    /// }
+    /// # Ok::<(), faxpages::Error>(())
+    /// ```
+    pub fn salvaged_rows(&self, page: u32) -> Result<SalvagedRows<'_>, Error> {
+        SalvagedRows::new(self.file, page, self.form(page)?.width)
+    }
+
     /// All pages, each whole. They end at the first that is not, with its error.
     ///
     /// ```
@@ -577,7 +601,7 @@ pub fn convert(file: &[u8], options: &Options) -> Result<Vec<u8>, Error> {
     }
 }
 
-/// The version of the calls, as 10700 for 1.7.0: of the plain sources, or of the archive that is linked.
+/// The version of the calls, as 10800 for 1.8.0: of the plain sources, or of the archive that is linked.
 pub fn version() -> u32 {
     calls::faxpages_version()
 }

@@ -1,8 +1,9 @@
 //! What is left of damaged pages and strips.
 
-use crate::calls::{self, FaxLost, FaxTold};
+use crate::calls::{self, FaxLost, FaxPlace, FaxTold};
 use crate::error::{refused, Error, Fault};
 use crate::filled;
+use crate::rows::Row;
 
 /// Rows that are lost, one after another.
 #[derive(Clone, Copy, Debug, PartialEq, Eq, Hash)]
@@ -113,3 +114,121 @@ pub(crate) fn page(file: &[u8], page: u32, width: u32, rows: u32) -> Result<Salv
         calls::faxpages_salvage(file, page, &mut form, out, stride, lost, told)
     })
 }
+
+/// What is left of a page, in the order of its rows.
+#[derive(Clone, Debug, PartialEq, Eq)]
+pub enum Left {
+    /// A row that is found.
+    Row(Row),
+    /// Rows that are lost, one after another.
+    Lost(Stretch),
+}
+
+/// How many rows, and how many stretches, are read at a time, at most.
+const ROWS: usize = 2048;
+
+/// What is left of a page, piece by piece: [`Fax::salvaged_rows`](crate::Fax::salvaged_rows) makes it. After an error
+/// it ends.
+#[derive(Debug)]
+pub struct SalvagedRows<'a> {
+    file: &'a [u8],
+    width: u32,
+    place: FaxPlace,
+    runs: Vec<u32>,
+    packed: Vec<u8>,
+    lost: Vec<FaxLost>,
+    /// What the last piece has of both that was not handed out yet, and the row that is next in it.
+    piece: Piece,
+    ended: bool,
+}
+
+/// How much of a piece was handed out.
+#[derive(Clone, Copy, Debug, Default)]
+struct Piece {
+    row: u32,
+    end: u32,
+    found: usize,
+    stretch: usize,
+    stretches: usize,
+}
+
+impl<'a> SalvagedRows<'a> {
+    /// Before the first row of the page of a form.
+    pub(crate) fn new(file: &'a [u8], page: u32, width: u32) -> Result<Self, Error> {
+        let stride = width.div_ceil(8) as usize;
+        Ok(SalvagedRows {
+            file,
+            width,
+            place: FaxPlace { page, ..calls::PLACE },
+            runs: filled(0, calls::RUNS)?,
+            packed: filled(0, ROWS * stride)?,
+            lost: filled(calls::LOST, ROWS)?,
+            piece: Piece::default(),
+            ended: false,
+        })
+    }
+
+    /// Reads the next piece.
+    fn go_on(&mut self) -> Result<(), Error> {
+        let (stride, row, mut told) = (self.width.div_ceil(8) as usize, self.place.row, calls::TOLD);
+        let status = calls::faxpages_salvage_from(
+            self.file,
+            &mut self.place,
+            &mut self.runs,
+            &mut self.packed,
+            stride,
+            &mut self.lost,
+            &mut told,
+        );
+        match status {
+            calls::DONE | calls::END => {
+                self.ended = status == calls::END;
+                self.piece = Piece { row, end: told.row, stretches: told.used, ..Piece::default() };
+                Ok(())
+            }
+            status => {
+                self.ended = true;
+                Err(refused(status, &told.fault))
+            }
+        }
+    }
+
+    /// What is next in the piece that was read last.
+    fn next_of_piece(&mut self) -> Option<Left> {
+        let piece = &mut self.piece;
+        if let Some(lost) = self.lost[..piece.stretches].get(piece.stretch).filter(|lost| lost.row == piece.row) {
+            piece.stretch += 1;
+            piece.row += lost.rows;
+            return Some(Left::Lost(Stretch { first: lost.row, rows: lost.rows, fault: Fault::of(lost.fault, 0) }));
+        }
+        if piece.row == piece.end {
+            return None;
+        }
+        let stride = self.width.div_ceil(8) as usize;
+        let packed = self.packed[piece.found * stride..][..stride].to_vec();
+        let row = Row { page: self.place.page, number: piece.row, width: self.width, packed };
+        piece.found += 1;
+        piece.row += 1;
+        Some(Left::Row(row))
+    }
+}
+
+impl Iterator for SalvagedRows<'_> {
+    type Item = Result<Left, Error>;
+
+    fn next(&mut self) -> Option<Self::Item> {
+        loop {
+            if let Some(left) = self.next_of_piece() {
+                return Some(Ok(left));
+            }
+            if self.ended {
+                return None;
+            }
+            if let Err(error) = self.go_on() {
+                return Some(Err(error));
+            }
+        }
+    }
+}
+
+impl std::iter::FusedIterator for SalvagedRows<'_> {}

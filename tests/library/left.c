@@ -1,5 +1,5 @@
 /* left: reads what damaged.py prints, and sees that the calls for what is left of strips and pages tell the same, with a
- * row's bytes one after another, and with more bytes between them. Each buffer ends at a page that nobody may touch. Prints
+ * row's bytes one after another, and with more bytes between them, and pages in pieces. Each buffer ends at a page that nobody may touch. Prints
  * how many strips and pages were tried, and how many pages are refused. */
 #include "words.h"
 #include <faxpages.h>
@@ -130,6 +130,55 @@ static void see_uncounted(void) {
     drop_wanted(&wanted);
 }
 
+/* How far the pieces of a page are seen. */
+struct seen {
+    uint32_t row;
+    size_t stretch;
+};
+
+/* The rows and the stretches of one piece are the next ones that are wanted. */
+static void see_piece(const struct wanted *wanted, struct seen *seen, const struct filled *left, size_t stride) {
+    const struct faxpages_lost *lost = (const struct faxpages_lost *)(const void *)left->lost.at;
+    size_t found = 0, stretch = 0;
+    while (seen->row < left->told.row) {
+        if (stretch < left->told.used && lost[stretch].row == seen->row) {
+            if (memcmp(&lost[stretch++], &wanted->lost[seen->stretch], sizeof *lost)) die("a stretch of a piece is another");
+            seen->row += wanted->lost[seen->stretch++].rows;
+        } else {
+            if (memcmp(left->out.at + found++ * stride, wanted->row[seen->row].at, stride))
+                die("a row of a piece is another");
+            seen->row++;
+        }
+    }
+    if (found != left->told.count || stretch != left->told.used) die("a piece tells another number of rows");
+    see(left->out, found * stride);
+    see(left->lost, stretch * sizeof *lost);
+}
+
+/* Rooms for so many rows and so many stretches, call after call, leave what one call leaves. */
+static void see_pieces(struct guarded file, uint32_t page, size_t stride, const struct wanted *wanted, size_t rows,
+                       size_t stretches) {
+    static uint32_t runs[FAXPAGES_RUNS];
+    struct faxpages_place place = {page, 0, 0, 0};
+    struct seen seen = {0, 0};
+    uint32_t status;
+    do {
+        struct filled left;
+        memset(&left, 0, sizeof left);
+        left.out = make(rows * stride);
+        left.lost = make(stretches * sizeof(struct faxpages_lost));
+        status = faxpages_salvage_from(file.at, file.len, &place, runs, FAXPAGES_RUNS, left.out.at, left.out.len, stride,
+                                       (struct faxpages_lost *)(void *)left.lost.at, stretches, &left.told);
+        if (status != FAXPAGES_DONE && status != FAXPAGES_END) die("a piece ends with another status");
+        if (place.page != page || place.row != left.told.row || left.told.page != page) die("a piece ends elsewhere");
+        if (status == FAXPAGES_DONE && left.told.count < rows && left.told.used < stretches) die("a piece ends early");
+        see_piece(wanted, &seen, &left, stride);
+        drop(left.out);
+        drop(left.lost);
+    } while (status == FAXPAGES_DONE);
+    if (seen.row != wanted->rows || seen.stretch != wanted->count) die("pieces leave other rows than one call");
+}
+
 static void see_page(void) {
     uint32_t page = number(), width = number(), rows = number();
     struct guarded file = digits();
@@ -145,6 +194,9 @@ static void see_page(void) {
         see_left(&wanted, &left, stride + more);
         if (form.width != width || form.rows != rows) die("a form is another");
     }
+    see_pieces(file, page, stride, &wanted, 1, 1);
+    see_pieces(file, page, stride, &wanted, 2, 3);
+    see_pieces(file, page, stride, &wanted, MOST_ROWS, 2);
     drop(file);
     drop_wanted(&wanted);
 }

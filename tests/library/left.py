@@ -33,6 +33,23 @@ def see(left: faxpages.Salvaged, rows: int, words: List[str], line: str) -> None
         sys.exit(f"left: another number of rows is found: {line}")
 
 
+def see_pieces(page: faxpages.Page, line: str) -> None:
+    """That the same is left of a page row by row."""
+    left, stride = page.salvaged(), (page.width + 7) // 8
+    wanted = {stretch.first: stretch for stretch in left.lost}
+    row = 0
+    for found in page.salvaged_rows():
+        if isinstance(found, faxpages.Stretch):
+            same, row = found == wanted.get(row), row + found.rows
+        else:
+            packed = left.raster.packed[row * stride:(row + 1) * stride]
+            same, row = found == faxpages.Row(page.number, row, page.width, packed), row + 1
+        if not same:
+            sys.exit(f"left: row by row {found} is left: {line}")
+    if row != page.rows:
+        sys.exit(f"left: row by row {row} rows are left: {line}")
+
+
 def see_uncounted(words: List[str], line: str) -> None:
     """The same of a strip whose rows nobody counted, and how they end."""
     coding, order, width = map(int, words[:3])
@@ -58,6 +75,7 @@ def see_line(line: str) -> str:
         if (page.width, page.rows) != (width, rows):
             sys.exit(f"left: a form is another: {line}")
         see(page.salvaged(), rows, words[4:], line)
+        see_pieces(page, line)
     else:
         number, fault = map(int, words[:2])
         try:

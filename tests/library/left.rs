@@ -1,7 +1,7 @@
 //! Reads what damaged.py prints, and sees that the crate for Rust finds the same of each strip and page: left <LINES
 //!
 //! Prints how many strips and pages were tried, and how many pages are refused.
-use faxpages::{Coding, Error, Fax, FillOrder, Salvaged, Strip, StripForm};
+use faxpages::{Coding, Error, Fax, FillOrder, Left, Salvaged, Strip, StripForm};
 use std::io::BufRead;
 use std::str::SplitWhitespace;
 
@@ -57,7 +57,27 @@ fn page(words: &mut SplitWhitespace<'_>) {
     let (page, width, rows, file) = (number(words), number(words), number(words), bytes(words));
     let left = Fax::new(&file).salvaged(page).unwrap();
     assert_eq!(left.width, width);
+    see_pieces(&file, page, &left);
     see(&left, rows, words);
+}
+
+/// The same is left of a page row by row.
+fn see_pieces(file: &[u8], page: u32, left: &Salvaged) {
+    let (mut row, mut lost) = (0, left.lost.iter());
+    for found in Fax::new(file).salvaged_rows(page).unwrap() {
+        match found.unwrap() {
+            Left::Row(found) => {
+                assert_eq!((found.page, found.number, found.width), (page, row, left.width));
+                assert_eq!(Some(&found.packed[..]), left.rows().nth(row as usize));
+                row += 1;
+            }
+            Left::Lost(found) => {
+                assert_eq!((found.first, Some(&found)), (row, lost.next()));
+                row += found.rows;
+            }
+        }
+    }
+    assert_eq!((row as usize, lost.next()), (left.rows().len(), None));
 }
 
 fn refused(words: &mut SplitWhitespace<'_>) {

@@ -92,6 +92,19 @@ mod c {
             lost_len: usize,
             told: *mut FaxTold,
         ) -> u32;
+        pub fn faxpages_salvage_from(
+            file: *const u8,
+            file_len: usize,
+            place: *mut FaxPlace,
+            runs: *mut u32,
+            runs_len: usize,
+            out: *mut u8,
+            out_len: usize,
+            stride: usize,
+            lost: *mut FaxLost,
+            lost_len: usize,
+            told: *mut FaxTold,
+        ) -> u32;
         pub fn faxpages_salvage_strip(
             strip: *const u8,
             strip_len: usize,
@@ -535,6 +548,34 @@ pub fn faxpages_salvage(
             file.len(),
             page,
             form,
+            out.as_mut_ptr(),
+            out.len(),
+            stride,
+            lost.as_mut_ptr(),
+            lost.len(),
+            told,
+        )
+    }
+}
+
+/// As the header says.
+pub fn faxpages_salvage_from(
+    file: &[u8],
+    place: &mut FaxPlace,
+    runs: &mut [u32],
+    out: &mut [u8],
+    stride: usize,
+    lost: &mut [FaxLost],
+    told: &mut FaxTold,
+) -> u32 {
+    // SAFETY: each length is that of the slice of its pointer, and what is written is borrowed alone.
+    unsafe {
+        c::faxpages_salvage_from(
+            file.as_ptr(),
+            file.len(),
+            place,
+            runs.as_mut_ptr(),
+            runs.len(),
             out.as_mut_ptr(),
             out.len(),
             stride,
