@@ -8,13 +8,27 @@ use Rattle.fax_files.specs.Directory.{number_at, header, entries_at, values_plac
 use Rattle.fax_files.specs.Page.{bytes_inside, rational_of, form_in, page, strip_bytes}
 use Rattle.fax_files.specs.Layout.{field_bytes}
 use Rattle.fax_walk.specs.Salvaged.{LeftItem}
+use Rattle.fax_bits.specs.declared.FillOrder.TheVariants.{MsbFirst}
+use Rattle.fax_page.specs.declared.Coding.{Coding}
+use Rattle.fax_page.specs.declared.RowsEnd.{RowsEnd}
+use Rattle.fax_page.specs.Salvage.{SalvagedRow}
+use Rattle.fax_page.specs.Strip.{most_rows}
+use Rattle.fax_reads.specs.LeftUncounted.{salvage_rows_and_end}
 use Rattle.fax_reads.specs.Salvage.{salvage_file}
+use Rattle.fax_reads.specs.laws.Examples.{form}
 use Rattle.fax_reads.specs.laws.Salvage.{SalvagesAreReadByFunctions}
-use Rattle.fax_reads.specs.laws.SalvageExamples.{AreSalvagesRead, HasLeft}
+use Rattle.fax_reads.specs.laws.SalvageExamples.{AreSalvagesRead, HasLeft, HasLeftUncounted}
 
 has : SalvagesAreReadByFunctions → (file : List ℕ) (items : List LeftItem) → salvage_file file ≡ items
     → HasLeft file items
 has read file items same = record { are = (read.file file items).1 same }
+
+has_uncounted : SalvagesAreReadByFunctions → (coding : Coding) (bytes : List ℕ) (rows : List SalvagedRow)
+    (end : RowsEnd)
+    → salvage_rows_and_end (form coding 8 most_rows) (bits MsbFirst bytes) ≡ (rows, end)
+    → HasLeftUncounted coding bytes rows end
+has_uncounted read coding bytes rows end same =
+    record { are = (read.uncounted (form coding 8 most_rows) (bits MsbFirst bytes) rows end).1 same }
 
 pub salvages : SalvagesAreReadByFunctions → AreSalvagesRead
 unfolding bits byte_bits code_bits modes white_runs black_runs white_terminating black_terminating white_make_up
@@ -41,4 +55,11 @@ salvages read = record {
   mh_lost_around_the_border_of_two_strips_is = has read _ _ refl;
   mh_strip_cut_in_its_third_row_is = has read _ _ refl;
   page_of_width_0_between_two_is = has read _ _ refl;
+  uncounted = record {
+    bad_code_between_two_rows = has_uncounted read _ _ _ _ refl;
+    codes_after_the_last_row = has_uncounted read _ _ _ _ refl;
+    return_to_control_after_a_row = has_uncounted read _ _ _ _ refl;
+    row_over_a_lost_one = has_uncounted read _ _ _ _ refl;
+    end_of_a_block = has_uncounted read _ _ _ _ refl;
+  };
 }

@@ -1,12 +1,21 @@
 -- The worked runs of salvage: the files of tests/runs/damaged, and what is left of them. Each
 -- answer was worked out by T.4 and T.6, so a wrong definition is an example that does not hold.
 use Rattle.std.specs.Prelude.{ℕ, List, [], ◌∷◌, ◌++◌, codes}
+use Rattle.fax_bits.specs.Bits.{bits}
+use Rattle.fax_bits.specs.declared.FillOrder.TheVariants.{MsbFirst}
+use Rattle.fax_page.specs.declared.Coding.{Coding}
+use Rattle.fax_page.specs.declared.Coding.TheVariants.{Mh, Mr, Mmr}
+use Rattle.fax_page.specs.declared.RowsEnd.{RowsEnd}
+use Rattle.fax_page.specs.declared.RowsEnd.TheVariants.{DataEnd, Fault, Marked}
 use Rattle.fax_page.specs.declared.StripFault.TheVariants.{BadCode, EndMarker, Extension}
 use Rattle.fax_page.specs.declared.StripFault.TheVariants.{MissingEol, RunTooLong}
+use Rattle.fax_page.specs.LeftUncounted.{IsLeftUncounted}
+use Rattle.fax_page.specs.Salvage.{SalvagedRow, found, lost, unended}
+use Rattle.fax_page.specs.Strip.{most_rows}
 use Rattle.fax_files.specs.declared.FileFault.TheVariants.{OutOfLimits, StripOutside}
 use Rattle.fax_walk.specs.Pages.{File, Strip}
 use Rattle.fax_walk.specs.Salvaged.{IsSalvaged, LeftItem, page_refused, row_found, rows_lost}
-use Rattle.fax_reads.specs.laws.Examples.{pels}
+use Rattle.fax_reads.specs.laws.Examples.{form, pels}
 use Rattle.fax_reads.specs.laws.FileExamples.{sample, spelled_bytes}
 
 -- row r of page p is found, with pels that a text spells
@@ -258,6 +267,30 @@ page_of_width_0_between_two =
     ++ codes " 0000 2801 0300 0100 0000 0200 0000 2901 0300 0200 0000 0200 0300 0000"
     ++ codes " 0000 cc00 0000 0100 0000 c400 0000 0100 0000")
 
+-- rows of eight pels that nobody counted, in these bytes, are left so, and end so
+pub record HasLeftUncounted (coding : Coding) (bytes : List ℕ) (rows : List SalvagedRow)
+    (end : RowsEnd) : Type 0 where
+  pub are : IsLeftUncounted (form coding 8 most_rows) (bits MsbFirst bytes) rows end
+
+-- worked rows that nobody counted
+pub record AreUncountedLeft : Type 0 where
+  pub bad_code_between_two_rows : HasLeftUncounted Mh (spelled_bytes (codes "0019 8008 0380 0c70"))
+      (found (pels (codes "WWWWWWWW")) ∷ lost BadCode ∷ found (pels (codes "WWWBBWWW")) ∷ [])
+      DataEnd
+  pub codes_after_the_last_row : HasLeftUncounted Mh (spelled_bytes (codes "0018 e000 6dd4"))
+      (found (pels (codes "WWWBBWWW")) ∷ unended (pels (codes "WWWWBBBB")) ∷ [])
+      (Fault MissingEol)
+  pub return_to_control_after_a_row : HasLeftUncounted Mh
+      (spelled_bytes (codes "0018 e000 4004 0040 0400 4004"))
+      (found (pels (codes "WWWBBWWW")) ∷ []) Marked
+  pub row_over_a_lost_one : HasLeftUncounted Mr
+      (spelled_bytes (codes "001c 7000 2007 0017 001d b001 60"))
+      (found (pels (codes "WWWBBWWW")) ∷ lost BadCode ∷ lost BadCode
+      ∷ found (pels (codes "WWWWBBBB")) ∷ found (pels (codes "WWWWBBBB")) ∷ [])
+      DataEnd
+  pub end_of_a_block : HasLeftUncounted Mmr (spelled_bytes (codes "8008 0080"))
+      (found (pels (codes "WWWWWWWW")) ∷ []) Marked
+
 -- what is left of each of them
 pub record AreSalvagesRead : Type 0 where
   pub whole : HasLeft sample (row_left 0 0 (codes "WWWBBWWW") ∷ [])
@@ -310,3 +343,4 @@ pub record AreSalvagesRead : Type 0 where
   pub page_of_width_0_between_two_is : HasLeft page_of_width_0_between_two
       (row_left 0 0 (codes "WWWBBWWW") ∷ page_refused 1 (OutOfLimits 256)
       ∷ row_left 2 0 (codes "WWWWBBBB") ∷ [])
+  pub uncounted : AreUncountedLeft
