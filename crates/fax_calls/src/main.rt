@@ -6,6 +6,7 @@
 mod codes;
 mod files;
 mod images;
+mod left;
 mod rows;
 mod strips;
 mod table;
@@ -40,6 +41,9 @@ fn answer(alloc: Global, words: &[&str]) -> Result<String, WrongLine> {
         return Ok(answer);
     }
     if let Some(answer) = strips::answer(alloc, words)? {
+        return Ok(answer);
+    }
+    if let Some(answer) = left::answer(alloc, words)? {
         return Ok(answer);
     }
     if let Some(answer) = files::answer(alloc, words)? {

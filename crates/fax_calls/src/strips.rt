@@ -5,8 +5,8 @@ ghost use Rattle.fax_page.specs.views.Strip.{IsStripForm};
 use crate::table::WrongLine;
 use crate::{text, words};
 use fax_page::{
-    Coding, FillOrder, NotesFault, PlaceFault, Row, RowBefore, StripForm, StripReader, StripWriter,
-    strip_notes,
+    Coding, FillOrder, NotesFault, PlaceFault, Row, RowBefore, SalvageReader, Salvaged, StripForm,
+    StripReader, StripWriter, UncountedSalvage, strip_notes,
 };
 use std::alloc::Global;
 
@@ -31,6 +31,13 @@ pub fn answer(alloc: Global, words: &[&str]) -> Result<Option<String>, WrongLine
             let form = form(coding, "msb", rows, "plain")?;
             read_inside(alloc, form, bytes, row, place, before)?
         }
+        ["salvage_strip", coding, order, size, bytes] => {
+            salvaged(alloc, form(coding, order, size, "plain")?, bytes)?
+        }
+        ["salvage_uncounted", coding, order, width, bytes] => {
+            let size = format!(in alloc; "{width}x1")?;
+            salvaged_uncounted(alloc, form(coding, order, &size, "plain")?, bytes)?
+        }
         ["strip_notes", coding, order, size, bytes] => {
             notes(alloc, form(coding, order, size, "plain")?, bytes)?
         }
@@ -43,7 +50,7 @@ pub fn answer(alloc: Global, words: &[&str]) -> Result<Option<String>, WrongLine
 }
 
 /// The form of a strip whose size is the width, an `x` and the number of rows.
-fn form(coding: &str, order: &str, size: &str, aligned: &str) -> Result<StripForm, WrongLine>
+pub fn form(coding: &str, order: &str, size: &str, aligned: &str) -> Result<StripForm, WrongLine>
     ensures { IfOk result (λ form. IsStripForm form) }
 {
     let Some((width, rows)) = size.split_once('x') else {
@@ -113,6 +120,59 @@ fn read_rows(alloc: Global, form: StripForm, bytes: &str) -> Result<String, Wron
         text.push(' ')?;
     }
     Ok(text)
+}
+
+/// What became of a row, and of those that are lost with it.
+fn part(alloc: Global, salvaged: Salvaged, row: &Row) -> Result<String, WrongLine> {
+    Ok(match salvaged {
+        Salvaged::Found => text::runs(alloc, row)?,
+        Salvaged::Lost { fault, rows } => format!(in alloc; "lost:{rows}:{fault:?}")?,
+        Salvaged::Unended { rows } => format!(in alloc; "unended:{rows}")?,
+    })
+}
+
+/// What is left of a strip, and once more after the reader is taken to its first row again.
+fn salvaged(alloc: Global, form: StripForm, bytes: &str) -> Result<String, WrongLine>
+    requires { IsStripForm form }
+{
+    let bytes = words::bytes(alloc, bytes)?;
+    let mut reader = SalvageReader::new(alloc, &bytes, form)?;
+    let mut text = String::new(alloc);
+    for turn in 0..2 {
+        for _ in 0..form.rows {
+            let Some(salvaged) = reader.advance() else {
+                break;
+            };
+            text.push_str(&part(alloc, salvaged, reader.reference())?)?;
+            text.push(' ')?;
+        }
+        text.push_str(&format!(in alloc; "row {}", reader.row())?)?;
+        if turn == 0 {
+            reader.restart(&bytes, form.rows);
+            text.push_str(" | ")?;
+        }
+    }
+    Ok(text)
+}
+
+/// What is left of rows that nobody counted, and how they end; and how many they are.
+fn salvaged_uncounted(alloc: Global, form: StripForm, bytes: &str) -> Result<String, WrongLine>
+    requires { IsStripForm form }
+{
+    let bytes = words::bytes(alloc, bytes)?;
+    let mut reader = UncountedSalvage::new(alloc, &bytes, form)?;
+    let end = reader.pass_all();
+    let rows = reader.row();
+    reader.restart(&bytes);
+    let mut text = String::new(alloc);
+    for _ in 0..rows {
+        let Ok(salvaged) = reader.advance() else {
+            break;
+        };
+        text.push_str(&part(alloc, salvaged, reader.reference())?)?;
+        text.push(' ')?;
+    }
+    Ok(format!(in alloc; "{text}{end:?} rows {rows}")?)
 }
 
 /// The rows of a strip, as `read` answers them, that a reader is taken to after so many calls.
