@@ -11,9 +11,9 @@ use Rattle.fax_page.specs.declared.salvage.Salvaged.TheVariants.{Found, Lost, Un
 use Rattle.fax_page.specs.Lines.{Coding, Mh, Mr, Mmr, StripFault, StripForm, white_row}
 use Rattle.fax_page.specs.Strip.{end_of_line}
 use Rattle.fax_page.specs.Salvage.{IsSoughtFrom, after_eol, next_due}
-use Rattle.fax_page.specs.laws.Salvage.{DueRowsStandInStrips}
+use Rattle.fax_page.specs.laws.Salvage.{DueRowsStandInStrips, IsRestOf}
 use Rattle.fax_page.specs.laws.Strips.{ReadsLinesOneWay}
-use Rattle.fax_page.specs.views.Salvage.{FindsRow, IsAfterLost, IsRestOf, IsSalvageStep, SalvageState}
+use Rattle.fax_page.specs.views.Salvage.{FindsRow, IsAfterLost, IsSalvageStep, SalvageState}
 use Rattle.fax_page.proofs.BegunLemmas.{started}
 use Rattle.fax_page.proofs.RestLemmas.{start_among}
 use Rattle.fax_page.proofs.SalvageLemmas.{drop_zeros}

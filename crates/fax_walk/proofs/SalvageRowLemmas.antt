@@ -20,8 +20,7 @@ use Rattle.fax_files.specs.views.Page.{IsPageForm}
 use Rattle.fax_files.specs.views.Tiff.{PageStrips, TiffDirectory, bytes_of, form_of, inside_of}
 use Rattle.fax_walk.specs.code.Salvage.{IsInPage, StandsInStrip, seen_from}
 use Rattle.fax_walk.specs.views.RowsFrom.{EndsWithPage}
-use Rattle.fax_page.specs.laws.Salvage.{DueRowsStandInStrips, FindsWholeStrips}
-use Rattle.fax_page.specs.views.Salvage.{IsRestOf}
+use Rattle.fax_page.specs.laws.Salvage.{DueRowsStandInStrips, FindsWholeStrips, IsRestOf}
 use Rattle.std.proofs.Common.{drop, length}
 use Rattle.std.proofs.lemmas.List.{drop-drop, length-drop}
 use Rattle.std.specs.Prelude.{◌&&◌}

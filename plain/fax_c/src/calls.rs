@@ -204,6 +204,19 @@ pub fn faxpages_salvage_strip(
 }
 
 /// As the header says.
+pub fn faxpages_salvage_from(
+    file: &[u8],
+    place: &mut FaxPlace,
+    runs: &mut [u32],
+    out: &mut [u8],
+    stride: usize,
+    lost: &mut [FaxLost],
+    told: &mut FaxTold,
+) -> u32 {
+    crate::salvage_from::faxpages_salvage_from(Global, file, place, runs, out, stride, lost, told)
+}
+
+/// As the header says.
 pub fn faxpages_strip_part(
     strip: &[u8],
     form: &FaxStrip,

@@ -22,6 +22,7 @@ mod raster;
 mod rows;
 mod runs;
 mod salvage;
+mod salvage_from;
 mod status;
 mod strip_form;
 mod strip_part;

@@ -41,7 +41,7 @@ impl FaxLost {
 
 /// The stretch that ends before a row of a page, with so many rows more, which are lost for this cause.
 // requires { Walk.HasRoom lost rows }
-fn longer(lost: Option<Stretch>, page: u32, row: u32, rows: u32, cause: Cause) -> Stretch {
+pub(crate) fn longer(lost: Option<Stretch>, page: u32, row: u32, rows: u32, cause: Cause) -> Stretch {
     match lost {
         Some(stretch) => Stretch {
             rows: stretch.rows + rows,
@@ -59,7 +59,7 @@ fn longer(lost: Option<Stretch>, page: u32, row: u32, rows: u32, cause: Cause) -
 /// Writes a stretch that has ended, if one has, after so many others, where it has room, and answers
 /// how many there are now.
 // requires { count ≤ 1000000 }
-fn put_stretch(ended: Option<Stretch>, lost: &mut [FaxLost], count: usize) -> usize {
+pub(crate) fn put_stretch(ended: Option<Stretch>, lost: &mut [FaxLost], count: usize) -> usize {
     let Some(stretch) = ended else {
         return count;
     };
@@ -83,7 +83,7 @@ fn holds_rows(len: usize, width: u32, rows: u32, stride: usize) -> bool {
 /// Writes a row that is found into a raster that has room for it, and answers where it ends.
 // requires short { Coded.packed_len (length row.now) ≤ stride }
 // requires room { at + stride ≤ length out.old }
-fn put_found(row: &Row, stride: usize, out: &mut [u8], at: usize) -> usize {
+pub(crate) fn put_found(row: &Row, stride: usize, out: &mut [u8], at: usize) -> usize {
     let Some(to) = put_padded(row, stride, out, at) else {
         unreachable!();
     };

@@ -14,7 +14,7 @@ use fax_walk::{Cursor, End};
 use kit_std::alloc::Global;
 
 /// The most bytes of a strip that is read: so each place of a bit in it has 32 bits.
-const MOST_BYTES: usize = 536_870_911;
+pub(crate) const MOST_BYTES: usize = 536_870_911;
 
 /// So many runs hold those of any row.
 pub(crate) const MOST_RUNS: usize = 65_536;
@@ -28,7 +28,7 @@ pub(crate) fn readable_form(strip: &[u8], given: &FaxStrip) -> Option<StripForm>
 }
 
 /// The row before a place: white where it has no runs. `None` where they are not in their room.
-fn row_before<'a>(place: &FaxPlace, runs: &'a [u32]) -> Option<RowBefore<'a>> {
+pub(crate) fn row_before<'a>(place: &FaxPlace, runs: &'a [u32]) -> Option<RowBefore<'a>> {
     if place.runs == 0 {
         Some(RowBefore::White)
     } else if place.lacks_runs(runs) {

@@ -103,6 +103,11 @@ pub fn rows_before_a_fault_are_found() {
 /// before it: so what is found after a lost row is the same whatever its bits were.
 pub fn lost_bits_do_not_matter() {}
 
+/// A row that is due after one that is found or lost begins among the bits from that one on.
+pub fn due_rows_stand_in_strips() {
+    lines_are_read_in_one_way();
+}
+
 /// A strip that is read wholly loses nothing: its rows are those that are found where all are.
 pub fn whole_strips_are_found() {}
 

@@ -278,6 +278,12 @@ impl<'a> StripReader<'a> {
         self.place
     }
 
+    /// How many bits of the strip are left from the row that is due on.
+    pub(crate) fn bits_due(&self) -> u64 {
+        bits_stand_by_place();
+        8 * self.bytes.len() as u64 - self.place
+    }
+
     /// How many rows were read since `new`, over all restarts, up to the greatest number of 64
     /// bits.
     pub fn rows_read(&self) -> u64 {

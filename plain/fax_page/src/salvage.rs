@@ -1,7 +1,7 @@
 //! What is left of a damaged strip: the rows that stand between its EOLs.
 
 use crate::reader::StripReader;
-use crate::{RowsEnd, StripFault, StripForm};
+use crate::{PlaceFault, RowBefore, RowsEnd, StripFault, StripForm};
 use fax_rows::{Memory, Row};
 use kit_std::alloc::Global;
 use kit_std::marker::Model;
@@ -38,6 +38,15 @@ pub struct SalvageReader<'a> {
 impl<'a> Model for SalvageReader<'a> {}
 
 impl<'a> SalvageReader<'a> {
+    /// Before the row that is due in a strip, of which no fault was told, and no row before it is lost.
+    // requires { reader.fault ≡ None }
+    fn of(reader: StripReader<'a>) -> Self {
+        SalvageReader {
+            reader,
+            before: None,
+        }
+    }
+
     /// Before the first row of a strip in at most 4,294,967,295 bytes. It takes all the memory that
     /// strips of this width need.
     ///
@@ -47,11 +56,29 @@ impl<'a> SalvageReader<'a> {
     // requires count { length bytes.now ≤ 4294967295 }
     // requires limits { IsStripForm form }
     pub fn new(alloc: Global, bytes: &'a [u8], form: StripForm) -> Result<Self, Memory> {
-        let reader = StripReader::new(alloc, bytes, form)?;
-        Ok(SalvageReader {
-            reader,
-            before: None,
-        })
+        Ok(SalvageReader::of(StripReader::new(alloc, bytes, form)?))
+    }
+
+    /// Before row `row` of a strip in at most 4,294,967,295 bytes, after so many of its bits, with
+    /// this row before it, which is not lost. It takes all the memory that strips of this width need.
+    ///
+    /// # Errors
+    ///
+    /// `Outside` where the strip has fewer bits, or no row of its width has the runs of the row
+    /// before. `Memory` where a growth was refused.
+    // requires count { length bytes.now ≤ 4294967295 }
+    // requires limits { IsStripForm form }
+    // requires due { row < form.rows }
+    pub fn inside(
+        alloc: Global,
+        bytes: &'a [u8],
+        form: StripForm,
+        row: u32,
+        bits: u32,
+        before: RowBefore,
+    ) -> Result<Self, PlaceFault> {
+        let reader = StripReader::inside(alloc, bytes, form, row, bits, before)?;
+        Ok(SalvageReader::of(reader))
     }
 
     /// Goes before the first row of another strip of the same coding, order and width, with 1 to
@@ -108,6 +135,11 @@ impl<'a> SalvageReader<'a> {
     #[inline(always)]
     pub(crate) fn rows_end(&self) -> RowsEnd {
         self.reader.uncounted_end()
+    }
+
+    /// How many bits of the strip are left from the row that is due on.
+    pub fn bits_due(&self) -> u64 {
+        self.reader.bits_due()
     }
 
     /// The row that was found last, or a white one: the reference of the row that is due.

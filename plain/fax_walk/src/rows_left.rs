@@ -1,12 +1,13 @@
 //! The rows that are left of a page, or of a strip with no file around it, one after another.
 
 use crate::opening::DuePage;
+use crate::rows_from::RowsFrom;
 use crate::salvage_rows::{PagePart, part_of};
 use crate::shown_rows::ShownRows;
 use crate::{Cursor, End};
 use fax_bits::Memory;
 use fax_files::PageForm;
-use fax_page::{RowsEnd, SalvageReader, StripForm, UncountedSalvage};
+use fax_page::{PlaceFault, RowBefore, RowsEnd, SalvageReader, StripForm, UncountedSalvage};
 use fax_rows::Row;
 use kit_std::alloc::Global;
 use kit_std::marker::Model;
@@ -80,6 +81,24 @@ impl<'a> PageLeft<'a> {
             left: Left::Page(rows),
         })
     }
+
+    /// Before row `row`, after so many of the bits that the file has of its strip, with this row before
+    /// it. It takes all the memory that the page needs.
+    ///
+    /// # Errors
+    ///
+    /// `Outside` where the file has fewer bits of the strip, or no row of the page's width has the runs
+    /// of the row before. `Memory` where a growth was refused.
+    // requires { row < self.here.form.rows }
+    pub fn rows_from(
+        self,
+        alloc: Global,
+        row: u32,
+        bits: u32,
+        before: RowBefore,
+    ) -> Result<RowsFrom<'a>, PlaceFault> {
+        RowsFrom::open(alloc, self.due.form, self.due.strips, row, bits, before)
+    }
 }
 
 /// Goes through the rows of a page, or of a strip with no file around it, and tells of each whether it
@@ -118,8 +137,8 @@ impl<'a> RowsLeft<'a> {
     }
 
     /// Before the first of the rows in at most 4,294,967,295 bytes that nobody counted, with their
-    /// number and their end. How many rows the form says does not matter. It takes all the memory that rows of this width
-    /// need, and goes through the rows once to count them.
+    /// number and their end. How many rows the form says does not matter. It takes all the memory that
+    /// rows of this width need, and goes through the rows once to count them.
     ///
     /// # Errors
     ///

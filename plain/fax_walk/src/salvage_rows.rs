@@ -2,7 +2,7 @@
 
 use fax_bits::Memory;
 use fax_files::{Cause, FileFault, PageForm, Strips};
-use fax_page::{SalvageReader, Salvaged, StripFault};
+use fax_page::{PlaceFault, RowBefore, SalvageReader, Salvaged, StripFault};
 use fax_rows::Row;
 use kit_std::alloc::Global;
 use kit_std::marker::Model;
@@ -15,6 +15,15 @@ pub enum PagePart {
     Found,
     /// So many rows are lost, the first of them for this cause.
     Lost { rows: u32, cause: Cause },
+}
+
+/// Where a row is read in its strip: it is lent.
+#[derive(Clone, Copy)]
+pub struct PlaceInStrip<'a> {
+    /// How many bits stand before it, of those that the file has of the strip.
+    pub bits: u32,
+    /// The row before it, which is found, as it is coded.
+    pub reference: &'a Row,
 }
 
 /// The bytes of strip `s` that lie in the file, and whether these are all of them.
@@ -94,6 +103,35 @@ impl<'a> SalvageRows<'a> {
         })
     }
 
+    /// Before row `row` of a page, after so many bits of its strip, with this row before it.
+    // requires form { form_of strips.directory ≡ Ok form }
+    // requires limits { IsPageForm form }
+    // requires count { strips.count ≡ form.strips }
+    // requires due { row < form.rows }
+    pub fn begin_at(
+        alloc: Global,
+        form: PageForm,
+        strips: Strips<'a>,
+        row: u32,
+        bits: u32,
+        before: RowBefore,
+    ) -> Result<Self, PlaceFault> {
+        fax_bits::laws::bits_stand_by_place();
+        let strip = row / form.rows_per_strip;
+        let row_in_strip = row - strip * form.rows_per_strip;
+        let strip_form = form.strip_form(strip);
+        let (bytes, whole) = bytes_left(&strips, strip);
+        let reader = SalvageReader::inside(alloc, bytes, strip_form, row_in_strip, bits, before)?;
+        Ok(SalvageRows {
+            form,
+            strips,
+            strip,
+            whole,
+            clean: false,
+            reader,
+        })
+    }
+
     /// Goes before the first row of the next strip, if there is one, where the one before it is gone
     /// through.
     fn enter_strip(&mut self) {
@@ -115,12 +153,29 @@ impl<'a> SalvageRows<'a> {
     /// What becomes of the row that is due, or `None` after the page's last one.
     pub fn next_part(&mut self) -> Option<PagePart> {
         fax_page::laws::whole_strips_are_found();
+        fax_page::laws::due_rows_stand_in_strips();
         self.enter_strip();
         let Some(salvaged) = self.reader.advance() else {
             return None;
         };
         self.clean = self.clean && is_found(salvaged);
         Some(part_of(salvaged, self.whole))
+    }
+
+    /// Where the row that is due is read in its strip, or `None` where the strip is gone through: then
+    /// the next one begins with that row, if the page has more.
+    // requires { length self.now.directory.file ≤ 536870911 }
+    pub fn place(&self) -> Option<PlaceInStrip<'_>> {
+        fax_bits::laws::bits_stand_by_place();
+        if self.reader.row() == self.form.strip_form(self.strip).rows {
+            return None;
+        }
+        let (bytes, _whole) = bytes_left(&self.strips, self.strip);
+        let bits = 8 * bytes.len() as u64 - self.reader.bits_due();
+        Some(PlaceInStrip {
+            bits: bits as u32,
+            reference: self.reader.reference(),
+        })
     }
 
     /// Whether all strips up to the one that is gone through lie wholly in the file, and no row of them

@@ -1,9 +1,10 @@
 //! The rows of a page that are left, as they are handed out.
 
 use crate::page::{row_for_exchange, set_exchanged};
-use crate::salvage_rows::{PagePart, SalvageRows};
+use crate::salvage_rows::{PagePart, PlaceInStrip, SalvageRows};
 use fax_bits::Memory;
 use fax_files::{PageForm, Strips};
+use fax_page::{PlaceFault, RowBefore};
 use fax_rows::Row;
 use kit_std::alloc::Global;
 use kit_std::marker::Model;
@@ -28,6 +29,27 @@ impl<'a> ShownRows<'a> {
         Ok(ShownRows { rows, exchanged })
     }
 
+    /// Before row `row` of a page, after so many bits of its strip, with this row before it. It takes all
+    /// the memory that the page needs.
+    // requires form { form_of strips.directory ≡ Ok form }
+    // requires limits { IsPageForm form }
+    // requires count { strips.count ≡ form.strips }
+    // requires due { row < form.rows }
+    pub fn open_at(
+        alloc: Global,
+        form: PageForm,
+        strips: Strips<'a>,
+        row: u32,
+        bits: u32,
+        before: RowBefore,
+    ) -> Result<Self, PlaceFault> {
+        let rows = SalvageRows::begin_at(alloc, form, strips, row, bits, before)?;
+        match row_for_exchange(alloc, &form) {
+            Ok(exchanged) => Ok(ShownRows { rows, exchanged }),
+            Err(_memory) => Err(PlaceFault::Memory),
+        }
+    }
+
     /// What becomes of the row that is due, or `None` after the page's last one.
     pub fn next_part(&mut self) -> Option<PagePart> {
         let part = self.rows.next_part();
@@ -35,6 +57,12 @@ impl<'a> ShownRows<'a> {
             set_exchanged(row, self.rows.reference());
         }
         part
+    }
+
+    /// Where the row that is due is read in its strip, as `SalvageRows::place` has it.
+    // requires { length self.now.rows.directory.file ≤ 536870911 }
+    pub fn place(&self) -> Option<PlaceInStrip<'_>> {
+        self.rows.place()
     }
 
     /// The row that was found last, as it is handed out.

@@ -495,6 +495,37 @@ pub unsafe extern "C" fn faxpages_salvage_strip(
 ///
 /// The header says what the caller owes.
 #[no_mangle]
+pub unsafe extern "C" fn faxpages_salvage_from(
+    file: *const u8,
+    file_len: usize,
+    place: *mut FaxPlace,
+    runs: *mut u32,
+    runs_len: usize,
+    out: *mut u8,
+    out_len: usize,
+    stride: usize,
+    lost: *mut FaxLost,
+    lost_len: usize,
+    told: *mut FaxTold,
+) -> u32 {
+    // SAFETY: as above.
+    unsafe {
+        calls::faxpages_salvage_from(
+            kit_std::c::items(file, file_len),
+            &mut *place,
+            kit_std::c::items_mut(runs, runs_len),
+            kit_std::c::items_mut(out, out_len),
+            stride,
+            kit_std::c::items_mut(lost, lost_len),
+            &mut *told,
+        )
+    }
+}
+
+/// # Safety
+///
+/// The header says what the caller owes.
+#[no_mangle]
 pub unsafe extern "C" fn faxpages_strip_part(
     strip: *const u8,
     strip_len: usize,

@@ -1,14 +1,14 @@
 -- Laws of what is left of a damaged strip, which functions of the module `laws` prove.
 -- A definition without a citation is this project's profile.
 use Rattle.std.specs.Prelude.{◌≡◌, ◌≢◌, ℕ, ◌+◌, ◌<◌, ◌≤◌, Bool, List, [], ◌∷◌, ◌++◌, length, map}
-use Rattle.std.specs.Prelude.{Option, Some, None}
+use Rattle.std.specs.Prelude.{drop, Option, Some, None}
 use Rattle.fax_bits.specs.declared.Colour.{Colour}
 use Rattle.fax_page.specs.Lines.{Coding, Mmr, StripFault, StripForm}
 use Rattle.fax_page.specs.Salvage.{AreSalvaged, SalvagedRow, after_eol, found, next_due, unended}
 use Rattle.fax_page.specs.declared.StripFault.TheVariants.{MissingEol}
 use Rattle.fax_page.specs.Strip.{AreLines, end_of_line}
 use Rattle.fax_page.specs.declared.salvage.Salvaged.{Salvaged}
-use Rattle.fax_page.specs.views.Salvage.{IsRestOf, IsSalvageStep, SalvageState}
+use Rattle.fax_page.specs.views.Salvage.{IsSalvageStep, SalvageState}
 
 -- from row i on each row is found or lost in one way, and all rows of the strip are
 pub record AreSalvagedOneWay (form : StripForm) (i : ℕ) (before : Option StripFault)
@@ -56,6 +56,10 @@ abbrev pub LostBitsDoNotMatter : Type 0
 LostBitsDoNotMatter =
     (coding : Coding) (lost rest : List Bool) → coding ≢ Mmr → after_eol 0 lost ≡ None
     → next_due coding (lost ++ end_of_line ++ rest) ≡ Some (end_of_line ++ rest)
+
+-- these bits are what is left of others after so many of them
+abbrev pub IsRestOf : List Bool → List Bool → Type 0
+IsRestOf all rest = (n : ℕ) × (n ≤ length all) × (drop n all ≡ rest)
 
 -- a row that is due after others begins among the bits of the strip
 abbrev pub DueRowsStandInStrips : Type 0

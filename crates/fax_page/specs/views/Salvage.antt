@@ -44,10 +44,6 @@ IsSalvageInside form bytes i place before (Err Outside) =
     place ≤ 8 * length bytes → (row : List Colour) → IsBefore form.width before row → ⊥
 IsSalvageInside form bytes i place before (Err Memory) = place ≤ 8 * length bytes
 
--- these bits are what is left of others after so many of them
-abbrev pub IsRestOf : List Bool → List Bool → Type 0
-IsRestOf all rest = (n : ℕ) × (n ≤ length all) × (drop n all ≡ rest)
-
 -- so many rows are lost from the one that was due on, for this cause: that one alone, and the next
 -- one is due at the next EOL; or all, where no EOL is left
 abbrev pub IsAfterLost : SalvageState → StripFault → ℕ → SalvageState → Type 0

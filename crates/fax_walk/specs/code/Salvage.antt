@@ -9,7 +9,8 @@ use Rattle.fax_page.specs.declared.salvage.Salvaged.TheVariants as in_strip
 use Rattle.fax_page.specs.Salvage.{SalvagedRow, found, AreSalvaged, IsSalvagedStrip}
 use Rattle.fax_page.specs.declared.PlaceFault.{PlaceFault}
 use Rattle.fax_page.specs.declared.RowBefore.{RowBefore}
-use Rattle.fax_page.specs.views.Salvage.{IsRestOf, SalvageState}
+use Rattle.fax_page.specs.laws.Salvage.{IsRestOf}
+use Rattle.fax_page.specs.views.Salvage.{SalvageState}
 use Rattle.fax_files.specs.FaultNames.{StripFault}
 use Rattle.fax_files.specs.declared.FileFault.TheVariants.{StripOutside}
 use Rattle.fax_files.specs.Page.{strip_form}

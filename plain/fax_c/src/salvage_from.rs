@@ -1,0 +1,198 @@
+//! What is left of a damaged page from a place on, and the rows that are lost.
+
+use crate::filled::{Filled, Stop};
+use crate::format::{RowFormat, Runs};
+use crate::places::FaxPlace;
+use crate::raster::packed_len;
+use crate::salvage::{FaxLost, longer, put_found, put_stretch};
+use crate::status;
+use crate::strips::{MOST_BYTES, MOST_RUNS, row_before};
+use crate::told::FaxTold;
+use fax_files::PageForm;
+use fax_page::PlaceFault;
+use fax_walk::{Cursor, End, PageLeft, PagePart, RowsFrom, Stretch};
+use kit_std::alloc::Global;
+
+/// Rows that are passed up to the next one that is found, or all that are left of the page.
+#[derive(Clone, Copy)]
+struct Ahead {
+    /// The row after them.
+    row: u32,
+    /// Those of them that are lost.
+    lost: Option<Stretch>,
+    /// Whether the last of them is found.
+    found: bool,
+}
+
+/// Passes the rows that are lost, and the next one that is found, if one is.
+// requires due { Walk.row_due left.old ≡ row }
+// requires within { row ≤ left.old.here.form.rows }
+// requires few { left.old.here.form.rows ≤ 1000000 }
+fn next_found(left: &mut RowsFrom, page: u32, row: u32) -> Ahead {
+    let mut due = row;
+    let mut lost = None;
+    while let Some(part) = left.next_part() {
+        match part {
+            PagePart::Found => {
+                return Ahead {
+                    row: due + 1,
+                    lost,
+                    found: true,
+                };
+            }
+            PagePart::Lost { rows, cause } => {
+                lost = Some(longer(lost, page, due, rows, cause));
+                due += rows;
+            }
+        }
+    }
+    Ahead {
+        row: due,
+        lost,
+        found: false,
+    }
+}
+
+/// Whether so many bytes, of which some are used, have no room for one more row, or a table that has
+/// room for so many stretches has none for one more.
+// requires { used ≤ len }
+fn is_full(len: usize, used: usize, stride: usize, stretches: usize, room: usize) -> bool {
+    len - used < stride || stretches >= room
+}
+
+/// Writes the rows that are found, one after another, and the stretches of those that are lost, as long
+/// as one more of each has room.
+// requires due { Walk.row_due left.old ≡ row }
+// requires within { row ≤ left.old.here.form.rows }
+// requires few { left.old.here.form.rows ≤ 1000000 }
+// requires short { Coded.packed_len left.old.here.form.width ≤ stride }
+// requires room { Spec.HasRoom (length out.old) 0 stride 0 (length lost.old) }
+fn fill_from(
+    left: &mut RowsFrom,
+    page: u32,
+    row: u32,
+    stride: usize,
+    out: &mut [u8],
+    lost: &mut [FaxLost],
+) -> Filled {
+    let mut row = row;
+    let mut count = 0;
+    let mut used = 0;
+    let mut stretches = 0;
+    while !is_full(out.len(), used, stride, stretches, lost.len()) {
+        let ahead = next_found(left, page, row);
+        stretches = put_stretch(ahead.lost, lost, stretches);
+        row = ahead.row;
+        if !ahead.found {
+            return Filled {
+                cursor: Cursor { page, row },
+                count,
+                used: stretches,
+                stop: Stop::Ended(End::Proper),
+            };
+        }
+        used = put_found(left.row(), stride, out, used);
+        count += 1;
+    }
+    Filled {
+        cursor: Cursor { page, row },
+        count,
+        used: stretches,
+        stop: Stop::Done,
+    }
+}
+
+/// Why nothing is looked for at a place: no row or no stretch has room, or the page has no row there.
+// requires { 0 < form.now.rows_per_strip }
+fn stop_before(
+    form: &PageForm,
+    place: &FaxPlace,
+    stride: usize,
+    len: usize,
+    room: usize,
+) -> Option<Stop> {
+    if stride < packed_len(form.width) || is_full(len, 0, stride, 0, room) {
+        Some(Stop::NoRoom)
+    } else if place.row == form.rows {
+        Some(Stop::Ended(End::Proper))
+    } else if place.row > form.rows || (place.runs == 0 && place.row % form.rows_per_strip != 0) {
+        Some(Stop::Ended(End::Outside))
+    } else {
+        None
+    }
+}
+
+/// Tells the place after the rows that were written of a page with so many.
+// requires file { length left.now.file ≤ 536870911 }
+// requires room { 65536 ≤ length runs.old }
+// requires rows { rows ≡ left.now.here.form.rows }
+// requires cursor { cursor.row ≡ Walk.row_due left.now }
+// requires ends { Code.EndsOrGoesOn left.now }
+fn tell_after(left: &RowsFrom, rows: u32, cursor: Cursor, place: &mut FaxPlace, runs: &mut [u32]) {
+    *place = FaxPlace::at(cursor);
+    if cursor.row == rows {
+        return;
+    }
+    let Some(lent) = left.place() else {
+        return;
+    };
+    let Some(to) = Runs::put(lent.reference, runs, 0) else {
+        unreachable!();
+    };
+    place.bits = lent.bits;
+    place.runs = to as u32;
+}
+
+/// Writes what is left of a page from a place on, which is then the one after it.
+// requires file { length found.file ≤ 536870911 }
+// requires room { 65536 ≤ length runs.old }
+fn salvage_page(
+    alloc: Global,
+    found: PageLeft,
+    place: &mut FaxPlace,
+    runs: &mut [u32],
+    stride: usize,
+    out: &mut [u8],
+    lost: &mut [FaxLost],
+) -> Filled {
+    let cursor = place.cursor();
+    let form = found.form();
+    if let Some(stop) = stop_before(&form, place, stride, out.len(), lost.len()) {
+        return Filled::nothing(cursor, stop);
+    }
+    let Some(before) = row_before(place, runs) else {
+        return Filled::nothing(cursor, Stop::Ended(End::Outside));
+    };
+    let bits = if place.runs == 0 { 0 } else { place.bits };
+    match found.rows_from(alloc, place.row, bits, before) {
+        Ok(mut left) => {
+            let filled = fill_from(&mut left, place.page, place.row, stride, out, lost);
+            left.rows_are_left();
+            tell_after(&left, form.rows, filled.cursor, place, runs);
+            filled
+        }
+        Err(PlaceFault::Memory) => Filled::nothing(cursor, Stop::Memory),
+        Err(PlaceFault::Outside) => Filled::nothing(cursor, Stop::Ended(End::Outside)),
+    }
+}
+
+/// Writes what is left of a file's page from a place on, as much as has room, and leaves there the place
+/// after it: the rows that are found, one after another, and the stretches of those that are lost.
+pub fn faxpages_salvage_from(
+    alloc: Global,
+    file: &[u8],
+    place: &mut FaxPlace,
+    runs: &mut [u32],
+    out: &mut [u8],
+    stride: usize,
+    lost: &mut [FaxLost],
+    told: &mut FaxTold,
+) -> u32 {
+    if file.len() > MOST_BYTES || runs.len() < MOST_RUNS {
+        return status::NO_OPTIONS;
+    }
+    match PageLeft::at(file, place.page) {
+        Ok(found) => salvage_page(alloc, found, place, runs, stride, out, lost).tell(told),
+        Err(end) => Filled::nothing(place.cursor(), Stop::Ended(end)).tell(told),
+    }
+}

@@ -1,0 +1,61 @@
+//! The rows that are left of a page from a place on, one after another.
+
+use crate::salvage_rows::{PagePart, PlaceInStrip};
+use crate::shown_rows::ShownRows;
+use fax_files::{PageForm, Strips};
+use fax_page::{PlaceFault, RowBefore};
+use fax_rows::Row;
+use kit_std::alloc::Global;
+use kit_std::marker::Model;
+
+/// Goes through the rows of a page from a place on, and tells of each whether it is found or lost.
+/// Contracts see the page, and how far it is gone through.
+pub struct RowsFrom<'a> {
+    rows: ShownRows<'a>,
+}
+
+impl<'a> Model for RowsFrom<'a> {}
+
+impl<'a> RowsFrom<'a> {
+    /// Before row `row` of a page, after so many bits of its strip, with this row before it. It takes all
+    /// the memory that the page needs.
+    // requires form { form_of strips.directory ≡ Ok form }
+    // requires limits { IsPageForm form }
+    // requires count { strips.count ≡ form.strips }
+    // requires due { row < form.rows }
+    pub(crate) fn open(
+        alloc: Global,
+        form: PageForm,
+        strips: Strips<'a>,
+        row: u32,
+        bits: u32,
+        before: RowBefore,
+    ) -> Result<Self, PlaceFault> {
+        let rows = ShownRows::open_at(alloc, form, strips, row, bits, before)?;
+        Ok(RowsFrom { rows })
+    }
+
+    /// What became of the row that is due, and of those that are lost with it, or `None` after the
+    /// page's last one. It takes no memory.
+    pub fn next_part(&mut self) -> Option<PagePart> {
+        self.rows.next_part()
+    }
+
+    /// Where the row that is due is read in its strip, where the row before it is found; or `None`
+    /// where its strip begins with it, or the page has no more. Then what is left from that place on is
+    /// what is left now.
+    // requires { length self.now.file ≤ 536870911 }
+    pub fn place(&self) -> Option<PlaceInStrip<'_>> {
+        self.rows.place()
+    }
+
+    /// The row that was found last.
+    pub fn row(&self) -> &Row {
+        self.rows.row()
+    }
+
+    /// Rows are left of the page, or none: it computes nothing.
+    pub fn rows_are_left(&self) {
+        self.rows.rows_are_left();
+    }
+}
