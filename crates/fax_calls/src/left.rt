@@ -189,6 +189,7 @@ fn left_uncounted(
     let form = strips::form(coding, order, &size, "plain")?;
     let bytes = words::bytes(alloc, bytes)?;
     let mut found = RowsLeft::of_uncounted(alloc, &bytes, form)?;
-    let text = parts(alloc, &mut found.rows_left, found.rows)?;
-    Ok(format!(in alloc; "{text}{:?} rows {}", found.end, found.rows)?)
+    let rows = found.rows;
+    let text = parts(alloc, &mut found.rows_left, rows)?;
+    Ok(format!(in alloc; "{text}{:?} rows {rows}", found.end)?)
 }
