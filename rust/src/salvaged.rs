@@ -4,6 +4,7 @@ use crate::calls::{self, FaxLost, FaxPlace, FaxTold};
 use crate::error::{refused, Error, Fault};
 use crate::filled;
 use crate::rows::Row;
+use std::fmt;
 
 /// Rows that are lost, one after another.
 #[derive(Clone, Copy, Debug, PartialEq, Eq, Hash)]
@@ -129,7 +130,6 @@ const ROWS: usize = 2048;
 
 /// What is left of a page, piece by piece: [`Fax::salvaged_rows`](crate::Fax::salvaged_rows) makes it. After an error
 /// it ends.
-#[derive(Debug)]
 pub struct SalvagedRows<'a> {
     file: &'a [u8],
     width: u32,
@@ -232,3 +232,10 @@ impl Iterator for SalvagedRows<'_> {
 }
 
 impl std::iter::FusedIterator for SalvagedRows<'_> {}
+
+impl fmt::Debug for SalvagedRows<'_> {
+    fn fmt(&self, to: &mut fmt::Formatter<'_>) -> fmt::Result {
+        let (page, row) = (self.place.page, self.piece.row);
+        to.debug_struct("SalvagedRows").field("page", &page).field("row", &row).finish_non_exhaustive()
+    }
+}

@@ -133,6 +133,13 @@ static int one_page(const uint8_t *file, size_t len, long n) {
             ? told.count || told.used || again[0] != 0xA5
             : result != FAXPAGES_DONE || told.count != form.rows || memcmp(raster, again, stride * form.rows))
         return 9;
+    again[0] = 0xA5;
+    memset(&place, 0, sizeof place);
+    if (REFUSING(n, faxpages_salvage_from(file, len, &place, runs, FAXPAGES_RUNS, again, ROOM, stride, lost, 1, &told)) ==
+                FAXPAGES_MEMORY
+            ? told.count || told.used || place.row || place.runs || again[0] != 0xA5
+            : told.count != form.rows || place.row != form.rows || memcmp(raster, again, stride * form.rows))
+        return 10;
     memset(&written, 0, sizeof written);
     written.total = 1;
     form.coding = 1;

@@ -73,6 +73,50 @@ static void rooms_that_are_too_small(struct guarded file, uint32_t page, const s
     drop_left(left);
 }
 
+/* From a place on, with rooms for so many bytes, stretches and runs: this is told, and nothing else is changed. */
+static void is_refused(struct guarded file, struct faxpages_place at, size_t bytes, size_t stride, size_t stretches,
+                       size_t runs_room, uint32_t status) {
+    static uint32_t runs[FAXPAGES_RUNS];
+    static uint8_t out[FAXPAGES_ROW_BYTES];
+    struct faxpages_lost lost[1] = {{7, 7, 7}};
+    struct faxpages_place place = at;
+    struct faxpages_told told;
+    memset(out, 0xA5, sizeof out);
+    memset(&told, 0xA5, sizeof told);
+    runs[0] = 1;
+    if (faxpages_salvage_from(file.at, file.len, &place, runs, runs_room, out, bytes, stride, lost, stretches, &told) !=
+        status)
+        die("a place is answered otherwise");
+    if (memcmp(&place, &at, sizeof at) || runs[0] != 1 || out[0] != 0xA5 || lost[0].row != 7)
+        die("something is written from no place");
+    if (status != FAXPAGES_NO_OPTIONS && (told.count || told.used || told.page != at.page || told.row != at.row))
+        die("something is told from no place");
+}
+
+/* Places, and rooms, from which on nothing is left of a page. */
+static void places_that_are_none(struct guarded file, uint32_t page, const struct faxpages_form *form) {
+    const struct faxpages_place first = {page, 0, 0, 0}, end = {page, form->rows, 0, 0};
+    struct faxpages_place at = first;
+    size_t stride = (form->width + 7) / 8;
+    is_refused(file, first, stride, stride, 1, FAXPAGES_RUNS - 1, FAXPAGES_NO_OPTIONS);
+    is_refused(file, first, stride - 1, stride, 1, FAXPAGES_RUNS, FAXPAGES_NO_ROOM);
+    is_refused(file, first, stride, stride - 1, 1, FAXPAGES_RUNS, FAXPAGES_NO_ROOM);
+    is_refused(file, first, stride, stride, 0, FAXPAGES_RUNS, FAXPAGES_NO_ROOM);
+    is_refused(file, end, stride, stride, 1, FAXPAGES_RUNS, FAXPAGES_END);
+    at.row = form->rows + 1;
+    is_refused(file, at, stride, stride, 1, FAXPAGES_RUNS, FAXPAGES_OUTSIDE);
+    at.row = 1;
+    if (form->rows_per_strip > 1 && form->rows > 1) is_refused(file, at, stride, stride, 1, FAXPAGES_RUNS, FAXPAGES_OUTSIDE);
+    at.row = 0;
+    at.bits = 0xFFFFFFFFu;
+    at.runs = 1;
+    is_refused(file, at, stride, stride, 1, FAXPAGES_RUNS, FAXPAGES_OUTSIDE);
+    at.bits = 0;
+    if (form->width != 1) is_refused(file, at, stride, stride, 1, FAXPAGES_RUNS, FAXPAGES_OUTSIDE);
+    at.page = 0xFFFFFFFFu;
+    is_refused(file, at, stride, stride, 1, FAXPAGES_RUNS, FAXPAGES_OUTSIDE);
+}
+
 static void print_row(const struct left *left, uint32_t page, uint32_t row) {
     const uint8_t *bytes = left->raster.at + row * left->stride;
     uint32_t i, run = 0;
@@ -146,6 +190,7 @@ static int pages(struct guarded file) {
         see(left.table, left.told.used * sizeof(struct faxpages_lost));
         print_left(&left, page);
         rooms_that_are_too_small(file, page, &left);
+        places_that_are_none(file, page, &form);
         drop_left(left);
     }
     puts("end");
