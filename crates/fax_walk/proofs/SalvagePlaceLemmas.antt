@@ -9,6 +9,7 @@ use Rattle.fax_bits.specs.declared.FillOrder.{FillOrder}
 use Rattle.fax_rows.specs.Rows.{Colour, White}
 use Rattle.fax_page.specs.Lines.{white_row}
 use Rattle.fax_page.specs.Salvage.{SalvagedRow}
+use Rattle.fax_page.specs.laws.Salvage.{SalvagesStripsOneWay}
 use Rattle.fax_page.specs.declared.PlaceFault.{PlaceFault}
 use Rattle.fax_page.specs.declared.PlaceFault.TheVariants.{Memory, Outside}
 use Rattle.fax_page.specs.declared.RowBefore.{RowBefore}
@@ -30,6 +31,9 @@ use Rattle.fax_walk.specs.declared.salvage_rows.PagePart.TheVariants.{Found, Los
 use Rattle.fax_walk.specs.Items.{exchanged}
 use Rattle.fax_walk.specs.views.RowsFrom.{IsNextFrom, PassesOver}
 use Rattle.fax_walk.proofs.OpenPageLemmas.{whole_of}
+use Rattle.fax_walk.specs.laws.RowsLeft.{AreLeftFromPlaces}
+use Rattle.fax_walk.specs.Salvaged.{strip_left}
+use Rattle.fax_walk.proofs.SalvageLawLemmas.{one_strips}
 use Rattle.fax_walk.proofs.SalvageRowLemmas.{none_after}
 use Rattle.fax_walk.proofs.StripPlaceLemmas.{in_strip}
 
@@ -279,3 +283,18 @@ next_from old new (Some (Lost rows cause)) ((goes, some, next, within), shown) =
   passes_over old new (replicate rows (Err cause)) goes
       (next ∙ ap (λ n. row_due old.rows + n) (sym (length-replicate rows (Err cause)))) within,
 )
+
+-- what is left from a place on is one list, and from the first one on it is what is left of the page
+pub left_from_places : SalvagesStripsOneWay → AreLeftFromPlaces
+left_from_places salvages = record {
+  one = λ file here s i at rows others within (own, strips, is, are, rows_are) (own', strips', is', are', others_are).
+      let left = strip_left here file s in
+      let one =
+      salvages (strip_form here.form s) i None at.reference (drop at.bits (bits here.form.order left.0)) within in
+      let same : own ≡ own' = one.one own is ∙ sym (one.one own' is') in
+      let later : strips ≡ strips' = one_strips salvages file here (s + 1) strips strips' are are' in
+      rows_are ∙ rw (same, later) (sym others_are);
+  all = λ file here rows some (own, strips, is, are, rows_are).
+      let left = strip_left here file 0 in
+      (map (on_page here.form left.1) own ∷ strips, (some, (own, is, refl), are), rows_are);
+}

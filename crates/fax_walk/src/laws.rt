@@ -9,7 +9,7 @@ ghost use Rattle.fax_walk.specs.laws.Forms.{AreFormsLeft};
 ghost use Rattle.fax_walk.specs.laws.Tails as PageLaws;
 ghost use Rattle.fax_walk.specs.laws.Left.{IsLeft};
 ghost use Rattle.fax_walk.specs.laws.Printed as PrintedLaws;
-ghost use Rattle.fax_walk.specs.laws.RowsLeft.{AreLeftOneWay, PagesAreLeft};
+ghost use Rattle.fax_walk.specs.laws.RowsLeft.{AreLeftFromPlaces, AreLeftOneWay, PagesAreLeft};
 ghost use Rattle.fax_walk.specs.laws.Salvaged.{IsSalvagedOneWay};
 ghost use Rattle.fax_walk.specs.laws.ReadBack as ReadBackLaws;
 ghost use Rattle.fax_walk.specs.Items.{RowItem};
@@ -214,10 +214,12 @@ pub fn files_are_salvaged_in_one_way()
 }
 
 /// What is left of a page, or of a strip with no file around it, is one list of rows, found or lost;
-/// and what is left of a file has that of each page.
+/// and what is left of a file has that of each page. From any place of a page on it is one list too,
+/// and from its first row on it is what is left of the page.
 pub fn rows_are_left_in_one_way()
     ensures one { (its : LeftOf) → AreLeftOneWay its }
     ensures pages { PagesAreLeft }
+    ensures places { AreLeftFromPlaces }
 {
     fax_page::laws::strips_are_salvaged_in_one_way();
     fax_page::laws::uncounted_rows_are_left_in_one_way();

@@ -1,8 +1,11 @@
 -- Laws of the rows that are left, which a function of the module `laws` proves.
 -- A definition without a citation is this project's profile.
-use Rattle.std.specs.Prelude.{◌≡◌, ℕ, List, ◌++◌, Ok}
+use Rattle.std.specs.Prelude.{◌≡◌, ℕ, ◌<◌, ◌≤◌, List, ◌++◌, None, Ok}
+use Rattle.fax_files.specs.Page.{strip_form}
+use Rattle.fax_walk.specs.Items.{Inner, before}
 use Rattle.fax_walk.specs.Pages.{FilePage, IsPageAt}
-use Rattle.fax_walk.specs.Salvaged.{AreRowsOfPage, IsSalvaged, LeftItem, PageRow, page_items}
+use Rattle.fax_walk.specs.Salvaged.{AreRowsFrom, AreRowsOfPage, IsSalvaged, LeftItem, PageRow}
+use Rattle.fax_walk.specs.Salvaged.{page_items}
 use Rattle.fax_walk.specs.views.RowsLeft.{LeftOf, AreRowsOf}
 
 -- the rows that are left of a page or a strip are one list
@@ -18,3 +21,13 @@ PagesAreLeft =
     → IsPageAt file (record { page = p; row = 0 }) (Ok here) → AreRowsOfPage file here rows
     → IsSalvaged file items
     → (before later : List LeftItem) × (items ≡ before ++ page_items p 0 rows ++ later)
+
+-- what is left of a page from a place on is one list; from its first row on it is what is left of
+-- the page
+pub record AreLeftFromPlaces : Type 0 where
+  pub one : (file : List ℕ) (here : FilePage) (s i : ℕ) (at : Inner) (rows others : List PageRow)
+      → i ≤ (strip_form here.form s).rows → AreRowsFrom file here s i at rows
+      → AreRowsFrom file here s i at others → rows ≡ others
+  pub all : (file : List ℕ) (here : FilePage) (rows : List PageRow) → 0 < here.form.strips
+      → AreRowsFrom file here 0 0 (before here.form.width None) rows
+      → AreRowsOfPage file here rows
