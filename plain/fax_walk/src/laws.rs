@@ -134,7 +134,8 @@ pub fn files_are_salvaged_in_one_way() {
 }
 
 /// What is left of a page, or of a strip with no file around it, is one list of rows, found or lost;
-/// and what is left of a file has that of each page.
+/// and what is left of a file has that of each page. From any place of a page on it is one list too,
+/// and from its first row on it is what is left of the page.
 pub fn rows_are_left_in_one_way() {
     fax_page::laws::strips_are_salvaged_in_one_way();
     fax_page::laws::uncounted_rows_are_left_in_one_way();
