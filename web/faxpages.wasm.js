@@ -1,7 +1,7 @@
 // The library in WebAssembly, as tools/build-web makes it: change nothing here.
 // version 1.8.0
 // rustc 1.96.0
-// sources 33f7a644a2e4f1b4c90b433ecf342c63d3e456e862f68863f35e53c02c723746
+// sources 5febe59637c9e1fd89d597d7599547bd42c790a4c4e3e8085156da181e382821
 // module 94dc236e728774c7c19b6584c7437982b2e6df341ff8ff99d362f104d5b7b5f8
 "use strict";
 const FAXPAGES_WASM = `
