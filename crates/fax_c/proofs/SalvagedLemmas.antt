@@ -15,7 +15,7 @@ use Rattle.fax_files.specs.declared.Cause.{Cause}
 use Rattle.fax_walk.specs.declared.cursor.Cursor.{Cursor}
 use Rattle.fax_walk.specs.declared.salvage.Stretch.{Stretch}
 use Rattle.fax_walk.specs.declared.salvage_rows.PagePart.TheVariants.{Found, Lost}
-use Rattle.fax_walk.specs.Salvaged.{PageRow, LeftItem, row_found, rows_lost, page_items}
+use Rattle.fax_walk.specs.Salvaged.{PageRow, LeftItem, row_found, page_items}
 use Rattle.fax_walk.specs.laws.RowsLeft.{AreLeftOneWay}
 use Rattle.fax_walk.specs.views.RowsLeft.{LeftOf, of_uncounted, AreRowsOf, RowsView, IsNextPart, IsUncountedStart}
 use Rattle.fax_walk.specs.views.RowsLeft.{PassesRows}

@@ -1,4 +1,4 @@
-use Rattle.std.proofs.Common.{◌≡◌, ◌-◌, List}
+use Rattle.std.proofs.Common.{◌-◌, List}
 use Rattle.fax_walk.specs.Salvaged.{PageRow}
 use Rattle.fax_c.proofs.SalvagedLemmas.{AreLeftSoFar}
 use Rattle.fax_c.proofs.salvage.fill_left.Given as goal
