@@ -97,6 +97,10 @@ static void is_refused(struct guarded file, struct faxpages_place at, size_t byt
 static void places_that_are_none(struct guarded file, uint32_t page, const struct faxpages_form *form) {
     const struct faxpages_place first = {page, 0, 0, 0}, end = {page, form->rows, 0, 0};
     struct faxpages_place at = first;
+    struct faxpages_form none;
+    struct faxpages_lost lost[1];
+    struct faxpages_told told;
+    uint8_t out[1];
     size_t stride = (form->width + 7) / 8;
     is_refused(file, first, stride, stride, 1, FAXPAGES_RUNS - 1, FAXPAGES_NO_OPTIONS);
     is_refused(file, first, stride - 1, stride, 1, FAXPAGES_RUNS, FAXPAGES_NO_ROOM);
@@ -114,7 +118,8 @@ static void places_that_are_none(struct guarded file, uint32_t page, const struc
     at.bits = 0;
     if (form->width != 1) is_refused(file, at, stride, stride, 1, FAXPAGES_RUNS, FAXPAGES_OUTSIDE);
     at.page = 0xFFFFFFFFu;
-    is_refused(file, at, stride, stride, 1, FAXPAGES_RUNS, FAXPAGES_OUTSIDE);
+    is_refused(file, at, stride, stride, 1, FAXPAGES_RUNS,
+               faxpages_salvage(file.at, file.len, at.page, &none, out, 0, 0, lost, 0, &told));
 }
 
 static void print_row(const struct left *left, uint32_t page, uint32_t row) {
