@@ -18,6 +18,8 @@ from tests.archive.room import Part, Room
 
 NAMES = (b"a.tif", b"A.TIF")
 FORK = os.fork
+# More calls of the system than a run makes before it has found that a fax is gone.
+CALLS = 25
 
 
 def episode_of(room: Room, name: str, faxes: list[bytes]) -> Episode:
@@ -138,6 +140,23 @@ def unknown(room: Room, *_given: object) -> None:
     room.claim("a copy that only its table knows", compared(episode), "")
 
 
+def killed_amid(room: Room, *_given: object) -> None:
+    """The copy of a fax that is gone is marked as the only one before its row goes: where a run is killed between, another
+    fax of that name does not replace it, though its row is there still."""
+    one, other = two()
+    said = []
+    for call in range(1, CALLS):
+        episode = episode_of(room, f"modelled killed at {call}", [one, other])
+        path = os.path.join(episode.world.tree, NAMES[0])
+        episode.world.put(path, one, 0o644)
+        said.append(compared(episode))
+        os.unlink(path)
+        said.append(compared(episode, Words(gone=True), playing.Trouble(call, kill=signal.SIGKILL)))
+        episode.world.put(path, other, 0o644)
+        said.append(compared(episode))
+    room.claim("a run that finds a fax gone, killed at each call", list(filter(None, said)), [])
+
+
 def late_fork() -> int:
     """A child that does not run, as on a machine with much to do."""
     process = FORK()
@@ -157,4 +176,4 @@ def killed(room: Room, *_given: object) -> None:
         playing.run(["table"], room("modelled killed"), playing.Trouble())
 
 
-PARTS: list[Part] = [rotted, changed, renamed, one_vanishes, going_on, unknown, killed]
+PARTS: list[Part] = [rotted, changed, renamed, one_vanishes, going_on, unknown, killed_amid, killed]

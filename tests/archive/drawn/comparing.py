@@ -284,6 +284,10 @@ class Comparison:
                 self._mark_may_be_ours(name)
         deleted = {path for path in self.before.seen.faxes if path in self.before.tree and path not in self.after.tree}
         self._note_only(deleted)
+        if self.troubled:
+            # The copy of a fax that is gone is marked as the only one before its row goes.
+            for path in (set(self.before.rows) & set(self.after.rows)) - set(self.after.tree):
+                maybe.update(job.copies_of(path))
         # A fax that was about to be deleted and stays has no row, and its copy is marked as the only one.
         stays = set(self._share()) if self.words.delete else set[bytes]()
         for path in (set(self.before.rows) | deleted | stays) - set(self.after.rows):
