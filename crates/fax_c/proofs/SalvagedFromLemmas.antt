@@ -10,7 +10,7 @@ use Rattle.fax_rows.specs.Rows.{Colour, White, runs_of}
 use Rattle.fax_rows.specs.Coded.{packed_len}
 use Rattle.std.proofs.lemmas.Nat.{mod-mul-add}
 use Rattle.fax_page.specs.Lines.{white_row}
-use Rattle.fax_page.specs.declared.PlaceFault.TheVariants.{Outside as no_such_place}
+use Rattle.fax_page.specs.declared.PlaceFault.TheVariants.{Memory as no_memory, Outside as no_such_place}
 use Rattle.fax_page.specs.declared.RowBefore.{RowBefore}
 use Rattle.fax_page.specs.declared.RowBefore.TheVariants.{Runs, White as White_row_before}
 use Rattle.fax_page.specs.views.Reader.{IsBefore}
@@ -197,6 +197,32 @@ module _ (first : RowsFromView) (page row : ℕ) where
       ended = λ _. (ap found_of (append-nil so_far.over) ∙ so_far.none, all, alone);
     }
 
+-- rows of which the last ones are lost do not end with one that is found
+ends_lost : (over later before : List PageRow) (row : List Colour) → found_of later ≡ [] → 0 < length later
+    → over ++ later ≡ before ++ Ok row ∷ [] → ⊥
+ends_lost [] [] before row none some same = omega (arith, some)
+ends_lost [] (Ok pels ∷ later) before row none some same = cc
+ends_lost [] (Err cause ∷ []) [] row none some same = cc
+ends_lost [] (Err cause ∷ []) (x ∷ []) row none some same = cc
+ends_lost [] (Err cause ∷ []) (x ∷ y ∷ before) row none some same = cc
+ends_lost [] (Err cause ∷ y ∷ later) [] row none some same = cc
+ends_lost [] (Err cause ∷ y ∷ later) (x ∷ before) row none some same =
+    ends_lost [] (y ∷ later) before row none (omega arith) cc
+ends_lost (o ∷ over) later [] row none some same =
+    let len = ap (λ (l : List PageRow). length l) same in
+    omega (arith, len, length-append over later, some)
+ends_lost (o ∷ over) later (x ∷ before) row none some same = ends_lost over later before row none some cc
+
+none_later : (over later : List PageRow) → found_of later ≡ [] → EndsFound (over ++ later) → later ≡ []
+none_later over [] none ends = refl
+none_later over (x ∷ later) none (before, row, is) =
+    absurd (ends_lost over (x ∷ later) before row none (omega arith) is)
+
+-- no stretch stands among no rows
+no_stretch : (lost : Option Stretch) → [] ≡ stretches_of lost ++ [] → lost ≡ None
+no_stretch None same = refl
+no_stretch (Some stretch) same = cc
+
 -- stretches are written after others, where one more has room
 stretches_put : (closed old now new : List FaxLost) (ahead : Option Stretch) (count to : ℕ)
     → now ≡ closed ++ drop count old → count ≡ length closed → length now ≡ length old → count < length old
@@ -353,10 +379,11 @@ module _ (first : RowsFromView) (page row stride : ℕ) (old : List ℕ) (old_lo
         )
 
     -- no other row is left
-    pub ended : ahead.found ≡ false → AreRowsFilled page row stride first old old_lost
+    pub ended : ahead.found ≡ false → HasRoom (length old) used stride stretches (length old_lost)
+        → AreRowsFilled page row stride first old old_lost
         (record { cursor = record { page = page; row = ahead.row }; count = count; used = to; stop = Ended Proper }) new
         out new_lost
-    ended is =
+    ended is has_room =
         let (none, all, alone) = next.ended is in
         let found_are : found_of its_over ≡ found_of so_far.over =
         found_append so_far.over next.over ∙ ap (λ (l : List (List Colour)). found_of so_far.over ++ l) none
@@ -385,10 +412,22 @@ module _ (first : RowsFromView) (page row stride : ℕ) (old : List ℕ) (old_lo
                   ∙ ap (λ (l : List (List Colour)). flat_map (padded_row stride) l ++ drop used old) (sym found_are)
                   ∙ ap (λ n. flat_map (padded_row stride) (found_of its_over) ++ drop n old) so_far.used_is;
               lost_are = its_put.0 ∙ ap (λ (l : List FaxLost). l ++ drop to old_lost) (sym lost_are);
-              stops = alone rest left;
+              stops = (alone rest left, λ ends full. not_full none (none_later so_far.over next.over none ends) full);
             },
           );
         }
+      where
+        -- where all stretches had ended, one more had room
+        not_full : found_of next.over ≡ [] → next.over ≡ []
+            → IsFull (length old) (count * stride) stride to (length old_lost) → ⊥
+        not_full none nothing full =
+            let alone : [] ≡ stretches_of ahead.lost ++ [] =
+            ap (λ (l : List PageRow). lost_from page due (l ++ [])) (sym nothing) ∙ next.lost_are [] (λ _. refl) in
+            let same : to ≡ stretches = (rw (no_stretch ahead.lost alone) at stretch).0 in
+            elim full [
+              | inl short ↦ omega (arith, short, so_far.used_is, has_room.0)
+              | inr few ↦ omega (arith, few, same, has_room.1)
+            ]
 
   -- no more has room
   pub is_done : (now : RowsFromView) (due count used stretches : ℕ) (out : List ℕ) (lost : List FaxLost)
@@ -644,6 +683,42 @@ module _ (file : List ℕ) (here : FilePage) (stride : ℕ) (place : FaxPlace) (
         subst (λ (f : List ℕ). AreRowsFrom f here s i at rest) same_file
             (subst (λ (p : FilePage). AreRowsFrom new.file p s i at rest) same_here (rests rest left)),
       )
+
+  -- memory was refused at the place
+  pub no_memory_from : (bits : ℕ) (row_before : RowBefore) (before : IsRowBefore place runs (Some row_before))
+      (some_bits : place.runs ≢ 0 → bits ≡ place.bits) (filled : Filled) → 0 < m
+      → HasRoomFor here.form.width stride (length old) (length old_lost) → place.row < here.form.rows
+      → (place.runs ≡ 0 → place.row % m ≡ 0)
+      → IsNotBegunFrom (record { file = file; here = here }) place.row bits row_before no_memory
+      → filled ≡ none_filled_at (cursor_of place) Memory
+      → WritesFrom file here stride place runs old old_lost filled place runs old old_lost
+  no_memory_from bits row_before before some_bits filled some room due first fits filled_is =
+      let stop_is : filled.stop ≡ Memory = ap (λ (f : Filled). f.stop) filled_is in
+      let why : WritesNone file here stride place runs (length old) (length old_lost) Memory = (
+        room,
+        due,
+        has_runs row_before before,
+        λ s i there. (
+          (λ zero.
+              let less : i < m = omega (arith, there.row) in
+              let rest : place.row % m ≡ i = rw there.place (mod-mul-add s m i less) in
+              sym rest ∙ first zero),
+          (λ has. let same = some_bits (λ zero. omega (arith, zero, has)) in rw same at (fits s i there)),
+        ),
+      )
+      in
+      inr (
+        rw stop_is why,
+        filled_is ∙ ap (none_filled_at (cursor_of place)) (sym stop_is),
+        refl,
+        refl,
+        refl,
+        refl,
+      )
+    where
+      has_runs : (row_before : RowBefore) → IsRowBefore place runs (Some row_before) → place.runs ≤ length runs
+      has_runs White_row_before is = omega (arith, is)
+      has_runs (Runs those) (has, _) = has.1
 
   -- no row of the page is due at the place
   pub nowhere_from : (bits : ℕ) (row_before : RowBefore) (before : IsRowBefore place runs (Some row_before))

@@ -55,11 +55,12 @@ abbrev pub EndsFound : List PageRow → Type 0
 EndsFound rows = (before : List PageRow) × (row : List Colour) × (rows ≡ before ++ Ok row ∷ [])
 
 -- why no more is written after these rows: there is no room for one more row or one more stretch,
--- and the last of them is found; or no other row is left of the page
+-- and the last of them is found; or no other row is left of the page, and that is not so
 abbrev pub StopsAfter : List PageRow → List PageRow → ℕ → ℕ → ℕ → ℕ → ℕ → Stop → Type 0
 StopsAfter over rest len used stride stretches room Done =
     EndsFound over × IsFull len used stride stretches room
-StopsAfter over rest len used stride stretches room (Ended Proper) = rest ≡ []
+StopsAfter over rest len used stride stretches room (Ended Proper) =
+    (rest ≡ []) × (EndsFound over → IsFull len used stride stretches room → ⊥)
 StopsAfter over rest len used stride stretches room stop = ⊥
 
 -- of these rows, which are left from row r of a page on, the first ones are written: those that are
@@ -88,8 +89,8 @@ IsPlaceAfter file here rest cursor place old_runs runs =
     ⊎ ((s : ℕ) × (i : ℕ) × (at : Inner) × IsPlaceOn file here place runs s i at
     × AreRowsFrom file here s i at rest))
 
--- why nothing is written from a place on: no row and no stretch has room; or no row of the page is
--- left, or it is no place of the page, or memory was refused
+-- why nothing is written from a place on: a row or a stretch has no room; or no row of the page is
+-- left, or it is no place of the page, or memory was refused, where it is one but for its runs
 abbrev pub WritesNone : List ℕ → FilePage → ℕ → FaxPlace → List ℕ → ℕ → ℕ → Stop → Type 0
 WritesNone file here stride place runs len room NoRoom =
     HasRoomFor here.form.width stride len room → ⊥
@@ -100,6 +101,9 @@ WritesNone file here stride place runs len room (Ended Outside) =
     × ((s i : ℕ) (at : Inner) → IsPlaceOn file here place runs s i at → ⊥)
 WritesNone file here stride place runs len room Memory =
     HasRoomFor here.form.width stride len room × (place.row < here.form.rows)
+    × (place.runs ≤ length runs) × ((s i : ℕ) → IsRowOfStrip here.form place.row s i
+    → (place.runs ≡ 0 → i ≡ 0)
+    × (0 < place.runs → place.bits ≤ 8 * length (strip_left here file s).0))
 WritesNone file here stride place runs len room stop = ⊥
 
 -- what is left of a page from a place on is written, which is then the one after it; or nothing is,

@@ -16,6 +16,7 @@ returns-then-not-ahead c =
     c.loop-left.out c.loop-left.lost c.loop-left.invariant c.next_found-ahead.result c.next_found-ahead.ensures
     c.loop-left.auto.lost (omega (arith, room.1, c.loop-left.auto.lost)) c.put_stretch-stretches.result
     c.put_stretch-stretches.new.lost c.put_stretch-stretches.ensures (not_true _ c.if-not-ahead.true)
+    (rw (c.loop-left.auto.out, c.loop-left.auto.lost) at room)
 
 pub overflow_add-count : goal.overflow_add-count
 overflow_add-count c =

@@ -2,7 +2,7 @@ use Rattle.std.proofs.Common.{◌≡◌, length, Some, subst}
 use Rattle.std.specs.Prelude.{◌≢◌}
 use Rattle.fax_files.specs.declared.PageForm.{PageForm}
 use Rattle.fax_c.specs.code.SalvagedFrom.{IsStopBefore}
-use Rattle.fax_c.proofs.SalvagedFromLemmas.{all_from, none_before, nowhere_from, place_is}
+use Rattle.fax_c.proofs.SalvagedFromLemmas.{all_from, no_memory_from, none_before, nowhere_from, place_is}
 use Rattle.fax_c.proofs.salvage_from.salvage_page.Goals as goal
 use Rattle.fax_c.proofs.salvage_from.salvage_page.Goals.{then-place-eq0, else-place-eq0}
 
@@ -63,3 +63,19 @@ returns-in-Err-Outside c =
     c.nothing-in-Err-Outside.result due.0 due.1
     (rw c.in-Err-Outside.field-0-is at c.in-Err-Outside.ensures.err)
     (rw c.cursor-cursor.ensures at c.nothing-in-Err-Outside.ensures)
+
+pub returns-in-Err-Memory : goal.returns-in-Err-Memory
+returns-in-Err-Memory c =
+    let place = c.args.place.now in
+    let some = rw c.form-form.ensures.form at c.form-form.ensures.limits.some_rows_per_strip in
+    let due = rw c.form-form.ensures.form at c.in_default.ensures in
+    let some_bits : place.runs ≢ 0 → c.if-place-eq0.bits ≡ place.bits = elim c.if-place-eq0.branch [
+      | then-place-eq0 w ↦ λ not. absurd (not w.if-place-eq0.true)
+      | else-place-eq0 w ↦ λ _. w.bits-is
+    ]
+    in
+    no_memory_from c.args.found.file c.args.found.here c.args.stride place c.args.runs.now c.args.out.now
+    c.args.lost.now c.if-place-eq0.bits c.in-Some-row_before.before c.in-Some-row_before.ensures some_bits
+    c.nothing-in-Err-Memory.result some due.0 due.1 due.2
+    (rw c.in-Err-Memory.field-0-is at c.in-Err-Memory.ensures.err)
+    (rw c.cursor-cursor.ensures at c.nothing-in-Err-Memory.ensures)
