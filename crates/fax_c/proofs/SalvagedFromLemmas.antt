@@ -43,7 +43,7 @@ use Rattle.fax_c.specs.code.SalvagedFrom.{IsToldPlace, stretches_of}
 use Rattle.fax_c.specs.code.Strips.{IsRowBefore}
 use Rattle.fax_c.specs.views.Salvaged.{none_filled_at}
 use Rattle.fax_c.specs.views.Places.{HasRuns, cursor_of, place_at}
-use Rattle.fax_c.specs.views.SalvagedFrom.{EndsFound, HasRoom, HasRoomFor, IsFull}
+use Rattle.fax_c.specs.views.SalvagedFrom.{EndsFound, HasRoom, HasRoomFor, IsFull, StopsNoLater}
 use Rattle.fax_c.specs.views.SalvagedFrom.{IsPlaceOn, WritesFrom, WritesNone}
 use Rattle.fax_c.proofs.ListLemmas.{more_put, one_set}
 use Rattle.fax_c.proofs.PlaceLemmas.{has_a_run}
@@ -218,6 +218,13 @@ none_later over [] none ends = refl
 none_later over (x ∷ later) none (before, row, is) =
     absurd (ends_lost over (x ∷ later) before row none (omega arith) is)
 
+-- no row stands before the one of a list
+none_of_one : (rows : List (List Colour)) (row only : List Colour) → rows ++ row ∷ [] ≡ only ∷ [] → rows ≡ []
+none_of_one [] row only same = refl
+none_of_one (x ∷ rows) row only same =
+    let len = ap (λ (l : List (List Colour)). length l) same in
+    absurd (omega (arith, len, length_push rows row))
+
 -- no stretch stands among no rows
 no_stretch : (lost : Option Stretch) → [] ≡ stretches_of lost ++ [] → lost ≡ None
 no_stretch None same = refl
@@ -267,7 +274,7 @@ module _ (first : RowsFromView) (page row stride : ℕ) (old : List ℕ) (old_lo
     pub fits : stretches ≤ length old_lost
     pub few : stretches + row ≤ due
     pub ends : ((used ≡ 0) × (stretches ≡ 0))
-        ⊎ (EndsFound over × (now.reader.before ≡ None) × EndsWithPage now)
+        ⊎ (StopsNoLater over stretches (length old_lost) × (now.reader.before ≡ None) × EndsWithPage now)
 
   pub nothing_written : row_due first ≡ row → row ≤ first.here.form.rows → AreWrittenSoFar first row 0 0 0 old old_lost
   nothing_written at within = record {
@@ -364,18 +371,29 @@ module _ (first : RowsFromView) (page row stride : ℕ) (old : List ℕ) (old_lo
           few =
               let some : 0 < length next.over = ends_some next.over ends in
               omega (arith, its_put.3, so_far.few, next.row_is, some);
-          ends = inr (ends_later so_far.over next.over ends, none, with_page);
+          ends = inr (no_later alone ends, none, with_page);
         }
       where
         ends_some : (over : List PageRow) → EndsFound over → 0 < length over
         ends_some over (before, row, is) =
             let len = ap (λ (l : List PageRow). length l) is ∙ length_push before (Ok row) in omega (arith, len)
 
-        ends_later : (over later : List PageRow) → EndsFound later → EndsFound (over ++ later)
-        ends_later over later (before, row, is) = (
-          over ++ before,
+        -- a row after another that is found has no stretch before it
+        no_later : found_of next.over ≡ new.last ∷ [] → EndsFound next.over
+            → StopsNoLater its_over to (length old_lost)
+        no_later alone (before, row, is) = (
+          so_far.over ++ before,
           row,
-          ap (λ (l : List PageRow). over ++ l) is ∙ sym (append_assoc over before (Ok row ∷ [])),
+          ap (λ (l : List PageRow). so_far.over ++ l) is ∙ sym (append_assoc so_far.over before (Ok row ∷ [])),
+          λ ends.
+              let all : found_of before ++ row ∷ [] ≡ new.last ∷ [] =
+              sym (found_append before (Ok row ∷ [])) ∙ ap (λ (l : List PageRow). found_of l) (sym is) ∙ alone in
+              let nothing = none_later so_far.over before (none_of_one (found_of before) row new.last all) ends in
+              let next_is : next.over ≡ Ok row ∷ [] = rw nothing at is in
+              let no_lost : [] ≡ stretches_of ahead.lost ++ [] =
+              ap (λ (l : List PageRow). lost_from page due (l ++ [])) (sym next_is) ∙ next.lost_are [] (λ _. refl) in
+              let same : to ≡ stretches = (rw (no_stretch ahead.lost no_lost) at stretch).0 in
+              omega (arith, same, room),
         )
 
     -- no other row is left
@@ -467,8 +485,8 @@ module _ (first : RowsFromView) (page row stride : ℕ) (old : List ℕ) (old_lo
       }
     where
       it_ends : ((used ≡ 0) × (stretches ≡ 0))
-          ⊎ (EndsFound so_far.over × (now.reader.before ≡ None) × EndsWithPage now)
-          → EndsFound so_far.over × (now.reader.before ≡ None) × EndsWithPage now
+          ⊎ (StopsNoLater so_far.over stretches (length old_lost) × (now.reader.before ≡ None) × EndsWithPage now)
+          → StopsNoLater so_far.over stretches (length old_lost) × (now.reader.before ≡ None) × EndsWithPage now
       it_ends (inl (none, no_stretch)) = elim full [
         | inl short ↦ absurd (omega (arith, short, none, room.0))
         | inr few ↦ absurd (omega (arith, few, no_stretch, room.1))

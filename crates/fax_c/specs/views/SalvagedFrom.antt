@@ -54,11 +54,19 @@ pub record IsPlaceOn (file : List ℕ) (here : FilePage) (place : FaxPlace) (run
 abbrev pub EndsFound : List PageRow → Type 0
 EndsFound rows = (before : List PageRow) × (row : List Colour) × (rows ≡ before ++ Ok row ∷ [])
 
+-- the last of these rows is found, and where the one before it is found too, one more stretch had
+-- room after that
+abbrev pub StopsNoLater : List PageRow → ℕ → ℕ → Type 0
+StopsNoLater rows stretches room =
+    (before : List PageRow) × (row : List Colour) × (rows ≡ before ++ Ok row ∷ [])
+    × (EndsFound before → stretches < room)
+
 -- why no more is written after these rows: there is no room for one more row or one more stretch,
--- and the last of them is found; or no other row is left of the page, and that is not so
+-- for the first time after a row that is found; or no other row is left of the page, and that is
+-- not so
 abbrev pub StopsAfter : List PageRow → List PageRow → ℕ → ℕ → ℕ → ℕ → ℕ → Stop → Type 0
 StopsAfter over rest len used stride stretches room Done =
-    EndsFound over × IsFull len used stride stretches room
+    StopsNoLater over stretches room × IsFull len used stride stretches room
 StopsAfter over rest len used stride stretches room (Ended Proper) =
     (rest ≡ []) × (EndsFound over → IsFull len used stride stretches room → ⊥)
 StopsAfter over rest len used stride stretches room stop = ⊥
