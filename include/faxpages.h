@@ -271,10 +271,10 @@ uint32_t faxpages_salvage(const uint8_t *file, size_t file_len, uint32_t page,
  * while it is DONE: the stretches of all calls are those that faxpages_salvage writes. That ends
  * for any file if a row and a stretch have room, and no row is read twice.
  *
- * DONE after a row that is found, where `out` has no room for one more row, or `lost` for one more
- * stretch; END after the page's last row. `count` of `told` says how many rows were written,
- * `used` how many stretches, and `page` and `row` are those of the place after them, which is left
- * there with its runs; no other run is changed.
+ * DONE after the first row that is found and leaves no room in `out` for one more row, or in `lost`
+ * for one more stretch, also if it is the page's last; else END after the page's last row. `count`
+ * of `told` says how many rows were written, `used` how many stretches, and `page` and `row` are
+ * those of the place after them, which is left there with its runs; no other run is changed.
  *
  * In this order: NO_OPTIONS, if file_len is more than 536870911, or runs_room less than
  * FAXPAGES_RUNS: then nothing is told. END, if the file has exactly `page` pages, OUTSIDE, if it
