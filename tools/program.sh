@@ -28,7 +28,7 @@ read_crates() {
         paths+=("crates/$name/"{src,specs,proofs})
     done <"$root/crates.txt"
     case $top in
-    fax_tool) paths+=(VERSION tools/build-program) ;;
+    fax_tool) paths+=(VERSION tools/build-program tools/large_blocks.c) ;;
     fax_c) paths+=(VERSION include/faxpages.h tools/build-library) ;;
     esac
 }
@@ -36,7 +36,8 @@ read_crates() {
 # Finds the files at these paths that count, with these last words of find. Tests do not.
 find_sources() {
     (cd -- "$root" && find "${paths[@]}" \( -name tests -o -name tests.rt \) -prune -o -type f \
-        \( -name '*.rt' -o -name '*.antt' -o -name crates.txt -o -name VERSION -o -name faxpages.h -o -name 'build-*' \) "$@")
+        \( -name '*.rt' -o -name '*.antt' -o -name crates.txt -o -name VERSION -o -name faxpages.h -o -name 'build-*' \
+        -o -name large_blocks.c \) "$@")
 }
 
 digest_of() {

@@ -1,0 +1,105 @@
+/* Blocks of 1 MB and more of the program's memory: in huge pages, and grown where they stand.
+ *
+ * tools/build-program links this into the program with --wrap: what calls malloc, realloc and free there calls the
+ * functions below, and __real_malloc, __real_realloc and __real_free are the C library's. Those keep all smaller blocks,
+ * and each one that the system refuses here or that finds no slot.
+ *
+ * A large block is a mapping of its own, of whole huge pages, and no other address space is taken. It is put far away
+ * from all others, so that it can grow in its place; where it cannot, the system moves it without a copy. On a system
+ * without huge pages it has small ones. Threads may call these functions side by side. */
+#define _GNU_SOURCE
+#include <malloc.h>
+#include <stddef.h>
+#include <stdint.h>
+#include <string.h>
+#include <sys/mman.h>
+
+#define LARGE ((size_t)1 << 20)
+#define HUGE_PAGE ((size_t)2 << 20)
+/* From one block to the next; as the program and the stack lie, 16 of these are free below the program. */
+#define APART ((size_t)1 << 40)
+enum { SLOTS = 16 };
+
+void *__real_malloc(size_t size);
+void *__real_realloc(void *block, size_t size);
+void __real_free(void *block);
+
+/* A large block: where it begins, and its size. Where begin is NULL the slot is free. */
+static struct slot {
+    char *begin;
+    size_t size;
+} slots[SLOTS];
+/* What begin is while a block is mapped. */
+static char mapping[1];
+
+static struct slot *slot_of(const void *block) {
+    for (struct slot *slot = slots; block && slot < slots + SLOTS; slot++)
+        if (__atomic_load_n(&slot->begin, __ATOMIC_RELAXED) == block) return slot;
+    return NULL;
+}
+
+static struct slot *take_slot(void) {
+    for (struct slot *slot = slots; slot < slots + SLOTS; slot++) {
+        char *none = NULL;
+        if (__atomic_compare_exchange_n(&slot->begin, &none, mapping, 0, __ATOMIC_ACQUIRE, __ATOMIC_RELAXED)) return slot;
+    }
+    return NULL;
+}
+
+static void *keep(struct slot *slot, char *begin, size_t size) {
+    slot->size = size;
+    __atomic_store_n(&slot->begin, begin, __ATOMIC_RELEASE);
+    return begin;
+}
+
+/* 0 where there is no such size; the system refuses that. */
+static size_t in_huge_pages(size_t size) {
+    return size < HUGE_PAGE ? HUGE_PAGE : (size + HUGE_PAGE - 1) & ~(HUGE_PAGE - 1);
+}
+
+/* Maps a large block, or answers NULL. */
+static void *map(size_t size) {
+    struct slot *slot;
+    if (size < LARGE || !(slot = take_slot())) return NULL;
+    uintptr_t place = ((uintptr_t)slots & ~(HUGE_PAGE - 1)) - APART * (size_t)(slot - slots + 1);
+    size = in_huge_pages(size);
+    char *begin = mmap((void *)place, size, PROT_READ | PROT_WRITE, MAP_PRIVATE | MAP_ANONYMOUS, -1, 0);
+    if (begin == MAP_FAILED) return keep(slot, NULL, 0);
+    madvise(begin, size, MADV_HUGEPAGE);
+    return keep(slot, begin, size);
+}
+
+/* Gives a large block another size, or answers NULL and leaves it. It stays here also where it is made small. */
+static void *resize(struct slot *slot, size_t size) {
+    size = in_huge_pages(size);
+    if (size == slot->size) return slot->begin;
+    char *begin = mremap(slot->begin, slot->size, size, 0);
+    if (begin == MAP_FAILED) begin = mremap(slot->begin, slot->size, size, MREMAP_MAYMOVE);
+    return begin == MAP_FAILED ? NULL : keep(slot, begin, size);
+}
+
+void *__wrap_malloc(size_t size) {
+    void *block = map(size);
+    return block ? block : __real_malloc(size);
+}
+
+void *__wrap_realloc(void *block, size_t size) {
+    struct slot *slot = slot_of(block);
+    if (slot) return resize(slot, size);
+    void *large = map(size);
+    if (!large) return __real_realloc(block, size);
+    size_t held = malloc_usable_size(block);
+    if (held) memcpy(large, block, held < size ? held : size);
+    __real_free(block);
+    return large;
+}
+
+void __wrap_free(void *block) {
+    struct slot *slot = slot_of(block);
+    if (!slot) {
+        __real_free(block);
+        return;
+    }
+    munmap(block, slot->size);
+    keep(slot, NULL, 0);
+}
