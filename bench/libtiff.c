@@ -1,9 +1,10 @@
 /* Fax pages by libtiff's C API, to be compared with faxpages:
 
-       libtiff make mh|mr|mmr PAGES IMAGE.pbm OUT.tif   the image on so many pages, one strip each
-       libtiff decode IN.tif                            decodes each strip
-       libtiff bare IN.tif                              decodes each strip, but fills no row
-       libtiff pbm IN.tif OUT.pbm                       decodes each strip, and writes raw PBM */
+       libtiff make mh|mr|mmr PAGES IMAGES.pbm OUT.tif   so many pages of one strip, an image each; where no image follows,
+                                                         the last one again, which is read once
+       libtiff decode IN.tif                             decodes each strip
+       libtiff bare IN.tif                               decodes each strip, but fills no row
+       libtiff pbm IN.tif OUT.pbm                        decodes each strip, and writes raw PBM */
 #include <stdio.h>
 #include <stdlib.h>
 #include <string.h>
@@ -14,14 +15,21 @@ static void fail(const char *what) {
     exit(1);
 }
 
-static unsigned char *read_image(const char *name, unsigned *width, unsigned *rows) {
-    FILE *file = fopen(name, "rb");
-    if (!file || fscanf(file, "P4 %u %u", width, rows) != 2 || fgetc(file) == EOF) fail(name);
-    size_t size = (size_t)*rows * ((*width + 7) / 8);
-    unsigned char *pels = malloc(size);
-    if (!pels || fread(pels, 1, size, file) != size) fail(name);
-    fclose(file);
-    return pels;
+struct image {
+    unsigned width, rows;
+    unsigned char *pels;
+    size_t size;
+};
+
+/* Reads the next image over this one; where none follows it stays. */
+static void read_image(FILE *file, const char *name, struct image *image) {
+    int first = fgetc(file);
+    if (first == EOF && image->pels) return;
+    if (first != 'P' || fscanf(file, "4 %u %u", &image->width, &image->rows) != 2 || fgetc(file) == EOF) fail(name);
+    size_t size = (size_t)image->rows * ((image->width + 7) / 8);
+    if (size > image->size && !(image->pels = realloc(image->pels, size))) fail(name);
+    image->size = size;
+    if (fread(image->pels, 1, size, file) != size) fail(name);
 }
 
 static void set_form(TIFF *tiff, const char *coding, unsigned width, unsigned rows) {
@@ -42,20 +50,20 @@ static void set_form(TIFF *tiff, const char *coding, unsigned width, unsigned ro
     TIFFSetField(tiff, TIFFTAG_RESOLUTIONUNIT, RESUNIT_INCH);
 }
 
-static void make(const char *coding, int pages, const char *image, const char *out) {
-    unsigned width, rows;
-    unsigned char *pels = read_image(image, &width, &rows);
-    tmsize_t size = (tmsize_t)rows * ((width + 7) / 8);
-    unsigned char *copy = malloc(size);
+static void make(const char *coding, int pages, const char *images, const char *out) {
+    struct image image = {0};
+    FILE *file = fopen(images, "rb");
+    if (!file) fail(images);
     TIFF *tiff = TIFFOpen(out, "wl");
-    if (!tiff || !copy) fail(out);
+    if (!tiff) fail(out);
     for (int page = 0; page < pages; page++) {
-        set_form(tiff, coding, width, rows);
-        memcpy(copy, pels, size);
-        if (TIFFWriteEncodedStrip(tiff, 0, copy, size) != size) fail(out);
+        read_image(file, images, &image);
+        set_form(tiff, coding, image.width, image.rows);
+        if (TIFFWriteEncodedStrip(tiff, 0, image.pels, image.size) != (tmsize_t)image.size) fail(out);
         TIFFWriteDirectory(tiff);
     }
     TIFFClose(tiff);
+    fclose(file);
 }
 
 /* Fills no row. */

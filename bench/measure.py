@@ -8,12 +8,15 @@ import re
 import subprocess
 import sys
 import tempfile
-from typing import List, NamedTuple, Sequence
+from typing import List, NamedTuple, Sequence, Tuple
 
 HERE = os.path.dirname(os.path.abspath(__file__))
 CODINGS = ["mh", "mr", "mmr"]
-# Files of so many pages are read, so that what a program does once is left out by their difference.
-COUNTS = (1, 2)
+# Files of so many pages are read, so that what a program does once is left out by their difference. From images of one
+# page to those of two faxpages takes a large block of memory, into which it copies what was read so far.
+COUNTS = (2, 3)
+# What the name of a file begins with that a run makes: it is new in each run.
+OUT = "out-"
 
 
 class Counts(NamedTuple):
@@ -31,12 +34,26 @@ def call(words: Sequence[str], output: str = os.devnull, statuses: Sequence[int]
         sys.exit(f"bench: status {status} of {' '.join(words)}")
 
 
+def split(words: Sequence[str]) -> Tuple[Sequence[str], str]:
+    """A command, and where its output goes: into a file after `>`, or else nowhere."""
+    return (words[:-2], words[-1]) if words[-2:-1] == [">"] else (words, os.devnull)
+
+
+def remove_made(words: Sequence[str]) -> None:
+    """Takes away what a run has made."""
+    for word in words:
+        if os.path.basename(word).startswith(OUT) and os.path.exists(word):
+            os.remove(word)
+
+
 def counts(words: Sequence[str]) -> Counts:
     """What a run takes, by valgrind; its output goes nowhere."""
+    command, _ = split(words)
     with tempfile.NamedTemporaryFile("r") as log:
         call(["valgrind", "--tool=cachegrind", "--cache-sim=no", "--branch-sim=yes", "--cachegrind-out-file=/dev/null",
-              f"--log-file={log.name}", *words], statuses=(0, 1))
+              f"--log-file={log.name}", *command], statuses=(0, 1))
         said = log.read()
+    remove_made(words)
     found = [re.search(pattern, said) for pattern in (r"I\s+refs:\s+([\d,]+)", r"Mispredicts:\s+([\d,]+)")]
     return Counts(*(float(it.group(1).replace(",", "")) for it in found if it))
 
@@ -48,10 +65,13 @@ def a_page(few: Counts, many: Counts) -> Counts:
 
 
 def seconds(words: Sequence[str]) -> float:
-    """The seconds of the processor that a run takes; its output goes nowhere."""
-    child = subprocess.Popen(words, stdout=subprocess.DEVNULL, stderr=subprocess.DEVNULL)
-    _, status, usage = os.wait4(child.pid, 0)
+    """The seconds of the processor that a run takes; where it makes a file, that is a new one."""
+    command, output = split(words)
+    with open(output, "wb") as out:
+        child = subprocess.Popen(command, stdout=out, stderr=subprocess.DEVNULL)
+        _, status, usage = os.wait4(child.pid, 0)
     child.returncode = os.waitstatus_to_exitcode(status)
+    remove_made(words)
     if child.returncode:
         sys.exit(f"bench: status {child.returncode} of {' '.join(words)}")
     spent: float = usage.ru_utime + usage.ru_stime
@@ -66,7 +86,9 @@ def least(commands: Sequence[Sequence[str]], times: int) -> List[float]:
 
 def peak(launcher: str, words: Sequence[str]) -> float:
     """The most memory that is resident in a run, in MB, by peak.c as it was built; the run's output goes nowhere."""
-    said = subprocess.run([launcher, *words], stdout=subprocess.PIPE, check=True).stdout.split()
+    command, _ = split(words)
+    said = subprocess.run([launcher, *command], stdout=subprocess.PIPE, check=True).stdout.split()
+    remove_made(words)
     if said[0] != b"0":
         sys.exit(f"bench: status {said[0].decode()} of {' '.join(words)}")
     return int(said[1]) * 1024 / 1e6

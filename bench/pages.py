@@ -1,5 +1,5 @@
 #!/usr/bin/env python3
-"""Draws ten fax pages of 1728 by 2292 pels anew, by a seed: another seed, another page of the same kind.
+"""Draws eleven fax pages of 1728 by 2292 pels anew, by a seed: another seed, another page of the same kind.
 
     bench/pages.py SEED FOLDER
 
@@ -158,9 +158,14 @@ def sparse(page: Drawing) -> Any:
     return page.image
 
 
+def blank(page: Drawing) -> Any:
+    """A page without anything on it."""
+    return page.image
+
+
 PAGES: Dict[str, Callable[[Drawing], Any]] = {
     kind.__name__: kind for kind in (text, usual, cyrillic, japanese, handwriting, form, photograph, halftone, speckle,
-                                     sparse)}
+                                     sparse, blank)}
 
 
 def pbm(image: Any) -> bytes:

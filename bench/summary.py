@@ -11,7 +11,7 @@ from typing import Iterator, List, NamedTuple, Tuple
 # Where a table of pages and jobs begins; it ends at an empty line.
 BEGINS = "page        job "
 ALL = "all"
-GROUPS = [ALL, "rows", "check", "to PBM", "conversions", "from PBM"]
+GROUPS = [ALL, "rows", "check", "to PBM", "conversions", "from PBM", "one image"]
 # What is compared, and in which columns it stands: ours, the other's, and the ratio.
 KINDS = {"seconds": (5, 6, 7), "instructions": (0, 1, 2), "third": (5, 8, 9)}
 HEAD = [f"{'ratios:':19}{'to libtiff, by seconds':34}{'to libtiff, by instructions':34}to the third, by seconds",
@@ -52,7 +52,7 @@ def group(job: str) -> str:
     if " " in job:
         return job.split()[0]
     source, target = job.split("-")
-    return "to PBM" if target == "pbm" else "from PBM" if source == "pbm" else "conversions"
+    return "to PBM" if target == "pbm" else {"pbm": "from PBM", "one": "one image"}.get(source, "conversions")
 
 
 def mean(ratios: List[float]) -> float:

@@ -7,8 +7,10 @@ NAME is a function here; it ends with status 0 if all that it claims is so. PEAK
 
 from __future__ import annotations
 
+import os
 import subprocess
 import sys
+import tempfile
 from typing import List
 
 sys.dont_write_bytecode = True
@@ -55,7 +57,7 @@ def counts_once(_: str) -> None:
 
 def each_job_has_a_group(_: str) -> None:
     groups = {"rows mmr": "rows", "check mh": "check", "mr-pbm": "to PBM", "mh-mmr": "conversions",
-              "pbm-mh": "from PBM"}
+              "pbm-mh": "from PBM", "one-mmr": "one image"}
     assert {job: summary.group(job) for job in groups} == groups
 
 
@@ -67,6 +69,16 @@ def refuses(_: str) -> None:
     assert "version is 1.4.0" in kept.refusal("1.4.0", "1.5.0", 0.0, True)
     assert kept.head("1.5.0", "2026-11-28", 0.25) == "faxpages 1.5.0, measured on 2026-11-28 at a load of 0.25"
     assert kept.head("1.5.0", "2026-11-28", 1.0).endswith(" at a load of 1.00 (other programs ran)")
+
+
+def new_files(_: str) -> None:
+    """What a run makes is a new file, by itself or by what it prints, and is gone after it."""
+    with tempfile.TemporaryDirectory() as room:
+        out = os.path.join(room, f"{measure.OUT}1")
+        makes = ["sh", "-c", 'test ! -e "$1" && echo made >"$1"', "-", out]
+        prints = ["sh", "-c", 'echo more && test "$(wc -c <"$1")" = 5', "-", out, ">", out]
+        measure.least([makes, prints, makes], 2)
+        assert os.listdir(room) == []
 
 
 def peaks(peak: str) -> None:

@@ -12,12 +12,14 @@ TOP = os.path.dirname(os.path.dirname(os.path.dirname(os.path.abspath(__file__))
 FIRST = re.compile(
     r"faxpages (\S+), measured on (\d{4}-\d\d-\d\d) at a load of (\d+(?:\.\d+)?)( \(other programs ran\))?")
 LINE = re.compile(r"(\w+) +((?:rows|check) m\w+|\w+-\w+) +((?:[\d.-]+ +){9}[\d.-]+)")
-GROUP = re.compile(r"(all|rows|check|to PBM|conversions|from PBM) +(\d+)(?= )")
+GROUP = re.compile(r"(all|rows|check|to PBM|conversions|from PBM|one image) +(\d+)(?= )")
+LISTED = re.compile(r"(\w+) +list +(\d+) +([\d.]+) +([\d.]+) +([\d.]+) +([\d.]+)")
 # Where the blocks of the summary stand in its lines, and in which columns of a page and job their numbers: ours, the
 # other's, the ratio.
 BLOCKS = {18: (5, 6, 7), 52: (0, 1, 2), 86: (5, 8, 9)}
 # What `tests/documents/run --write` puts into the documents.
-README = re.compile(r"^()(Of \d+ pages and jobs .*? at a load of [\d.]*\d(?:, beside other programs)?\.)()", re.M)
+README = re.compile(r"^()(Of \d+ pages and jobs .*\n\nThe geometric mean .* at a load of [\d.]*\d"
+                    r"(?:, beside other programs)?\.)()", re.M)
 BENCH = re.compile(r"^()(Measured with version .* at a load of [\d.]*\d(?:, beside other programs)?)()(?=, )", re.M)
 NUMBERS = re.compile(r"(<!-- numbers: tests/documents/run --write -->\n```text\n)(.*?\n)(```\n)", re.S)
 GOALS = re.compile(r"(<!-- goals: tests/documents/run --write -->\n)(.*?\n)(<!-- end -->\n)", re.S)
@@ -36,7 +38,7 @@ SPARSE = {"`rows`": (["rows mh", "rows mr", "rows mmr"], 0.45),
 DRAWN = {"text": "dense text", "usual": "a letter", "cyrillic": "a letter in Cyrillic",
          "japanese": "Japanese", "handwriting": "a letter by hand", "form": "a form",
          "photograph": "a photograph in dots", "halftone": "a photograph by a screen",
-         "speckle": "a letter with specks", "sparse": "a nearly blank page",
+         "speckle": "a letter with specks", "sparse": "a nearly blank page", "blank": "a blank page",
          "strips": "dense text in strips of one row"}
 
 
@@ -91,16 +93,33 @@ def in_words(block: Block) -> str:
     if " " in block.job:
         command, coding = block.job.split()
         return f"`{command}` of {coding.upper()} on {DRAWN[block.page]}"
-    source, target = block.job.upper().split("-")
+    source, target = block.job.upper().replace("ONE", "PBM").split("-")
     return f"{source} to {target} on {DRAWN[block.page]}"
 
 
+def peer(block: Block, third: bool) -> str:
+    """Whose seconds a page and job is compared with."""
+    one = ", which reads one image where faxpages reads all" if block.job.startswith("one-") else ""
+    if not third:
+        return f"libtiff{one}"
+    return "libtiff, which fills no rows" if " " in block.job else f"spandsp{one}"
+
+
+def listed() -> List[Tuple[str, int, float, float, str]]:
+    """The large files that are listed: the page, how many, milliseconds of faxpages and of tiffinfo, and the ratio."""
+    found = [LISTED.fullmatch(line) for line in numbers().splitlines()]
+    return [(it[1], int(it[2]), float(it[4]), float(it[5]), it[6]) for it in found if it]
+
+
 def for_readme() -> str:
-    """The README's sentence."""
-    count, (seconds, _, _) = summary()["all"]
-    said = (f"Of {count} pages and jobs the worst, {in_words(seconds)}, takes {seconds.ratio} times libtiff's seconds, "
-            f"and the geometric mean is {seconds.mean}. ")
-    return f"{said}{measured()}."
+    """The README's sentences: the worst beside any peer, and each mean."""
+    count, (libtiff, _, third) = summary()["all"]
+    worst, is_third = max((libtiff, False), (third, True), key=lambda it: float(it[0].ratio))
+    page, pages, _, _, ratio = max(listed(), key=lambda it: float(it[4]))
+    return (f"Of {count} pages and jobs the worst, {in_words(worst)}, takes {worst.ratio} times the seconds of "
+            f"{peer(worst, is_third)}. `list` of {pages} pages, each {DRAWN[page]}, takes {ratio} times tiffinfo's.\n\n"
+            f"The geometric mean is {libtiff.mean} beside libtiff, and {third.mean} beside spandsp and a libtiff that "
+            f"fills no rows. {measured()}.")
 
 
 def shown(ratio: str, goal: Optional[float]) -> str:
@@ -147,8 +166,8 @@ def summary_is_of_the_lines() -> Iterator[Tuple[str, bool]]:
     counts once."""
     every = lines()
     groups = {"all": r".*", "rows": r"rows .*", "check": r"check .*", "to PBM": r"m\w+-pbm",
-              "conversions": r"m\w+-m\w+", "from PBM": r"pbm-m\w+"}
-    yield "bench/numbers.txt has each page and job once", len({it[:2] for it in every}) == len(every) >= 166
+              "conversions": r"m\w+-m\w+", "from PBM": r"pbm-m\w+", "one image": r"one-m\w+"}
+    yield "bench/numbers.txt has each page and job once", len({it[:2] for it in every}) == len(every) >= 215
     yield "bench/numbers.txt has a summary of each group", list(summary()) == list(groups)
     for name, (count, blocks) in summary().items():
         here = [line for line in every if re.fullmatch(groups[name], line[1])]
@@ -168,6 +187,14 @@ def summary_is_of_the_lines() -> Iterator[Tuple[str, bool]]:
                     mean - float(block.mean)) < 0.0051
 
 
+def lists_are_divided() -> Iterator[Tuple[str, bool]]:
+    """The ratios of the large files are those of their milliseconds."""
+    found = listed()
+    yield f"bench/numbers.txt has large files that are listed: {len(found)}", len(found) >= 3
+    for page, pages, ours, its, ratio in found:
+        yield f"bench/numbers.txt: list of {pages} pages, {page}: {ratio}", abs(ours / its / float(ratio) - 1) < 0.02
+
+
 def claims() -> Iterator[Tuple[str, bool]]:
     """Nothing but what was measured stands in the documents and in the picture."""
     first = FIRST.fullmatch(numbers().splitlines()[0])
@@ -181,6 +208,7 @@ def claims() -> Iterator[Tuple[str, bool]]:
     yield f"README.md, Speed, names only the version that was measured: {versions}", first is not None and (
         versions == [first[1]])
     yield from summary_is_of_the_lines()
+    yield from lists_are_divided()
     drawn = read("docs", "speed.svg")
     title, ratios = picture()
     yield f"docs/speed.svg has the title {title}", title in re.sub(r"<[^>]*>", "", drawn)
