@@ -1,58 +1,63 @@
 //! Calls of `fax_page`: strips read, written and noted.
-ghost use Rattle.std.specs.Prelude.{◌≡◌, IfOk};
-ghost use Rattle.fax_page.specs.views.Strip.{IsStripForm};
 
 use crate::table::WrongLine;
 use crate::{text, words};
 use fax_page::{
-    Coding, FillOrder, NotesFault, PlaceFault, Row, RowBefore, SalvageReader, Salvaged, StripForm,
-    StripReader, StripWriter, UncountedSalvage, strip_notes,
+    may_be_end_mark, strip_notes, Coding, NotesFault, PlaceFault, Row, RowBefore, SalvageReader, Salvaged,
+    StripForm, StripReader, StripWriter, UncountedSalvage,
 };
-use std::alloc::Global;
+use fax_rows::BitSource;
+use kit_std::alloc::Global;
 
 /// What a call of this file answers, or `None` where it has none of that name.
-pub fn answer(alloc: Global, words: &[&str]) -> Result<Option<String>, WrongLine> {
+pub fn answer(words: &[&str]) -> Result<Option<String>, WrongLine> {
     let answer = match *words {
         ["read_strip", coding, order, size, bytes] => {
-            read(alloc, form(coding, order, size, "plain")?, bytes)?
+            read(form(coding, order, size, "plain")?, bytes)?
         }
         ["read_rows", coding, order, size, bytes] => {
-            read_rows(alloc, form(coding, order, size, "plain")?, bytes)?
+            read_rows(form(coding, order, size, "plain")?, bytes)?
         }
         ["restart", coding, rows, bytes, calls, more_rows, more] => {
             let form = form(coding, "msb", rows, "plain")?;
-            restarted(alloc, form, bytes, calls, more_rows, more)?
+            restarted(form, bytes, calls, more_rows, more)?
         }
         ["restart_at", coding, rows, bytes, row, place, reference] => {
             let form = form(coding, "msb", rows, "plain")?;
-            restarted_at(alloc, form, bytes, row, place, reference)?
+            restarted_at(form, bytes, row, place, reference)?
         }
         ["inside", coding, rows, bytes, row, place, before] => {
             let form = form(coding, "msb", rows, "plain")?;
-            read_inside(alloc, form, bytes, row, place, before)?
+            read_inside(form, bytes, row, place, before)?
         }
         ["salvage_strip", coding, order, size, bytes] => {
-            salvaged(alloc, form(coding, order, size, "plain")?, bytes)?
+            salvaged(form(coding, order, size, "plain")?, bytes)?
         }
         ["salvage_uncounted", coding, order, width, bytes] => {
-            let size = format!(in alloc; "{width}x1")?;
-            salvaged_uncounted(alloc, form(coding, order, &size, "plain")?, bytes)?
+            let size = format!("{width}x1");
+            salvaged_uncounted(form(coding, order, &size, "plain")?, bytes)?
         }
+        ["may_be_end_mark", coding, order, bytes] => may_be_mark(coding, order, bytes)?,
         ["strip_notes", coding, order, size, bytes] => {
-            notes(alloc, form(coding, order, size, "plain")?, bytes)?
+            notes(form(coding, order, size, "plain")?, bytes)?
         }
         ["write_strip", coding, order, aligned, k, ref rows @ ..] => {
-            written(alloc, coding, order, aligned, k, rows)?
+            written(coding, order, aligned, k, rows)?
         }
         _ => return Ok(None),
     };
     Ok(Some(answer))
 }
 
+/// Whether an end mark stands where these bytes begin, or may where more follow.
+fn may_be_mark(coding: &str, order: &str, bytes: &str) -> Result<String, WrongLine> {
+    let bytes = words::bytes(bytes)?;
+    let source = BitSource::new(&bytes, words::order(order)?);
+    Ok(format!("{}", may_be_end_mark(&source, words::coding(coding)?)))
+}
+
 /// The form of a strip whose size is the width, an `x` and the number of rows.
-pub fn form(coding: &str, order: &str, size: &str, aligned: &str) -> Result<StripForm, WrongLine>
-    ensures { IfOk result (λ form. IsStripForm form) }
-{
+pub fn form(coding: &str, order: &str, size: &str, aligned: &str) -> Result<StripForm, WrongLine> {
     let Some((width, rows)) = size.split_once('x') else {
         return Err(WrongLine::BadWord);
     };
@@ -74,195 +79,176 @@ pub fn form(coding: &str, order: &str, size: &str, aligned: &str) -> Result<Stri
 }
 
 /// What the next call of a reader answers, and how many bits stand before the row that is due then.
-fn next(alloc: Global, reader: &mut StripReader) -> Result<String, WrongLine> {
+fn next(reader: &mut StripReader) -> Result<String, WrongLine> {
     let answer = match reader.next_row() {
-        Ok(Some(row)) => text::runs(alloc, row)?,
-        Ok(None) => String::from_str(alloc, "end")?,
-        Err(fault) => format!(in alloc; "{fault:?}")?,
+        Ok(Some(row)) => text::runs(row)?,
+        Ok(None) => "end".to_owned(),
+        Err(fault) => format!("{fault:?}"),
     };
-    Ok(format!(in alloc; "{answer}@{} ", reader.bit_place())?)
+    Ok(format!("{answer}@{} ", reader.bit_place()))
 }
 
 /// What so many calls of a reader answer; then its reference, the number of the row that is due, and
 /// how many rows it has read.
-fn calls(alloc: Global, reader: &mut StripReader, count: u32) -> Result<String, WrongLine> {
-    let mut text = String::new(alloc);
+fn calls(reader: &mut StripReader, count: u32) -> Result<String, WrongLine> {
+    let mut text = String::new();
     for _ in 0..count {
-        text.push_str(&next(alloc, reader)?)?;
+        text.push_str(&next(reader)?);
     }
-    let reference = text::runs(alloc, reader.reference())?;
+    let reference = text::runs(reader.reference())?;
     let (row, read) = (reader.row(), reader.rows_read());
-    text.push_str(&format!(in alloc; "over {reference} row {row} read {read}")?)?;
+    text.push_str(&format!("over {reference} row {row} read {read}"));
     Ok(text)
 }
 
 /// The rows of a strip, and two answers more.
-fn read(alloc: Global, form: StripForm, bytes: &str) -> Result<String, WrongLine>
-    requires { IsStripForm form }
-{
-    let bytes = words::bytes(alloc, bytes)?;
-    let mut reader = StripReader::new(alloc, &bytes, form)?;
-    calls(alloc, &mut reader, form.rows.saturating_add(2))
+fn read(form: StripForm, bytes: &str) -> Result<String, WrongLine> {
+    let bytes = words::bytes(bytes)?;
+    let mut reader = StripReader::new(Global, &bytes, form)?;
+    calls(&mut reader, form.rows.saturating_add(2))
 }
 
 /// The rows of a strip alone.
-fn read_rows(alloc: Global, form: StripForm, bytes: &str) -> Result<String, WrongLine>
-    requires { IsStripForm form }
-{
-    let bytes = words::bytes(alloc, bytes)?;
-    let mut reader = StripReader::new(alloc, &bytes, form)?;
-    let mut text = String::new(alloc);
+fn read_rows(form: StripForm, bytes: &str) -> Result<String, WrongLine> {
+    let bytes = words::bytes(bytes)?;
+    let mut reader = StripReader::new(Global, &bytes, form)?;
+    let mut text = String::new();
     for _ in 0..form.rows {
         if reader.advance() != Ok(true) {
             break;
         }
-        text.push_str(&text::runs(alloc, reader.reference())?)?;
-        text.push(' ')?;
+        text.push_str(&text::runs(reader.reference())?);
+        text.push(' ');
     }
     Ok(text)
 }
 
 /// What became of a row, and of those that are lost with it.
-fn part(alloc: Global, salvaged: Salvaged, row: &Row) -> Result<String, WrongLine> {
+fn part(salvaged: Salvaged, row: &Row) -> Result<String, WrongLine> {
     Ok(match salvaged {
-        Salvaged::Found => text::runs(alloc, row)?,
-        Salvaged::Lost { fault, rows } => format!(in alloc; "lost:{rows}:{fault:?}")?,
-        Salvaged::Unended { rows } => format!(in alloc; "unended:{rows}")?,
+        Salvaged::Found => text::runs(row)?,
+        Salvaged::Lost { fault, rows } => format!("lost:{rows}:{fault:?}"),
+        Salvaged::Unended { rows } => format!("unended:{rows}"),
     })
 }
 
 /// What is left of a strip, and once more after the reader is taken to its first row again.
-fn salvaged(alloc: Global, form: StripForm, bytes: &str) -> Result<String, WrongLine>
-    requires { IsStripForm form }
-{
-    let bytes = words::bytes(alloc, bytes)?;
-    let mut reader = SalvageReader::new(alloc, &bytes, form)?;
-    let mut text = String::new(alloc);
+fn salvaged(form: StripForm, bytes: &str) -> Result<String, WrongLine> {
+    let bytes = words::bytes(bytes)?;
+    let mut reader = SalvageReader::new(Global, &bytes, form)?;
+    let mut text = String::new();
     for turn in 0..2 {
         for _ in 0..form.rows {
             let Some(salvaged) = reader.advance() else {
                 break;
             };
-            text.push_str(&part(alloc, salvaged, reader.reference())?)?;
-            text.push(' ')?;
+            text.push_str(&part(salvaged, reader.reference())?);
+            text.push(' ');
         }
-        text.push_str(&format!(in alloc; "row {}", reader.row())?)?;
+        text.push_str(&format!("row {}", reader.row()));
         if turn == 0 {
             reader.restart(&bytes, form.rows);
-            text.push_str(" | ")?;
+            text.push_str(" | ");
         }
     }
     Ok(text)
 }
 
 /// What is left of rows that nobody counted, and how they end; and how many they are.
-fn salvaged_uncounted(alloc: Global, form: StripForm, bytes: &str) -> Result<String, WrongLine>
-    requires { IsStripForm form }
-{
-    let bytes = words::bytes(alloc, bytes)?;
-    let mut reader = UncountedSalvage::new(alloc, &bytes, form)?;
+fn salvaged_uncounted(form: StripForm, bytes: &str) -> Result<String, WrongLine> {
+    let bytes = words::bytes(bytes)?;
+    let mut reader = UncountedSalvage::new(Global, &bytes, form)?;
     let end = reader.pass_all();
     let rows = reader.row();
     reader.restart(&bytes);
-    let mut text = String::new(alloc);
+    let mut text = String::new();
     for _ in 0..rows {
         let Ok(salvaged) = reader.advance() else {
             break;
         };
-        text.push_str(&part(alloc, salvaged, reader.reference())?)?;
-        text.push(' ')?;
+        text.push_str(&part(salvaged, reader.reference())?);
+        text.push(' ');
     }
-    Ok(format!(in alloc; "{text}{end:?} rows {rows}")?)
+    Ok(format!("{text}{end:?} rows {rows}"))
 }
 
 /// The rows of a strip, as `read` answers them, that a reader is taken to after so many calls.
 fn restarted(
-    alloc: Global,
     form: StripForm,
     bytes: &str,
     before: &str,
     rows: &str,
     more: &str,
-) -> Result<String, WrongLine>
-    requires { IsStripForm form }
-{
+) -> Result<String, WrongLine> {
     let before = words::number(before)?;
     let rows = words::number(rows)?;
-    let bytes = words::bytes(alloc, bytes)?;
-    let more = words::bytes(alloc, more)?;
-    let mut reader = StripReader::new(alloc, &bytes, form)?;
-    let first = calls(alloc, &mut reader, before)?;
+    let bytes = words::bytes(bytes)?;
+    let more = words::bytes(more)?;
+    let mut reader = StripReader::new(Global, &bytes, form)?;
+    let first = calls(&mut reader, before)?;
     if rows == 0 || rows > 1_000_000 {
         return Err(WrongLine::OutOfLimits);
     }
     reader.restart(&more, rows);
-    let second = calls(alloc, &mut reader, rows.saturating_add(2))?;
-    Ok(format!(in alloc; "{first} | {second}")?)
+    let second = calls(&mut reader, rows.saturating_add(2))?;
+    Ok(format!("{first} | {second}"))
 }
 
 /// The rows of a strip from one inside it on, which begins at a place, over a reference row, and
 /// two answers more.
 fn restarted_at(
-    alloc: Global,
     form: StripForm,
     bytes: &str,
     row: &str,
     place: &str,
     reference: &str,
-) -> Result<String, WrongLine>
-    requires { IsStripForm form }
-{
+) -> Result<String, WrongLine> {
     let row = words::number(row)?;
     let place = u64::from(words::number(place)?);
-    let reference = words::row(alloc, reference)?;
-    let bytes = words::bytes(alloc, bytes)?;
-    let mut reader = StripReader::new(alloc, &[], form)?;
+    let reference = words::row(reference)?;
+    let bytes = words::bytes(bytes)?;
+    let mut reader = StripReader::new(Global, &[], form)?;
     if row >= form.rows || place > 8 * bytes.len() as u64 || reference.width() != form.width {
         return Err(WrongLine::OutOfLimits);
     }
     reader.restart_at(&bytes, form.rows, row, place, &reference);
-    calls(alloc, &mut reader, (form.rows - row).saturating_add(2))
+    calls(&mut reader, (form.rows - row).saturating_add(2))
 }
 
 /// The rows of a strip from a place inside it on, after this row, and two answers more; or that
 /// there is no such place.
 fn read_inside(
-    alloc: Global,
     form: StripForm,
     bytes: &str,
     row: &str,
     place: &str,
     before: &str,
-) -> Result<String, WrongLine>
-    requires { IsStripForm form }
-{
+) -> Result<String, WrongLine> {
     let row = words::number(row)?;
     let place = words::number(place)?;
-    let runs = words::row(alloc, before)?.runs(alloc)?;
-    let bytes = words::bytes(alloc, bytes)?;
+    let runs = words::row(before)?.runs(Global)?;
+    let bytes = words::bytes(bytes)?;
     if row >= form.rows {
         return Err(WrongLine::OutOfLimits);
     }
-    match StripReader::inside(alloc, &bytes, form, row, place, RowBefore::Runs(&runs)) {
-        Ok(mut reader) => calls(alloc, &mut reader, (form.rows - row).saturating_add(2)),
+    match StripReader::inside(Global, &bytes, form, row, place, RowBefore::Runs(&runs)) {
+        Ok(mut reader) => calls(&mut reader, (form.rows - row).saturating_add(2)),
         Err(PlaceFault::Memory) => Err(WrongLine::Memory),
-        Err(PlaceFault::Outside) => Ok(String::from_str(alloc, "outside")?),
+        Err(PlaceFault::Outside) => Ok("outside".to_owned()),
     }
 }
 
 /// The notes on a strip, or its fault.
-fn notes(alloc: Global, form: StripForm, bytes: &str) -> Result<String, WrongLine>
-    requires { IsStripForm form }
-{
-    let bytes = words::bytes(alloc, bytes)?;
-    let notes = match strip_notes(alloc, &bytes, form) {
+fn notes(form: StripForm, bytes: &str) -> Result<String, WrongLine> {
+    let bytes = words::bytes(bytes)?;
+    let notes = match strip_notes(Global, &bytes, form) {
         Ok(notes) => notes,
         Err(NotesFault::Memory) => return Err(WrongLine::Memory),
         Err(NotesFault::Strip { row, fault }) => {
-            return Ok(format!(in alloc; "{fault:?} in row {row}")?);
+            return Ok(format!("{fault:?} in row {row}"));
         }
     };
-    let mut text = String::from_str(alloc, "notes")?;
+    let mut text = "notes".to_owned();
     for (is_noted, name) in [
         (notes.no_end_of_block, " no_end_of_block"),
         (notes.return_to_control, " return_to_control"),
@@ -270,31 +256,30 @@ fn notes(alloc: Global, form: StripForm, bytes: &str) -> Result<String, WrongLin
         (notes.not_t4_choice, " not_t4_choice"),
     ] {
         if is_noted {
-            text.push_str(name)?;
+            text.push_str(name);
         }
     }
     Ok(text)
 }
 
 /// The rows of these words.
-fn rows_of(alloc: Global, words: &[&str]) -> Result<Vec<Row>, WrongLine> {
-    let mut rows = Vec::new(alloc);
+fn rows_of(words: &[&str]) -> Result<Vec<Row>, WrongLine> {
+    let mut rows = Vec::new();
     for word in words {
-        rows.push(words::row(alloc, *word)?)?;
+        rows.push(words::row(word)?);
     }
     Ok(rows)
 }
 
 /// The bytes of the strip of these rows.
 fn written(
-    alloc: Global,
     coding: &str,
     order: &str,
     aligned: &str,
     k: &str,
     words: &[&str],
 ) -> Result<String, WrongLine> {
-    let rows = rows_of(alloc, words)?;
+    let rows = rows_of(words)?;
     let Some(first) = rows.first() else {
         return Err(WrongLine::BadWord);
     };
@@ -305,12 +290,12 @@ fn written(
         rows: u32::try_from(rows.len()).map_err(|_| WrongLine::OutOfLimits)?,
         aligned: words::alignment(aligned)?,
     };
-    let bytes = write(alloc, form, words::number(k)?, &rows)?;
-    text::digits(alloc, &bytes)
+    let bytes = write(form, words::number(k)?, &rows)?;
+    Ok(text::digits(&bytes))
 }
 
 /// The strip of these rows.
-fn write(alloc: Global, form: StripForm, k: u32, rows: &[Row]) -> Result<Vec<u8>, WrongLine> {
+fn write(form: StripForm, k: u32, rows: &[Row]) -> Result<Vec<u8>, WrongLine> {
     if form.width == 0
         || form.width > 65_535
         || form.rows == 0
@@ -321,12 +306,12 @@ fn write(alloc: Global, form: StripForm, k: u32, rows: &[Row]) -> Result<Vec<u8>
     {
         return Err(WrongLine::OutOfLimits);
     }
-    let mut writer = StripWriter::new(alloc, form, k)?;
+    let mut writer = StripWriter::new(Global, form, k)?;
     for row in rows {
         if row.width() != form.width {
             return Err(WrongLine::OutOfLimits);
         }
         writer.put_row(row)?;
     }
-    Ok(writer.finish()?)
+    Ok(writer.finish()?.to_vec())
 }

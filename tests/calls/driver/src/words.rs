@@ -1,10 +1,9 @@
 //! What the words of a call mean.
-ghost use Rattle.std.specs.Prelude.{◌≡◌, ◌≤◌, ◌<◌, ◌^◌, length, vec_len, IfOk};
 
 use crate::table::WrongLine;
 use fax_page::Coding;
 use fax_rows::{Colour, FillOrder, Row};
-use std::alloc::Global;
+use kit_std::alloc::Global;
 
 /// The most bytes of a word.
 const MOST_BYTES: usize = 4_000_000;
@@ -60,8 +59,8 @@ fn bit(character: u8) -> Result<Option<bool>, WrongLine> {
 }
 
 /// The bytes of bits, the highest of each first. The last byte is filled with zeros.
-fn bytes_of_bits(alloc: Global, bits: &str) -> Result<Vec<u8>, WrongLine> {
-    let mut bytes = Vec::new(alloc);
+fn bytes_of_bits(bits: &str) -> Result<Vec<u8>, WrongLine> {
+    let mut bytes = Vec::new();
     let mut place = 0x80u8;
     let mut byte = 0u8;
     for character in bits.bytes() {
@@ -69,14 +68,14 @@ fn bytes_of_bits(alloc: Global, bits: &str) -> Result<Vec<u8>, WrongLine> {
             byte |= if is_one { place } else { 0 };
             place >>= 1;
             if place == 0 {
-                bytes.push(byte)?;
+                bytes.push(byte);
                 place = 0x80;
                 byte = 0;
             }
         }
     }
     if place != 0x80 {
-        bytes.push(byte)?;
+        bytes.push(byte);
     }
     Ok(bytes)
 }
@@ -91,11 +90,11 @@ fn digit(character: u8) -> Result<u8, WrongLine> {
 }
 
 /// The bytes of pairs of hexadecimal digits.
-fn bytes_of_digits(alloc: Global, digits: &str) -> Result<Vec<u8>, WrongLine> {
-    let mut bytes = Vec::new(alloc);
+fn bytes_of_digits(digits: &str) -> Result<Vec<u8>, WrongLine> {
+    let mut bytes = Vec::new();
     for pair in digits.as_bytes().chunks(2) {
         match *pair {
-            [high, low] => bytes.push((digit(high)? << 4) | digit(low)?)?,
+            [high, low] => bytes.push((digit(high)? << 4) | digit(low)?),
             _ => return Err(WrongLine::BadWord),
         }
     }
@@ -103,12 +102,10 @@ fn bytes_of_digits(alloc: Global, digits: &str) -> Result<Vec<u8>, WrongLine> {
 }
 
 /// Bytes: an `x` and two hexadecimal digits for each, or bits.
-pub fn bytes(alloc: Global, word: &str) -> Result<Vec<u8>, WrongLine>
-    ensures { IfOk result (λ bytes. vec_len bytes ≤ MOST_BYTES) }
-{
+pub fn bytes(word: &str) -> Result<Vec<u8>, WrongLine> {
     let bytes = match word.strip_prefix('x') {
-        Some(digits) => bytes_of_digits(alloc, digits)?,
-        None => bytes_of_bits(alloc, word)?,
+        Some(digits) => bytes_of_digits(digits)?,
+        None => bytes_of_bits(word)?,
     };
     if bytes.len() > MOST_BYTES {
         return Err(WrongLine::OutOfLimits);
@@ -117,10 +114,7 @@ pub fn bytes(alloc: Global, word: &str) -> Result<Vec<u8>, WrongLine>
 }
 
 /// A number of up to 24 bits that is spelled by bits, and how many they are.
-pub fn short_bits(word: &str) -> Result<(u32, u32), WrongLine>
-    ensures short { IfOk result (λ found. found.1 ≤ 24) }
-    ensures fits { IfOk result (λ found. found.0 < 2 ^ found.1) }
-{
+pub fn short_bits(word: &str) -> Result<(u32, u32), WrongLine> {
     if word == "-" {
         return Ok((0, 0));
     }
@@ -133,10 +127,7 @@ pub fn short_bits(word: &str) -> Result<(u32, u32), WrongLine>
 }
 
 /// A row's width, or a fault where it has none.
-pub fn width(word: &str) -> Result<u32, WrongLine>
-    ensures some { IfOk result (λ width. 0 < width) }
-    ensures short { IfOk result (λ width. width < 2 ^ 16) }
-{
+pub fn width(word: &str) -> Result<u32, WrongLine> {
     let width = number(word)?;
     if width == 0 || width > 65_535 {
         return Err(WrongLine::OutOfLimits);
@@ -145,41 +136,39 @@ pub fn width(word: &str) -> Result<u32, WrongLine>
 }
 
 /// The row of these bytes.
-pub fn packed_row(alloc: Global, width: u32, bytes: &[u8]) -> Result<Row, WrongLine> {
-    if width == 0 || width > 65_535 || bytes.len() != ((width + 7) / 8) as usize {
+pub fn packed_row(width: u32, bytes: &[u8]) -> Result<Row, WrongLine> {
+    if width == 0 || width > 65_535 || bytes.len() != width.div_ceil(8) as usize {
         return Err(WrongLine::OutOfLimits);
     }
-    Ok(Row::from_packed(alloc, bytes, width)?)
+    Ok(Row::from_packed(Global, bytes, width)?)
 }
 
 /// A row: its pels, `W` or `B` for each, or its width, a colon and its bytes.
-pub fn row(alloc: Global, word: &str) -> Result<Row, WrongLine> {
+pub fn row(word: &str) -> Result<Row, WrongLine> {
     match word.split_once(':') {
-        Some((width, digits)) => packed_row(alloc, number(width)?, &bytes(alloc, digits)?),
+        Some((width, digits)) => packed_row(number(width)?, &bytes(digits)?),
         None => {
             let width = u32::try_from(word.len()).map_err(|_| WrongLine::OutOfLimits)?;
-            packed_row(alloc, width, &bytes(alloc, word)?)
+            packed_row(width, &bytes(word)?)
         }
     }
 }
 
 /// A white row as wide as another.
-pub fn white(alloc: Global, row: &Row) -> Result<Row, WrongLine>
-    ensures { IfOk result (λ white. length white ≡ length row.now) }
-{
+pub fn white(row: &Row) -> Result<Row, WrongLine> {
     let width = row.width();
     if width == 0 || width > 65_535 {
         return Err(WrongLine::OutOfLimits);
     }
-    Ok(Row::white(alloc, width)?)
+    Ok(Row::white(Global, width)?)
 }
 
 /// Numbers with commas between them, or `-` for none.
-pub fn numbers(alloc: Global, word: &str) -> Result<Vec<u32>, WrongLine> {
-    let mut numbers = Vec::new(alloc);
+pub fn numbers(word: &str) -> Result<Vec<u32>, WrongLine> {
+    let mut numbers = Vec::new();
     if word != "-" {
         for part in word.split(',') {
-            numbers.push(number(part)?)?;
+            numbers.push(number(part)?);
         }
     }
     Ok(numbers)

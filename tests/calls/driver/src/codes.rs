@@ -1,0 +1,279 @@
+//! Calls of `fax_bits`: codes, and bits in bytes.
+
+use crate::table::WrongLine;
+use crate::{text, words};
+use fax_bits::{
+    put_mode, put_run, read_code, reverse_bits, BitSink, BitSource, BlackRuns, CodeFault,
+    CodeTable, FillOrder, Memory, ModeCode, Modes, PendingBits, WhiteRuns, SHORT_RUN,
+};
+use kit_std::alloc::Global;
+
+/// What a call of this file answers, or `None` where it has none of that name.
+pub fn answer(words: &[&str]) -> Result<Option<String>, WrongLine> {
+    let answer = match *words {
+        ["read_code", table, bits] => code(table, bits)?,
+        ["find", table, bits] => found(table, bits)?,
+        ["pairs", skip, bits, most] => pairs(skip, bits, most)?,
+        ["pair_within", total, width, bits] => pair_within(total, width, bits)?,
+        ["horizontal_pair_within", total, width, bits] => {
+            horizontal_pair_within(total, width, bits)?
+        }
+        ["run_within", colour, bits, most] => run_within(colour, bits, most)?,
+        ["mode", bits] => looked_up_mode(bits)?,
+        ["verticals", bits] => verticals(bits)?,
+        ["past_ones", bits, most] => past_ones(bits, most)?,
+        ["take_run", colour, bits, pels] => take_run(colour, bits, pels)?,
+        ["past_zeros_and_one", bits, least] => past_zeros(bits, least)?,
+        ["put_run", colour, pels] => run(colour, pels)?,
+        ["put_short_pair", colour, first, second] => short_pair(colour, first, second)?,
+        ["put_mode", mode] => mode_bits(mode)?,
+        ["put", order, first, second, third] => three_puts(order, first, second, third)?,
+        ["peek", order, bits, count] => peeked(order, bits, count)?,
+        ["reverse_bits", bytes] => reversed(bytes)?,
+        ["says", fault] => said(fault)?,
+        _ => return Ok(None),
+    };
+    Ok(Some(answer))
+}
+
+/// The code that bits begin with, and the place after it.
+fn code(table: &str, bits: &str) -> Result<String, WrongLine> {
+    let bytes = words::bytes(bits)?;
+    let mut source = BitSource::new(&bytes, FillOrder::MsbFirst);
+    let read = match table {
+        "white" => format!("{:?}", read_code::<WhiteRuns>(&mut source)),
+        "black" => format!("{:?}", read_code::<BlackRuns>(&mut source)),
+        "modes" => format!("{:?}", read_code::<Modes>(&mut source)),
+        _ => return Err(WrongLine::BadWord),
+    };
+    Ok(format!("{read} {}", source.place()))
+}
+
+/// The length and the meaning of the code that few bits begin with.
+fn found(table: &str, bits: &str) -> Result<String, WrongLine> {
+    let (window, count) = words::short_bits(bits)?;
+    if count > 13 {
+        return Err(WrongLine::OutOfLimits);
+    }
+    match table {
+        "white" => Ok(format!("{:?}", WhiteRuns::find(window, count))),
+        "black" => Ok(format!("{:?}", BlackRuns::find(window, count))),
+        "modes" => Ok(format!("{:?}", Modes::find(window, count))),
+        _ => Err(WrongLine::BadWord),
+    }
+}
+
+/// The pairs of a white run and a black one that are read one after another, and the place after
+/// them.
+fn pairs(skip: &str, bits: &str, most: &str) -> Result<String, WrongLine> {
+    let most = words::number(most)?;
+    let bytes = words::bytes(bits)?;
+    let mut source = BitSource::new(&bytes, FillOrder::MsbFirst);
+    let skip = u64::from(words::number(skip)?);
+    if skip > source.remaining() {
+        return Err(WrongLine::OutOfLimits);
+    }
+    source.skip(skip);
+    let mut text = String::new();
+    for _ in 0..8 {
+        match source.pair_within(0, most) {
+            Some(pair) => text.push_str(&format!("{},{} ", pair.white, pair.black)),
+            None => {
+                text.push_str(&format!("{}", source.place()));
+                return Ok(text);
+            }
+        }
+    }
+    Err(WrongLine::OutOfLimits)
+}
+
+/// The pair that is read where so many pels of the row's width stand before it, and the place then.
+fn pair_within(total: &str, width: &str, bits: &str) -> Result<String, WrongLine> {
+    let total = words::number(total)?;
+    let width = words::number(width)?;
+    let bytes = words::bytes(bits)?;
+    let mut source = BitSource::new(&bytes, FillOrder::MsbFirst);
+    if total >= 0x8000_0000 {
+        return Err(WrongLine::OutOfLimits);
+    }
+    match source.pair_within(total, width) {
+        Some(pair) => Ok(format!("{},{} {}", pair.white, pair.black, source.place())),
+        None => Ok(format!("none {}", source.place())),
+    }
+}
+
+/// The pair that is read after horizontal mode where so many pels of the row's width stand before
+/// it, and the place then.
+fn horizontal_pair_within(total: &str, width: &str, bits: &str) -> Result<String, WrongLine> {
+    let total = words::number(total)?;
+    let width = words::number(width)?;
+    let bytes = words::bytes(bits)?;
+    let mut source = BitSource::new(&bytes, FillOrder::MsbFirst);
+    if total >= 0x8000_0000 {
+        return Err(WrongLine::OutOfLimits);
+    }
+    match source.horizontal_pair_within(total, width) {
+        Some(pair) => Ok(format!("{},{} {}", pair.white, pair.black, source.place())),
+        None => Ok(format!("none {}", source.place())),
+    }
+}
+
+/// The run of at most so many pels that is read, and the place then.
+fn run_within(colour: &str, bits: &str, most: &str) -> Result<String, WrongLine> {
+    let colour = words::colour(colour)?;
+    let bytes = words::bytes(bits)?;
+    let most = words::number(most)?;
+    let mut source = BitSource::new(&bytes, FillOrder::MsbFirst);
+    match source.run_within(colour, most) {
+        Some(pels) => Ok(format!("{pels} {}", source.place())),
+        None => Ok(format!("none {}", source.place())),
+    }
+}
+
+/// The mode that one look-up reads, and the place then.
+fn looked_up_mode(bits: &str) -> Result<String, WrongLine> {
+    let bytes = words::bytes(bits)?;
+    let mut source = BitSource::new(&bytes, FillOrder::MsbFirst);
+    let mode = source.mode();
+    Ok(format!("{mode:?} {}", source.place()))
+}
+
+/// How many vertical modes one look-up reads, how many pels right of the pel three left of b1 a1 is
+/// in each, 0 after the last of them, and the place then.
+fn verticals(bits: &str) -> Result<String, WrongLine> {
+    let bytes = words::bytes(bits)?;
+    let mut source = BitSource::new(&bytes, FillOrder::MsbFirst);
+    match source.verticals() {
+        Some(found) => {
+            let place = source.place();
+            Ok(format!("{} {:?} {place}", found.count, found.raises))
+        }
+        None => Ok(format!("none {}", source.place())),
+    }
+}
+
+/// After a mode, which loads bits: how many ones are next, how many of them are gone past, and the
+/// place after those.
+fn past_ones(bits: &str, most: &str) -> Result<String, WrongLine> {
+    let most = words::number(most)?;
+    let bytes = words::bytes(bits)?;
+    let mut source = BitSource::new(&bytes, FillOrder::MsbFirst);
+    if most > 32 {
+        return Err(WrongLine::OutOfLimits);
+    }
+    let _mode = source.mode();
+    let ones = source.ones();
+    let count = source.past_ones(most);
+    Ok(format!("{ones} {count} {}", source.place()))
+}
+
+/// Whether the codes of a run were gone past, and the place after them.
+fn take_run(colour: &str, bits: &str, pels: &str) -> Result<String, WrongLine> {
+    let colour = words::colour(colour)?;
+    let pels = words::number(pels)?;
+    if pels >= 2560 {
+        return Err(WrongLine::OutOfLimits);
+    }
+    let bytes = words::bytes(bits)?;
+    let mut source = BitSource::new(&bytes, FillOrder::MsbFirst);
+    let taken = source.take_run(colour, pels);
+    Ok(format!("{taken} {}", source.place()))
+}
+
+/// Whether so many zeros and the 1 after them were gone past, and the place then.
+fn past_zeros(bits: &str, least: &str) -> Result<String, WrongLine> {
+    let least = words::number(least)?;
+    let bytes = words::bytes(bits)?;
+    let mut source = BitSource::new(&bytes, FillOrder::MsbFirst);
+    let past = source.past_zeros_and_one(least);
+    Ok(format!("{past} {}", source.place()))
+}
+
+/// The bits of a run.
+fn run(colour: &str, pels: &str) -> Result<String, WrongLine> {
+    let colour = words::colour(colour)?;
+    let pels = words::number(pels)?;
+    if pels > 65_535 {
+        return Err(WrongLine::OutOfLimits);
+    }
+    let mut sink = BitSink::new(Global, FillOrder::MsbFirst);
+    put_run(&mut sink, colour, pels)?;
+    Ok(text::bits(sink))
+}
+
+/// The bits of two short runs, the first of this colour.
+fn short_pair(colour: &str, first: &str, second: &str) -> Result<String, WrongLine> {
+    let colour = words::colour(colour)?;
+    let first = words::number(first)?;
+    let second = words::number(second)?;
+    if first >= SHORT_RUN || second >= SHORT_RUN {
+        return Err(WrongLine::OutOfLimits);
+    }
+    let mut sink = BitSink::new(Global, FillOrder::MsbFirst);
+    PendingBits::none()
+        .put_short_pair(&mut sink, colour, first, second)?
+        .put_all(&mut sink)?;
+    Ok(text::bits(sink))
+}
+
+/// The bits of a mode: its name, or how far a1 is right of b1.
+fn mode_bits(mode: &str) -> Result<String, WrongLine> {
+    let mode = match mode {
+        "pass" => ModeCode::Pass,
+        "horizontal" => ModeCode::Horizontal,
+        "0" => ModeCode::Vertical(0),
+        "1" => ModeCode::Vertical(1),
+        "2" => ModeCode::Vertical(2),
+        "3" => ModeCode::Vertical(3),
+        "-1" => ModeCode::Vertical(-1),
+        "-2" => ModeCode::Vertical(-2),
+        "-3" => ModeCode::Vertical(-3),
+        _ => return Err(WrongLine::BadWord),
+    };
+    let mut sink = BitSink::new(Global, FillOrder::MsbFirst);
+    put_mode(&mut sink, mode)?;
+    Ok(text::bits(sink))
+}
+
+/// How many bits three puts leave, and their bytes.
+fn three_puts(order: &str, first: &str, second: &str, third: &str) -> Result<String, WrongLine> {
+    let mut sink = BitSink::new(Global, words::order(order)?);
+    for word in [first, second, third] {
+        let (bits, len) = words::short_bits(word)?;
+        sink.put(bits, len)?;
+    }
+    let len = sink.len();
+    sink.pad();
+    sink.pad();
+    let bytes = text::digits(&sink.into_bytes());
+    Ok(format!("{len} {bytes}"))
+}
+
+/// The number of the first bits.
+fn peeked(order: &str, bytes: &str, count: &str) -> Result<String, WrongLine> {
+    let order = words::order(order)?;
+    let bytes = words::bytes(bytes)?;
+    let count = words::number(count)?;
+    if count > 32 {
+        return Err(WrongLine::OutOfLimits);
+    }
+    let source = BitSource::new(&bytes, order);
+    Ok(format!("{:b}", source.peek(count)))
+}
+
+/// The bytes with their bits turned round.
+fn reversed(bytes: &str) -> Result<String, WrongLine> {
+    let mut bytes = words::bytes(bytes)?;
+    reverse_bits(&mut bytes);
+    Ok(text::digits(&bytes))
+}
+
+/// What an error says.
+fn said(fault: &str) -> Result<String, WrongLine> {
+    match fault {
+        "DataEnds" => Ok(format!("{}", CodeFault::DataEnds)),
+        "BadCode" => Ok(format!("{}", CodeFault::BadCode)),
+        "Memory" => Ok(format!("{Memory}")),
+        _ => Err(WrongLine::BadWord),
+    }
+}
