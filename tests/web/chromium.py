@@ -163,6 +163,13 @@ class Chromium(Browser):
         for kind in ("dragEnter", "dragOver", "drop"):
             self.call("Input.dispatchDragEvent", type=kind, x=600, y=400, data=data)
 
+    def to_front(self) -> None:
+        self.call("Browser.grantPermissions", permissions=["clipboardReadWrite", "clipboardSanitizedWrite"])
+        self.call("Page.bringToFront")
+
+    def copied(self) -> tuple[int, int, bytes]:
+        return self.pels_of('navigator.clipboard.read().then((items) => items[0].getType("image/png"))')
+
     def press(self, key: str, code: str = "", number: int = 0, shift: bool = False) -> None:
         """Presses a key and lets it go."""
         text = key if len(key) == 1 else ""

@@ -25,6 +25,7 @@ SETTINGS: dict[str, object] = {
     "network.connectivity-service.enabled": False, "network.dns.disablePrefetch": True,
     "services.settings.server": "data:,", "toolkit.telemetry.enabled": False, "toolkit.telemetry.server": "data:,",
 }
+CONTROL = "\ue009"
 KEYS = {"Tab": "\ue004", "PageUp": "\ue00e", "PageDown": "\ue00f", "End": "\ue010", "Home": "\ue011",
         "ArrowLeft": "\ue012", "ArrowUp": "\ue013", "ArrowRight": "\ue014", "ArrowDown": "\ue015", "Escape": "\ue00c",
         "Enter": "\ue007", "Shift": "\ue008"}
@@ -93,8 +94,9 @@ class Firefox(Browser):
     """One Firefox with one page."""
 
     LATE = 512 * 2 ** 20
+    WORDS = ["--headless"]
 
-    def __init__(self, size: tuple[int, int] = (1280, 900)) -> None:
+    def __init__(self, size: tuple[int, int] = (1280, 900), **environment: str) -> None:
         self._folder = tempfile.mkdtemp()
         self._number = 0
         with open(f"{self._folder}/user.js", "w", encoding="ascii") as settings:
@@ -102,9 +104,9 @@ class Firefox(Browser):
                 settings.write(f"user_pref({json.dumps(name)}, {json.dumps(value)});\n")
         with open(f"{self._folder}/said", "wb") as said:
             self._process = subprocess.Popen(
-                ["firefox-esr", "--headless", "--no-remote", "--profile", self._folder, "--remote-debugging-port", "0"],
+                ["firefox-esr", *self.WORDS, "--no-remote", "--profile", self._folder, "--remote-debugging-port", "0"],
                 stdin=subprocess.DEVNULL, stdout=said, stderr=said, start_new_session=True,
-                env=dict(os.environ, HOME=self._folder, MOZ_CRASHREPORTER_DISABLE="1"))
+                env=dict(os.environ, HOME=self._folder, MOZ_CRASHREPORTER_DISABLE="1", **environment))
         self._wire = Wire(self._port(), "/session")
         self.call("session.new", capabilities={})
         self._page: str = self.call("browsingContext.getTree")["contexts"][0]["context"]
@@ -133,7 +135,11 @@ class Firefox(Browser):
                 return answer["result"]
 
     def run(self, script: str) -> Any:
-        told = self.call("script.evaluate", expression=script, target={"context": self._page}, awaitPromise=True)
+        return self.run_in(self._page, script)
+
+    def run_in(self, context: str, script: str) -> Any:
+        """The value of an expression in a page, or in a part of the browser."""
+        told = self.call("script.evaluate", expression=script, target={"context": context}, awaitPromise=True)
         if told["type"] == "exception":
             raise Failed(f"{script}: {told['exceptionDetails']['text']}")
         return plain(told["result"])
@@ -147,8 +153,28 @@ class Firefox(Browser):
         self.call("input.setFiles", context=self._page, element={"sharedId": told["nodes"][0]["sharedId"]},
                   files=[os.path.abspath(file) for file in files])
 
+    def drop(self, *files: str) -> None:
+        # The protocol drops nothing: the page is sent the events, with files of the disk.
+        self.run("""(() => {
+            const input = Object.assign(document.createElement("input"), { type: "file", multiple: true, id: "carried" });
+            document.body.append(input);
+        })()""")
+        self.choose("#carried", *files)
+        self.run("""(() => {
+            const input = document.getElementById("carried");
+            const dataTransfer = new DataTransfer();
+            for (const file of input.files) dataTransfer.items.add(file);
+            input.remove();
+            for (const kind of ["dragenter", "dragover", "drop"]) {
+                document.body.dispatchEvent(new DragEvent(kind, { dataTransfer, bubbles: true, cancelable: true }));
+            }
+        })()""")
+
     def press(self, key: str, code: str = "", number: int = 0, shift: bool = False) -> None:
-        keys = [KEYS["Shift"]] * shift + [KEYS.get(key, key)]
+        self.press_all([KEYS["Shift"]] * shift + [KEYS.get(key, key)])
+
+    def press_all(self, keys: list[str]) -> None:
+        """Presses keys one after another, and lets them go."""
         actions = [{"type": "keyDown", "value": it} for it in keys] + [
             {"type": "keyUp", "value": it} for it in reversed(keys)]
         self.call("input.performActions", context=self._page, actions=[

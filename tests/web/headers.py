@@ -23,15 +23,15 @@ BREAKING = ["default-src 'self'", "require-trusted-types-for 'script'", "script-
 
 
 class Served(http.server.ThreadingHTTPServer):
-    """The folder web/ on a port of this machine, with headers, and what was asked for."""
+    """The folder web/, or another, on a port of this machine, with headers, and what was asked for."""
 
-    def __init__(self, headers: dict[str, str]) -> None:
+    def __init__(self, headers: dict[str, str], folder: str = os.path.join(TOP, "web")) -> None:
         asked: list[str] = []
         self.asked = asked
 
         class Handler(http.server.SimpleHTTPRequestHandler):
             def __init__(self, *words: Any) -> None:
-                super().__init__(*words, directory=os.path.join(TOP, "web"))
+                super().__init__(*words, directory=folder)
 
             def end_headers(self) -> None:
                 for name, value in headers.items():

@@ -3,7 +3,7 @@ fingers, keys, the whole screen, folders, pasting and copying."""
 
 from __future__ import annotations
 
-import base64
+import json
 import os
 import shutil
 from typing import Generator
@@ -126,18 +126,32 @@ def many(browser: Browser, program: str, room: str) -> Generator[Claim, None, No
     browser.run("while (app.fax) app.close()")
 
 
-def pasted(browser: Chromium, _program: str, _room: str) -> Generator[Claim, None, None]:
+def pasted(browser: Browser, _program: str, _room: str) -> Generator[Claim, None, None]:
     """Files that are pasted are opened."""
     browser.run("""(() => {
-        const data = new DataTransfer();
-        data.items.add(new File(["no fax"], "pasted.txt"));
-        document.dispatchEvent(new ClipboardEvent("paste", { clipboardData: data }));
+        const event = new ClipboardEvent("paste", { clipboardData: new DataTransfer() });
+        event.clipboardData.items.add(new File(["no fax"], "pasted.txt"));
+        document.dispatchEvent(event);
     })()""")
     yield "what is pasted is opened", browser.run("app.faxes.map((fax) => fax.file.name)"), ["pasted.txt"]
     browser.run("while (app.fax) app.close()")
 
 
-def folders(browser: Chromium, program: str, room: str) -> Generator[Claim, None, None]:
+def dropped(browser: Browser, program: str, room: str) -> Generator[Claim, None, None]:
+    """Files that are dropped are opened, and the page shows where they may be while they are above it."""
+    paths = [put(f"{room}/dropped-{number}.tif", faxes.drawn(program, 80 + number)) for number in range(2)]
+    browser.run("""window.looks = [];
+        new MutationObserver(() => looks.push(document.body.classList.contains("dropping"))).observe(
+            document.body, { attributeFilter: ["class"] })""")
+    browser.drop(*paths)
+    browser.until("app.faxes.length === 2 && app.faxes.every((fax) => fax.state === 'done')")
+    yield "what is dropped is opened", browser.run("app.faxes.map((fax) => fax.file.name)"), [
+        "dropped-0.tif", "dropped-1.tif"]
+    yield "the page looks so, and no more", browser.run("[looks.length > 0, looks.at(-1)]"), [True, False]
+    browser.run("while (app.fax) app.close()")
+
+
+def folders(browser: Browser, program: str, room: str) -> Generator[Claim, None, None]:
     """Of a folder, with all below it, what is called as faxes are is opened, by name."""
     os.makedirs(f"{room}/folder/below/more")
     for name in ("fax-10.tif", "fax-9.tif", "notes.txt", "below/fax-2.TIF", "below/more/fax-1.tiff"):
@@ -145,9 +159,9 @@ def folders(browser: Chromium, program: str, room: str) -> Generator[Claim, None
     wanted = ["fax-1.tiff", "fax-2.TIF", "fax-9.tif", "fax-10.tif"]
     for how in ("chosen", "dropped"):
         if how == "dropped":
-            browser.drop(f"{room}/folder")
+            browser.drop_folder(f"{room}/folder")
         else:
-            browser.choose("#folder", f"{room}/folder")
+            browser.choose_folder("#folder", f"{room}/folder")
         browser.until("app.faxes.length > 0 && app.faxes.every((fax) => fax.state === 'done')")
         yield f"a folder that is {how}", browser.run("app.faxes.map((fax) => fax.file.name)"), wanted
         browser.run("while (app.fax) app.close()")
@@ -169,30 +183,29 @@ def no_folder(browser: Chromium, program: str, room: str) -> Generator[Claim, No
     browser.run("while (app.fax) app.close()")
 
 
-def copying(browser: Chromium, program: str, room: str) -> Generator[Claim, None, None]:
-    """The page is copied as a picture, row by row as it is; and it fills the screen."""
+def copying(browser: Browser, program: str, room: str) -> Generator[Claim, None, None]:
+    """The page is copied as a picture, row by row as it is."""
     data = get(opened(browser, program, room))
-    browser.call("Browser.grantPermissions", permissions=["clipboardReadWrite", "clipboardSanitizedWrite"])
-    browser.call("Page.bringToFront")
+    browser.to_front()
     browser.press("c")
     browser.until('document.getElementById("said").textContent.startsWith("Page 1 was")')
     yield "it is said", browser.run('document.getElementById("said").textContent'), "Page 1 was copied as a picture."
-    wide, high, pels = browser.run("""navigator.clipboard.read().then(async (items) => {
-        const image = await createImageBitmap(await items[0].getType("image/png"));
-        const canvas = new OffscreenCanvas(image.width, image.height);
-        const draw = canvas.getContext("2d");
-        draw.drawImage(image, 0, 0);
-        const { data } = draw.getImageData(0, 0, image.width, image.height);
-        let text = "";
-        for (let at = 0; at < data.length; at += 4) {
-            text += data[at] === 0 ? "\\x01" : data[at] === 255 ? "\\0" : "\\x02";
-        }
-        return [image.width, image.height, btoa(text)];
-    })""")
     wanted = faxes.pels_of_pbm(faxes.convert(program, data, "-o", "pbm"))[0]
-    yield "it is the page", (wide, high, base64.b64decode(pels)) == wanted, True
-    browser.press("s")
-    browser.until("document.fullscreenElement")
-    yield "the page fills the screen", browser.run("document.fullscreenElement.id"), "view-part"
-    browser.press("s")
-    yield "and leaves it", browser.until("!document.fullscreenElement"), True
+    yield "it is the page", browser.copied() == wanted, True
+    browser.run("while (app.fax) app.close()")
+
+
+def filling(browser: Browser, program: str, room: str) -> Generator[Claim, None, None]:
+    """The page fills the screen, by its key and by its button."""
+    opened(browser, program, room)
+    browser.to_front()
+    for how in ("key", "button"):
+        for wanted in ("view-part", None):
+            if how == "key":
+                browser.press("s")
+            else:
+                browser.click("#full")
+            browser.until(f"document.fullscreenElement?.id === {json.dumps(wanted)}" if wanted
+                          else "!document.fullscreenElement")
+            yield f"{how}: what fills the screen", browser.run("document.fullscreenElement?.id ?? null"), wanted
+    browser.run("while (app.fax) app.close()")

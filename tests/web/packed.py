@@ -1,5 +1,6 @@
 """The package of web/npm, as its user has it: packed by npm, installed into an empty folder without a network, and
-called in Node. It says of samples, cases and damaged faxes what the program says, and its types are those that it says."""
+called in Node. It says of samples, cases and damaged faxes what the program says, and its types are those that it says;
+and so does what a bundler makes of it."""
 
 from __future__ import annotations
 
@@ -14,7 +15,7 @@ from typing import Generator
 
 from tests import TOP, Claim
 from tests.convert.files import get, put
-from tests.web import faxes
+from tests.web import bundled, faxes
 
 TYPED = """import { FaxFault, Faxpages } from "faxpages";
 const faxpages: Faxpages = await Faxpages.load(new Uint8Array(8));
@@ -56,12 +57,27 @@ def claims(program: str) -> Generator[Claim, None, None]:
         yield "npm: the module is that of the page", get(
             f"{room}/user/node_modules/faxpages/faxpages.wasm") == module_of_the_page(), True
         yield from types(f"{room}/user")
+        yield from readme_reads(program, f"{room}/user")
         yield from as_the_program(program, f"{room}/user", room)
 
 
 def module_of_the_page() -> bytes:
     text = get(f"{TOP}/web/faxpages.wasm.js").decode()
     return base64.b64decode(text.partition("`\n")[2].partition("`;")[0])
+
+
+def readme_reads(program: str, folder: str) -> Generator[Claim, None, None]:
+    """The first lines of the README, fewer than ten, read a damaged fax."""
+    lines = get(f"{TOP}/web/npm/README.md").decode().partition("```js\n")[2].partition("```")[0]
+    yield "npm: the README's first lines are fewer than ten", lines.count("\n") < 10, True
+    put(f"{folder}/main.mjs", lines.encode())
+    shutil.copy(f"{TOP}/samples/damaged-fourth-page.tif", f"{folder}/fax.tif")
+    status, said = run(folder, "node", "main.mjs")
+    got = re.findall(r"(?m)^(row \d+ \d+) Uint8Array|^(fault .*)$", said)
+    wanted = faxes.said(program, "rows", f"{folder}/fax.tif")
+    yield "npm: they run", status, 0
+    yield "npm: they read a damaged fax", ["".join(it) for it in got], re.findall(
+        r"(?m)^(?:row \d+ \d+|fault .*$)", wanted)
 
 
 def types(folder: str) -> Generator[Claim, None, None]:
@@ -74,23 +90,16 @@ def types(folder: str) -> Generator[Claim, None, None]:
 
 
 def as_the_program(program: str, folder: str, room: str) -> Generator[Claim, None, None]:
-    """Of each file it says, and converts, what the program does."""
-    shutil.copy(f"{TOP}/tests/web/said.mjs", folder)
+    """Of each file it says, and converts, what the program does; and bundles of it do."""
+    for name in ("said.mjs", "said-in-node.mjs"):
+        shutil.copy(f"{TOP}/tests/web/{name}", folder)
     paths = faxes.all_files(program, room) + [f"{TOP}/tests/runs/inputs/{name}" for name in sorted(
         os.listdir(f"{TOP}/tests/runs/inputs")) if name.endswith(".pbm")]
-    status, text = run(folder, "node", "said.mjs", *paths)
+    status, text = run(folder, "node", "said-in-node.mjs", *paths)
     yield "npm: it runs in Node", status, 0
     told = json.loads(text)
     print(f"(npm: Node {told['node']}, {len(paths)} files)")
     yield "npm: files were read", len(told["told"]) == len(paths) > 100, True
     for path, said in zip(paths, told["told"]):
-        name = os.path.basename(path)
-        for command in ("list", "rows", "check"):
-            wanted = re.sub(r"(?m)^next .*\n", "", faxes.said(program, command, path))
-            yield f"npm: {name}: {command}", said[command] + "\n", wanted
-        salvaged = [line for line in faxes.said(program, "salvage", path).splitlines() if line[:4] in ("row ", "lost")]
-        yield f"npm: {name}: salvage", [line for line in said["salvage"].splitlines() if line[:4] != "faul"], salvaged
-        for target in ("mmr", "mr", "mh", "pbm"):
-            ran = subprocess.run([program, "convert", "-o", target, path], capture_output=True, check=False)
-            made = base64.b64encode(ran.stdout).decode() if ran.returncode == 0 else ran.stderr.decode().strip()
-            yield f"npm: {name}: convert -o {target}", said[target] == made, True
+        yield from bundled.is_the_programs(program, path, said, "npm")
+    yield from bundled.claims(program, folder, paths[::bundled.EACH])

@@ -1,8 +1,5 @@
-// Prints what the package of web/npm says of each file that is named, in the lines of the program, as JSON.
-import { readFileSync } from "node:fs";
-import { FaxFault, Faxpages } from "faxpages";
-
-const faxpages = await Faxpages.load();
+// What the package of web/npm says of a file, in the lines of the program.
+import { FaxFault } from "faxpages";
 
 /** The lengths of runs of a row of packed bytes, white first. */
 function runsOf(bytes, width) {
@@ -33,21 +30,21 @@ function said(call) {
     return lines.join("\n");
 }
 
-function list(file, lines) {
+function list(faxpages, file, lines) {
     const { pages, fault } = faxpages.list(file);
     lines.push(...pages.map(({ page, width, rows, coding, order, photometric, strips, across, down, unit }) =>
         `page ${page} ${width} ${rows} ${coding} ${order} ${photometric} ${strips} ${across.join("/")} ` +
         `${down.join("/")} ${unit}`), fault ? fault.message : "end");
 }
 
-function rows(file, widths, lines) {
+function rows(faxpages, file, widths, lines) {
     for (const { page, row, bytes } of faxpages.rows(file)) {
         lines.push(`row ${page} ${row} ${runsOf(bytes, widths[page])}`);
     }
     lines.push("end");
 }
 
-function check(file, lines) {
+function check(faxpages, file, lines) {
     const { pages, rows: count, notes, fault } = faxpages.check(file);
     lines.push(
         ...notes.map(({ page, strip, number, name }) =>
@@ -55,7 +52,7 @@ function check(file, lines) {
         `pages ${pages} rows ${count}`, ...(fault ? [fault.message] : []));
 }
 
-function salvage(file, lines) {
+function salvage(faxpages, file, lines) {
     for (const { page, form, raster, lost, fault } of faxpages.salvage(file)) {
         if (!form) {
             lines.push(`lost ${page} ${fault.fault}${fault.tag ? ` ${fault.tag}` : ""}`);
@@ -72,14 +69,18 @@ function salvage(file, lines) {
     }
 }
 
-const told = process.argv.slice(2).map((path) => {
-    const file = readFileSync(path);
+/** @param {Uint8Array} bytes */
+function base64(bytes) {
+    return btoa(Array.from(bytes, (byte) => String.fromCharCode(byte)).join(""));
+}
+
+/** All that it says of a file, by the names of its calls, and what it makes of it. */
+export function told(faxpages, file) {
     const widths = faxpages.list(file).pages.map(({ width }) => width);
     return {
-        list: said((lines) => list(file, lines)), rows: said((lines) => rows(file, widths, lines)),
-        check: said((lines) => check(file, lines)), salvage: said((lines) => salvage(file, lines)),
+        list: said((lines) => list(faxpages, file, lines)), rows: said((lines) => rows(faxpages, file, widths, lines)),
+        check: said((lines) => check(faxpages, file, lines)), salvage: said((lines) => salvage(faxpages, file, lines)),
         ...Object.fromEntries(["mmr", "mr", "mh", "pbm"].map((to) =>
-            [to, said((lines) => lines.push(Buffer.from(faxpages.convert(file, to)).toString("base64")))])),
+            [to, said((lines) => lines.push(base64(faxpages.convert(file, to))))])),
     };
-});
-process.stdout.write(JSON.stringify({ version: faxpages.version(), node: process.version, told }));
+}

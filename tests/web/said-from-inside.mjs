@@ -1,0 +1,9 @@
+// For a page: what the package of web/npm says of a file, which is handed in as text; the library is inside the script.
+import { Faxpages } from "faxpages";
+import library from "faxpages/faxpages.wasm";
+import { told } from "./said.mjs";
+
+globalThis.app = {
+    said: async (text) => told(
+        await Faxpages.load(library), Uint8Array.from(atob(text), (letter) => letter.charCodeAt(0))),
+};
