@@ -3,17 +3,23 @@ strangers send. Only these two import this."""
 
 from __future__ import annotations
 
+import contextlib
+import fcntl
 import os
 import re
 import resource
 import signal
+import stat
 import sys
+import termios
+import time
 from typing import BinaryIO, Callable, Dict, NamedTuple, NoReturn, Optional, Sequence
 
 # The most bytes of a file that is printed, and of memory that its reader takes.
 MOST_BYTES, MOST_MEMORY = 1 << 28, 2 << 30
-# The most letters of a line that CUPS reads, and the status by which a process says that a file is another picture.
-_MOST_LETTERS, _OTHER = 400, 2
+# The most letters of a line that CUPS reads, the most seconds that it may be late, and the status by which a process says
+# that a file is another picture.
+_MOST_LETTERS, _MOST_LATE, _OTHER = 400, 60.0, 2
 # A name, and its value if it has one: pieces in quotes or in braces, of which none is open, and letters, each of which
 # may stand after a backslash.
 _OPTION = re.compile(
@@ -95,6 +101,22 @@ def say(level: str, text: str) -> None:
     """Hands CUPS a line: ERROR, WARNING, INFO or DEBUG."""
     sys.stderr.write(f"{level}: {one_line(text)}\n")
     sys.stderr.flush()
+
+
+def say_why(text: str) -> None:
+    """Hands CUPS the line by which a filter fails, and waits until it has read it: of a filter that ends before, CUPS
+    says that it failed, and takes no line for its message any more."""
+    say("ERROR", text)
+    end = time.monotonic() + _MOST_LATE
+    while is_unread(2) and time.monotonic() < end:
+        time.sleep(0.01)
+
+
+def is_unread(number: int) -> bool:
+    """Whether what is open under a number is a pipe with something in it."""
+    with contextlib.suppress(OSError):
+        return stat.S_ISFIFO(os.fstat(number).st_mode) and any(fcntl.ioctl(number, termios.FIONREAD, bytes(4)))
+    return False
 
 
 def within(seconds: int, work: Callable[[], None]) -> None:

@@ -18,7 +18,7 @@ import pikepdf
 from faxpages import Fault, Fax, OutsideError, Page, Raster, Stretch, check, encode_strip
 from faxpages._directory import kind_of
 
-from ._job import Job, Other, Refused, say, seconds_of, within
+from ._job import Job, Other, Refused, say, say_why, seconds_of, within
 
 # The most seconds, pages, and pels of a page and of all.
 SECONDS, PAGES, PELS, ALL_PELS = 120, 5000, 100_000_000, 40_000_000_000
@@ -61,10 +61,10 @@ def sheets(data: bytes, salvage: bool) -> Iterator[Sheet]:
     if not salvage:
         fault = check(data).fault
         kind = kind_of(data, fault) if fault else None
-        if kind:
-            raise Refused(f"fault {fault}: it is no fax that is read here, but {kind}, and not printed")
+        if fault and kind:
+            raise Refused(f"fault {fault.line}: it is no fax that is read here, but {kind}, and not printed")
         if fault:
-            raise Refused(f"fault {fault}: the fax is damaged, and not printed; with -o faxpages=salvage what can be "
+            raise Refused(f"fault {fault.line}: the fax is damaged, and not printed; with -o faxpages=salvage what can be "
                           "read of it is printed")
         for page in forms(fax):
             yield Sheet(page.raster(), [], [])
@@ -244,13 +244,13 @@ def main(words: Sequence[str]) -> int:
             shutil.copyfileobj(file, sys.stdout.buffer)
             sys.stdout.buffer.flush()
     except Refused as refused:
-        say("ERROR", str(refused))
+        say_why(str(refused))
         return 1
     except BrokenPipeError:
         os.dup2(os.open(os.devnull, os.O_WRONLY), sys.stdout.fileno())
         return 1
     except OSError as error:
-        say("ERROR", error.strerror or str(error))
+        say_why(error.strerror or str(error))
         return 1
     return 0
 

@@ -3,6 +3,7 @@ nothing, or with faxpages=salvage what can be read of them."""
 
 from __future__ import annotations
 
+import contextlib
 import os
 import re
 import shutil
@@ -16,6 +17,8 @@ from tests.printing import made, server
 SAMPLES = f"{server.TOP}/samples"
 # A page of this paper is larger than a fax, and the difference is even in pels: nothing is scaled, and no pel is cut.
 PAPER = ["-o", "media=na_legal_8.5x14in", "-o", "print-scaling=none"]
+# So many seconds CUPS is late.
+LATE = 3
 # A line about what is lost.
 LINE = re.compile(r"faxpages: (page .*?) (?:is|are) missing: (\w+(?: \d+)?)")
 PAPER_SIZE = (1734, {196: 2744, 98: 1372})
@@ -118,6 +121,28 @@ def damaged(room: Room, faxes: list[str]) -> None:
         room.claim(f"{title}: its line in the log", f"] {fault}: the fax is damaged" in log)
     room.claim("nothing damaged is printed", set(got) - before, set())
     salvaged(room, spoiled)
+
+
+def read_late(room: Room) -> None:
+    """CUPS says why a fax is not printed, also where it is so late that the filter could have ended before it reads
+    its line; of one that has, it says 'Filter failed', and no more."""
+    job = room.server.print("printer0", "-t", "read_late", f"{SAMPLES}/three-pages.tif")
+    server.wait_for(lambda: filters_of(job), step=0.005)
+    with room.server.stopped():
+        with contextlib.suppress(TimeoutError):
+            server.wait_for(lambda: not filters_of(job), LATE)
+    (told,) = room.server.ended(job)
+    room.claim("what is read late is said", told.message.partition(",")[0], "fault page 2 row 1: DataEnds: the fax is damaged")
+
+
+def filters_of(job: int) -> list[int]:
+    """The processes that run our filter for a job."""
+    found = []
+    for process in (it for it in os.listdir("/proc") if it.isdigit()):
+        with contextlib.suppress(OSError), open(f"/proc/{process}/cmdline", "rb") as words:
+            if b"/filter/faxtopdf\0%d\0" % job in words.read():
+                found.append(int(process))
+    return found
 
 
 def salvaged(room: Room, spoiled: list[tuple[str, str]]) -> None:
@@ -307,6 +332,7 @@ def play(room: Room) -> None:
     faxes = whole(room)
     as_they_are(room)
     damaged(room, faxes)
+    read_late(room)
     grey(room)
     asked_for(room)
     what_it_is(room)

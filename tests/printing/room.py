@@ -41,15 +41,18 @@ class Room:
         for number in range(queues):
             self.printers.append(server.Printer(self.folder, f"printer{number}", bus))
             self.server.do("lpadmin", "-p", f"printer{number}", "-E", "-v", self.printers[-1].uri, "-m", "everywhere")
-        for number in range(queues):
-            told = f'Printer "printer{number}" is now available'.encode()
-            server.wait_for(lambda: told in self.server.get("log/error"))
         # One that takes raster alone.
         self._for_raster = server.Printer(self.folder, "raster", bus, "image/pwg-raster")
         self.server.do("lpadmin", "-p", "raster", "-E", "-v", self.for_raster.uri, "-m", "everywhere")
-        server.wait_for(lambda: b'Printer "raster" is now available' in self.server.get("log/error"))
+        for name in [*(f"printer{number}" for number in range(queues)), "raster"]:
+            self.is_there(name)
         self.spool = self.new_spool("faxes")
         self.fax_queue("Fax", self.spool, "?title")
+
+    def is_there(self, name: str) -> None:
+        """Waits until cupsd has asked a printer what it takes. It is not the log that tells: threads write into it, one
+        for each printer, and a line of one may come out as that of another."""
+        server.wait_for(lambda: "IPP Everywhere" in self.server.call("lpoptions", "-p", name)[1], step=0.2)
 
     def fax_queue(self, name: str, folder: str, more: str = "") -> None:
         self.server.do(

@@ -3,6 +3,7 @@
 from __future__ import annotations
 
 import collections
+import contextlib
 import csv
 import io
 import os
@@ -13,7 +14,7 @@ import signal
 import socket
 import subprocess
 import time
-from typing import Callable, NamedTuple, Sequence, TypeVar
+from typing import Callable, Iterator, NamedTuple, Sequence, TypeVar
 
 HERE = os.path.dirname(os.path.abspath(__file__))
 TOP = os.path.dirname(os.path.dirname(HERE))
@@ -180,6 +181,16 @@ class Server:
             self._daemon.send_signal(number)
             self._daemon.wait(PATIENCE)
             self._daemon = None
+
+    @contextlib.contextmanager
+    def stopped(self) -> Iterator[None]:
+        """cupsd does nothing meanwhile."""
+        assert self._daemon is not None
+        self._daemon.send_signal(signal.SIGSTOP)
+        try:
+            yield
+        finally:
+            self._daemon.send_signal(signal.SIGCONT)
 
     def get(self, name: str) -> bytes:
         with open(f"{self.folder}/{name}", "rb") as file:
