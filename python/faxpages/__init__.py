@@ -12,12 +12,12 @@
 A file is read whole when it is opened, by its path, by its bytes or whatever lends them, or by a file object. Pages and
 rows are numbered from 0, and a Fax is a sequence of its pages. What is handed out before a fault is right; the fault
 itself is raised where what comes next is asked for, each kind as an exception of its own, with the page, the row, its
-name and the tag of the field at fault:
+name, the tag of the field at fault, and a sentence that says what it means:
 
     try:
         rows = sum(1 for row in fax.rows())
     except faxpages.DataEnds as fault:
-        print(fault, "at page", fault.page, "row", fault.row)
+        print(fault.explanation, "It is page", fault.page, "row", fault.row)
     except faxpages.Fault as fault:
         print(fault.name)
 
@@ -88,7 +88,7 @@ from .faults import (
     OutputTooLarge, OutsideError, PbmFault, RunTooLong, ShortHeader, StripFault, StripOutside, TooManyRows,
     UnknownInput, Unsupported)
 
-__version__ = "1.8.0"
+__version__ = "1.9.0"
 __all__ = [
     "open", "check", "convert", "write", "encode", "strip", "check_strip", "encode_strip", "salvage_strip", "register",
     "version",
@@ -102,7 +102,7 @@ __all__ = [
 
 
 def version() -> str:
-    """The version of libfaxpages, as "1.8.0". That of this module is faxpages.__version__.
+    """The version of libfaxpages, as "1.9.0". That of this module is faxpages.__version__.
 
     >>> faxpages.version().count(".")
     2

@@ -355,7 +355,7 @@ class Fax(Sequence[Page]):
         >>> fax = faxpages.open("samples/three-pages.tif")
         >>> [(row.page, row.number) for row in fax.rows(faxpages.Cursor(1, 2))]
         Traceback (most recent call last):
-        faxpages.faults.DataEnds: page 2 row 1: DataEnds
+        faxpages.faults.DataEnds: page 2 row 1: DataEnds: A strip ends within a row: the sender was cut off, or ...
         """
         return self._rows_from(a_cursor(Cursor() if cursor is None else cursor))
 
@@ -417,6 +417,6 @@ def open(source: Source) -> Fax:  # pylint: disable=redefined-builtin
     >>> import io
     >>> faxpages.open(io.BytesIO(b"II*"))[0]
     Traceback (most recent call last):
-    faxpages.faults.ShortHeader: page 0 row 0: ShortHeader
+    faxpages.faults.ShortHeader: page 0 row 0: ShortHeader: The file has fewer than eight bytes.
     """
     return Fax(bytes_of(source))

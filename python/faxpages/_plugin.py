@@ -24,7 +24,7 @@ def register() -> None:
     >>> image.seek(3)
     >>> image.load()
     Traceback (most recent call last):
-    OSError: page 3 row 5: OutOfRow
+    OSError: page 3 row 5: OutOfRow: A vertical mode leads out of the row, or back.
     """
     pillow, reader = _module("PIL.Image"), _module("PIL.TiffImagePlugin")
     _, accepts = pillow.OPEN[reader.TiffImageFile.format]

@@ -62,7 +62,7 @@ def check(source: Source) -> Report:
     """Reads all rows of a file up to its first fault, and reports what may trouble other readers.
 
     >>> report = faxpages.check("samples/damaged-fourth-page.tif")
-    >>> report.pages, report.rows, str(report.fault)
+    >>> report.pages, report.rows, report.fault.line
     (3, 38, 'page 3 row 5: OutOfRow')
     """
     data, report = bytes_of(source), _c.Report()

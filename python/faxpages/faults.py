@@ -5,6 +5,32 @@ from __future__ import annotations
 from typing import Any, Dict, Optional, Tuple, Type
 
 
+# What each fault means, as docs/TROUBLESHOOTING.md has it: by its name, or by its name and the tag of its field.
+_MEANINGS: Dict[str, str] = {
+    "ShortHeader": "The file has fewer than eight bytes.",
+    "ByteOrder": "It begins with neither II nor MM: not a TIFF file.",
+    "Magic": "The number after the byte order is not 42: not a TIFF file, or BigTIFF.",
+    "NoDirectory": "The header names no page.",
+    "DirectoryOutside": "A page's directory lies outside the file: usually the end of the file is missing.",
+    "DirectoryLoop": "A directory is followed by an earlier one. All pages come before the fault.",
+    "MissingField 273": "A page of tiles.",
+    "MissingField": "The field with this tag is missing.",
+    "BadField": "The field with this tag has another type than TIFF gives it, no value, or values outside the file.",
+    "Unsupported 259": "Another compression than MH, MR or MMR.",
+    "Unsupported": "A field has a value that no fax page has.",
+    "OutOfLimits": "The page is empty, wider than 65,535 pels or longer than 1,000,000 rows.",
+    "StripOutside": "A strip lies outside the file: usually the end of the file is missing.",
+    "DataEnds": "A strip ends within a row: the sender was cut off, or the page has fewer rows than it says.",
+    "BadCode": "No code begins with the bits that are due.",
+    "Extension": "An extension of T.4 or T.6, such as uncompressed mode, which is not read.",
+    "RunTooLong": "A run passes the width of the page.",
+    "OutOfRow": "A vertical mode leads out of the row, or back.",
+    "MissingEol": "No EOL stands before the row, in MH or MR.",
+    "EndMarker": "The end of the page stands where a row is due: the page has fewer rows than it says.",
+    "TooManyRows": "A strip whose rows nobody counted has more than 1,000,000 of them.",
+}
+
+
 class FaxError(Exception):
     """What faxpages raises, except for MemoryError, what Python raises when it reads or writes files, and the
     ValueError or TypeError of what is handed in.
@@ -13,7 +39,7 @@ class FaxError(Exception):
     ...     faxpages.open("samples/three-pages.tif")[2].packed()
     ... except faxpages.FaxError as error:
     ...     print(error)
-    page 2 row 1: DataEnds
+    page 2 row 1: DataEnds: A strip ends within a row: the sender was cut off, or the page has fewer rows than it says.
     """
 
 
@@ -94,11 +120,17 @@ class Fault(FaxError):
     page, row and tag are equal.
 
     page and row, both from 0, are those that were due at the fault: row 0 for a fault of the header, of a directory
-    or of a field. name is the fault's, and tag that of the field at fault (TIFF 6.0), or None.
+    or of a field. name is the fault's, and tag that of the field at fault (TIFF 6.0), or None. line has these as the
+    program faxpages prints them after "fault", and explanation says in a sentence what the fault means; the text of the
+    fault has both.
 
     >>> fault = faxpages.check(b"II*\\0\\x08\\0\\0\\0" + bytes(6)).fault
     >>> fault.name, fault.page, fault.row, fault.tag
     ('MissingField', 0, 0, 256)
+    >>> fault.line, fault.explanation
+    ('page 0 row 0: MissingField 256', 'The field with this tag is missing.')
+    >>> print(fault)
+    page 0 row 0: MissingField 256: The field with this tag is missing.
     """
 
     def __init__(self, name: str, page: int, row: int, tag: Optional[int] = None) -> None:
@@ -107,6 +139,20 @@ class Fault(FaxError):
         self.page = page
         self.row = row
         self.tag = tag
+
+    @property
+    def line(self) -> str:
+        """Its page, row, name and tag, as the program faxpages prints them after "fault"."""
+        return f"page {self.page} row {self.row}: {self.name}" + (f" {self.tag}" if self.tag is not None else "")
+
+    @property
+    def explanation(self) -> str:
+        """What it means, in a sentence."""
+        of_all = _MEANINGS.get(self.name, "A fault of a later version.")
+        return _MEANINGS.get(f"{self.name} {self.tag}", of_all)
+
+    def __str__(self) -> str:
+        return f"{self.line}: {self.explanation}"
 
     def _words(self) -> Tuple[Any, ...]:
         return self.name, self.page, self.row, self.tag
@@ -142,7 +188,7 @@ class ShortHeader(FileFault):
 
     >>> faxpages.open(b"II*").page(0)
     Traceback (most recent call last):
-    faxpages.faults.ShortHeader: page 0 row 0: ShortHeader
+    faxpages.faults.ShortHeader: page 0 row 0: ShortHeader: The file has fewer than eight bytes.
     """
 
 
@@ -151,7 +197,7 @@ class ByteOrder(FileFault):
 
     >>> faxpages.open(b"GIF89a..").page(0)
     Traceback (most recent call last):
-    faxpages.faults.ByteOrder: page 0 row 0: ByteOrder
+    faxpages.faults.ByteOrder: page 0 row 0: ByteOrder: It begins with neither II nor MM: not a TIFF file.
     """
 
 
@@ -160,7 +206,7 @@ class Magic(FileFault):
 
     >>> faxpages.open(b"II+\\0\\x08\\0\\0\\0").page(0)
     Traceback (most recent call last):
-    faxpages.faults.Magic: page 0 row 0: Magic
+    faxpages.faults.Magic: page 0 row 0: Magic: The number after the byte order is not 42: not a TIFF file, or BigTIFF.
     """
 
 
@@ -169,7 +215,7 @@ class NoDirectory(FileFault):
 
     >>> faxpages.open(b"II*\\0\\0\\0\\0\\0").page(0)
     Traceback (most recent call last):
-    faxpages.faults.NoDirectory: page 0 row 0: NoDirectory
+    faxpages.faults.NoDirectory: page 0 row 0: NoDirectory: The header names no page.
     """
 
 
@@ -178,7 +224,7 @@ class DirectoryOutside(FileFault):
 
     >>> faxpages.open(b"II*\\0\\x08\\0\\0\\0").page(0)
     Traceback (most recent call last):
-    faxpages.faults.DirectoryOutside: page 0 row 0: DirectoryOutside
+    faxpages.faults.DirectoryOutside: page 0 row 0: DirectoryOutside: A page's directory lies outside the file: ...
     """
 
 
@@ -189,7 +235,7 @@ class DirectoryLoop(FileFault):
     >>> damaged[206] = 12
     >>> len(faxpages.open(damaged))
     Traceback (most recent call last):
-    faxpages.faults.DirectoryLoop: page 1 row 0: DirectoryLoop
+    faxpages.faults.DirectoryLoop: page 1 row 0: DirectoryLoop: A directory is followed by an earlier one. All ...
     """
 
 
@@ -198,7 +244,7 @@ class MissingField(FileFault):
 
     >>> faxpages.open(b"II*\\0\\x08\\0\\0\\0" + bytes(6)).page(0)
     Traceback (most recent call last):
-    faxpages.faults.MissingField: page 0 row 0: MissingField 256
+    faxpages.faults.MissingField: page 0 row 0: MissingField 256: The field with this tag is missing.
     """
 
 
@@ -210,7 +256,7 @@ class BadField(FileFault):
     >>> damaged[136] = 2
     >>> faxpages.open(damaged).page(0)
     Traceback (most recent call last):
-    faxpages.faults.BadField: page 0 row 0: BadField 279
+    faxpages.faults.BadField: page 0 row 0: BadField 279: The field with this tag has another type than TIFF ...
     """
 
 
@@ -221,7 +267,7 @@ class Unsupported(FileFault):
     >>> damaged[70] = 5
     >>> faxpages.open(damaged).page(0)
     Traceback (most recent call last):
-    faxpages.faults.Unsupported: page 0 row 0: Unsupported 259
+    faxpages.faults.Unsupported: page 0 row 0: Unsupported 259: Another compression than MH, MR or MMR.
     """
 
 
@@ -232,7 +278,7 @@ class OutOfLimits(FileFault):
     >>> damaged[34] = 0
     >>> faxpages.open(damaged).page(0)
     Traceback (most recent call last):
-    faxpages.faults.OutOfLimits: page 0 row 0: OutOfLimits 256
+    faxpages.faults.OutOfLimits: page 0 row 0: OutOfLimits 256: The page is empty, wider than 65,535 pels or ...
     """
 
 
@@ -243,7 +289,7 @@ class StripOutside(FileFault):
     >>> damaged[107] = 1
     >>> faxpages.open(damaged)[0].packed()
     Traceback (most recent call last):
-    faxpages.faults.StripOutside: page 0 row 0: StripOutside
+    faxpages.faults.StripOutside: page 0 row 0: StripOutside: A strip lies outside the file: usually the end of ...
     """
 
 
@@ -252,7 +298,7 @@ class DataEnds(StripFault):
 
     >>> faxpages.strip(b"\\x80", width=8, rows=9)
     Traceback (most recent call last):
-    faxpages.faults.DataEnds: page 0 row 1: DataEnds
+    faxpages.faults.DataEnds: page 0 row 1: DataEnds: A strip ends within a row: the sender was cut off, or the ...
     """
 
 
@@ -261,7 +307,7 @@ class BadCode(StripFault):
 
     >>> faxpages.strip(b"\\x01", width=8)
     Traceback (most recent call last):
-    faxpages.faults.BadCode: page 0 row 0: BadCode
+    faxpages.faults.BadCode: page 0 row 0: BadCode: No code begins with the bits that are due.
     """
 
 
@@ -270,7 +316,7 @@ class Extension(StripFault):
 
     >>> faxpages.strip(b"\\x03\\x80", width=8)
     Traceback (most recent call last):
-    faxpages.faults.Extension: page 0 row 0: Extension
+    faxpages.faults.Extension: page 0 row 0: Extension: An extension of T.4 or T.6, such as uncompressed mode, ...
     """
 
 
@@ -279,7 +325,7 @@ class RunTooLong(StripFault):
 
     >>> faxpages.strip(b"\\x27\\x80", width=8)
     Traceback (most recent call last):
-    faxpages.faults.RunTooLong: page 0 row 0: RunTooLong
+    faxpages.faults.RunTooLong: page 0 row 0: RunTooLong: A run passes the width of the page.
     """
 
 
@@ -288,7 +334,7 @@ class OutOfRow(StripFault):
 
     >>> faxpages.strip(b"\\x60", width=8)
     Traceback (most recent call last):
-    faxpages.faults.OutOfRow: page 0 row 0: OutOfRow
+    faxpages.faults.OutOfRow: page 0 row 0: OutOfRow: A vertical mode leads out of the row, or back.
     """
 
 
@@ -297,7 +343,7 @@ class MissingEol(StripFault):
 
     >>> faxpages.strip(b"\\x9a\\x68", width=8, coding="mh", rows=2)
     Traceback (most recent call last):
-    faxpages.faults.MissingEol: page 0 row 1: MissingEol
+    faxpages.faults.MissingEol: page 0 row 1: MissingEol: No EOL stands before the row, in MH or MR.
     """
 
 
@@ -306,7 +352,7 @@ class EndMarker(StripFault):
 
     >>> faxpages.strip(b"\\0\\x10\\x01", width=8, rows=1)
     Traceback (most recent call last):
-    faxpages.faults.EndMarker: page 0 row 0: EndMarker
+    faxpages.faults.EndMarker: page 0 row 0: EndMarker: The end of the page stands where a row is due: the page ...
     """
 
 
@@ -315,7 +361,7 @@ class TooManyRows(StripFault):
 
     >>> faxpages.strip(bytes([255] * 125001), width=8)
     Traceback (most recent call last):
-    faxpages.faults.TooManyRows: page 0 row 1000000: TooManyRows
+    faxpages.faults.TooManyRows: page 0 row 1000000: TooManyRows: A strip whose rows nobody counted has more ...
     """
 
 

@@ -36,6 +36,7 @@ pub struct Cursor {
 
 impl Cursor {
     /// A row of a page, both from 0. The row after a page's last is the next page's first.
+    #[must_use]
     pub const fn new(page: u32, row: u32) -> Self {
         Cursor { page, row, bits: 0, runs: Vec::new() }
     }
@@ -54,26 +55,31 @@ impl Cursor {
     }
 
     /// The page of the row that is due.
+    #[must_use]
     pub const fn page(&self) -> u32 {
         self.page
     }
 
     /// The row that is due.
+    #[must_use]
     pub const fn row(&self) -> u32 {
         self.row
     }
 
     /// How many bits of the strip are before it; 0 where it is a page and a row alone.
+    #[must_use]
     pub const fn bits(&self) -> u32 {
         self.bits
     }
 
     /// The runs of the row before it, white first; none where it is a page and a row alone.
+    #[must_use]
     pub fn runs(&self) -> &[u32] {
         &self.runs
     }
 
     /// Whether it is a place inside a strip.
+    #[must_use]
     pub fn is_inside_strip(&self) -> bool {
         !self.runs.is_empty()
     }

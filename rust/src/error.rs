@@ -4,7 +4,7 @@ use crate::calls::{self, FaxFault};
 use std::fmt;
 
 /// Why nothing more is handed out.
-#[derive(Clone, Debug, PartialEq, Eq, thiserror::Error)]
+#[derive(Clone, Debug, PartialEq, Eq, Hash, thiserror::Error)]
 #[non_exhaustive]
 pub enum Error {
     /// The first fault of the file, where this row of a page was due.
@@ -245,16 +245,19 @@ impl Fault {
     }
 
     /// Its number, which never changes, as in `faxpages.h`.
+    #[must_use]
     pub const fn number(self) -> u32 {
         self.told().0
     }
 
     /// Its name, as `DataEnds`.
+    #[must_use]
     pub const fn name(self) -> &'static str {
         self.told().1
     }
 
     /// The tag of the field at fault, where it has one.
+    #[must_use]
     pub const fn tag(self) -> Option<u32> {
         match self {
             Fault::MissingField(tag) | Fault::BadField(tag) | Fault::Unsupported(tag) | Fault::OutOfLimits(tag) => {
@@ -287,6 +290,7 @@ impl PbmFault {
     }
 
     /// Its number, which never changes, as in `faxpages.h`.
+    #[must_use]
     pub const fn number(self) -> u32 {
         match self {
             PbmFault::BadHeader => 201,
@@ -297,6 +301,7 @@ impl PbmFault {
     }
 
     /// Its name, as `ShortRaster`.
+    #[must_use]
     pub const fn name(self) -> &'static str {
         match self {
             PbmFault::BadHeader => "BadHeader",

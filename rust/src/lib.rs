@@ -5,7 +5,7 @@
 //!
 //! // Or the bytes of a file: std::fs::read("fax.tif")
 //! let mut writer = Writer::new(1)?;
-//! writer.add(&Form::new(8, 2, Coding::Mmr), 1, &[0b0001_1000, 0b1111_1100], 1)?;
+//! writer.add(&Form::new(8, 2, Coding::Mmr), None, &[0b0001_1000, 0b1111_1100], 1)?;
 //! let file = writer.finish()?;
 //!
 //! let fax = Fax::new(&file);
@@ -40,9 +40,11 @@
 //! `libfaxpages.a`, which `./install` and the package `libfaxpages-dev` put where it is found.
 #![forbid(unsafe_code)]
 #![deny(missing_docs)]
+#![deny(clippy::must_use_candidate)]
 
 mod calls;
 mod cursor;
+mod edges;
 mod error;
 mod page;
 mod receiving;
@@ -53,6 +55,7 @@ mod words;
 mod writer;
 
 pub use cursor::Cursor;
+pub use edges::read_file;
 pub use error::{Error, Fault, Invalid, PbmFault};
 pub use page::{Filled, Page, Pages};
 pub use receiving::StripReader;
@@ -70,6 +73,8 @@ use std::iter::FusedIterator;
 /// How many forms are read at a time, at first and at most.
 const FORMS: usize = 64;
 const MOST_FORMS: usize = 65_536;
+/// In MR, a row in so many is coded by itself where nothing is said.
+const USUAL_K: u32 = 4;
 /// The most bytes of the output of a conversion.
 const MOST_OUTPUT: usize = 1 << 28;
 
@@ -78,16 +83,23 @@ const MOST_OUTPUT: usize = 1 << 28;
 pub enum Coding {
     /// T.4, one-dimensional.
     #[doc(alias = "Group 3")]
+    #[doc(alias = "G3")]
+    #[doc(alias = "Modified Huffman")]
+    #[doc(alias = "CCITT")]
     Mh,
     /// T.4, two-dimensional.
     #[doc(alias = "Group 3, two-dimensional")]
+    #[doc(alias = "Modified READ")]
     Mr,
     /// T.6.
     #[doc(alias = "Group 4")]
+    #[doc(alias = "G4")]
+    #[doc(alias = "Modified Modified READ")]
     Mmr,
 }
 
 /// Which bit of a byte is first.
+#[doc(alias = "bit order")]
 #[derive(Clone, Copy, Debug, PartialEq, Eq, Hash)]
 pub enum FillOrder {
     /// The highest, as TIFF's fill order 1.
@@ -108,7 +120,10 @@ pub enum Unit {
     Centimetre,
 }
 
-/// The form of a page.
+/// The form of a page. A later version may have more fields: take one of [`Form::new`] and change it, or write
+/// `..Form::new(..)` after the fields that you name.
+#[doc(alias = "Directory")]
+#[doc(alias = "IFD")]
 #[derive(Clone, Copy, Debug, PartialEq, Eq, Hash)]
 pub struct Form {
     /// The page's number.
@@ -144,6 +159,7 @@ impl Form {
     /// let form = faxpages::Form::new(1728, 2292, faxpages::Coding::Mmr);
     /// assert_eq!((form.stride(), form.x, form.y), (216, (204, 1), (196, 1)));
     /// ```
+    #[must_use]
     pub const fn new(width: u32, rows: u32, coding: Coding) -> Self {
         Form {
             page: 0,
@@ -162,6 +178,7 @@ impl Form {
     }
 
     /// The bytes of a packed row: (width + 7) / 8.
+    #[must_use]
     pub const fn stride(&self) -> usize {
         self.width.div_ceil(8) as usize
     }
@@ -210,6 +227,7 @@ impl NoteKind {
     }
 
     /// Its number, as 2 for N2.
+    #[must_use]
     pub const fn number(self) -> u32 {
         match self {
             NoteKind::NoEndOfBlock => 1,
@@ -222,6 +240,7 @@ impl NoteKind {
     }
 
     /// Its name, as `ReturnToControl`.
+    #[must_use]
     pub const fn name(self) -> &'static str {
         match self {
             NoteKind::NoEndOfBlock => "NoEndOfBlock",
@@ -241,7 +260,7 @@ impl fmt::Display for NoteKind {
 }
 
 /// What a check found up to the first fault.
-#[derive(Clone, Debug, PartialEq, Eq)]
+#[derive(Clone, Debug, PartialEq, Eq, Hash)]
 #[non_exhaustive]
 pub struct Report {
     /// How many pages were read wholly.
@@ -267,7 +286,8 @@ pub enum Target {
     Mmr,
 }
 
-/// How a file is written.
+/// How a file is written. A later version may have more fields: take those of [`Options::new`] and change them, or write
+/// `..Options::new(..)` after the fields that you name.
 #[derive(Clone, Copy, Debug, PartialEq, Eq, Hash)]
 pub struct Options {
     /// What the file is turned into.
@@ -284,8 +304,9 @@ pub struct Options {
 
 impl Options {
     /// A target, in one strip a page, with the highest bit first.
+    #[must_use]
     pub fn new(target: Target) -> Self {
-        Options { target, order: FillOrder::MsbFirst, k: 4, strip: None, aligned: false }
+        Options { target, order: FillOrder::MsbFirst, k: USUAL_K, strip: None, aligned: false }
     }
 }
 
@@ -298,6 +319,8 @@ fn filled<T: Clone>(item: T, len: usize) -> Result<Vec<T>, Error> {
 }
 
 /// A file of fax pages.
+#[doc(alias = "TIFF")]
+#[doc(alias = "Decoder")]
 #[derive(Clone, Copy, Debug)]
 pub struct Fax<'a> {
     file: &'a [u8],
@@ -305,6 +328,7 @@ pub struct Fax<'a> {
 
 impl<'a> Fax<'a> {
     /// The fax of these bytes. Nothing is read yet.
+    #[must_use]
     pub fn new(file: &'a [u8]) -> Self {
         Fax { file }
     }
@@ -601,7 +625,8 @@ pub fn convert(file: &[u8], options: &Options) -> Result<Vec<u8>, Error> {
     }
 }
 
-/// The version of the calls, as 10800 for 1.8.0: of the plain sources, or of the archive that is linked.
+/// The version of the calls, as 10900 for 1.9.0: of the plain sources, or of the archive that is linked.
+#[must_use]
 pub fn version() -> u32 {
     calls::faxpages_version()
 }
@@ -615,6 +640,7 @@ impl Forms<'_> {
 }
 
 /// The forms of pages, and the error that ends them.
+#[must_use = "an iterator reads nothing before it is asked"]
 #[derive(Debug)]
 pub struct Forms<'a> {
     file: &'a [u8],

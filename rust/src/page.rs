@@ -3,12 +3,12 @@
 use crate::calls;
 use crate::error::{fault_of, refused, Error};
 use crate::rows::{Reader, Row, ROWS};
-use crate::{form_of, Cursor, Fax, Form, Forms};
+use crate::{filled, form_of, Cursor, Fax, Form, Forms};
 use std::iter::FusedIterator;
 use std::ops::Range;
 
 /// A page: its form, and its rows one after another in one block of bytes.
-#[derive(Clone, Debug, PartialEq, Eq)]
+#[derive(Clone, Debug, PartialEq, Eq, Hash)]
 #[non_exhaustive]
 pub struct Page {
     /// Its form.
@@ -21,23 +21,52 @@ pub struct Page {
 
 impl Page {
     /// Its rows, from the first on.
+    #[must_use]
     pub fn rows(&self) -> impl ExactSizeIterator<Item = &[u8]> {
         self.packed.chunks_exact(self.form.stride())
     }
 
     /// A row by its number, from 0; none where it is missing.
+    #[must_use]
     pub fn row(&self, number: u32) -> Option<&[u8]> {
         self.rows().nth(number as usize)
     }
 
+    /// Its pels as levels of grey, a byte each: 0 for black, 255 for white. So crates of images take them: the crate
+    /// `image` by `GrayImage::from_raw(page.form.width, page.rows().len() as u32, page.luma8()?)`.
+    ///
+    /// # Errors
+    ///
+    /// [`Error::Memory`].
+    ///
+    /// ```
+    /// # let mut writer = faxpages::Writer::new(1)?;
+    /// # writer.add(&faxpages::Form::new(3, 2, faxpages::Coding::Mmr), None, &[0b0100_0000, 0b1100_0000], 1)?;
+    /// # let file = writer.finish()?;
+    /// assert_eq!(faxpages::Fax::new(&file).page(0)?.luma8()?, [255, 0, 255, 0, 0, 255]);
+    /// # Ok::<(), faxpages::Error>(())
+    /// ```
+    #[doc(alias = "GrayImage")]
+    pub fn luma8(&self) -> Result<Vec<u8>, Error> {
+        let width = self.form.width as usize;
+        let mut pels = filled(255, width.saturating_mul(self.rows().len()))?;
+        for (row, out) in self.rows().zip(pels.chunks_exact_mut(width)) {
+            for (level, pel) in out.iter_mut().zip(0..) {
+                *level = if row[pel / 8] << (pel % 8) & 0x80 == 0 { 255 } else { 0 };
+            }
+        }
+        Ok(pels)
+    }
+
     /// How many rows are missing after these.
+    #[must_use]
     pub fn lost(&self) -> u32 {
         self.form.rows.saturating_sub(self.rows().len() as u32)
     }
 }
 
 /// What was written of a page into a buffer.
-#[derive(Clone, Debug, PartialEq, Eq)]
+#[derive(Clone, Debug, PartialEq, Eq, Hash)]
 #[non_exhaustive]
 pub struct Filled {
     /// The form of the page.
@@ -102,6 +131,7 @@ pub(crate) fn read(file: &[u8], form: Form) -> Result<Page, Error> {
 }
 
 /// Pages in order, each whole, and the error that ends them.
+#[must_use = "an iterator reads nothing before it is asked"]
 #[derive(Debug)]
 pub struct Pages<'a> {
     forms: Forms<'a>,

@@ -49,6 +49,7 @@ pub struct StripReader {
 
 impl StripReader {
     /// A reader of a strip of this form, before its first byte.
+    #[must_use]
     pub fn new(form: StripForm) -> Self {
         StripReader {
             reading: Reading::new(form),
@@ -82,6 +83,7 @@ impl StripReader {
 
     /// Whether nothing more comes: the strip has ended, at its end mark, at the last of its rows or after
     /// [`StripReader::close`], and all its rows were handed out; and if an error ended it, that was handed out too.
+    #[must_use]
     pub fn is_ended(&self) -> bool {
         match self.ended {
             None => false,
@@ -91,16 +93,19 @@ impl StripReader {
     }
 
     /// The error that ended the strip, once it was handed out.
+    #[must_use]
     pub fn error(&self) -> Option<&Error> {
         self.ended.as_ref()?.as_ref().filter(|_| self.is_told)
     }
 
     /// How many rows were handed out.
+    #[must_use]
     pub fn rows(&self) -> u32 {
         self.rows
     }
 
     /// How many rows are lacking after those that were handed out; none where the form says no number.
+    #[must_use]
     pub fn lost(&self) -> Option<u32> {
         self.reading.form.lost(self.rows)
     }

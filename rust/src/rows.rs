@@ -38,18 +38,21 @@ impl Row {
     /// # Panics
     ///
     /// Where the row has no such pel. [`Row::pel`] does not.
+    #[must_use]
     pub fn is_black(&self, pel: u32) -> bool {
         assert!(pel < self.width);
         self.packed[pel as usize / 8] >> (7 - pel % 8) & 1 == 1
     }
 
     /// Whether a pel, from 0, is black; none where the row has no such pel.
+    #[must_use]
     pub fn pel(&self, pel: u32) -> Option<bool> {
         let byte = self.packed.get(pel as usize / 8).filter(|_| pel < self.width)?;
         Some(byte >> (7 - pel % 8) & 1 == 1)
     }
 
     /// The lengths in pels of its runs, white first: the first is 0 where the row begins black.
+    #[must_use]
     pub fn runs(&self) -> Vec<u32> {
         let mut runs = Vec::new();
         put_runs(&mut runs, &self.packed, self.width);
@@ -288,6 +291,7 @@ impl<T: RowFormat> fmt::Debug for Reader<'_, T> {
 /// Rows, page by page, and the error that ends them.
 ///
 /// Rows are read some thousands at a time.
+#[must_use = "an iterator reads nothing before it is asked"]
 #[derive(Debug)]
 pub struct Rows<'a, T: RowFormat = Row> {
     reader: Reader<'a, T>,

@@ -20,7 +20,7 @@ pub struct Stretch {
 
 /// What is left of a page or of a strip: all its rows in one block of bytes, where those that are lost are white. No
 /// row is made up, copied or guessed.
-#[derive(Clone, Debug, PartialEq, Eq)]
+#[derive(Clone, Debug, PartialEq, Eq, Hash)]
 #[non_exhaustive]
 pub struct Salvaged {
     /// The pels of a row.
@@ -37,16 +37,19 @@ pub struct Salvaged {
 
 impl Salvaged {
     /// Its rows, from the first on, white where they are lost.
+    #[must_use]
     pub fn rows(&self) -> impl ExactSizeIterator<Item = &[u8]> {
         self.packed.chunks_exact((self.width.div_ceil(8) as usize).max(1))
     }
 
     /// How many rows are found.
+    #[must_use]
     pub fn found(&self) -> usize {
         self.rows().len() - self.lost.iter().map(|stretch| stretch.rows as usize).sum::<usize>()
     }
 
     /// Whether a row is lost, by its number from 0.
+    #[must_use]
     pub fn is_lost(&self, row: u32) -> bool {
         let after = self.lost.partition_point(|stretch| stretch.first <= row);
         after > 0 && row - self.lost[after - 1].first < self.lost[after - 1].rows
@@ -117,7 +120,7 @@ pub(crate) fn page(file: &[u8], page: u32, width: u32, rows: u32) -> Result<Salv
 }
 
 /// What is left of a page, in the order of its rows.
-#[derive(Clone, Debug, PartialEq, Eq)]
+#[derive(Clone, Debug, PartialEq, Eq, Hash)]
 pub enum Left {
     /// A row that is found.
     Row(Row),
@@ -130,6 +133,7 @@ const ROWS: usize = 2048;
 
 /// What is left of a page, piece by piece: [`Fax::salvaged_rows`](crate::Fax::salvaged_rows) makes it. After an error
 /// it ends.
+#[must_use = "an iterator reads nothing before it is asked"]
 pub struct SalvagedRows<'a> {
     file: &'a [u8],
     width: u32,

@@ -5,7 +5,7 @@ use crate::error::{fault_of, refused, Error, Invalid};
 use crate::rows::{Row, RowChanges, RowFormat, RowRuns};
 use crate::salvaged::{salvaged, salvaged_uncounted, Salvaged};
 use crate::writer::{invalid_raster, invalid_rows};
-use crate::{filled, Coding, FillOrder, Note, NoteKind};
+use crate::{filled, Coding, FillOrder, Note, NoteKind, USUAL_K};
 use std::fmt;
 use std::iter::FusedIterator;
 use std::ops::Range;
@@ -17,7 +17,7 @@ const BYTES: usize = 1 << 17;
 /// The most bytes of a strip.
 const MOST_BYTES: usize = 536_870_911;
 
-/// The form of a strip.
+/// The form of a strip. A later version may have more fields: write `..StripForm::new(..)` after those that you name.
 #[derive(Clone, Copy, Debug, PartialEq, Eq, Hash)]
 pub struct StripForm {
     /// The pels of a row, 1 to 65,535.
@@ -40,6 +40,7 @@ impl StripForm {
     /// use faxpages::{Coding, StripForm};
     /// assert_eq!(StripForm::new(1728, Coding::Mmr).rows, None);
     /// ```
+    #[must_use]
     pub const fn new(width: u32, coding: Coding) -> Self {
         StripForm { width, rows: None, coding, order: FillOrder::MsbFirst, aligned: false }
     }
@@ -183,6 +184,7 @@ pub struct Strip<'a> {
 
 impl<'a> Strip<'a> {
     /// The strip of these bytes, at most 536,870,911. Nothing is read yet.
+    #[must_use]
     pub const fn new(bytes: &'a [u8], form: StripForm) -> Self {
         Strip { bytes, form }
     }
@@ -286,7 +288,7 @@ impl<'a> Strip<'a> {
 }
 
 /// What a check found in a strip.
-#[derive(Clone, Debug, PartialEq, Eq)]
+#[derive(Clone, Debug, PartialEq, Eq, Hash)]
 #[non_exhaustive]
 pub struct StripReport {
     /// How many rows were read.
@@ -302,6 +304,7 @@ pub struct StripReport {
 }
 
 /// The rows of a strip, and the error that ends them.
+#[must_use = "an iterator reads nothing before it is asked"]
 #[derive(Debug)]
 pub struct StripRows<'a, T: RowFormat = Row> {
     strip: &'a [u8],
@@ -381,7 +384,7 @@ impl<T: RowFormat> FusedIterator for StripRows<'_, T> {}
 /// Codes the rows of a raster as a strip, in the codes that T.4 and T.6 choose: row i stands in the (width + 7) / 8
 /// bytes from `raster[i * stride]` on, the highest bit first, 1 for black, whatever stands after its pels. Where the
 /// form says no number of rows, all that the raster has are coded. In MR one row in every k is coded by itself; k is at
-/// least 1. After the last row stands the end of the block (EOFB) in MMR, and nothing in MH and MR.
+/// least 1, and 4 where it is none. After the last row stands the end of the block (EOFB) in MMR, and nothing in MH and MR.
 ///
 /// # Errors
 ///
@@ -389,12 +392,17 @@ impl<T: RowFormat> FusedIterator for StripRows<'_, T> {}
 ///
 /// ```
 /// use faxpages::{code_strip, Coding, StripForm};
-/// let strip = code_strip(&StripForm::new(8, Coding::Mmr), 1, &[0], 1)?;
+/// let strip = code_strip(&StripForm::new(8, Coding::Mmr), None, &[0], 1)?;
 /// assert_eq!(strip, [0x80, 0x08, 0x00, 0x80]);
 /// # Ok::<(), faxpages::Error>(())
 /// ```
-pub fn code_strip(form: &StripForm, k: u32, raster: &[u8], stride: usize) -> Result<Vec<u8>, Error> {
-    let row = form.stride();
+pub fn code_strip(
+    form: &StripForm,
+    k: impl Into<Option<u32>>,
+    raster: &[u8],
+    stride: usize,
+) -> Result<Vec<u8>, Error> {
+    let (row, k) = (form.stride(), k.into().unwrap_or(USUAL_K));
     let too_short = || invalid_raster(k, raster.len(), stride, row, form.rows.unwrap_or(1)).unwrap_or(Invalid::Unknown);
     let counted = raster.len().checked_sub(row).ok_or_else(too_short)?.checked_div(stride);
     let rows = form.rows.map_or(counted.map_or(0, |before| before + 1), |rows| rows as usize);
@@ -422,8 +430,12 @@ pub fn code_strip(form: &StripForm, k: u32, raster: &[u8], stride: usize) -> Res
 /// assert_eq!(code_strip_runs(&form, 2, &[[0, 8], [3, 5]])?, code_strip(&form, 2, &[0xFF, 0x1F], 1)?);
 /// # Ok::<(), faxpages::Error>(())
 /// ```
-pub fn code_strip_runs<R: AsRef<[u32]>>(form: &StripForm, k: u32, rows: &[R]) -> Result<Vec<u8>, Error> {
-    let (mut table, mut runs) = (Vec::new(), Vec::new());
+pub fn code_strip_runs<R: AsRef<[u32]>>(
+    form: &StripForm,
+    k: impl Into<Option<u32>>,
+    rows: &[R],
+) -> Result<Vec<u8>, Error> {
+    let (mut table, mut runs, k) = (Vec::new(), Vec::new(), k.into().unwrap_or(USUAL_K));
     for (row, number) in rows.iter().zip(0..) {
         let len = u32::try_from(row.as_ref().len()).map_err(|_| Invalid::Runs(number))?;
         table.push(calls::FaxRow { at: runs.len(), len, ..calls::ROW });

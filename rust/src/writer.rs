@@ -2,7 +2,7 @@
 
 use crate::calls::{self, FaxForm, FaxWritten};
 use crate::error::{refused, Error, Invalid};
-use crate::{filled, Coding, Form, MOST_OUTPUT};
+use crate::{filled, Coding, Form, MOST_OUTPUT, USUAL_K};
 use std::fmt;
 
 /// The most pages of a file.
@@ -10,18 +10,21 @@ const MOST_PAGES: u32 = 65_535;
 
 /// A TIFF-F file that is written page by page, in memory.
 ///
+/// In MR one row in every `k` is coded by itself: 4 where it is none. The other codings have no k.
+///
 /// ```
 /// use faxpages::{Coding, Fax, Form, Writer};
 /// let mut writer = Writer::new(2)?;
 /// let mut form = Form::new(16, 3, Coding::Mr);
 /// writer.add(&form, 4, &[0xFF, 0, 0, 0xFF, 0xAA, 0x55], 2)?;
 /// (form.rows, form.coding) = (1, Coding::Mmr);
-/// writer.add(&form, 4, &[0, 1], 2)?;
+/// writer.add(&form, None, &[0, 1], 2)?;
 /// let file = writer.finish()?;
 /// assert_eq!(Fax::new(&file).rows().count(), 4);
 /// assert_eq!(Fax::new(&file).page(1)?.packed, [0, 1]);
 /// # Ok::<(), faxpages::Error>(())
 /// ```
+#[doc(alias = "Encoder")]
 #[derive(Clone)]
 pub struct Writer {
     file: Vec<u8>,
@@ -58,7 +61,7 @@ impl Writer {
     /// use faxpages::{Coding, Fax, Form, Writer};
     /// let mut writer = Writer::uncounted()?;
     /// for rows in [3, 1] {
-    ///     writer.add(&Form::new(16, rows, Coding::Mmr), 4, &[0; 6], 2)?;
+    ///     writer.add(&Form::new(16, rows, Coding::Mmr), None, &[0; 6], 2)?;
     /// }
     /// assert_eq!(Fax::new(&writer.finish()?).pages().count(), 2);
     /// # Ok::<(), faxpages::Error>(())
@@ -73,7 +76,7 @@ impl Writer {
 
     /// Adds a page of this form, coded from a raster: row i stands in the [`Form::stride`] bytes from `raster[i *
     /// stride]` on, the highest bit first, 1 for black, whatever stands after its pels. In MR one row in every k is
-    /// coded by itself; k is at least 1. `page`, `strips` and `exchanged` of the form do not matter, and
+    /// coded by itself; k is at least 1, and 4 where it is none. `page`, `strips` and `exchanged` of the form do not matter, and
     /// `rows_per_strip` of 0, or of more than its rows, is one strip.
     ///
     /// # Errors
@@ -81,8 +84,14 @@ impl Writer {
     /// [`Error::Invalid`] if the form is invalid, k is 0, the raster is too short, or the file has all its pages;
     /// [`Error::OutputTooLarge`] where it would have more than 268,435,456 bytes; or [`Error::Memory`]. Then the file
     /// is what it was.
-    pub fn add(&mut self, form: &Form, k: u32, raster: &[u8], stride: usize) -> Result<(), Error> {
-        let given = given(form);
+    pub fn add(
+        &mut self,
+        form: &Form,
+        k: impl Into<Option<u32>>,
+        raster: &[u8],
+        stride: usize,
+    ) -> Result<(), Error> {
+        let (given, k) = (given(form), k.into().unwrap_or(USUAL_K));
         loop {
             let status = calls::faxpages_add_page(&given, k, raster, stride, &mut self.file, &mut self.written);
             match status {
@@ -117,11 +126,13 @@ impl Writer {
     }
 
     /// The file so far, which is a whole one once a page was added.
+    #[must_use]
     pub fn bytes(&self) -> &[u8] {
         &self.file[..self.written.len]
     }
 
     /// How many pages were added.
+    #[must_use]
     pub fn pages(&self) -> u32 {
         self.written.added
     }

@@ -162,6 +162,9 @@ static int is_found_so(const struct end *end) {
 /* An end mark with a 1 after it; two rows and a 1 that is no code. */
 static const uint8_t marked[] = {0x00, 0x10, 0x01, 0x80}, damaged[] = {0x31, 0x78, 0x01};
 
+/* Twelve zeros and a 1, which begin no end mark of MMR. */
+static const uint8_t unmarked[] = {0x00, 0x08};
+
 /* Data whose rows nobody counted. */
 static void uncounted_strips(void) {
     static const struct end ends[] = {
@@ -194,6 +197,7 @@ static void parts_of_strips(void) {
         {strip, 1, FAXPAGES_MORE, 0, 0, "a cut row may go on"},
         {strip, 2, FAXPAGES_MORE, 2, 0, "after two rows a third may come"},
         {strip, 4, FAXPAGES_MORE, 2, 0, "an end mark may come of a cut one"},
+        {unmarked, 2, FAXPAGES_FAULT, 0, 107, "of other zeros none may come: a fault at once"},
     };
     struct faxpages_strip form = {WIDTH, ROWS, 3, 1, 0};
     struct faxpages_place place = at(0, 41, 0);
@@ -204,9 +208,49 @@ static void parts_of_strips(void) {
     place = at(0, 0, 0);
     see(faxpages_strip_part(strip, 5, &form, &place, runs, FAXPAGES_RUNS, out, 64, STRIDE, &told) == FAXPAGES_FAULT &&
             tells(2, 3, 2, 107), "an end marker before the last of counted rows stays a fault");
+    place = at(0, 4294967288, 0);
+    see(faxpages_strip_part(strip, 5, &form, &place, runs, FAXPAGES_RUNS, out, 64, STRIDE, &told) == FAXPAGES_MORE,
+        "a strip may reach its last place");
+    place = at(0, 4294967289, 0);
+    see(faxpages_strip_part(strip, 5, &form, &place, runs, FAXPAGES_RUNS, out, 64, STRIDE, &told) == FAXPAGES_OUTSIDE,
+        "none reaches a place after that");
+}
+
+/* Two EOLs in MH, and a 1 after them: nothing that follows makes an end mark of them. */
+static void eols_in_parts(void) {
+    struct faxpages_strip form = {WIDTH, 0, 1, 1, 0};
+    struct faxpages_place place = at(0, 0, 0);
+    see(faxpages_strip_part(marked, 3, &form, &place, runs, FAXPAGES_RUNS, out, 64, STRIDE, &told) == FAXPAGES_MORE,
+        "two EOLs may become a return to control");
+    see(faxpages_strip_part(marked, 4, &form, &place, runs, FAXPAGES_RUNS, out, 64, STRIDE, &told) == FAXPAGES_FAULT &&
+            tells(0, 3, 0, 107), "with a code after them they are a fault at once");
 }
 
 /* Each number out of its range. */
+/* How a strip ends at a place with runs that no row of it has, by the calls for all of it and for its first bytes. */
+static int answers(struct faxpages_strip form, struct faxpages_place place, uint32_t of_all, uint32_t of_part) {
+    struct faxpages_place old = place;
+    return faxpages_strip_rows(strip, sizeof strip, &form, &place, runs, FAXPAGES_RUNS, out, 64, STRIDE, &told) == of_all &&
+           !memcmp(&old, &place, sizeof old) &&
+           faxpages_strip_part(strip, sizeof strip, &form, &place, runs, FAXPAGES_RUNS, out, 64, STRIDE, &told) == of_part &&
+           !memcmp(&old, &place, sizeof old);
+}
+
+static void bad_runs(void) {
+    const uint32_t bits = 8 * sizeof strip;
+    struct faxpages_strip form = {WIDTH, ROWS, 3, 1, 0};
+    runs[0] = runs[1] = 9;
+    see(answers(form, at(1, bits, 2), FAXPAGES_OUTSIDE, FAXPAGES_OUTSIDE), "runs that no row has are OUTSIDE at the last bit");
+    see(answers(form, at(1, bits + 1, 2), FAXPAGES_OUTSIDE, FAXPAGES_MORE), "after it runs are not looked at: MORE");
+    see(answers(form, at(1, bits + 1, FAXPAGES_RUNS + 1), FAXPAGES_OUTSIDE, FAXPAGES_MORE), "nor are runs that are lacking");
+    see(answers(form, at(ROWS + 1, bits + 1, 2), FAXPAGES_OUTSIDE, FAXPAGES_OUTSIDE), "a row that the form has not is OUTSIDE");
+    form.rows = 0;
+    see(answers(form, at(1000000, bits + 1, 2), FAXPAGES_DATA_END, FAXPAGES_MORE),
+        "at row 1000000 of rows that nobody counted neither runs nor bits are OUTSIDE: the data end");
+    see(answers(form, at(1000000, 0, FAXPAGES_RUNS + 1), FAXPAGES_FAULT, FAXPAGES_FAULT), "or there are too many rows");
+    see(answers(form, at(1000001, 0, 0), FAXPAGES_OUTSIDE, FAXPAGES_OUTSIDE), "a row after that is OUTSIDE");
+}
+
 static void forms_of_strips(void) {
     const struct faxpages_strip good = {WIDTH, ROWS, 3, 1, 0};
     const struct {
@@ -305,6 +349,33 @@ static void written_files(void) {
     see(adds_nothing(page_form, 1, raster_len, TIFF, forged, FAXPAGES_NO_OPTIONS), "65536 pages are NO_OPTIONS");
 }
 
+/* Which of two answers that would both fit is said, of a file that has a page. */
+static void orders_of_written_files(void) {
+    struct faxpages_written first = {0, 0, 2, 0}, forged;
+    struct faxpages_form form = page_form;
+    see(faxpages_add_page(&page_form, 1, out, sizeof out, STRIDE, tiff, TIFF, &first) == FAXPAGES_DONE, "a page is written");
+    form.width = 0;
+    see(adds_nothing(form, 1, sizeof out, 0, first, FAXPAGES_NO_OPTIONS), "an invalid form comes before NO_ROOM");
+    forged = first;
+    forged.link = 3;
+    see(adds_nothing(page_form, 1, sizeof out, 0, forged, FAXPAGES_NO_OPTIONS), "a link over the header comes before NO_ROOM");
+    forged = first;
+    forged.total = 3;
+    see(adds_nothing(page_form, 1, sizeof out, first.len - 1, forged, FAXPAGES_NO_ROOM),
+        "NO_ROOM for the file so far comes before another total");
+    see(adds_nothing(page_form, 1, sizeof out, first.len, forged, FAXPAGES_NO_OPTIONS),
+        "another total comes before NO_ROOM for the page");
+    forged = first;
+    forged.link = 8;
+    see(faxpages_end_pages(tiff, first.len - 1, &forged) == FAXPAGES_NO_ROOM, "NO_ROOM comes before pages that are not there");
+    see(faxpages_end_pages(tiff, first.len, &forged) == FAXPAGES_NO_OPTIONS, "pages that are not there are NO_OPTIONS");
+    forged.added = 0;
+    see(faxpages_end_pages(tiff, 0, &forged) == FAXPAGES_NO_OPTIONS, "no page comes before NO_ROOM");
+    forged = first;
+    forged.len = 7;
+    see(faxpages_end_pages(tiff, 0, &forged) == FAXPAGES_NO_OPTIONS, "a length that no file has comes before NO_ROOM");
+}
+
 /* A file of just the most bytes, of which nearly all are taken and few are there, and a page more. */
 static void largest_files(void) {
     enum { MOST = 268435456 };
@@ -337,10 +408,13 @@ int main(void) {
     forms_of_strips();
     uncounted_strips();
     parts_of_strips();
+    eols_in_parts();
+    bad_runs();
     few_runs();
     ends_of_strips();
     forms_of_pages();
     written_files();
+    orders_of_written_files();
     largest_files();
     return wrong;
 }

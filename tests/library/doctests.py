@@ -50,7 +50,7 @@ def is_there(name: str) -> bool:
 
 def run_all(claims: Claims) -> dict[str, int]:
     """Runs each docstring's examples, and answers how many there are by the name of what they are of."""
-    runner, finder = doctest.DocTestRunner(), doctest.DocTestFinder(exclude_empty=True)
+    runner, finder = doctest.DocTestRunner(optionflags=doctest.ELLIPSIS), doctest.DocTestFinder(exclude_empty=True)
     counts = {}
     for module in modules():
         for test in finder.find(module, extraglobs={"faxpages": faxpages}):

@@ -116,7 +116,8 @@ def by_pillow(claims: Claims, name: str, data: bytes) -> None:
     report, found = faxpages.check(data), opened(data)
     if report.ok:
         wanted = [((page.width, page.rows), page.packed()) for page in faxpages.open(data)]
-        is_not_read = found in (("error", "-2"), ("error", "page 0 row 0: BadField 256")) and name in NOT_BY_LIBTIFF
+        is_refused = found[0] == "error" and found[1].startswith(("-2", "page 0 row 0: BadField 256: "))
+        is_not_read = is_refused and name in NOT_BY_LIBTIFF
         claims.see(f"{name} by Pillow", found == ("TIFF", wanted) or is_not_read)
     elif isinstance(report.fault, faxpages.StripFault):
         claims.see(f"{name} by Pillow is refused: {found}", found in (("error", str(report.fault)), ("error", "-2")))
@@ -184,8 +185,9 @@ def fields(claims: Claims) -> None:
     for tag, kind, value in ((278, 3, 0), (278, 8, -1), (278, 2, 0), (273, 9, -1), (279, 9, -1), (279, 4, 1 << 31)):
         at = data.index(struct.pack("<H", tag), links(data)[0])
         damaged = data[:at + 2] + struct.pack("<HLl" if value < 0 else "<HLL", kind, 1, value) + data[at + 12:]
-        claims.see(f"{tag} of {kind} is {value}: {opened(damaged)}", opened(damaged) in (
-            ("error", f"page 0 row 0: BadField {tag}"), ("error", "page 0 row 0: StripOutside")))
+        what, why = opened(damaged)
+        claims.see(f"{tag} of {kind} is {value}: {what}, {why}", what == "error" and why.startswith(
+            (f"page 0 row 0: BadField {tag}: ", "page 0 row 0: StripOutside: ")))
 
 
 def in_pieces(claims: Claims) -> None:

@@ -43,7 +43,7 @@ def rows_by_module(data: bytes) -> tuple[bytes, str, int]:
         lines.append("end\n")
     except faxpages.Fault as fault:
         lines.append(f"next {last}\n")
-        error = f"fault {fault}\n"
+        error = f"fault {fault.line}\n"
     return "".join(lines).encode(), error, 1 if error else 0
 
 
@@ -57,7 +57,7 @@ def pages_by_module(data: bytes) -> tuple[list[str], str]:
             if len(once) != page.rows or list(fax.page(page.number)) != list(page):
                 return ["another page"], ""
     except faxpages.Fault as fault:
-        error = f"fault {fault}\n"
+        error = f"fault {fault.line}\n"
     return lines, error
 
 
@@ -65,7 +65,7 @@ def check_by_module(data: bytes) -> tuple[bytes, str, int]:
     """The report, as the program prints it."""
     report = faxpages.check(data)
     lines = [f"note {note}\n" for note in report.notes] + [f"pages {report.pages} rows {report.rows}\n"]
-    error = "" if report.ok else f"fault {report.fault}\n"
+    error = f"fault {report.fault.line}\n" if report.fault else ""
     return "".join(lines).encode(), error, 0 if report.ok else 1
 
 
@@ -78,7 +78,7 @@ def is_converted(data: bytes, target: str, words: list[str]) -> bool:
             data, target, order=int(options.get("--order", 1)), k=int(options.get("--k", 4)),
             strip=int(options["--strip"]) if "--strip" in options else None)
     except faxpages.FaxError as fault:
-        return status == 1 and (error == f"fault {fault}\n" or not isinstance(fault, faxpages.Fault))
+        return status == 1 and (not isinstance(fault, faxpages.Fault) or error == f"fault {fault.line}\n")
     return status == 0 and made == output
 
 
