@@ -130,7 +130,9 @@ def example(room: Room, _: str) -> Iterator[Claim]:
     status, output, said = room.call(*sweep, "faxes", PYTHONPATH="")
     lines = output.decode().splitlines()
     yield "status", (status, said), (1, "")
-    yield "named", sorted(lines[:4]), sorted(
+    # What a fault means stands after its name.
+    named = [": ".join(it.split(": ")[:3]) for it in lines[:4]]
+    yield "named", sorted(named), sorted(
         [
             "faxes/gone.tif: No such file or directory",
             "faxes/unread.tif: Input/output error",

@@ -35,6 +35,8 @@ done
 exit "$greatest"
 """
 ARRAYS = ["0-3", "1-5", "0-6:2", "7"]
+# So many cores the recipe for parts is told of.
+CORES = 3
 
 
 def cores_by_file(room: Room, commands: str) -> Iterator[Claim]:
@@ -51,13 +53,15 @@ def cores_by_file(room: Room, commands: str) -> Iterator[Claim]:
 def cores_by_part(room: Room, commands: str) -> Iterator[Claim]:
     """All rows by parts; a part that is lost is done again, and no other; and a fault."""
     more = {"PARALLEL_HOME": room("parallel"), "LC_ALL": "C"}
-    source = b"".join(pages.image(WIDTH, rows) for rows in pages.draw_document(4, "all", WIDTH)) * 24
-    room.put("big.tif", pages.coded(room.program, ["-o", "mr"], source))
+    room.tool("nproc", f"#!/bin/sh\necho {CORES}\n")
+    images = [pages.image(WIDTH, rows) for rows in pages.draw_document(4, "all", WIDTH)] * 24
+    room.put("big.tif", pages.coded(room.program, ["-o", "mr"], b"".join(images)))
     wanted = lines_of_rows(room.rows("big.tif")[0])
     yield "run", room.bash(commands, **more)[0], 0
     yield "rows", room.get("big.txt"), wanted
     parts = room.names("parts")
-    yield "parts", parts, ["1:0:0.txt", "1:100:0.txt", "1:50:0.txt"]
+    first = range(0, len(images), len(images) // CORES + 1)
+    yield "parts", (len(parts), parts), (CORES, sorted(f"1:{page}:0.txt" for page in first))
     log = room.get("parts.log").splitlines(True)
     room.put("parts.log", b"".join(log[:-1]))
     for name in parts:
@@ -71,7 +75,8 @@ def cores_by_part(room: Room, commands: str) -> Iterator[Claim]:
     status, _, said = room.bash(commands, **more)
     yield "a fault: status", status != 0, True
     yield "a fault", ("fault page 2 row 1: DataEnds\n" in said, "big.txt" in room.names()), (True, False)
-    yield "a fault: rows before it", lines_of_rows(room.get("parts/1:0:0.txt")), lines_of_rows(room.rows("big.tif")[0])
+    rows = b"".join(lines_of_rows(room.get(f"parts/{name}")) for name in room.names("parts"))
+    yield "a fault: rows before it", rows, lines_of_rows(room.rows("big.tif")[0])
 
 
 def slurm(room: Room, commands: str) -> Iterator[Claim]:
