@@ -41,8 +41,8 @@
 #include <stdint.h>
 
 /* The version of this header, as text and as a number; faxpages_version tells the library's. */
-#define FAXPAGES_VERSION "1.8.0"
-#define FAXPAGES_VERSION_NUMBER 10800
+#define FAXPAGES_VERSION "1.9.0"
+#define FAXPAGES_VERSION_NUMBER 10900
 
 #ifdef __cplusplus
 extern "C" {
@@ -282,8 +282,8 @@ uint32_t faxpages_salvage(const uint8_t *file, size_t file_len, uint32_t page,
  * less than (width + 7) / 8, or out_room less than `stride`, or if lost_room is 0; END, at the row
  * after the page's last one, where `row` is that of the form; OUTSIDE, at a row after that, at one
  * inside a strip where the place has no runs, at bits after those that the file has of the strip,
- * or with runs that no row of the width has; or MEMORY, which may come before the runs are looked
- * at. Then nothing else is written, and the place stays.
+ * or with runs that no row of the width has; or MEMORY. Then nothing else is written, and the place
+ * stays.
  *
  * Any place may be given: row `row` is read after `bits` bits of its strip, over a row of these
  * runs, which counts as found. With no runs it is the first row of a strip, and `bits` do not
@@ -316,11 +316,10 @@ struct faxpages_strip {
  * In this order: NO_OPTIONS, if the form is invalid, strip_len is more than 536870911, or runs_room
  * is less than FAXPAGES_RUNS: then nothing is told; NO_ROOM, if no row has room, since `stride` is
  * less than (width + 7) / 8, or out_room is less than `stride`; END, at the row after the last of
- * the form, or how the rows end if its `rows` is 0; OUTSIDE, at a row after that, or at bits after
- * the strip; MEMORY, and then no row is written; and OUTSIDE, with runs that no row of the width
- * has. This may be MEMORY too, since some memory is taken before the runs are looked at. Otherwise
- * rows are read: DONE, if `out` is full; END, if all rows of the form were read; or FAULT, at a row
- * that cannot be read.
+ * the form, or how the rows end if its `rows` is 0; OUTSIDE, at a row after that, at bits after
+ * the strip, or with runs that no row of the width has; and MEMORY, and then no row is written.
+ * Otherwise rows are read: DONE, if `out` is full; END, if all rows of the form were read; or
+ * FAULT, at a row that cannot be read.
  *
  * If nobody counted the rows, `rows` of the form is 0. Then there may be up to 1000000, and where
  * the strip would be at its end, or a row cannot be read, the call tells how the rows end: END, if
@@ -328,7 +327,8 @@ struct faxpages_strip {
  * facsimile block in MMR; DATA_END, if at least one row was read and nothing is left but zeros,
  * which are fill; FAULT, if the row that is due cannot be read, as with DATA_ENDS if it is cut; or
  * FAULT with TOO_MANY_ROWS, if more follows 1000000 rows. A row was read if `row` of the place is
- * not 0.
+ * not 0. At row 1000000 the runs are not looked at, and bits after the strip are its end; a row
+ * after that is OUTSIDE.
  *
  * FAULT leaves the place at the row that was due, and so do END and DATA_END if `rows` is 0. So if
  * the strip grows, as it is received, call again after DATA_ENDS from that place, with more bytes,
@@ -350,9 +350,11 @@ uint32_t faxpages_strip_rows(const uint8_t *strip, size_t strip_len,
  * may follow, as from a line. Whatever follows, that call would tell the same of all bytes; but for
  * MORE: then only the rows that are written are the same. The row that is due is not settled, the
  * place stays at it, and the fault is all 0. It is MORE if these bytes end within that row, or
- * before its place; and if nobody counted the rows, also if they would end with the data, with
- * TOO_MANY_ROWS, or with END_MARKER, of which an end mark may come. Call again from that place with
- * more bytes; if no more come, faxpages_strip_rows tells from there how the rows end. */
+ * before its place, whose runs are then not looked at; and if nobody counted the rows, also if they
+ * would end with the data, or, where what is left may still become an end mark, with TOO_MANY_ROWS
+ * or END_MARKER. Where nothing that follows can change it, it is told at once: so a place of more
+ * than 4294967288 bits, which no strip has, is OUTSIDE. Call again from that place with more bytes;
+ * if no more come, faxpages_strip_rows tells from there how the rows end. */
 uint32_t faxpages_strip_part(const uint8_t *strip, size_t strip_len,
                              const struct faxpages_strip *form, struct faxpages_place *place,
                              uint32_t *runs, size_t runs_room, uint8_t *out, size_t out_room,
@@ -439,8 +441,10 @@ struct faxpages_written {
  * if `len` is less than 8 or more than 268435456, `link` less than 4 or more than `len` - 4, or
  * `total` other than the last page says: it stays the same from the first page on. Nothing else is
  * checked: the caller keeps `written` and the file as the last call left them; otherwise the bytes
- * are no TIFF-F file. Except with DONE nothing is changed. The page is coded in memory of its own
- * before it is known whether it has room. */
+ * are no TIFF-F file. Except with DONE nothing is changed. In this order: NO_OPTIONS, but for
+ * another `total`; NO_ROOM, if the file so far has more than file_room bytes; NO_OPTIONS, if the
+ * last page says another `total`; MEMORY or TOO_LARGE, since the page is coded in memory of its
+ * own; and NO_ROOM, if the file with the page has more. */
 uint32_t faxpages_add_page(const struct faxpages_form *form, uint32_t k, const uint8_t *raster,
                            size_t raster_len, size_t stride, uint8_t *file, size_t file_room,
                            struct faxpages_written *written);
@@ -451,7 +455,8 @@ uint32_t faxpages_add_page(const struct faxpages_form *form, uint32_t k, const u
  * file has more than file_room bytes; or NO_OPTIONS, if no page was added, or more than 65535,
  * `len` is less than 8 or more than 268435456, or as many directories as pages were added, each
  * after the offset that leads to it and the last one just before `link`, do not stand in the `len`
- * bytes. Except with DONE nothing is changed, and with DONE two bytes of each page at most. */
+ * bytes. Except with DONE nothing is changed, and with DONE two bytes of each page at most. NO_ROOM
+ * comes before NO_OPTIONS for directories that do not stand so, and after it for the numbers. */
 uint32_t faxpages_end_pages(uint8_t *file, size_t file_room, struct faxpages_written *written);
 
 /* Writes a place as text where it has room, and tells in `len` how many bytes the text has: a page

@@ -74,9 +74,6 @@ module _ (order : FillOrder) (bytes : List ℕ) (old window : Window) (source : 
   -- after some of its bits
   module _ (n : ℕ) (after : Window) (short : n ≤ 32) (count : after.count + n ≡ window.count)
       (at : after.at ≡ window.at) where
-    place_after : place_before old + n ≡ place_before after
-    place_after = omega (arith, is.before)
-
     pub left_after_code : drop (place_before after) (bits order bytes) ≡ drop n source.left
     left_after_code = grind (arith, common_steps)
 

@@ -111,6 +111,9 @@ pub fn read_code<T: CodeTable>(source: &mut BitSource) -> Result<T::Meaning, Cod
     ensures same_end { KeepsEnd source.old source.new }
     ensures shorter { OnOk result (length source.new.left < length source.old.left) }
 {
+    // It looks at the next thirteen bits, or at all that are left: near the end of the bytes the
+    // window loads single bytes, so that one function reads every code and names each fault. Each
+    // table finds a code by its own `find`, those here by small arrays over these bits.
     let n = source.remaining().min(u64::from(LONGEST_CODE)) as u32;
     let window = source.peek(n);
     match T::find(window, n) {

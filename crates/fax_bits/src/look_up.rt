@@ -76,6 +76,9 @@ impl<'a> BitSource<'a> {
         ensures same_end { KeepsEnd self.old self.new }
         ensures shorter { IsSome result → length self.new.left < length self.old.left }
     {
+        // A look-up for each run took nearly half of the time of a dithered page's one-dimensional
+        // rows. To compare the sum with the width takes fewer steps than to compute what is left of
+        // it.
         self.window = self.window.loaded(self.bytes, self.order)?;
         let (len, pair) = find_pair(self.window.number(LOOKED_AT) >> AFTER_CODE)?;
         if total + pair.white + pair.black > width {
@@ -126,6 +129,9 @@ impl<'a> BitSource<'a> {
         ensures same_end { KeepsEnd self.old self.new }
         ensures shorter { IsSome result → length self.new.left < length self.old.left }
     {
+        // Each look-up is a few lines of its own: one generic function for all of them needed a
+        // trait, and a type for each of what is looked up. Both codes of a run are found in
+        // thirty-two bits, so that no source has to be put back after the first of them.
         self.window = self.window.loaded(self.bytes, self.order)?;
         let (len, pels) = find_whole_run(colour, self.window.number(LOOKED_AT))?;
         if pels > most {
@@ -146,6 +152,9 @@ impl<'a> BitSource<'a> {
         ensures same_end { KeepsEnd self.old self.new }
         ensures shorter { IsSome result → length self.new.left < length self.old.left }
     {
+        // One loaded bit alone tells that a1 is under b1, as it is in most modes of a page. Where
+        // no look-up finds the mode, as near the end of the bytes, the caller reads it by
+        // `read_code`.
         if self.window.begins_with_one() {
             self.window = self.window.after(1);
             return Some(ModeCode::Vertical(0));
@@ -209,6 +218,7 @@ impl<'a> BitSource<'a> {
         // The source goes on in the same bits.
         ensures same_end { KeepsEnd self.old self.new }
     {
+        // An EOL is so where it stands in thirty-two bits; fill that is longer goes by bytes.
         let Some(ahead) = self.window.loaded(self.bytes, self.order) else {
             return false;
         };

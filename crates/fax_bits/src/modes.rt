@@ -95,6 +95,10 @@ pub(crate) fn find_mode(bits: u32) -> Option<(u32, ModeCode)>
     ensures { IfSome result
         (λ found. HasCodeAhead modes (code_bits LONGEST_CODE bits) found.0 found.1) }
 {
+    // Vertical modes are found by one look-up of seven bits, pass and horizontal mode by their
+    // first four: three of four modes of a dithered page are vertical ones, which nine compares in
+    // turn had to part. `crates/fax_bits/make-indexes` prints the arrays, and a computed proof ties
+    // them to `MODES`.
     let at = (bits >> 6) as usize;
     let len = VERTICAL_MODES.lens[at];
     if len > 0 {

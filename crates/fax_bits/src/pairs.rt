@@ -26,6 +26,8 @@ pub(crate) fn find_pair(bits: u32) -> Option<(u32, Pair)>
     ensures { IfSome result
         (λ found. IsPairAhead (code_bits LONGEST_CODE bits) found.0 found.1) }
 {
+    // The three arrays are one static, so that they have one address in a register. `make-indexes`
+    // prints them; a computed proof goes through all 4,096 numbers.
     let at = (bits >> 1) as usize;
     let len = PAIRS.lens[at];
     if len == 0 {
@@ -46,6 +48,8 @@ pub(crate) fn short_pair_code(colour: Colour, first: u32, second: u32) -> Pendin
     requires second { second < SHORT_RUN }
     ensures { result ≡ pair_bits colour first second }
 {
+    // The codes of both stand together in arrays of 256, for white first and for black first, which
+    // `make-indexes` prints; a computed proof compares each with the code tables.
     let at = (first * SHORT_RUN + second) as usize;
     let (code, len) = match colour {
         Colour::White => (WHITE_PAIR_CODES[at], WHITE_PAIR_LENS[at]),

@@ -13,6 +13,10 @@ const WORD: u32 = 32;
 
 /// At most 32 bits that wait for a sink: a code, or what is put after the bits of a sink. Contracts
 /// see the list of them.
+// They are a value, as a row is read from bits by value: the sink would load and store its own at
+// each code. What is put after them is such bits too, so that what the codes of a run and of a mode
+// are stands once, for the sink's own calls as well. They stand after the sink's own pending bits,
+// so that neither has an invariant of the other.
 #[derive(Drop)]
 pub struct PendingBits {
     /// The bits as a number: the highest was put first.

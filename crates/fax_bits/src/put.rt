@@ -180,6 +180,7 @@ impl PendingBits {
             left sink.new) }
         ensures err { OnErr result (sink.new ≡ sink.old) }
     {
+        // Nearly all pairs of a dithered page are so short. Longer runs are put one by one.
         self.put(sink, short_pair_code(colour, first, second))
     }
 

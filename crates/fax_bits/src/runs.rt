@@ -200,6 +200,9 @@ pub(crate) fn find_run_code(colour: Colour, bits: u32) -> Option<(u32, RunCode)>
     ensures { IfSome result
         (λ found. HasCodeAhead (run_table colour) (code_bits LONGEST_CODE bits) found.0 found.1) }
 {
+    // The array of the long codes has numbers of sixteen bits and that of the short ones of eight,
+    // so that the compiler does not load from either by one address, which it would compute at each
+    // code.
     let at = bits as usize;
     let short = match colour {
         Colour::White => WHITE_SHORT[at >> 4],

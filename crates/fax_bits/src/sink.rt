@@ -55,6 +55,8 @@ fn push_word(bytes: &mut Vec<u8>, word: u32)
 
 /// Bits, and the bytes that hold them. Contracts see the order of the bits in a byte and the list
 /// of the bits.
+// Pending bits are one number, and are stored by words of four bytes. While any may be pending
+// there is room for five bytes more, so that `pad` takes no memory.
 #[derive(Drop)]
 pub struct BitSink {
     order: FillOrder,

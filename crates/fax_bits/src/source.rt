@@ -14,6 +14,7 @@ use std::marker::Model;
 
 /// A place in the bits of some bytes. Contracts see the bits from there on and the number of bits
 /// before it. Some of the next bits are loaded; past the end of the bytes there are none.
+// The order stands last, so that the copy of a source, one for each row, has no odd pieces.
 #[derive(Drop)]
 pub struct BitSource<'a> {
     pub(crate) bytes: &'a [u8],
@@ -146,6 +147,8 @@ impl<'a> BitSource<'a> {
     pub fn again(&self) -> Self
         ensures { result ≡ self.now }
     {
+        // A reader of rows works on a copy, which the compiler keeps in registers, and goes to
+        // where the copy stands at the row's end.
         // By its fields, so that a copy in registers has no gaps that are copied too.
         BitSource {
             bytes: self.bytes,

@@ -22,6 +22,10 @@ pub(crate) fn find_verticals(bits: u32) -> Option<(u32, Verticals)>
     ensures { IfSome result
         (λ found. IsBegun AreVerticals (code_bits LONGEST_CODE bits) found.0 found.1) }
 {
+    // Two modes at least are looked for: half the time of reading was mispredicted branches, one or
+    // two a mode. The four of an entry stand in one number, as lanes take them, since an array of
+    // arrays would have five thousand lines. `crates/fax_bits/make-indexes verticals` prints them;
+    // a computed proof goes through all 4,096 numbers.
     let at = (bits >> 1) as usize;
     let len = VERTICALS.lens[at];
     if len == 0 {

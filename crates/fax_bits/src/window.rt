@@ -188,6 +188,8 @@ impl Window {
             ≡ 8 * self.at + more.count) }
         ensures within { IfSome result (λ more. more.at ≤ length bytes.now) }
     {
+        // It gives up where fewer than four bytes are left: to load single bytes would cost each
+        // look-up a test. The last codes of a strip are read one by one (`read_code`).
         if self.count >= least {
             return Some(self);
         }

@@ -27,6 +27,8 @@ use Rattle.fax_c.specs.views.Written.{TellsPageAdded, file_so_far}
 use Rattle.fax_c.specs.views.Ended.{next_link, IsLinkToPage, ArePagesAfter, with_total, with_totals, IsEndable}
 use Rattle.fax_c.specs.views.Ended.{HasItsPages, TellsPagesEnded}
 use Rattle.fax_c.specs.views.Ended.{IsFileSoFar, AddsToPages, EndsWholeFile}
+use Rattle.fax_files.proofs.PageByPageLemmas.{with_pages-push}
+use Rattle.fax_c.proofs.WritingLemmas.{len_with_page}
 
 -- the bytes of a page before the total that it says, and after it: of the fields PageNumber (297, two SHORTs, of type
 -- 3) is the last; StripOffsets (273) and StripByteCounts (279) are LONGs, of type 4
@@ -112,17 +114,11 @@ patched bytes link n = take link bytes ++ four n ++ drop (link + 4) bytes
 len_patched : (bytes : List ℕ) (link n : ℕ) → link + 4 ≤ length bytes → length (patched bytes link n) ≡ length bytes
 len_patched bytes link n inside = grind (arith, length-append, length-take-le, length-drop)
 
-page_len : (old : Written) (total k : ℕ) (form : PageForm) (strips : List (List ℕ)) → old.link + 4 ≤ length old.bytes
-    → length (with_page old total k form strips).bytes ≡ length old.bytes + length
-    (page_bytes (length old.bytes) total k form strips)
-unfolding with_page
-page_len old total k form strips inside = grind (arith, length-append, len_patched)
-
 inside_with : (old : Written) (total k : ℕ) (form : PageForm) (strips : List (List ℕ)) → old.link + 4 ≤ length old.bytes
     → (with_page old total k form strips).link + 4 ≤ length (with_page old total k form strips).bytes
 unfolding with_page
 inside_with old total k form strips inside =
-    omega (arith, page_len old total k form strips inside, inside_page (length old.bytes) total k form strips)
+    omega (arith, len_with_page old total k form strips inside, inside_page (length old.bytes) total k form strips)
 
 after_with : (old : Written) (total k : ℕ) (form : PageForm) (strips : List (List ℕ)) → old.link + 4 ≤ length old.bytes
     → old.link + 4 + to_link ≤ (with_page old total k form strips).link
@@ -170,7 +166,7 @@ grows old total k (page ∷ pages) inside =
     omega (
       arith,
       grows new total (k + 1) pages (inside_with old total k page.form page.strips inside),
-      page_len old
+      len_with_page old
           total k page.form page.strips inside,
     )
 
@@ -493,18 +489,6 @@ pub ends_whole : (old_file file : List ℕ) (old written : FaxWritten) (status :
 ends_whole old_file file old written status told = λ total pages e is. ended_by old_file file old written status total
     pages e is told
 
--- one more page after others
-pages-push : (old : Written) (total k : ℕ) (pages : List WrittenPage) (page : WrittenPage)
-    → with_pages old total k (pages ++ page ∷ []) ≡ with_page (with_pages old total k pages) total (k + length pages)
-    page.form page.strips
-unfolding with_pages
-pages-push old total k [] page = grind arith
-pages-push old total k (first ∷ pages) page =
-    let next : k + 1 + length pages ≡ k + suc (length pages) = omega arith in
-    let begun = with_page old total k first.form first.strips in
-    pages-push begun total (k + 1) pages page
-    ∙ ap (λ (n : ℕ). with_page (with_pages begun total (k + 1) pages) total n page.form page.strips) next
-
 -- a file whose bytes and whose link are told is the file so far
 told_so_far : (written : FaxWritten) (file rest : List ℕ) (next : Written) → 1 ≤ written.added
     → written.len ≡ length next.bytes
@@ -534,7 +518,7 @@ pushed old written old_file file rest form strips pages so_far len link added is
       is = told_so_far written file rest next (omega (arith, added)) len link is
           ∙ ap (λ (w : Written). with_page w old.total old.added form strips) so_far.is
           ∙ ap (λ n. with_page (with_pages empty_file old.total 0 pages) old.total n form strips) number
-          ∙ sym (pages-push empty_file old.total 0 pages (record { form = form; strips = strips }));
+          ∙ sym (with_pages-push empty_file old.total 0 pages (record { form = form; strips = strips }));
     }
 
 added_by : (given : FaxForm) (k : ℕ) (raster : List ℕ) (stride : ℕ) (old_file file : List ℕ) (old written : FaxWritten)

@@ -1,6 +1,6 @@
 -- The runs and the changing elements of a row, written at a place.
 use Rattle.std.proofs.Common.{◌≡◌, ℕ, ◌+◌, ◌<◌, ◌≤◌, List, [], ◌∷◌, ◌++◌, length, set, take, drop, Bool, ap, sym, ◌∙◌}
-use Rattle.std.proofs.Common.{append_assoc, append-nil, arith, length-append}
+use Rattle.std.proofs.Common.{append_assoc, arith, length-append}
 use Rattle.std.specs.List.{filter}
 use Rattle.std.proofs.lemmas.List.{length-take-le}
 use Rattle.std.proofs.lemmas.List.FromFn.{length-range_with_len}
@@ -49,7 +49,3 @@ one_put all left rest at to run old now so_far is =
           one_set begin old now to run len below so_far.now_is
           ∙ ap (λ l. l ++ drop (to + 1) old) (append_assoc (take at old) front (run ∷ []));
     }
-
-pub all_put : (all left : List ℕ) (at to : ℕ) (old now : List ℕ) → AreRunsPut all left at to old now → left ≡ []
-    → now ≡ take at old ++ all ++ drop (at + length all) old
-all_put all left at to old now so_far none = grind (arith, append-nil)

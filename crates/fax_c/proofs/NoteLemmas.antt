@@ -1,10 +1,10 @@
 -- Notes that are written one after another.
 use Rattle.std.proofs.lemmas.Grind.{common_steps}
-use Rattle.std.proofs.Common.{◌≡◌, ℕ, ◌+◌, ◌<◌, ◌≤◌, List, ◌++◌, length, get_or, map, min, set, take, drop, arith}
+use Rattle.std.proofs.Common.{◌≡◌, ℕ, ◌+◌, ◌<◌, List, ◌++◌, length, get_or, map, set, take, drop, arith}
 use Rattle.std.proofs.lemmas.List.{length-map, length-take-le}
 use Rattle.fax_walk.specs.declared.checking.Note.{Note}
 use Rattle.fax_c.specs.declared.checking.FaxNote.{FaxNote}
-use Rattle.fax_c.specs.Checked.{AreNotesPut, note_of}
+use Rattle.fax_c.specs.Checked.{note_of}
 use Rattle.fax_c.proofs.ListLemmas.{one_set}
 
 -- so many notes are written
@@ -17,8 +17,3 @@ pub one_more : (found : List Note) (count : ℕ) (default : Note) (made : FaxNot
     → AreFirstPut found (count + 1) old (set now count made)
 one_more found count default made old now so_far is within room =
     grind (arith, common_steps, length-map, length-take-le, one_set)
-
-pub all_put : (found : List Note) (count : ℕ) (old now : List FaxNote) → AreFirstPut found count old now
-    → count ≤ length found → count ≤ length old
-    → min (length found) (length old) ≤ count → AreNotesPut found old now
-all_put found count old now so_far few room least = grind (arith, common_steps)

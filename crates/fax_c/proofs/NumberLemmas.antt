@@ -7,9 +7,6 @@ use Rattle.fax_walk.specs.views.InOrder.{EndsAfter, IsNumber}
 
 module _ {A : Type 0} (tail : List A → End → Type 0) (one : IsOne tail) (items : List A) (end : End)
     (is : tail items end) where
-  same : (others : List A) (other : End) → tail others other → (others ≡ items) × (other ≡ end)
-  same others other there = grind arith
-
   pub number_is : (n : ℕ) (item : A) → IsNumber tail n item → slice_get items n ≡ Some item
   number_is n item (all, other, there, found) = grind arith
 

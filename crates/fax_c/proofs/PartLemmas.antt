@@ -18,7 +18,10 @@ use Rattle.fax_page.specs.declared.StripFault.{StripFault}
 use Rattle.fax_page.specs.declared.StripForm.{StripForm}
 use Rattle.fax_page.specs.Lines.{IsCause, IsLine}
 use Rattle.fax_page.specs.Strip.{AreLines, HasEndMark}
-use Rattle.fax_page.specs.Uncounted.{EndsSo}
+use Rattle.fax_page.specs.Uncounted.{EndsSo, HasDataEnd, MayHaveEndMark}
+use Rattle.fax_page.specs.declared.StripFault.TheVariants.{BadCode, DataEnds, EndMarker, Extension, MissingEol}
+use Rattle.fax_page.specs.declared.StripFault.TheVariants.{OutOfRow, RunTooLong}
+use Rattle.fax_page.proofs.MarkLemmas.{mark_may_follow}
 use Rattle.fax_page.specs.laws.Following.{EndsStayWhateverFollows, StaysWhateverFollows}
 use Rattle.fax_files.specs.declared.Cause.TheVariants.{File, Strip}
 use Rattle.fax_walk.specs.declared.end.End.TheVariants.{Proper, Fault, Outside}
@@ -34,10 +37,9 @@ use Rattle.fax_c.specs.Told.{IsTold, fault_of}
 use Rattle.fax_c.specs.views.Places.{most_runs}
 use Rattle.fax_c.specs.views.Strips.{HasRoom, IsPlace, IsPlaceAfter, IsReadable, IsReadableUncounted}
 use Rattle.fax_c.specs.views.Strips.{IsStopTold, IsUncountedTold, ReadsNone, ReadsOn, ReadsTo, StopsAt, StripPlace}
-use Rattle.fax_c.specs.views.Strips.{TellsStripRows}
 use Rattle.fax_c.specs.views.StripParts.{ArePartRead, AwaitsMore, IsNothingRead, IsUnsettled, IsUnsettledAt, MayChange}
 use Rattle.fax_c.specs.views.StripParts.{TellsStripPart}
-use Rattle.fax_c.specs.code.StripParts.{IsAhead, IsMoreTold, Stays, StopMayChange}
+use Rattle.fax_c.specs.code.StripParts.{IsAhead, IsMoreTold, StopMayChange}
 use Rattle.fax_c.specs.code.Strips.{IsMetBy, IsMetInStrip}
 use Rattle.fax_c.specs.views.Strips.{IsRowsEndTold}
 
@@ -85,6 +87,16 @@ place_is_to form all from [] to count old place old_runs runs reads count_is at 
 place_is_to form all from (row ∷ rows) to count old place old_runs runs reads count_is at (inl none) =
     absurd (omega (arith, count_is, none.0))
 place_is_to form all from rows to count old place old_runs runs reads count_is at (inr some) = (some.2.row, some.2.bits)
+
+-- a fault is an end marker or another
+marker_or_not : (fault : StripFault) → (fault ≡ EndMarker) ⊎ (fault ≡ EndMarker → ⊥)
+marker_or_not EndMarker = inl refl
+marker_or_not DataEnds = inr (λ is. cc)
+marker_or_not BadCode = inr (λ is. cc)
+marker_or_not Extension = inr (λ is. cc)
+marker_or_not RunTooLong = inr (λ is. cc)
+marker_or_not OutOfRow = inr (λ is. cc)
+marker_or_not MissingEol = inr (λ is. cc)
 
 -- why the row at a place is not settled, by the stop
 unsettled_by : (given : FaxStrip) (form : StripForm) (strip : List ℕ) (place : FaxPlace) (to : StripPlace)
@@ -214,34 +226,39 @@ module _ (stays : (form : StripForm) (i : ℕ) (reference : List Colour) → Sta
   stop_stays place to page stride left NoRoom within stay stops = stops
 
   none_stays : (stride : ℕ) (place : FaxPlace) (runs : List ℕ) (room : ℕ) (stop : Stop)
-      → (StopMayChange form strip place stop → ⊥)
+      → length (strip ++ more) ≤ 536870911 → (StopMayChange form strip place stop → ⊥)
       → ReadsNone form strip stride place runs room stop → ReadsNone form (strip ++ more) stride place runs room stop
-  none_stays stride place runs room Done stay none = none
-  none_stays stride place runs room (Ended Proper) stay none = none
-  none_stays stride place runs room (Ended (Fault p r (File fault))) stay none = none
-  none_stays stride place runs room (Ended (Fault p r (Strip fault))) stay none = none
-  none_stays stride place runs room (Ended Outside) stay none = (
+  none_stays stride place runs room Done few stay none = none
+  none_stays stride place runs room (Ended Proper) few stay none = none
+  none_stays stride place runs room (Ended (Fault p r (File fault))) few stay none = none
+  none_stays stride place runs room (Ended (Fault p r (Strip fault))) few stay none = none
+  none_stays stride place runs room (Ended Outside) few stay none = (
     none.0,
     none.1,
     λ at due.
         elim (cases_lt (8 * length strip) place.bits) [
-          | inl beyond ↦ stay (subst (λ n. n < form.rows) due.0.row due.1, beyond)
+          | inl beyond ↦ stay (
+            subst (λ n. n < form.rows) due.0.row due.1,
+            beyond,
+            omega (arith, due.0.bits, due.2, few),
+          )
           | inr within ↦ none.2 at (due.0, due.1, omega (arith, due.0.bits, within))
         ],
   )
-  none_stays stride place runs room Memory stay none = (none.0, none.1, omega (arith, none.2, longer))
-  none_stays stride place runs room NoRoom stay none = none
+  none_stays stride place runs room Memory few stay (has_room, at, (is, due, within)) =
+      (has_room, at, (is, due, omega (arith, within, longer)))
+  none_stays stride place runs room NoRoom few stay none = none
 
   count_bits : length all ≡ 8 * length strip
   count_bits = stand.count form.order strip
 
   -- what is read of these bytes is read of all
   pub reads_on_stays : (stride : ℕ) (old_place : FaxPlace) (old_runs old : List ℕ) (filled : Filled) (place : FaxPlace)
-      (runs new : List ℕ)
+      (runs new : List ℕ) → length (strip ++ more) ≤ 536870911
       → (StopMayChange form strip place filled.stop → ⊥) → ReadsOn form strip stride old_place old_runs old filled place
       runs new
       → ReadsOn form (strip ++ more) stride old_place old_runs old filled place runs new
-  reads_on_stays stride old_place old_runs old filled place runs new stay (inl (room, from, to, due, read, after)) =
+  reads_on_stays stride old_place old_runs old filled place runs new few stay (inl (room, from, to, due, read, after)) =
       let within : from.bits ≤ length all = omega (arith, due.2, count_bits) in
       inl (
         room,
@@ -262,10 +279,10 @@ module _ (stays : (form : StripForm) (i : ℕ) (reference : List Colour) → Sta
         },
         after,
       )
-  reads_on_stays stride old_place old_runs old filled place runs new stay
+  reads_on_stays stride old_place old_runs old filled place runs new few stay
       (inr (none, count, used, cursor, same, same_runs, same_bytes)) =
       inr (
-        none_stays stride old_place old_runs (length old) filled.stop
+        none_stays stride old_place old_runs (length old) filled.stop few
             (subst (λ (p : FaxPlace). StopMayChange form strip p filled.stop → ⊥) same stay) none,
         count,
         used,
@@ -313,28 +330,55 @@ module _ (stays : (form : StripForm) (i : ℕ) (reference : List Colour) → Sta
       let same = sym is ∙ none.2 in
       cc
 
+  -- an end mark may stand after all bits
+  within_or_marked : (n : ℕ) → (MayHaveEndMark form.coding (drop n all) → ⊥) → n ≤ length all
+  within_or_marked n unmarked =
+      elim (cases_lt (length all) n) [
+        | inl beyond ↦ absurd (unmarked (subst (MayHaveEndMark form.coding)
+            (sym (drop_of_length-le all (omega (arith, beyond)))) (mark_may_follow form.coding)))
+        | inr within ↦ within
+      ]
+
+  -- where none may stand, and no row is due, the rows end as before
+  unmarked_stays : (place : FaxPlace) → (MayHaveEndMark form.coding (drop place.bits all) → ⊥)
+      → (HasDataEnd place.row (drop place.bits all) → ⊥)
+      → (HasEndMark form.coding (drop place.bits whole) → ⊥) × (HasDataEnd place.row (drop place.bits whole) → ⊥)
+  unmarked_stays place unmarked no_end =
+      let from = from_place place.bits (within_or_marked place.bits unmarked) in (
+        λ mark. unmarked (rest, subst (HasEndMark form.coding) from mark),
+        λ ends. no_end (end_stays.fill place.row (drop place.bits all) rest (subst (HasDataEnd place.row) from ends)),
+      )
+
   ends_so_stays : (place : FaxPlace) (met : Option StripFault) (end : RowsEnd)
       → ((fault : StripFault) → met ≡ Some fault → HasCause place fault)
-      → Stays end → EndsSo form.coding place.row (drop place.bits all) met end
+      → (MayChange form.coding (drop place.bits all) end → ⊥)
+      → EndsSo form.coding place.row (drop place.bits all) met end
       → EndsSo form.coding place.row (drop place.bits whole) met end
   ends_so_stays place met ends.Marked known stay so =
       let within = mark_within form.coding place.bits all so in
       subst (λ b. EndsSo form.coding place.row b met ends.Marked) (sym (from_place place.bits within))
       (end_stays.mark form.coding place.row (drop place.bits all) rest met so)
-  ends_so_stays place met ends.DataEnd known stay so = absurd stay
-  ends_so_stays place met (ends.Fault fault) known stay so =
-      let there = known fault so.2 in
-      subst (λ b. EndsSo form.coding place.row b met (ends.Fault fault)) (sym (from_place place.bits there.within))
-      (subst (λ m. EndsSo form.coding place.row (drop place.bits all ++ rest) m (ends.Fault fault)) (sym so.2)
-      (end_stays.fault form there.i place.row there.reference (drop place.bits all) rest fault stay.0 stay.1
-      there.cause))
-  ends_so_stays place met ends.TooMany known stay so = absurd stay
+  ends_so_stays place met ends.DataEnd known stay so = absurd (stay tt)
+  ends_so_stays place met (ends.Fault fault) known stay so = elim (marker_or_not fault) [
+    | inl is ↦
+        let none = unmarked_stays place (λ may. stay (inr (is, may))) so.1 in
+        (none.0, none.1, so.2)
+    | inr other ↦
+        let there = known fault so.2 in
+        subst (λ b. EndsSo form.coding place.row b met (ends.Fault fault)) (sym (from_place place.bits there.within))
+        (subst (λ m. EndsSo form.coding place.row (drop place.bits all ++ rest) m (ends.Fault fault)) (sym so.2)
+        (end_stays.fault form there.i place.row there.reference (drop place.bits all) rest fault
+        (λ is. stay (inl is)) other there.cause))
+  ]
+  ends_so_stays place met ends.TooMany known stay so =
+      let none = unmarked_stays place stay so.1 in (none.0, none.1, so.2)
 
   -- the end of these bytes is that of all
   pub end_told_of_all : (stride : ℕ) (old_place : FaxPlace) (old_runs old : List ℕ) (filled : Filled) (place : FaxPlace)
       (runs new : List ℕ)
       (met : Option StripFault) (end : RowsEnd) → IsMetBy filled.stop (Some met)
-      → ReadsOn form strip stride old_place old_runs old filled place runs new → Stays end
+      → ReadsOn form strip stride old_place old_runs old filled place runs new
+      → (MayChange form.coding (drop place.bits all) end → ⊥)
       → EndsSo form.coding place.row (drop place.bits all) met end
       → EndsSo form.coding place.row (drop place.bits whole) met end
   end_told_of_all stride old_place old_runs old filled place runs new met end by reads stay so =
@@ -380,9 +424,6 @@ module _ (stays : (form : StripForm) (i : ℕ) (reference : List Colour) → Sta
     (filled : Filled) (place : FaxPlace) (runs new : List ℕ) (old_told told : FaxTold) (status : ℕ)
     (reads : ReadsOn form strip stride old_place old_runs old filled place runs new)
     (room_of_runs : most_runs ≤ length old_runs) where
-  abbrev IsTell : List ℕ → Type 0
-  IsTell bytes = TellsStripRows bytes given stride old_place old_runs old place runs new old_told told status
-
   abbrev IsPart : Type 0
   IsPart = TellsStripPart strip given stride old_place old_runs old place runs new old_told told status
 
@@ -396,8 +437,8 @@ module _ (stays : (form : StripForm) (i : ℕ) (reference : List Colour) → Sta
           (readable.0, few),
           room_of_runs,
           filled,
-          reads_on_stays stays end_stays stand form strip more stride old_place old_runs old filled place runs new stay
-              reads,
+          reads_on_stays stays end_stays stand form strip more stride old_place old_runs old filled place runs new few
+              stay reads,
           is,
         ),
   )
@@ -413,15 +454,16 @@ module _ (stays : (form : StripForm) (i : ℕ) (reference : List Colour) → Sta
           (readable.0, (readable.1.0, few)),
           room_of_runs,
           filled,
-          reads_on_stays stays end_stays stand form strip more stride old_place old_runs old filled place runs new stay
-              reads,
+          reads_on_stays stays end_stays stand form strip more stride old_place old_runs old filled place runs new few
+              stay reads,
           stop_told form (strip ++ more) place filled told status in_strip is,
         )),
   )
 
   pub uncounted_told : (met : Option StripFault) (end : RowsEnd) → IsReadableUncounted strip given form
       → (StopMayChange form strip place filled.stop → ⊥) → IsMetInStrip filled.stop (Some met)
-      → IsMetBy filled.stop (Some met) → Stays end
+      → IsMetBy filled.stop (Some met)
+      → (MayChange form.coding (drop place.bits (bits form.order strip)) end → ⊥)
       → EndsSo form.coding place.row (drop place.bits (bits form.order strip)) met end
       → IsRowsEndTold filled place end told status → IsPart
   uncounted_told met end readable stay in_strip by end_stay so is = inl (
@@ -440,8 +482,8 @@ module _ (stays : (form : StripForm) (i : ℕ) (reference : List Colour) → Sta
           (readable.0, (readable.1.0, few)),
           room_of_runs,
           filled,
-          reads_on_stays stays end_stays stand form strip more stride old_place old_runs old filled place runs new stay
-              reads,
+          reads_on_stays stays end_stays stand form strip more stride old_place old_runs old filled place runs new few
+              stay reads,
           end_told form (strip ++ more) place filled met end told status in_strip is
               (end_told_of_all stays end_stays stand form strip more stride old_place old_runs old filled place runs new
               met end by reads end_stay so),
@@ -510,8 +552,8 @@ module _ (stays : (form : StripForm) (i : ℕ) (reference : List Colour) → Sta
   -- or the end may
   pub end_waits : (met : Option StripFault) (end : RowsEnd) → IsReadableUncounted strip given form
       → IsMoreTold filled told status
-      → IsMetBy filled.stop (Some met) → MayChange end → EndsSo form.coding place.row
-      (drop place.bits (bits form.order strip)) met end → IsPart
+      → IsMetBy filled.stop (Some met) → MayChange form.coding (drop place.bits (bits form.order strip)) end
+      → EndsSo form.coding place.row (drop place.bits (bits form.order strip)) met end → IsPart
   end_waits met end readable is by changes so =
       let all = bits form.order strip in
       waits is
@@ -524,7 +566,7 @@ module _ (stays : (form : StripForm) (i : ℕ) (reference : List Colour) → Sta
           lines_by form all to old_place.page stride (length old - filled.used) filled.stop met by stops,
           subst (λ n. EndsSo form.coding to.row (drop n all) met end) (sym bits_are)
               (subst (λ n. EndsSo form.coding n (drop place.bits all) met end) (sym row) so),
-          changes,
+          subst (λ n. MayChange form.coding (drop n all) end) (sym bits_are) changes,
         ),
       ))
       (λ same none.
@@ -536,7 +578,7 @@ module _ (stays : (form : StripForm) (i : ℕ) (reference : List Colour) → Sta
           at_end.1,
           end,
           subst (λ m. EndsSo form.coding old_place.row (drop old_place.bits all) m end) at_end.2 so,
-          changes,
+          subst (λ (p : FaxPlace). MayChange form.coding (drop p.bits all) end) same changes,
         ),
       ))
       (inr readable)

@@ -1,9 +1,9 @@
 -- The place after rows that were written.
-use Rattle.std.proofs.Common.{◌≡◌, ℕ, ◌+◌, ◌-◌, ◌<◌, ◌≤◌, List, [], ◌∷◌, length, take, drop, inl, inr, ap, refl, sym}
+use Rattle.std.proofs.Common.{◌≡◌, ℕ, ◌+◌, ◌-◌, ◌<◌, ◌≤◌, List, length, take, drop, inl, inr, ap, refl, sym}
 use Rattle.std.proofs.Common.{subst, ◌∙◌, arith, length-append, length-drop}
 use Rattle.std.specs.Prelude.{Some, None}
 use Rattle.std.proofs.lemmas.List.{take_at, drop_at, drop-drop}
-use Rattle.fax_rows.specs.Rows.{Colour, other, runs_after, runs_of}
+use Rattle.fax_rows.specs.Rows.{Colour, other, runs_of}
 use Rattle.fax_walk.specs.declared.begun.Begun.{Begun}
 use Rattle.fax_walk.specs.declared.cursor.Cursor.{Cursor}
 use Rattle.fax_walk.specs.declared.walk.PlaceInside.{PlaceInside}
@@ -14,12 +14,7 @@ use Rattle.fax_c.specs.declared.places.FaxPlace.{FaxPlace}
 use Rattle.fax_c.specs.views.Filled.{TakesRuns}
 use Rattle.fax_c.specs.views.Places.{HasRuns, IsAfterRows, KeepsRuns, place_begun, cursor_of, most_runs, place_at}
 use Rattle.fax_c.specs.code.Put.{IsInsideTold, IsPutAt}
-
--- a row has a run
-pub has_a_run : (colour : Colour) (n : ℕ) (pels : List Colour) → 0 < length (runs_after colour n pels)
-unfolding runs_after
-has_a_run colour n [] = omega arith
-has_a_run colour n (first ∷ pels) = grind (arith, has_a_run colour (n + 1) pels)
+use Rattle.fax_walk.proofs.ShortLemmas.{some_run}
 
 -- what is kept past a place is kept past a later one
 kept_past : (n m : ℕ) (runs old : List ℕ) → n ≤ m → drop n runs ≡ drop n old → drop m runs ≡ drop m old
@@ -36,7 +31,7 @@ pub inside_told : (walk : WalkView) (lent : PlaceInside) (count : ℕ) (old : Fa
     runs
 inside_told walk lent count old old_runs runs long few (count_is, within, runs_are) =
     let numbers = runs_of lent.reference.now in
-    let some = has_a_run Colour.White 0 lent.reference.now in
+    let some = some_run Colour.White 0 lent.reference.now in
     let same : take count runs ≡ numbers = ap (take count) runs_are
     ∙ take_at numbers (drop count old_runs) count (omega (arith, count_is)) in
     let rest : drop count runs ≡ drop count old_runs = ap (drop count) runs_are

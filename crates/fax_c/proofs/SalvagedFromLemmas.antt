@@ -46,9 +46,9 @@ use Rattle.fax_c.specs.views.Places.{HasRuns, cursor_of, place_at}
 use Rattle.fax_c.specs.views.SalvagedFrom.{EndsFound, HasRoom, HasRoomFor, IsFull, StopsNoLater}
 use Rattle.fax_c.specs.views.SalvagedFrom.{IsPlaceOn, WritesFrom, WritesNone}
 use Rattle.fax_c.proofs.ListLemmas.{more_put, one_set}
-use Rattle.fax_c.proofs.PlaceLemmas.{has_a_run}
 use Rattle.fax_c.proofs.StripLemmas.{due_told}
 use Rattle.fax_c.proofs.PaddedLemmas.{fills_stride}
+use Rattle.fax_walk.proofs.ShortLemmas.{some_run}
 
 pub not_true : (b : Bool) → not b ≡ true → b ≡ false
 not_true true is = cc
@@ -130,13 +130,6 @@ module _ (first : RowsFromView) (page row : ℕ) where
   }
 
   module _ (now new : RowsFromView) (due : ℕ) (lost : Option Stretch) (so_far : AreLostSoFar now due lost) where
-    -- where rows are due on a page
-    pub due_within : (over : List PageRow) → PassesOver now over new → due + length over ≤ first.here.form.rows
-    due_within over passes =
-        let same : now.here.form.rows ≡ first.here.form.rows =
-        ap (λ (p : FilePage). p.form.rows) so_far.passes.same_here in
-        omega (arith, passes.next, passes.within, same, so_far.at)
-
     -- more are lost
     pub more_lost : (n : ℕ) (cause : Cause) → IsNextFrom now (Some (Lost n cause)) new
         → AreLostSoFar new (due + n) (Some (longer lost page due n cause))
@@ -559,7 +552,7 @@ told_inside left cursor place old_runs runs lent cursor_is bits_are row_is more 
     runs_told (inl (none, _)) = absurd (has_some none)
       where
         has_some : place.runs ≡ 0 → ⊥
-        has_some none = omega (arith, none, put.0, has_a_run White 0 lent.reference.now)
+        has_some none = omega (arith, none, put.0, some_run White 0 lent.reference.now)
     runs_told (inr (_, is)) = is
 
 -- nothing is looked for at a place, for this reason
@@ -704,25 +697,20 @@ module _ (file : List ℕ) (here : FilePage) (stride : ℕ) (place : FaxPlace) (
 
   -- memory was refused at the place
   pub no_memory_from : (bits : ℕ) (row_before : RowBefore) (before : IsRowBefore place runs (Some row_before))
-      (some_bits : place.runs ≢ 0 → bits ≡ place.bits) (filled : Filled) → 0 < m
+      (none : place.runs ≡ 0 → bits ≡ 0) (some_bits : place.runs ≢ 0 → bits ≡ place.bits) (filled : Filled) → 0 < m
       → HasRoomFor here.form.width stride (length old) (length old_lost) → place.row < here.form.rows
       → (place.runs ≡ 0 → place.row % m ≡ 0)
       → IsNotBegunFrom (record { file = file; here = here }) place.row bits row_before no_memory
       → filled ≡ none_filled_at (cursor_of place) Memory
       → WritesFrom file here stride place runs old old_lost filled place runs old old_lost
-  no_memory_from bits row_before before some_bits filled some room due first fits filled_is =
+  no_memory_from bits row_before before none some_bits filled some room due first fits filled_is =
       let stop_is : filled.stop ≡ Memory = ap (λ (f : Filled). f.stop) filled_is in
       let why : WritesNone file here stride place runs (length old) (length old_lost) Memory = (
         room,
         due,
-        has_runs row_before before,
-        λ s i there. (
-          (λ zero.
-              let less : i < m = omega (arith, there.row) in
-              let rest : place.row % m ≡ i = rw there.place (mod-mul-add s m i less) in
-              sym rest ∙ first zero),
-          (λ has. let same = some_bits (λ zero. omega (arith, zero, has)) in rw same at (fits s i there)),
-        ),
+        λ s i there.
+            let (at, inner) = fits s i there in
+            (at, place_is bits row_before before none some_bits some first s i at there inner),
       )
       in
       inr (
@@ -733,10 +721,6 @@ module _ (file : List ℕ) (here : FilePage) (stride : ℕ) (place : FaxPlace) (
         refl,
         refl,
       )
-    where
-      has_runs : (row_before : RowBefore) → IsRowBefore place runs (Some row_before) → place.runs ≤ length runs
-      has_runs White_row_before is = omega (arith, is)
-      has_runs (Runs those) (has, _) = has.1
 
   -- no row of the page is due at the place
   pub nowhere_from : (bits : ℕ) (row_before : RowBefore) (before : IsRowBefore place runs (Some row_before))

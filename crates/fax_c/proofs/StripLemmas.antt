@@ -6,11 +6,11 @@ use Rattle.std.specs.Prelude.{Some, None, Err, flat_map}
 use Rattle.fax_bits.specs.Bits.{bits}
 use Rattle.fax_bits.specs.laws.Codes.{AreBitsByPlace}
 use Rattle.fax_rows.specs.Rows.{Colour, runs_of}
-use Rattle.std.proofs.lemmas.List.{take_at, drop_at}
+use Rattle.std.proofs.lemmas.List.{length-replicate, take_at, drop_at}
 use Rattle.fax_rows.specs.Coded.{packed_len}
 use Rattle.fax_page.specs.declared.StripForm.{StripForm}
 use Rattle.fax_page.specs.Lines.{IsLine, white_row}
-use Rattle.fax_page.specs.declared.PlaceFault.TheVariants.{Outside}
+use Rattle.fax_page.specs.declared.PlaceFault.TheVariants.{Memory, Outside}
 use Rattle.fax_page.specs.declared.RowBefore.{RowBefore}
 use Rattle.fax_page.specs.declared.RowBefore.TheVariants.{Runs, White}
 use Rattle.fax_page.specs.views.Reader.{IsBegunInside, ReadsRow, StripState}
@@ -24,11 +24,8 @@ use Rattle.fax_c.specs.views.Strips.{AreStripRows, IsDueAt, IsPlace, ReadsNone, 
 use Rattle.fax_c.specs.code.Put.{IsPutAt}
 use Rattle.fax_c.specs.code.Strips.{IsReadNext, IsRowBefore, place_due}
 use Rattle.fax_c.proofs.ListLemmas.{more_put}
-use Rattle.fax_c.proofs.PlaceLemmas.{has_a_run}
 use Rattle.fax_c.proofs.PaddedLemmas.{fills_stride}
-
-abbrev the_cursor : ℕ → ℕ → Cursor
-the_cursor page row = record { page = page; row = row }
+use Rattle.fax_walk.proofs.ShortLemmas.{some_run}
 
 -- where no reader begins after the row that a place's runs say, no row is due there
 pub not_begun : (form : StripForm) (strip : List ℕ) (place : FaxPlace) (runs : List ℕ) (before : RowBefore)
@@ -40,6 +37,25 @@ not_begun form strip place runs (Runs those) (has, same) none at (is, below, wit
   | inl (zero, white) ↦ omega (arith, zero, has.0)
   | inr (there, runs_are) ↦ none (omega (arith, is.bits, within)) at.reference (is.width_is, runs_are ∙ sym same)
 ]
+
+-- and where memory is refused for one, a row is due there
+pub refused_at : (form : StripForm) (strip : List ℕ) (place : FaxPlace) (runs : List ℕ) (before : RowBefore)
+    → place.row < form.rows
+    → IsRowBefore place runs (Some before) → IsBegunInside form strip place.row place.bits before (Err Memory)
+    → (at : StripPlace) × IsDueAt form strip place runs at
+refused_at form strip place runs White due its (within, row, is) =
+    let place_is : IsPlace form.width place runs (record { row = place.row; bits = place.bits; reference = row }) =
+    record {
+      row = refl;
+      bits = refl;
+      width_is = ap (λ (r : List Colour). length r) is ∙ length-replicate form.width Colour.White;
+      reference = inl (its, is);
+    } in
+    (record { row = place.row; bits = place.bits; reference = row }, (place_is, due, within))
+refused_at form strip place runs (Runs those) due (has, same) (within, row, (wide, is)) =
+    let place_is : IsPlace form.width place runs (record { row = place.row; bits = place.bits; reference = row }) =
+    record { row = refl; bits = refl; width_is = wide; reference = inr (has, is ∙ same) } in
+    (record { row = place.row; bits = place.bits; reference = row }, (place_is, due, within))
 
 -- one row more is read
 reads_more : (form : StripForm) (all : List Bool) (from : StripPlace) (rows : List (List Colour)) (mid : StripPlace)
@@ -91,7 +107,7 @@ pub due_told : (width : ℕ) (reference : List Colour) (row bits count page : �
     HasRuns place runs × IsPlace width place runs (record { row = row; bits = bits; reference = reference })
     × (drop count runs ≡ drop count old_runs)
 due_told width reference row bits count page old_runs runs len (count_is, within, runs_are) =
-    grind (arith, has_a_run, take_at, drop_at, length-append)
+    grind (arith, some_run, take_at, drop_at, length-append)
 
 -- what was read is all that is, where it stops
 pub stops_after : (form : StripForm) (bytes : List ℕ) (page stride : ℕ) (from : StripPlace) (old : List ℕ)

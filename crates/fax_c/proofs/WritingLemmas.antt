@@ -1,9 +1,8 @@
 -- Pages that are coded and added to a file.
 use Rattle.std.proofs.Common.{◌≡◌, ℕ, ◌+◌, ◌*◌, ◌≤◌, List, [], ◌∷◌, ◌++◌, Vec, length, map, take, drop, refl, ap, sym}
-use Rattle.std.proofs.Common.{◌∙◌, arith, suc}
-use Rattle.std.proofs.Common.{nat_eq, length-append, ◌≢◌, ◌⊎◌}
+use Rattle.std.proofs.Common.{◌∙◌, arith}
+use Rattle.std.proofs.Common.{length-append, ◌≢◌, ◌⊎◌}
 use Rattle.std.proofs.lemmas.List.{length-drop, length-take-le, drop-drop}
-use Rattle.fax_c.specs.Numbers.{bool_number}
 use Rattle.std.specs.List.{range_with_len}
 use Rattle.std.specs.declared.alloc.Global.{Global}
 use Rattle.std.proofs.lemmas.List.FromFn.{length-map-range_with_len, map-range_with_len_more}
@@ -18,6 +17,7 @@ use Rattle.fax_c.specs.views.Written.{IsHeld, IsWriting, file_so_far}
 use Rattle.fax_c.specs.code.Writing.{place_of}
 use Rattle.std.proofs.lemmas.Bool.{cases_eq}
 use Rattle.fax_c.specs.Raster.{page_strips, rows_of_raster}
+use Rattle.fax_files.proofs.WritingLemmas.{length-contents}
 
 -- strip s of a page
 abbrev pub the_strip : PageForm → ℕ → ℕ → List ℕ → ℕ → List ℕ
@@ -34,9 +34,6 @@ pub strip_more : (f : ℕ → List ℕ) (s : ℕ) (strips new : List (Vec ℕ Gl
     → contents strips ≡ map f (range_with_len 0 s) → new ≡ strips ++ strip ∷ [] → strip.items ≡ f s
     → contents new ≡ map f (range_with_len 0 (s + 1))
 strip_more f s strips new strip so_far new_is strip_is = grind (arith, contents-push, map-range_with_len_more)
-
-aligned_is : (n : ℕ) → n ≤ 1 → n ≡ bool_number (nat_eq n 1)
-aligned_is n few = grind arith
 
 -- how long a file is with a page more
 len_patched : (bytes : List ℕ) (link n : ℕ) → link + 4 ≤ length bytes
@@ -115,10 +112,6 @@ page_added written old mid new form strips page directory start link writing sta
       all,
       ap (λ n. n + 194) place_is,
     )
-
-length-contents : (strips : List (Vec ℕ Global)) → length (contents strips) ≡ length strips
-length-contents [] = refl
-length-contents (strip ∷ strips) = ap suc (length-contents strips)
 
 pub strips_are_counted : (form : PageForm) (k stride : ℕ) (raster : List ℕ) (strips : List (Vec ℕ Global))
     → contents strips ≡ page_strips form k stride raster → length strips ≡ form.strips

@@ -57,6 +57,8 @@ pub extern "C" fn faxpages_place_parse(
 ) -> u32
     ensures { Spec.ReadsPlace text.now place.old runs.old place.new runs.new result }
 {
+    // A text of more than 65,536 runs is NO_PLACE: NO_ROOM would have a caller grow `runs` for
+    // ever.
     fax_walk::laws::cursors_are_named();
     let Ok(text) = str::from_utf8(text) else {
         return status::NO_PLACE;

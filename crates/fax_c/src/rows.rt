@@ -70,6 +70,10 @@ fn fill<F: RowFormat>(
     ensures place { PlaceSpec.IsAfter walk.old.file walk.old.begun result runs.old place.new
         runs.new }
 {
+    // Where less room is left than the largest row takes, the place is told before a row is read: a
+    // walk that has read the row has passed the place, and cannot step back. So the runs after
+    // those of the place may change, of the first 65,536: to keep the others would cost a copy of
+    // all.
     fax_walk::laws::beginnings_have_one_tail();
     let mut count = 0;
     let mut used = 0;
@@ -177,6 +181,7 @@ pub(crate) fn fill_from<F: RowFormat>(
     ensures { PlaceSpec.GoesOn F.numbers file.now place.old runs.old rows.old out.old place.new
         runs.new rows.new out.new told.new result }
 {
+    // A place that lacks its runs is OUTSIDE: NO_ROOM would have a caller grow `out` for ever.
     fax_walk::laws::beginnings_have_one_tail();
     let cursor = place.cursor();
     if place.lacks_runs(runs) {

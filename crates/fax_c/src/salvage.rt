@@ -233,6 +233,9 @@ pub extern "C" fn faxpages_salvage(
     ensures { Spec.TellsSalvaged file.now page stride form.old form.new out.old out.new lost.old
         lost.new told.new result }
 {
+    // All rows are written or none, and all lost stretches are counted, also where the table has
+    // room for fewer: so a caller knows how large it has to be. (rows + 1) / 2 lines are always
+    // enough.
     let cursor = Cursor { page, row: 0 };
     let found = match PageLeft::at(file, page) {
         Ok(found) => found,

@@ -1,5 +1,6 @@
 //! Strips of which the first bytes are there, read, where more may follow.
-ghost use Rattle.std.specs.Prelude.{◌≡◌, ◌≤◌, false, length, IsTrue, Option};
+ghost use Rattle.std.specs.Prelude.{◌≡◌, ◌≤◌, drop, false, length, IsTrue, Option};
+ghost use Rattle.fax_bits.specs.Bits.{bits};
 ghost use Rattle.fax_page.specs.declared.StripFault.{StripFault as TheFault};
 ghost use Rattle.fax_c.specs.code.StripParts as Code;
 ghost use Rattle.fax_c.specs.views.StripParts as Spec;
@@ -9,21 +10,25 @@ use crate::filled::{Filled, Stop};
 use crate::places::FaxPlace;
 use crate::status;
 use crate::strip_form::FaxStrip;
-use crate::strips::{MOST_RUNS, read_strip, readable_form};
+use crate::strips::{MOST_BYTES, MOST_RUNS, read_strip, readable_form};
 use crate::told::FaxTold;
-use crate::uncounted::{end_at, met_in_strip, tell_end, uncounted_form};
+use crate::uncounted::{end_at, met_in_strip, source_at, tell_end, uncounted_form};
 use fax_files::Cause;
-use fax_page::{RowsEnd, StripFault, StripForm};
+use fax_page::{RowsEnd, StripFault, StripForm, may_be_end_mark};
 use fax_walk::End;
 use std::alloc::Global;
 
-/// Whether a row is due at a place that is after these bytes.
+/// No strip that is read has more bits.
+const MOST_BITS: u64 = 8 * MOST_BYTES as u64;
+
+/// Whether a row is due at a place that is after these bytes, and that a strip may reach.
 fn is_ahead(strip: &[u8], form: StripForm, place: &FaxPlace) -> bool
     requires count { length strip.now ≤ 536870911 }
     ensures ahead { IsTrue result → Code.IsAhead form strip.now place.now }
     ensures within { result ≡ false → Code.IsAhead form strip.now place.now → ⊥ }
 {
-    place.row < form.rows && u64::from(place.bits) > 8 * strip.len() as u64
+    let bits = u64::from(place.bits);
+    place.row < form.rows && bits > 8 * strip.len() as u64 && bits <= MOST_BITS
 }
 
 /// Whether a stop may be another one where more bytes follow.
@@ -44,15 +49,28 @@ fn may_change(strip: &[u8], form: StripForm, place: &FaxPlace, stop: Stop) -> bo
     }
 }
 
-/// Whether rows that end so may end otherwise where more bytes follow.
-fn end_may_change(end: RowsEnd) -> bool
-    ensures changes { IsTrue result → Spec.MayChange end }
-    ensures stays { result ≡ false → Code.Stays end }
+/// Whether rows that nobody counted and that end so at a place may end otherwise where more bytes
+/// follow: with an end mark, where one may stand there.
+fn end_may_change(strip: &[u8], form: StripForm, place: &FaxPlace, end: RowsEnd) -> bool
+    requires count { length strip.now ≤ 536870911 }
+    ensures changes { IsTrue result → Spec.MayChange form.coding
+        (drop place.now.bits (bits form.order strip.now)) end }
+    ensures stays { result ≡ false → Spec.MayChange form.coding
+        (drop place.now.bits (bits form.order strip.now)) end → ⊥ }
 {
     match end {
-        RowsEnd::Marked => false,
-        RowsEnd::Fault(fault) => fault == StripFault::DataEnds || fault == StripFault::EndMarker,
-        RowsEnd::DataEnd | RowsEnd::TooMany => true,
+        RowsEnd::DataEnd | RowsEnd::Fault(StripFault::DataEnds) => true,
+        RowsEnd::TooMany | RowsEnd::Fault(StripFault::EndMarker) => {
+            may_be_end_mark(&source_at(strip, form, place), form.coding)
+        }
+        RowsEnd::Marked
+        | RowsEnd::Fault(
+            StripFault::BadCode
+            | StripFault::Extension
+            | StripFault::RunTooLong
+            | StripFault::OutOfRow
+            | StripFault::MissingEol,
+        ) => false,
     }
 }
 
@@ -110,7 +128,7 @@ pub extern "C" fn faxpages_strip_part(
         return filled.tell(told);
     };
     let end = end_at(strip, form, place, met);
-    if end_may_change(end) {
+    if end_may_change(strip, form, place, end) {
         return tell_more(&filled, told);
     }
     tell_end(&filled, place, end, told)

@@ -59,6 +59,16 @@ fn go_on(source: &mut BitSource, bits: u64)
     }
 }
 
+/// The bits of a strip from a place on.
+pub(crate) fn source_at<'a>(strip: &'a [u8], form: StripForm, place: &FaxPlace) -> BitSource<'a>
+    requires count { length strip.now ≤ 536870911 }
+    ensures { result.left ≡ drop place.now.bits (bits form.order strip.now) }
+{
+    let mut source = BitSource::new(strip, form.order);
+    go_on(&mut source, u64::from(place.bits));
+    source
+}
+
 /// How rows end that nobody counted and that are read up to a place, where this fault is in the way
 /// of the next one, or none is.
 pub(crate) fn end_at(
@@ -71,9 +81,7 @@ pub(crate) fn end_at(
     ensures { EndsSo form.coding place.now.row
         (drop place.now.bits (bits form.order strip.now)) met result }
 {
-    let mut source = BitSource::new(strip, form.order);
-    go_on(&mut source, u64::from(place.bits));
-    end_of_rows(&source, form.coding, place.row, met)
+    end_of_rows(&source_at(strip, form, place), form.coding, place.row, met)
 }
 
 /// What stopped the rows of a strip, where that is the strip itself: a fault is in the way of the

@@ -134,6 +134,8 @@ fn is_writing(written: &FaxWritten) -> bool
     ensures some { result ≡ true → Spec.IsWriting written.now }
     ensures none { result ≡ false → Spec.IsWriting written.now → ⊥ }
 {
+    // A link before byte 4 is NO_OPTIONS, since the page's directory would be written over the
+    // header. That the numbers are those that a call told is the caller's to see to.
     if written.total > MOST_PAGES || written.added >= MOST_PAGES {
         return false;
     }
@@ -164,6 +166,8 @@ fn is_total_said(written: &FaxWritten, file: &[u8]) -> bool
     ensures some { result ≡ true → Spec.IsTotalSaid written.now file.now }
     ensures none { result ≡ false → Spec.IsTotalSaid written.now file.now → ⊥ }
 {
+    // The numbers of a caller are believed but for this, since a mistake here would give pages that
+    // contradict each other.
     written.added == 0 || u32::from(two_at(file, written.link as usize - 2)) == written.total
 }
 

@@ -1,19 +1,14 @@
 -- Each file has one chain of directories.
-use Rattle.std.proofs.Common.{◌≡◌, ℕ, zero, suc, ◌+◌, ◌<◌, ◌≤◌, ◌⊎◌, Bool, true, false, ◌&&◌, ◌||◌, eqb, List, [], ◌∷◌}
+use Rattle.std.proofs.Common.{◌≡◌, ℕ, zero, suc, ◌+◌, ◌<◌, ◌≤◌, Bool, true, false, ◌||◌, eqb, List, [], ◌∷◌}
 use Rattle.std.proofs.Common.{length, Option, Some, None, ◌≢◌, refl, subst, arith}
-use Rattle.std.specs.Prelude.{◌==◌, if◌then◌else◌}
+use Rattle.std.specs.Prelude.{◌==◌}
 use Rattle.std.specs.List.{list_any, IsDistinct, All}
 use Rattle.std.proofs.lemmas.List.Elements.{All-nil, All-cons, recursion_from_All}
 use Rattle.std.proofs.lemmas.Map.Steps.{length-le_from_distinct_below}
 use Rattle.fax_files.specs.declared.FileFault.{FileFault}
-use Rattle.fax_files.specs.declared.FileFault.TheVariants.{DirectoryOutside, DirectoryLoop}
 use Rattle.fax_files.specs.declared.Endian.{Endian}
 use Rattle.fax_files.specs.Directory.{Header, is_directory, next_offset, offset_fault, IsChainFrom}
 use Rattle.fax_files.specs.laws.Files.{HasOneChain}
-
--- what the two tests of an offset say
-abbrev pub fault_by : Bool → Bool → Option FileFault
-fault_by again there = if again then (Some DirectoryLoop) else (if there then None else (Some DirectoryOutside))
 
 -- the chain goes on at an offset
 pub record GoesOn (endian : Endian) (file before : List ℕ) (due : ℕ) : Type 0 where
@@ -24,9 +19,6 @@ pub record GoesOn (endian : Endian) (file before : List ℕ) (due : ℕ) : Type 
 pub going_on : (endian : Endian) (file before : List ℕ) (due : ℕ) → due ≢ 0 → offset_fault endian file before due ≡ None
     → GoesOn endian file before due
 going_on endian file before due some e = grind arith
-
-both : (a b : Bool) → (a && b) ≡ true → (a ≡ true) × (b ≡ true)
-both a b e = grind arith
 
 -- a directory that is there begins inside the file
 pub begins_inside : (endian : Endian) (file : List ℕ) (q : ℕ) → is_directory endian file q ≡ true → q < length file
@@ -53,9 +45,6 @@ distinct (x ∷ xs) a = (recursion_from_All (λ y. eqb x y ≡ false) xs (apart_
 
 abbrev pub AreBelow : List ℕ → ℕ → Type 0
 AreBelow xs n = (q : ℕ) → list_any (λ x. q == x) xs ≡ true → q < n
-
-pub either : (a b : Bool) → (a || b) ≡ true → (a ≡ true) ⊎ (b ≡ true)
-either a b e = grind arith
 
 pub still_below : (xs : List ℕ) (n x : ℕ) → x < n → AreBelow xs n → AreBelow (x ∷ xs) n
 still_below xs n x within all = grind arith

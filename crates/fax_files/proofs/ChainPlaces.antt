@@ -11,7 +11,7 @@ use Rattle.fax_files.specs.declared.FileFault.TheVariants.{DirectoryOutside, Dir
 use Rattle.fax_files.specs.declared.Endian.{Endian}
 use Rattle.fax_files.specs.Directory.{number_at, is_directory, next_offset, IsChainFrom}
 use Rattle.fax_files.specs.code.Chain.{link, onward}
-use Rattle.fax_files.proofs.ChainLaws.{IsApart, AreBelow, GoesOn, going_on, still_below, few, fault_by}
+use Rattle.fax_files.proofs.ChainLaws.{IsApart, AreBelow, GoesOn, going_on, still_below, few}
 
 module _ (endian : Endian) (file : List ℕ) where
   abbrev pub next : ℕ → ℕ
@@ -89,11 +89,6 @@ module _ (endian : Endian) (file : List ℕ) where
       not_before (due ∷ before) (next due) offsets end is.3 due (here due before) j (omega arith)
   apart before due (q ∷ offsets) end is (suc i) (suc j) lower h =
       apart (due ∷ before) (next due) offsets end is.3 i j (omega arith) (omega arith)
-
-  -- the fault of an offset by the two tests
-  by_tests : (again there : Bool) (fault : FileFault) → fault_by again there ≡ Some fault
-      → ((there ≡ false) × (fault ≡ DirectoryOutside)) ⊎ ((again ≡ true) × (fault ≡ DirectoryLoop))
-  by_tests again there fault e = grind arith
 
   -- the same after offsets that stood before: one that is met again is one of those or stands in the chain
   abbrev EndsAfterPlaces : List ℕ → ℕ → ℕ → Option FileFault → Type 0

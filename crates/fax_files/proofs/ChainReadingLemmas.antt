@@ -8,7 +8,7 @@ use Rattle.fax_files.specs.declared.FileFault.{FileFault}
 use Rattle.fax_files.specs.declared.FileFault.TheVariants.{DirectoryOutside, DirectoryLoop}
 use Rattle.fax_files.specs.Directory.{is_directory, next_offset, IsChain}
 use Rattle.fax_files.specs.views.Tiff.{TiffFile, TiffDirectory, directory_of}
-use Rattle.fax_files.specs.code.Chain.{place, turning_page, IsChainPlace}
+use Rattle.fax_files.specs.code.Chain.{place, IsChainPlace}
 use Rattle.fax_files.specs.views.Chain.{answer_at, ChainState, IsDueAnswer}
 use Rattle.fax_files.proofs.ChainLaws.{has_one_chain}
 use Rattle.fax_files.proofs.ChainPlaces.{IsByPlaces, by_places}
@@ -18,10 +18,6 @@ past : (xs : List ℕ) (i : ℕ) → length xs ≤ i → slice_get xs i ≡ None
 past [] i h = refl
 past (x ∷ xs) zero h = absurd (omega arith)
 past (x ∷ xs) (suc i) h = past xs i (omega arith)
-
-turning : (end : Option FileFault) (pages given : ℕ) → Some given ≡ turning_page end pages
-    → (end ≡ Some DirectoryLoop) × (given ≡ pages)
-turning end pages given e = grind arith
 
 module _ (tiff : TiffFile) (due given : ℕ) (turn : Option ℕ) (sound : IsChainPlace tiff due given turn) where
   module _ (offsets : List ℕ) (end : Option FileFault) (is : IsChain tiff.head tiff.file offsets end) where

@@ -1,8 +1,8 @@
 -- Where a chain turns back.
-use Rattle.std.proofs.Common.{◌≡◌, ℕ, zero, suc, ◌+◌, ◌-◌, ◌^◌, ◌<◌, ◌≤◌, ◌≢◌, inl, inr, Bool, true, false, List}
+use Rattle.std.proofs.Common.{◌≡◌, ℕ, zero, suc, ◌+◌, ◌-◌, ◌^◌, ◌<◌, ◌≤◌, ◌≢◌, inl, inr, true, false, List}
 use Rattle.std.proofs.Common.{length, Option, Some}
 use Rattle.std.proofs.Common.{None, refl, sym, ap, ◌∙◌, arith}
-use Rattle.std.specs.Prelude.{◌==◌, if◌then◌else◌}
+use Rattle.std.specs.Prelude.{◌==◌}
 use Rattle.std.proofs.lemmas.Bool.{cases_lt}
 use Rattle.fax_files.specs.declared.FileFault.{FileFault}
 use Rattle.fax_files.specs.declared.FileFault.TheVariants.{DirectoryLoop}
@@ -20,10 +20,6 @@ module _ (tiff : TiffFile) where
 
   pub along_places : (i j k a b : ℕ) → a ≡ i + k → b ≡ j + k → place tiff i ≡ place tiff j → place tiff a ≡ place tiff b
   along_places = along tiff.head.endian tiff.file tiff.head.first
-
-  tested : (last there : Bool) (next x : ℕ) → (if last then None else (if there then (Some next) else None)) ≡ Some x
-      → (last ≡ false) × (there ≡ true) × (next ≡ x)
-  tested last there next x e = grind arith
 
   -- what is known where a place leads on
   pub led : (i x : ℕ) → onward tiff.head.endian tiff.file (place tiff i) ≡ Some x

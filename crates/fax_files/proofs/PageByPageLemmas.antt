@@ -7,7 +7,7 @@ use Rattle.fax_files.specs.views.Writing.{empty_file, Writing, contents, with_on
 use Rattle.fax_files.specs.laws.Files.{HasAdded}
 
 -- one more page after others
-with_pages-push : (old : Written) (total k : ℕ) (pages : List WrittenPage) (page : WrittenPage)
+pub with_pages-push : (old : Written) (total k : ℕ) (pages : List WrittenPage) (page : WrittenPage)
     → with_pages old total k (pages ++ page ∷ [])
     ≡ with_page (with_pages old total k pages) total (k + length pages) page.form page.strips
 unfolding with_pages

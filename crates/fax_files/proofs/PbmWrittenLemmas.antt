@@ -1,7 +1,7 @@
 -- Images that are written are read back.
 use Rattle.std.proofs.lemmas.Grind.{common_steps}
-use Rattle.std.proofs.Common.{◌≡◌, ◌≢◌, ℕ, suc, ◌+◌, ◌/◌, ◌%◌, ◌^◌, ◌<◌, ◌≤◌, inl, List, [], ◌∷◌, ◌++◌, length, drop}
-use Rattle.std.proofs.Common.{None, refl, sym, ap}
+use Rattle.std.proofs.Common.{◌≡◌, ◌≢◌, ℕ, ◌+◌, ◌/◌, ◌%◌, ◌^◌, ◌<◌, ◌≤◌, inl, List, [], ◌∷◌, ◌++◌, length}
+use Rattle.std.proofs.Common.{None, refl, ap}
 use Rattle.std.proofs.Common.{◌∙◌, arith, append_assoc}
 use Rattle.std.specs.Prelude.{codes, decimal}
 use Rattle.std.specs.List.{flat_map}
@@ -11,7 +11,7 @@ use Rattle.std.proofs.lemmas.List.Folds.{list_all-append}
 use Rattle.std.proofs.lemmas.List.Sums.{fold-append}
 use Rattle.std.proofs.Math.Seq.{take-append_seam, drop-append_seam}
 use Rattle.fax_bits.specs.declared.Colour.{Colour}
-use Rattle.fax_rows.specs.Coded.{packed_len, packed_row, unpacked_row}
+use Rattle.fax_rows.specs.Coded.{packed_len, packed_row}
 use Rattle.fax_rows.specs.laws.Packed.{PackingUndoesUnpacking}
 use Rattle.fax_files.specs.Pbm.{Image, IsHead, IsImage, SpellsNumber, AreImages, pbm_of, raster_rows}
 use Rattle.fax_files.specs.views.Pbm.{head_bytes}
@@ -54,9 +54,6 @@ head_written width height rest width_small height_small = record {
 
 -- the rows of a raster as it is written
 module _ (law : PackingUndoesUnpacking) where
-  row_read : (width : ℕ) (row : List Colour) → length row ≡ width → unpacked_row width (packed_row row) ≡ row
-  row_read width row is = rw (sym is) (law.read_back row)
-
   row_len : (width : ℕ) (row : List Colour) → length row ≡ width → length (packed_row row) ≡ packed_len width
   row_len width row is = law.packed_count row ∙ ap packed_len is
 

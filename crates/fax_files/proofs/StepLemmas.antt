@@ -7,7 +7,7 @@ use Rattle.fax_bits.specs.declared.FillOrder.TheVariants.{LsbFirst, MsbFirst}
 use Rattle.fax_page.specs.declared.Coding.TheVariants.{Mh, Mr, Mmr}
 use Rattle.std.specs.Prelude.{IfOk, nat_lt, ◌==◌, if◌then◌else◌}
 use Rattle.std.proofs.lemmas.Bool.Decides.{nat_tests}
-use Rattle.fax_files.specs.Directory.{◌>>=◌, Endian, FileFault, Entry, check, entries, field, scalar}
+use Rattle.fax_files.specs.Directory.{◌>>=◌, Endian, FileFault, Entry, entries, field, scalar}
 use Rattle.fax_files.specs.Page.{PageForm, form_in, is_between, most_pels, most_rows, page, strip_bytes}
 use Rattle.fax_files.specs.declared.FileFault.TheVariants.{BadField, OutOfLimits, Unsupported}
 use Rattle.fax_files.specs.declared.tags.TheConstants as Tags
@@ -17,10 +17,6 @@ use Rattle.fax_files.specs.code.Steps.{IsFormOf, first_number, placed_bytes, res
 pub bind_ok : {A B : Type 0} (r : Result A FileFault) (next : A → Result B FileFault) (y : B) → (r >>= next) ≡ Ok y
     → (x : A) × (r ≡ Ok x) × (next x ≡ Ok y)
 bind_ok r next y e = grind arith
-
-pub checked : {A : Type 0} (test : Bool) (fault : FileFault) (next : Unit {0} → Result A FileFault) (y : A)
-    → (check test fault >>= next) ≡ Ok y → (test ≡ true) × (next tt ≡ Ok y)
-checked test fault next y e = grind arith
 
 -- what holds after a step holds, where the step did not fail
 after : {A B : Type 0} (P : B → Type 0) (r : Result A FileFault) (next : A → Result B FileFault)

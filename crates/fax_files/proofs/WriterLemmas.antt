@@ -102,9 +102,6 @@ module _ (bytes : List ℕ) (link total added end : ℕ) (form : PageForm) (stri
           ∙ ap (λ (e : ℕ). tail_bytes e fields form (length bytes) (contents strips)) end_is)
           ∙ regrouped all pad (fields_bytes fields) (four 0) values
 
-      pub place_is : at.directory ≡ directory_place (length bytes) (contents strips)
-      place_is = place
-
       pub added_bytes : (tail now : List ℕ) → tail ≡ tail_bytes end (laid_out_fields at form) form (length bytes)
           (contents strips)
           → now ≡ bytes ++ (joined_strips (contents strips) ++ tail) → with_four_at now link at.directory ≡ new.bytes

@@ -2,8 +2,7 @@
 use Rattle.std.proofs.Common.{◌≡◌, ℕ, ◌+◌, ◌*◌, ◌<◌, ◌≤◌, Bool, true, false, cond, List, [], ◌∷◌, ◌++◌, length, Ok}
 use Rattle.std.proofs.Common.{refl, ap, arith}
 use Rattle.std.proofs.lemmas.List.{length-append}
-use Rattle.std.proofs.lemmas.Bool.{le-leb, lt-ltb, ltb-true, eqb-true, and_parts}
-use Rattle.std.specs.List.{list_all}
+use Rattle.std.proofs.lemmas.Bool.{le-leb, lt-ltb}
 use Rattle.std.specs.Prelude.{◌&&◌, flat_map, Option, Some, nat_lt, find, ◌==◌}
 use Rattle.fax_files.specs.Directory.{Entry, FileFault, is_inside, entries_at, field, scalar, values_place, value_at}
 use Rattle.fax_files.specs.Directory.{has_integers}
@@ -34,24 +33,6 @@ abbrev pub fits : WrittenField → Bool
 fits written =
     nat_lt written.tag 65536 && (nat_lt written.kind 65536 && (nat_lt written.count 4294967296 &&
     (length written.value == 4)))
-
-pub all_fit : (fields : List WrittenField) → list_all fits fields ≡ true → AllFit fields
-all_fit [] e = tt
-all_fit (written ∷ fields) e =
-    let both = and_parts (fits written) (list_all fits fields) e in
-    let tag = and_parts _ _ both.0 in
-    let kind = and_parts _ _ tag.1 in
-    let count = and_parts _ _ kind.1 in (
-      record {
-        tag = ltb-true _ _ tag.0;
-        kind = ltb-true _ _ kind.0;
-        count = ltb-true _ _ count.0;
-        value =
-            eqb-true _ _ count.1;
-      },
-      all_fit
-          fields both.1,
-    )
 
 -- the entry that is read of a field at a place
 abbrev pub read_field : ℕ → WrittenField → Entry

@@ -158,18 +158,6 @@ appended_pages_are_read old total k written open' w short =
       is_open = record { inside = at_inside (four 0) one.is_open; zero = slice_there (four 0) one.is_open };
     }
 
--- a page after other pages is the last one that is appended
-pub with_pages-push : (old : Written) (total k : ℕ) (pages : List WrittenPage) (written : WrittenPage)
-    → with_pages old total k (pages ++ written ∷ []) ≡ with_written (with_pages old total k pages) total
-    (k + length pages) written
-unfolding with_pages
-with_pages-push old total k [] written = ap (λ (n : ℕ). with_written old total n written) (omega arith)
-with_pages-push old total k (first ∷ pages) written = grind (
-  arith,
-  with_pages-push (with_written old total k first)
-      total (k + 1) pages written,
-)
-
 -- where the directories of pages that are appended stand
 abbrev pub offsets_of : Written → ℕ → ℕ → List WrittenPage → List ℕ
 offsets_of old total k [] = []

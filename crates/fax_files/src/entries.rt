@@ -82,6 +82,8 @@ impl<'a> File<'a> {
         requires { entry.now.place + 4 ≤ length self.now.bytes.now }
         ensures { result ≡ Spec.values_place self.now.endian self.now.bytes.now entry.now }
     {
+        // The entry's own count decides whether its values stand in it, also where fewer are
+        // needed. Only the needed ones have to lie in the file.
         if (entry.count as usize).saturating_mul(entry.value_len()) <= 4 {
             entry.place
         } else {

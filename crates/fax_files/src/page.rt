@@ -111,6 +111,8 @@ fn read_options(fields: &Fields, compression: u32) -> Result<u32, FileFault>
         else (Entries.scalar fields.now.endian fields.now.file (entries_of fields.now)
         Tags.T4_OPTIONS (Some 0) (λ _. true) BadField)) }
 {
+    // T6Options is never looked at: what its one bit allows, uncompressed mode, begins with an
+    // extension code, which is refused where it stands.
     if compression == COMPRESSION_T6 {
         return Ok(0);
     }

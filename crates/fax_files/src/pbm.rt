@@ -166,6 +166,8 @@ fn row_len(width: u32) -> usize
 
 /// An image within the limits: its width, how many rows it has, and their bytes in the input, each
 /// row's from a byte of its own on.
+// Its width and height are within the limits and fit its bytes by its type, so that `row` asks for
+// nothing but a row that is there.
 #[derive(Clone, Copy, Debug, PartialEq, Eq)]
 pub struct PbmImage<'a> {
     pub width: u32,

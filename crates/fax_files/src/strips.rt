@@ -68,6 +68,8 @@ impl<'a> Strips<'a> {
         ensures outside { OnErr result (bytes_of self.now.directory s ≡ None) }
         ensures fault { IfErr result (λ fault. fault ≡ FileFault.StripOutside) }
     {
+        // A byte count of 0 at an offset past the file's end is refused too: zero bytes have a
+        // place.
         let file = self.directory.file();
         let offset = file.value_at(&self.offsets, s) as usize;
         let len = file.value_at(&self.byte_counts, s) as usize;

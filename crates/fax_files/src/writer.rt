@@ -154,6 +154,8 @@ impl TiffWriter {
         ensures too_large { (result ≡ Err WriteFault.OutputTooLarge)
             ↔ (max_file < Spec.length_with self.old form.now strips.now) }
     {
+        // The page's tail is made first, memory is reserved once for strips and tail, and only then
+        // is anything appended. The link to the page is set last.
         let start = self.bytes.len() as u32;
         let Some(end) = strips_end(start, strips) else {
             return Err(WriteFault::OutputTooLarge);

@@ -193,6 +193,8 @@ fn page_fields(form: &PageForm, at: &Layout) -> [Field; FIELDS]
     requires { at.now.directory ≤ max_file }
     ensures { result ≡ laid_out_fields at.now form.now }
 {
+    // The places of a directory's parts are computed from `FIELDS`, in the definitions too: one
+    // more field is a line in each, and the two counts.
     [
         long_field(tags::NEW_SUBFILE_TYPE, 1, 2),
         long_field(tags::IMAGE_WIDTH, 1, form.width),

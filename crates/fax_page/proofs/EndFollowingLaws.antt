@@ -1,6 +1,6 @@
 -- How rows that nobody counted end stays, whatever follows.
-use Rattle.std.proofs.Common.{◌≡◌, ◌≢◌, ℕ, zero, suc, List, ◌∷◌, ◌++◌, Bool, true, false, refl, ap, ◌∙◌, arith}
-use Rattle.std.proofs.Common.{append_assoc, inl, inr, length, Some}
+use Rattle.std.proofs.Common.{◌≡◌, ◌≢◌, ℕ, zero, suc, List, [], ◌∷◌, ◌++◌, Bool, true, false, refl, ap, ◌∙◌, arith}
+use Rattle.std.proofs.Common.{append_assoc, inl, inr, length, replicate, Some}
 use Rattle.std.specs.Prelude.{◌⊎◌}
 use Rattle.std.proofs.lemmas.Bool.{cases_lt}
 use Rattle.std.proofs.lemmas.List.{length-replicate}
@@ -17,13 +17,13 @@ use Rattle.fax_page.proofs.FollowingLaws.{cause_stays, eol_stays}
 use Rattle.fax_page.proofs.StartLemmas.{eleven_ahead, eleven_alone}
 
 -- an end mark stays
-return_eol_stays : (coding : Coding) (b rest more : List Bool) → IsReturnEol coding b rest
+pub return_eol_stays : (coding : Coding) (b rest more : List Bool) → IsReturnEol coding b rest
     → IsReturnEol coding (b ++ more) (rest ++ more)
 return_eol_stays Mh b rest more eol = eol_stays more b rest eol
 return_eol_stays Mr b rest more eol = eol_stays more b (true ∷ rest) eol
 return_eol_stays Mmr b rest more eol = eol
 
-eols_stay : (coding : Coding) (n : ℕ) (b rest more : List Bool) → AreReturnEols coding n b rest
+pub eols_stay : (coding : Coding) (n : ℕ) (b rest more : List Bool) → AreReturnEols coding n b rest
     → AreReturnEols coding n (b ++ more) (rest ++ more)
 eols_stay coding zero b rest more eols = ap (λ c. c ++ more) eols
 eols_stay coding (suc n) b rest more eols =
@@ -73,6 +73,14 @@ zeros_are_cause form i reference b Mmr is all =
           inr (inr (TwoDimensional, b, rw is refl, inl (marker.0, marker.1, refl)))
     ]
 
+-- the first of zeros are zeros
+front_zeros : (b more : List Bool) (n : ℕ) → b ++ more ≡ replicate n false → IsAllZeros b
+front_zeros [] more n is = (0, refl)
+front_zeros (bit ∷ b) more zero is = absurd (cc is)
+front_zeros (true ∷ b) more (suc n) is = absurd (cc is)
+front_zeros (false ∷ b) more (suc n) is =
+    let all = front_zeros b more n cc in (suc all.0, ap (λ c. false ∷ c) all.1)
+
 module _ (reads : (form : StripForm) (i : ℕ) (reference : List Colour) → ReadsLinesOneWay form i reference) where
   fault_stays : (form : StripForm) (i row : ℕ) (reference : List Colour) (left more : List Bool) (fault : StripFault)
       → fault ≢ DataEnds
@@ -95,4 +103,5 @@ module _ (reads : (form : StripForm) (i : ℕ) (reference : List Colour) → Rea
   ends_stay = record {
     mark = λ coding row left more stop mark. mark_stays coding left more mark;
     fault = fault_stays;
+    fill = λ row left more ends. (ends.0, front_zeros left more ends.1.0 ends.1.1);
   }

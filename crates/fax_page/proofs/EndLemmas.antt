@@ -108,7 +108,7 @@ no_end_found coding left zeros more found none ahead more_is found_is = rw (foun
 abbrev pub IsMhOrMr : Coding → Type 0
 IsMhOrMr coding = (coding ≡ Mh) ⊎ (coding ≡ Mr)
 
-not_mmr : (coding : Coding) → IsMhOrMr coding → coding ≢ Mmr
+pub not_mmr : (coding : Coding) → IsMhOrMr coding → coding ≢ Mmr
 not_mmr coding (inl is) other = cc
 not_mmr coding (inr is) other = cc
 
@@ -167,7 +167,7 @@ no_return_eol Mh b rest fault none eol = no_eol b rest fault none eol
 no_return_eol Mr b rest fault none eol = no_eol b (true ∷ rest) fault none eol
 no_return_eol Mmr b rest fault none eol = eol
 
-one_bit : code_bits 1 1 ≡ true ∷ []
+pub one_bit : code_bits 1 1 ≡ true ∷ []
 unfolding code_bits
 one_bit = refl
 

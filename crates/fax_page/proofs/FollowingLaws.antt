@@ -134,7 +134,7 @@ module _ (more : List Bool) where
     pels = is.pels;
   }
 
-  below_stays : (b : List Bool) → BeginsBelowEleven b → BeginsBelowEleven (b ++ more)
+  pub below_stays : (b : List Bool) → BeginsBelowEleven b → BeginsBelowEleven (b ++ more)
   below_stays b below = (
     below.0,
     below.1,

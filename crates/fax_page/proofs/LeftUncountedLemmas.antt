@@ -209,14 +209,6 @@ still_going strip new row salvaged over most row_is step same low is_over = reco
 
 -- ---- row after row
 
-pub none_passed : (state : UncountedState) → HasPassed state state
-none_passed state = record {
-  done = [];
-  same_form = refl;
-  count = omega arith;
-  followed = λ rows end are. are;
-}
-
 module _ (old now new : UncountedState) (passed : HasPassed old now) where
   one_more : (row : SalvagedRow) → PassesUncounted now row new → HasPassed old new
   one_more row passes = record {
@@ -230,22 +222,10 @@ module _ (old now new : UncountedState) (passed : HasPassed old now) where
         (passed.followed (row ∷ rows) end (passes.followed rows end are));
   }
 
-  less : (row : SalvagedRow) → PassesUncounted now row new
-      → new.strip.form.rows - new.row < now.strip.form.rows - now.row
-  less row passes =
-      let rows : new.strip.form.rows ≡ now.strip.form.rows = ap (λ (f : StripForm). f.rows) passes.same_form in
-      omega (arith, rows, passes.next, passes.within)
-
   pub passed_more : (salvaged : Salvaged) → IsUncountedStep now (Ok salvaged) new → HasPassed old new
   passed_more Found step = one_more (found new.strip.reference) step
   passed_more (Lost fault rows) step = one_more (lost fault) step.1
   passed_more (Unended rows) step = one_more (unended step.0) step.2
-
-  pub fewer : (salvaged : Salvaged) → IsUncountedStep now (Ok salvaged) new
-      → new.strip.form.rows - new.row < now.strip.form.rows - now.row
-  fewer Found step = less (found new.strip.reference) step
-  fewer (Lost fault rows) step = less (lost fault) step.1
-  fewer (Unended rows) step = less (unended step.0) step.2
 
   pub all_passed : (end : RowsEnd) → IsUncountedStep now (Err end) new → PassesAll old end new
   all_passed end (are, same) = record {

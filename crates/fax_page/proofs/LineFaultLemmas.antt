@@ -9,7 +9,7 @@ use Rattle.fax_page.specs.Lines.{Dimension, StripFault, StripForm, IsCause}
 use Rattle.fax_page.specs.code.Starts.{IsStarted, IsStop}
 use Rattle.fax_page.specs.code.LineStops.{IsLineStop}
 use Rattle.fax_page.proofs.BegunLemmas.{cause_in_codes}
-use Rattle.fax_page.proofs.StartLaws.{one_start}
+use Rattle.fax_page.proofs.BegunLemmas.{one_start}
 
 -- the codes after one start are those after another
 pub in_codes : (form : StripForm) (i : ℕ) (reference : List Colour) (b : List Bool) (cause : RowFault)

@@ -9,9 +9,10 @@ use Rattle.fax_page.specs.declared.StripForm.{StripForm}
 use Rattle.fax_page.specs.declared.notes.StripNotes.{StripNotes}
 use Rattle.fax_page.specs.Lines.{white_row}
 use Rattle.fax_page.specs.Strip.{AreReturnEols, HasEndMark, HasOtherChoice, IsEndMark, IsNotedAs, end_bits}
-use Rattle.fax_page.specs.laws.Strips.{ReadsLinesOneWay, StripsAreNotedInOneWay}
+use Rattle.fax_page.specs.laws.Graphs.{StripsAreReadByFunctions}
+use Rattle.fax_page.specs.laws.Strips.{StripsAreNotedInOneWay}
 use Rattle.fax_page.proofs.EndLemmas.{same_return_eol}
-use Rattle.fax_page.proofs.StripLaws.{one_left, one_reading}
+use Rattle.fax_page.proofs.StripLaws.{one_strip}
 
 -- the EOLs of a return to control, and an end mark, are taken in one way
 same_eols : (coding : Coding) (n : ℕ) (b rest other : List Bool) → AreReturnEols coding n b rest
@@ -44,12 +45,11 @@ noted block return more choice =
 same_flag : (a b : Bool) (P : Type 0) → IsTrue a ↔ P → IsTrue b ↔ P → a ≡ b
 same_flag a b P first second = grind arith
 
-module _ (reads : (form : StripForm) (i : ℕ) (reference : List Colour) → ReadsLinesOneWay form i reference) where
+module _ (strips : StripsAreReadByFunctions) where
   same_notes : (form : StripForm) (b : List Bool) (rows : List (List Colour)) (notes other : StripNotes)
       → IsNotedAs form b rows notes → IsNotedAs form b rows other → notes ≡ other
   same_notes form b rows notes other first second =
-      let left = one_left reads form 0 (white_row form.width) b rows None second.left first.left second.lines
-      first.lines in
+      let left = (one_strip strips form b rows rows None None second.left first.left second.lines first.lines).2 in
       let after = same_after form.coding first.left second.after first.after
       (subst (λ l. IsAfterMark form.coding l second.after) left second.after_end) first.after_end in
       let block = same_flag notes.no_end_of_block other.no_end_of_block
@@ -76,6 +76,5 @@ module _ (reads : (form : StripForm) (i : ℕ) (reference : List Colour) → Rea
   -- a strip is noted in one way
   pub strips_are_noted_in_one_way : StripsAreNotedInOneWay
   strips_are_noted_in_one_way form b rows others notes other first second =
-      let same = one_reading reads form 0 (white_row form.width) b others rows None None second.left first.left
-      second.lines first.lines in
+      let same = one_strip strips form b others rows None None second.left first.left second.lines first.lines in
       same_notes form b rows notes other first (subst (λ r. IsNotedAs form b r other) same.0 second)

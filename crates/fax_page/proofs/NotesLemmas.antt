@@ -26,7 +26,7 @@ use Rattle.fax_page.specs.code.Notes.{AreFoundAfter}
 use Rattle.fax_page.specs.code.Starts.{IsStarted}
 use Rattle.fax_page.proofs.BegunLemmas.{started, cause_in_codes}
 use Rattle.fax_page.proofs.FirstCodeLemmas.{line_begun}
-use Rattle.fax_page.proofs.StartLaws.{one_start}
+use Rattle.fax_page.proofs.BegunLemmas.{one_start}
 
 -- what follows the codes that T.4 chooses is what follows the row
 module _ (one : OneDimensionalBitsAreOneRow) (two : TwoDimensionalBitsAreOneRow) where

@@ -2,19 +2,22 @@
 use Rattle.std.proofs.Common.{arith, ◌≡◌, ℕ, ◌+◌, ◌-◌, List, [], ◌∷◌, ◌++◌, map, Bool, Some, None, refl}
 use Rattle.std.proofs.Common.{ap, inl, inr, replicate, suc, true, false, ◌≤◌, ◌∙◌}
 use Rattle.std.proofs.lemmas.Bool.Decides.{nat_tests}
-use Rattle.std.specs.Prelude.{◌≢◌, option_map}
+use Rattle.std.specs.Prelude.{◌≢◌, ◌<◌, Option, option_map, MatchOption}
 use Rattle.fax_bits.specs.declared.Colour.{Colour}
 use Rattle.fax_rows.specs.declared.RowFault.{RowFault}
 use Rattle.fax_page.specs.declared.StripFault.TheVariants.{MissingEol}
 use Rattle.fax_page.specs.Lines.{BeginsBelowEleven, Coding, Dimension, IsCause, IsLine, IsStopInCodes, Mh, Mmr, Mr}
 use Rattle.fax_page.specs.Lines.{StripFault, StripForm, strip_fault, white_row}
-use Rattle.fax_page.specs.Salvage.{AreSalvaged, IsEolDue, IsReadOver, SalvagedRow, after_eol, found, unended}
+use Rattle.fax_page.specs.Salvage.{AreSalvaged, GoesOnAfter, IsEolDue, IsReadOver, SalvagedRow, after_eol, found}
+use Rattle.fax_page.specs.Salvage.{lost, next_due, unended}
 use Rattle.fax_page.specs.Strip.{AreLines, end_of_line}
 use Rattle.fax_page.specs.code.Starts.{IsStartFault}
-use Rattle.fax_page.specs.laws.Salvage.{FindsRowsBeforeFaults, LostBitsDoNotMatter}
-use Rattle.fax_page.specs.laws.Strips.{ReadsLinesOneWay}
+use Rattle.fax_page.specs.laws.Salvage.{FindsRowsBeforeFaults, LostBitsDoNotMatter, SalvagesStripsOneWay}
+use Rattle.fax_page.specs.reads.Lines.{read_start}
+use Rattle.fax_page.specs.reads.Salvage.{sought_from}
 use Rattle.fax_page.proofs.BegunLemmas.{start_fault}
-use Rattle.fax_page.proofs.SalvageLaws.{begins_with_eol, goes_on, has_rows}
+use Rattle.fax_page.proofs.SalvageGraph.{sought_is}
+use Rattle.fax_page.proofs.SalvageLaws.{begins_with_eol}
 use Rattle.fax_page.proofs.SalvageLemmas.{at_one}
 use Rattle.fax_page.proofs.StartLaws.{below_is_not_zeros, eol_is_not_below}
 
@@ -67,7 +70,7 @@ over : (form : StripForm) (i : ℕ) (reference : List Colour) (b : List Bool) (r
     → IsLine form i reference b row rest → IsReadOver form i None reference b row rest
 over form i reference b row rest line = record { line = line; alone = λ lost_before. absurd (lost_before refl) }
 
-module _ (reads : (form : StripForm) (i : ℕ) (reference : List Colour) → ReadsLinesOneWay form i reference) where
+module _ (salvages : SalvagesStripsOneWay) where
   ended : (form : StripForm) (i : ℕ) (row : List Colour) (rest : List Bool) (rows : List (List Colour))
       (fault : StripFault) (left : List Bool) → fault ≢ MissingEol
       → AreLines form (i + 1) row rest rows (Some fault) left → IsEolDue form i → BeginsBelowEleven rest → ⊥
@@ -80,7 +83,7 @@ module _ (reads : (form : StripForm) (i : ℕ) (reference : List Colour) → Rea
       (fault : StripFault) (left : List Bool) → fault ≢ MissingEol → AreLines form i reference b rows (Some fault) left
       → (others : List SalvagedRow) × AreSalvaged form i None reference b (map (λ row. found row) rows ++ others)
   all form i reference b [] fault left other (same, low, cause) =
-      has_rows reads (form.rows - i) form i None reference b (omega (arith, low))
+      let left = salvages form i None reference b (omega (arith, low)) in (left.rows, left.are)
   all form i reference b (row ∷ rows) fault left other (rest, low, line, lines) =
       let later = all form (i + 1) row rest rows fault left other lines in (
         later.0,
@@ -102,6 +105,23 @@ module _ (reads : (form : StripForm) (i : ℕ) (reference : List Colour) → Rea
   ended_before_last form i row rest (next ∷ rows) last left (after, low, line, lines) due below =
       begins_with_eol form.coding i rest line.codes line.dimension due.0 line.start below
 
+  -- what is left after a lost row
+  goes_on : (form : StripForm) (i : ℕ) (b : List Bool) (fault : StripFault) → i + 1 < form.rows
+      → (rows : List SalvagedRow) × GoesOnAfter form i b fault
+      (λ due. AreSalvaged form (i + 1) (Some fault) (white_row form.width) due rows) rows
+  goes_on form i b fault low =
+      let from = sought_from b (read_start form.coding i b) in
+      let rows = at_due (next_due form.coding from) in
+      (rows.0, (from, sought_is form.coding i b, rows.1))
+    where
+      at_due : (o : Option (List Bool)) → (rows : List SalvagedRow) × MatchOption o
+          (rows ≡ replicate (form.rows - (i + 1)) (lost fault))
+          (λ due. AreSalvaged form (i + 1) (Some fault) (white_row form.width) due rows)
+      at_due None = (replicate (form.rows - (i + 1)) (lost fault), refl)
+      at_due (Some due) =
+          let left = salvages form (i + 1) (Some fault) (white_row form.width) due (omega (arith, low)) in
+          (left.rows, left.are)
+
   all_but_last : (form : StripForm) (i : ℕ) (reference : List Colour) (b : List Bool) (rows : List (List Colour))
       (last : List Colour) (left : List Bool)
       → AreLines form i reference b (rows ++ last ∷ []) (Some MissingEol) left
@@ -109,8 +129,7 @@ module _ (reads : (form : StripForm) (i : ℕ) (reference : List Colour) → Rea
       × AreSalvaged form i None reference b (map (λ row. found row) rows ++ unended last ∷ others)
   all_but_last form i reference b [] last left (rest, low, line, (same, low_after, cause)) =
       let lacks = lacks_eol form (i + 1) last rest cause in
-      let later = goes_on reads form i b MissingEol (λ due. has_rows reads (form.rows - (i + 1)) form (i + 1)
-      (Some MissingEol) (white_row form.width) due (omega (arith, low_after))) in (
+      let later = goes_on form i b MissingEol low_after in (
         later.0,
         (rest, over form i reference b last rest line, (lacks.0, low_after), lacks.1, later.1),
       )
@@ -137,15 +156,15 @@ at_eol : (zeros n : ℕ) (rest : List Bool) → 11 ≤ zeros + n
 at_eol zeros n rest enough = at_one zeros n rest ∙ (grind (arith, nat_tests))
 
 -- the bits before it hold none
-past_lost : (zeros : ℕ) (lost rest : List Bool) → after_eol zeros lost ≡ None
-    → after_eol zeros (lost ++ end_of_line ++ rest) ≡ Some rest
+past_lost : (zeros : ℕ) (gone rest : List Bool) → after_eol zeros gone ≡ None
+    → after_eol zeros (gone ++ end_of_line ++ rest) ≡ Some rest
 past_lost zeros [] rest none = at_eol zeros 11 rest (omega arith)
-past_lost zeros (false ∷ lost) rest none = past_lost (suc zeros) lost rest none
-past_lost zeros (true ∷ lost) rest none = grind (arith, past_lost 0 lost rest)
+past_lost zeros (false ∷ gone) rest none = past_lost (suc zeros) gone rest none
+past_lost zeros (true ∷ gone) rest none = grind (arith, past_lost 0 gone rest)
 
 pub lost_bits_do_not_matter : LostBitsDoNotMatter
-lost_bits_do_not_matter Mh lost rest other none =
-    ap (option_map (λ (c : List Bool). end_of_line ++ c)) (past_lost 0 lost rest none)
-lost_bits_do_not_matter Mr lost rest other none =
-    ap (option_map (λ (c : List Bool). end_of_line ++ c)) (past_lost 0 lost rest none)
-lost_bits_do_not_matter Mmr lost rest other none = absurd (other refl)
+lost_bits_do_not_matter Mh gone rest other none =
+    ap (option_map (λ (c : List Bool). end_of_line ++ c)) (past_lost 0 gone rest none)
+lost_bits_do_not_matter Mr gone rest other none =
+    ap (option_map (λ (c : List Bool). end_of_line ++ c)) (past_lost 0 gone rest none)
+lost_bits_do_not_matter Mmr gone rest other none = absurd (other refl)

@@ -13,9 +13,9 @@ use Rattle.fax_page.specs.Salvage.{BeginsTwoDimensional, IsSoughtFrom, after_eol
 use Rattle.fax_page.specs.code.Starts.{IsStarted, IsStartFault}
 use Rattle.fax_page.specs.declared.StripFault.TheVariants.{DataEnds, MissingEol}
 use Rattle.fax_page.specs.code.Salvage.{IsAmong, IsFirstEol, IsNextEol, IsPassedBy}
-use Rattle.fax_page.proofs.BegunLemmas.{start_is, fault_is, started}
+use Rattle.fax_page.proofs.BegunLemmas.{fault_is, one_start, start_has_no_fault, start_is, started}
 use Rattle.fax_page.proofs.RestLemmas.{start_among}
-use Rattle.fax_page.proofs.StartLaws.{eol_is_not_below, below_is_not_zeros, one_start, start_has_no_fault}
+use Rattle.fax_page.proofs.StartLaws.{eol_is_not_below, below_is_not_zeros}
 
 -- eleven zeros or more are not fewer
 pub not_below : (b : List Bool) (zeros : ℕ) → HasZerosAhead b zeros → nat_lt zeros 11 ≡ false → BeginsBelowEleven b → ⊥
@@ -116,10 +116,6 @@ module _ (source at : Source) (zeros : ℕ) (passed : IsPassedBy source at) (ahe
         at_is = grind (arith, new_is, at_left, at_place, drop-drop);
         no_eol = none ∙ ap (after_eol 0) (sym rest ∙ sym (ap (λ (s : Source). s.left) new_is));
       }
-
--- before the first bit
-pub none_passed : (source : Source) → IsPassedBy source source
-none_passed source = record { before = 0; within = omega arith; at_is = grind arith; no_eol = refl }
 
 -- no EOL is left
 pub none_left : (source at : Source) → IsPassedBy source at → IsAllZeros at.left → after_eol 0 source.left ≡ None

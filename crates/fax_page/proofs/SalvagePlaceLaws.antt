@@ -2,18 +2,17 @@
 use Rattle.std.proofs.Common.{◌≡◌, ℕ, zero, suc, ◌+◌, ◌-◌, ◌<◌, ◌≤◌, List, [], ◌∷◌, ◌++◌, length, drop, replicate}
 use Rattle.std.proofs.Common.{Bool, true, false, Option, Some, None, refl, ap, sym, ◌∙◌, arith, inl, inr, subst}
 use Rattle.std.proofs.lemmas.List.{length-drop, drop-drop}
-use Rattle.std.specs.Prelude.{◌⊎◌, nat_le, if◌then◌else◌, option_map, MatchOption}
+use Rattle.std.specs.Prelude.{◌⊎◌, option_map, MatchOption}
 use Rattle.std.proofs.lemmas.Bool.{cases_lt}
 use Rattle.std.proofs.lemmas.Bool.Decides.{nat_tests}
 use Rattle.fax_bits.specs.declared.Colour.{Colour}
-use Rattle.fax_page.specs.declared.salvage.Salvaged.{Salvaged}
 use Rattle.fax_page.specs.declared.salvage.Salvaged.TheVariants.{Found, Lost, Unended}
 use Rattle.fax_page.specs.Lines.{Coding, Mh, Mr, Mmr, StripFault, StripForm, white_row}
 use Rattle.fax_page.specs.Strip.{end_of_line}
 use Rattle.fax_page.specs.Salvage.{IsSoughtFrom, after_eol, next_due}
 use Rattle.fax_page.specs.laws.Salvage.{DueRowsStandInStrips, IsRestOf}
 use Rattle.fax_page.specs.laws.Strips.{ReadsLinesOneWay}
-use Rattle.fax_page.specs.views.Salvage.{FindsRow, IsAfterLost, IsSalvageStep, SalvageState}
+use Rattle.fax_page.specs.views.Salvage.{IsAfterLost, SalvageState}
 use Rattle.fax_page.proofs.BegunLemmas.{started}
 use Rattle.fax_page.proofs.RestLemmas.{start_among}
 use Rattle.fax_page.proofs.SalvageLemmas.{drop_zeros}

@@ -6,3 +6,4 @@ pub mod LeftUncounted
 pub mod code
 pub mod laws
 pub mod views
+pub mod reads

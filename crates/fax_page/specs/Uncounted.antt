@@ -1,7 +1,7 @@
 -- How rows end that nobody counted: data of T.4 and T.6 with no file around them come without a
 -- number of rows.
 -- A definition without a citation is this project's profile.
-use Rattle.std.specs.Prelude.{◌≡◌, ℕ, ◌<◌, Bool, List, length, Option, Some, None}
+use Rattle.std.specs.Prelude.{◌≡◌, ℕ, ◌<◌, Bool, List, ◌++◌, length, Option, Some, None}
 use Rattle.fax_bits.specs.Bits.{IsAllZeros}
 use Rattle.fax_rows.specs.Rows.{Colour}
 use Rattle.fax_page.specs.Lines.{Coding, StripFault, StripForm, white_row}
@@ -16,6 +16,10 @@ uncounted form = record form { rows = most_rows }
 -- after so many rows, and at least one, nothing is left but fill (T.4, section 4.1.3)
 abbrev pub HasDataEnd : ℕ → List Bool → Type 0
 HasDataEnd row left = (0 < row) × IsAllZeros left
+
+-- the bits begin with an end mark, or may where more follow
+abbrev pub MayHaveEndMark : Coding → List Bool → Type 0
+MayHaveEndMark coding b = (more : List Bool) × HasEndMark coding (b ++ more)
 
 -- so many rows end so, by what is left where the next one is due, and by the fault that is in its
 -- way: with an end mark (T.4, sections 4.1.4 and 4.2.4; T.6, End-of-facsimile block), or with the

@@ -4,11 +4,25 @@ ghost use Rattle.fax_bits.specs.declared.Colour.{Colour};
 ghost use Rattle.fax_page.specs.declared.StripForm.{StripForm};
 ghost use Rattle.fax_page.specs.laws.Strips as Law;
 ghost use Rattle.fax_page.specs.laws.Following as Following;
+ghost use Rattle.fax_page.specs.laws.Graphs as Graphs;
 ghost use Rattle.fax_page.specs.laws.LeftUncounted.{LeavesUncounted};
 ghost use Rattle.fax_page.specs.laws.Reader.{ReadsRowByRow, ReadsOn};
 ghost use Rattle.fax_page.specs.laws.Salvage as Salvage;
 ghost use Rattle.fax_page.specs.laws.Uncounted as Uncounted;
 ghost use Rattle.fax_page.specs.laws.Writer.{WritesRowByRow};
+
+/// A row of a strip, or the fault in its way, and the rows of a strip, are what a function reads of
+/// its bits, in any coding.
+pub fn strips_are_read_by_functions()
+    ensures { Graphs.StripsAreReadByFunctions }
+{
+    fax_rows::laws::rows_are_read_by_functions();
+}
+
+/// How rows end that nobody counted is what a function says, in any coding.
+pub fn ends_are_told_by_a_function()
+    ensures { Graphs.EndsAreToldByAFunction }
+{}
 
 /// Bits are read in one way as a row of a strip, in any coding: they begin with one row and one
 /// rest follows it, or one fault is in its way, never both. The rest is the end of the bits, and
@@ -17,8 +31,7 @@ pub fn lines_are_read_in_one_way()
     ensures { (form : StripForm) (i : ℕ) (reference : List Colour)
         → Law.ReadsLinesOneWay form i reference }
 {
-    fax_rows::laws::rows_are_read_in_one_way();
-    fax_rows::laws::rows_over_a_reference_are_read_in_one_way();
+    strips_are_read_by_functions();
     fax_rows::laws::rows_have_their_width();
 }
 
@@ -26,14 +39,14 @@ pub fn lines_are_read_in_one_way()
 pub fn strips_are_read_in_one_way()
     ensures { (form : StripForm) → Law.ReadsStripsOneWay form }
 {
-    lines_are_read_in_one_way();
+    strips_are_read_by_functions();
 }
 
 /// A strip is noted in one way: of any bits that have all its rows there is one set of notes.
 pub fn strips_are_noted_in_one_way()
     ensures { Law.StripsAreNotedInOneWay }
 {
-    lines_are_read_in_one_way();
+    strips_are_read_by_functions();
 }
 
 /// An aligned EOL ends on a byte boundary of its strip, after as little fill as does so (T.4,
@@ -92,7 +105,8 @@ pub fn strips_are_written_row_by_row()
 pub fn uncounted_rows_are_read_in_one_way()
     ensures { (form : StripForm) → Uncounted.ReadsUncountedOneWay form }
 {
-    lines_are_read_in_one_way();
+    strips_are_read_by_functions();
+    ends_are_told_by_a_function();
 }
 
 /// Rows that nobody counted, however they end, are all rows of a strip of as many, and no fault.
@@ -136,7 +150,7 @@ pub fn ends_stay_whatever_follows()
 pub fn strips_are_salvaged_in_one_way()
     ensures { Salvage.SalvagesStripsOneWay }
 {
-    lines_are_read_in_one_way();
+    strips_are_read_by_functions();
 }
 
 /// The rows that are read before a fault are found: all of them, or where an EOL is missing after
@@ -144,7 +158,7 @@ pub fn strips_are_salvaged_in_one_way()
 pub fn rows_before_a_fault_are_found()
     ensures { Salvage.FindsRowsBeforeFaults }
 {
-    lines_are_read_in_one_way();
+    strips_are_salvaged_in_one_way();
 }
 
 /// In MH and MR the row after a lost one is due at the next EOL, whatever bits that hold no EOL stand
@@ -171,6 +185,14 @@ pub fn whole_strips_are_found()
 pub fn uncounted_rows_are_left_in_one_way()
     ensures { LeavesUncounted }
 {
-    lines_are_read_in_one_way();
+    strips_are_read_by_functions();
     strips_are_salvaged_in_one_way();
+}
+
+/// What is left of a damaged strip, and of damaged rows that nobody counted, with their end, is what
+/// functions read of its bits (T.4, sections 4.1.2 and 4.2.2; T.6, section 2.2.1).
+pub fn damaged_strips_are_read_by_functions()
+    ensures { Graphs.DamagedStripsAreReadByFunctions }
+{
+    strips_are_read_by_functions();
 }

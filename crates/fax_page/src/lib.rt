@@ -16,7 +16,7 @@ pub use notes::{NotesFault, NotesReader, StripNotes, UncountedNotes, strip_notes
 pub use reader::StripReader;
 pub use salvage::{SalvageReader, Salvaged};
 use thiserror::Error;
-pub use uncounted::end_of_rows;
+pub use uncounted::{end_of_rows, may_be_end_mark};
 pub use uncounted_salvage::UncountedSalvage;
 pub use writer::StripWriter;
 
@@ -36,6 +36,8 @@ pub enum Coding {
 }
 
 /// How a row is coded (T.4, section 4.2.2).
+// In MR a tag bit says it, and the rest of a row's reading goes by it alone. It is public since the
+// definitions name it; no public call takes it.
 #[derive(Clone, Copy, Debug, PartialEq, Eq)]
 pub enum Dimension {
     /// One-dimensional coding (T.4, section 4.1.1).

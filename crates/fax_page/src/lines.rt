@@ -92,6 +92,9 @@ fn check_first_code(source: &BitSource) -> Result<(), StripFault>
     ensures ok { OnOk result (Lines.BeginsBelowEleven source.now.left) }
     ensures err { IfErr result (λ fault. IsFirstCodeFault source.now.left fault) }
 {
+    // In MH the search for the EOL comes before this: so a strip without a single 1 where a row is
+    // due is `DataEnds` there, with eleven zeros or more too. In MMR no EOL is sought, and eleven
+    // zeros or more are `EndMarker`.
     // Eleven zeros settle it, and what follows them is not looked at.
     if source.again().take(0, EOL_ZEROS as u32) {
         return Err(StripFault::EndMarker);
@@ -167,6 +170,7 @@ pub(crate) fn line_fault(mut start: BitSource, form: StripForm, i: u32, why: Lin
     ensures { (reference : List Colour) → IsLineStop form i reference start.entry.left why
         → Lines.IsCause form i reference start.entry.left result }
 {
+    // A copy of the source there would be made at each row.
     match why {
         LineStop::Start(fault) => fault,
         LineStop::Codes(cause) => match read_start(&mut start, form.coding, i) {

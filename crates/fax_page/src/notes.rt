@@ -18,15 +18,16 @@ use std::mem::swap;
 use thiserror::Error;
 
 /// How many EOLs a return to control has (T.4, section 4.1.4).
-const RETURN_EOLS: u32 = 6;
+pub(crate) const RETURN_EOLS: u32 = 6;
 
 /// The end of a facsimile block as a number: two EOLs (T.6, End-of-facsimile block).
-const END_OF_BLOCK: u32 = 0x1001;
+pub(crate) const END_OF_BLOCK: u32 = 0x1001;
 
 /// How many bits the end of a facsimile block has.
-const END_OF_BLOCK_BITS: u32 = 24;
+pub(crate) const END_OF_BLOCK_BITS: u32 = 24;
 
 /// What is worth a note in a strip of which all rows can be read.
+// Its fields are words, as flags are; the numbers that are printed belong to `NoteKind`.
 #[derive(Clone, Copy, Debug, PartialEq, Eq)]
 pub struct StripNotes {
     /// The strip is MMR, and no end of a facsimile block stands after its last row (T.6,
@@ -136,6 +137,9 @@ impl<'a> NotedStrip<'a> {
         ensures same_reference { rows.new.reference ≡ rows.old.reference }
         ensures same_form { self.new.form ≡ self.old.form }
     {
+        // The readers answer whether each step was T.4's choice; at any doubt the row is written
+        // again, in a sink that is emptied for each row, and compared. That a row begins so is that
+        // it is coded so, since what is written is read as nothing else (a law of `fax_rows`).
         fax_rows::laws::one_dimensional_rows_are_read_as_nothing_else();
         fax_rows::laws::two_dimensional_rows_are_read_as_nothing_else();
         let codes = self.source.again();
@@ -261,6 +265,8 @@ fn after_return_to_control<'a>(source: &BitSource<'a>, coding: Coding) -> Option
 pub(crate) fn after_end<'a>(source: &BitSource<'a>, coding: Coding) -> Option<BitSource<'a>>
     ensures { Code.IsAfterMark (Spec.IsEndMark coding source.now.left) result }
 {
+    // The end of a facsimile block has no fill: with a zero before it a strip of MMR has none, and
+    // data.
     match coding {
         Coding::Mh | Coding::Mr => after_return_to_control(source, coding),
         Coding::Mmr => {
@@ -278,6 +284,8 @@ pub(crate) fn after_end<'a>(source: &BitSource<'a>, coding: Coding) -> Option<Bi
 fn notes_after(source: &BitSource, coding: Coding, not_t4_choice: bool) -> StripNotes
     ensures { Code.AreNotesAfter coding source.now.left not_t4_choice result }
 {
+    // A lone EOL after the last row is data after the end: no return to control stands there. Six
+    // EOLs after a strip of MMR are the end of its block, two EOLs, and then data.
     let (ended, data_after_end) = match after_end(source, coding) {
         Some(after) => (true, after.zeros().is_some()),
         None => (false, source.zeros().is_some()),

@@ -3,7 +3,7 @@ ghost use Rattle.std.specs.Prelude.{◌≡◌, ◌*◌, ◌<◌, ◌≤◌, leng
 ghost use Rattle.std.specs.Borrow.{sem};
 
 use crate::lines::{begins_below_eleven, line_fault, next_eol, read_start};
-use crate::turns::RowsInTurn;
+use crate::turns::{RowsInTurn, is_row};
 use crate::uncounted::end_of_rows;
 use crate::{Coding, Dimension, PlaceFault, RowBefore, RowsEnd, StripFault, StripForm};
 use fax_bits::laws::bits_stand_by_place;
@@ -14,6 +14,8 @@ use std::marker::Model;
 /// Reads strips row by row, one strip after another. Contracts see how far a strip is read: its
 /// form, its bytes, the place in bits and the number of the row that is due, how many rows the
 /// reader answered, the row before the one that is due, and the fault that was answered.
+// The place of the row that is due stands apart from the source: after a fault the source stands
+// anywhere, and the reader is as it was but for the fault.
 #[derive(Drop)]
 pub struct StripReader<'a> {
     bytes: &'a [u8],
@@ -108,12 +110,12 @@ impl<'a> StripReader<'a> {
     {
         bits_stand_by_place();
         let place = u64::from(bits);
-        if place > 8 * bytes.len() as u64 {
+        if place > 8 * bytes.len() as u64 || !is_row(before, form.width) {
             return Err(PlaceFault::Outside);
         }
         let mut rows = RowsInTurn::new(alloc, form.width)?;
         if !rows.begin_after(before) {
-            return Err(PlaceFault::Outside);
+            unreachable!();
         }
         let mut source = BitSource::new(bytes, form.order);
         source.skip(place);
@@ -186,6 +188,8 @@ impl<'a> StripReader<'a> {
     pub fn advance(&mut self) -> Result<bool, StripFault>
         ensures { IsAdvance self.old result self.new }
     {
+        // It stands beside `next_row`, which lends the row: the checker proves a lent row through
+        // one layer of crates and not through two, and the walk lends it on.
         bits_stand_by_place();
         if let Some(fault) = self.fault {
             return Err(fault);
@@ -229,6 +233,8 @@ impl<'a> StripReader<'a> {
         ensures row { IfOk result (λ lent. IfSome lent (λ row. IsDue self.old row.now)) }
         ensures* next { sem 𝓛 (EndsAs self.entry (IsNextRow self.old result)) }
     {
+        // The contract says plainly which row is lent (`IsDue`), beside what the reader is once the
+        // row is given back: a caller that goes no further needs no more.
         if self.advance()? {
             Ok(Some(self.rows.reference()))
         } else {
@@ -356,6 +362,8 @@ impl<'a> StripReader<'a> {
     pub fn rows_read(&self) -> u64
         ensures { result ≡ self.now.read }
     {
+        // A row adds one to `row` alone: what was read before is added up where a strip is begun. A
+        // walk adds what was read before its page, and counts itself only what it handed out.
         self.read_before
             .saturating_add(u64::from(self.row - self.begun))
     }

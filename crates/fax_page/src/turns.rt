@@ -12,8 +12,22 @@ use fax_rows::{BitSource, Memory, Row, RowFault};
 use std::alloc::Global;
 use std::marker::Model;
 
+/// Whether some row of this width is the one before a place.
+pub(crate) fn is_row(before: RowBefore, width: u32) -> bool
+    requires some { 0 < width }
+    ensures row { IsTrue result → (row : List Colour) × IsBefore width before.entry row }
+    ensures none { result ≡ false → (row : List Colour) → IsBefore width before.entry row → ⊥ }
+{
+    match before {
+        RowBefore::White => true,
+        RowBefore::Runs(runs) => Row::has_runs(runs, width),
+    }
+}
+
 /// Two rows of one width that take turns: one is the reference, and the next row is read to the
 /// other, which is the reference then. Neither is moved. Contracts see the reference.
+// There are two in MH too, where the row before is not looked at: one form of reader for all
+// codings, at the price of a second row in memory. Which of them is the reference is one bit.
 #[derive(Drop)]
 pub(crate) struct RowsInTurn {
     first: Row,

@@ -1,8 +1,11 @@
 //! How rows end that nobody counted.
-ghost use Rattle.std.specs.Prelude.{◌≡◌, false, IsTrue};
+ghost use Rattle.std.specs.Prelude.{◌≡◌, ◌≢◌, false, IsTrue};
+ghost use Rattle.fax_page.specs.declared.Coding.TheVariants.{Mmr};
 ghost use Rattle.fax_page.specs.Uncounted as Spec;
+ghost use Rattle.fax_page.specs.code.Notes as Code;
 
-use crate::notes::after_end;
+use crate::lines::read_eol;
+use crate::notes::{END_OF_BLOCK, END_OF_BLOCK_BITS, RETURN_EOLS, after_end};
 use crate::{Coding, RowsEnd, StripFault};
 use fax_rows::BitSource;
 
@@ -17,6 +20,75 @@ fn has_data_end(source: &BitSource, rows: u32) -> bool
     match source.zeros() {
         Some(_one) => false,
         None => true,
+    }
+}
+
+/// What stands where an EOL of a return to control is due.
+#[derive(Clone, Copy)]
+enum MarkEol {
+    /// One stands there.
+    Whole,
+    /// Bits that follow may make one.
+    Cut,
+    /// Something else, whatever follows.
+    Other,
+}
+
+/// Goes after an EOL of a return to control, and answers what stands where it is due (T.4, sections
+/// 4.1.4 and 4.2.4).
+fn take_mark_eol(source: &mut BitSource, coding: Coding) -> MarkEol
+    requires with_eols { coding ≢ Mmr }
+    ensures { Code.IsMarkEol coding source.old.left result source.new.left }
+{
+    if let Err(fault) = read_eol(source, false) {
+        return if fault == StripFault::DataEnds {
+            MarkEol::Cut
+        } else {
+            MarkEol::Other
+        };
+    }
+    match coding {
+        Coding::Mh | Coding::Mmr => MarkEol::Whole,
+        Coding::Mr if source.take(1, 1) => MarkEol::Whole,
+        Coding::Mr if source.remaining() == 0 => MarkEol::Cut,
+        Coding::Mr => MarkEol::Other,
+    }
+}
+
+/// Whether a return to control stands at a source, or may where more bits follow (T.4, section
+/// 4.1.4).
+fn may_be_return_to_control(source: &BitSource, coding: Coding) -> bool
+    requires with_eols { coding ≢ Mmr }
+    ensures may { IsTrue result → Code.MayHaveReturn coding source.now.left }
+    ensures never { result ≡ false → Code.MayHaveReturn coding source.now.left → ⊥ }
+{
+    let mut ahead = source.again();
+    for _eol in 0..RETURN_EOLS {
+        match take_mark_eol(&mut ahead, coding) {
+            MarkEol::Whole => {}
+            MarkEol::Cut => return true,
+            MarkEol::Other => return false,
+        }
+    }
+    true
+}
+
+/// Whether an end mark stands at a source, or may where more bits follow (T.4, section 4.1.4; T.6,
+/// End-of-facsimile block).
+#[cold]
+#[inline(never)]
+pub fn may_be_end_mark(source: &BitSource, coding: Coding) -> bool
+    ensures may { IsTrue result → Spec.MayHaveEndMark coding source.now.left }
+    ensures never { result ≡ false → Spec.MayHaveEndMark coding source.now.left → ⊥ }
+{
+    match coding {
+        Coding::Mh | Coding::Mr => may_be_return_to_control(source, coding),
+        Coding::Mmr => {
+            let bits = source.remaining().min(u64::from(END_OF_BLOCK_BITS)) as u32;
+            source
+                .again()
+                .take(END_OF_BLOCK >> (END_OF_BLOCK_BITS - bits), bits)
+        }
     }
 }
 

@@ -36,6 +36,8 @@ fn fill_zeros(aligned: bool, before: u128) -> u32
     ensures exact { result ≡ Coded.fill_zeros aligned before }
     ensures few { result < 8 }
 {
+    // The first EOL of a strip is aligned too, to the strip's own bytes: four zeros stand before
+    // it.
     if aligned {
         let in_byte = (before % 8) as u32;
         (EOL_BITS - in_byte) % 8
@@ -52,6 +54,7 @@ fn put_start(sink: &mut BitSink, form: StripForm, dimension: Dimension) -> Resul
         (Coded.start_bits form.coding form.aligned (length sink.old.bits) dimension) sink.new) }
     ensures same_order { sink.new.order ≡ sink.old.order }
 {
+    // Fill is put with its EOL in one call, so that MMR, which has no EOLs, has no fill.
     let fill = fill_zeros(form.aligned, sink.len());
     match (form.coding, dimension) {
         (Coding::Mh, _) => sink.put(EOL, EOL_BITS + fill),
@@ -118,6 +121,8 @@ fn are_bytes(bytes: &[u8])
 
 /// Writes a strip row by row. Contracts see how far it is written: its form and k, its bits, how
 /// many rows were put, the last of them, and whether memory was refused.
+// The last row is kept in MH too, where no row is coded over another: the contract says the last
+// row, and to keep it costs no more than to write it.
 #[derive(Drop)]
 pub struct StripWriter {
     form: StripForm,

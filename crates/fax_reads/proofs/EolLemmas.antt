@@ -21,9 +21,9 @@ use Rattle.fax_page.specs.declared.Dimension.TheVariants.{OneDimensional, TwoDim
 use Rattle.fax_page.specs.declared.StripForm.{StripForm}
 use Rattle.fax_page.specs.Lines.{BeginsBelowEleven, IsEndOfLine, IsLine, IsRowIn}
 use Rattle.fax_page.specs.Salvage.{after_eol}
-use Rattle.fax_reads.specs.Lines.{after_one, has_few, zeros}
+use Rattle.fax_page.specs.reads.Lines.{after_one, has_few, zeros}
 use Rattle.fax_reads.specs.laws.Eols.{FoundRowsReachToTheNextEol, RowsHoldNoEol}
-use Rattle.fax_reads.proofs.LineGraph.{IsOne, few_below, many_end, zeros_is}
+use Rattle.fax_page.proofs.LineGraph.{IsOne, few_below, many_end, zeros_is}
 
 -- how many zeros stand at the end of bits, after so many zeros, where no EOL is among them
 abbrev zeros_after : ℕ → List Bool → Option ℕ

@@ -4,9 +4,8 @@ use Rattle.std.proofs.Common.{subst}
 use Rattle.std.proofs.Common.{Bool, Option, Some, None, Result, Ok, Err, length-drop}
 use Rattle.std.specs.Prelude.{MatchResult, ◌↔◌, ◌/◌, ◌%◌}
 use Rattle.fax_bits.specs.declared.Colour.{Colour}
-use Rattle.fax_bits.specs.laws.Codes.{AreBitsByPlace, IsOne, ReadsOneWay, ReadsRunsOneWay}
+use Rattle.fax_bits.specs.laws.Codes.{AreBitsByPlace, IsOne}
 use Rattle.fax_bits.specs.Bits.{bits}
-use Rattle.fax_bits.specs.Tables.{modes}
 use Rattle.fax_page.specs.declared.StripFault.{StripFault}
 use Rattle.fax_page.specs.declared.StripForm.{StripForm}
 use Rattle.fax_page.specs.Lines.{IsCause, IsLine}
@@ -25,13 +24,14 @@ use Rattle.fax_walk.proofs.RowLawLemmas.{one_row}
 use Rattle.fax_walk.proofs.TailLawLemmas.{files_have_one_items}
 use Rattle.fax_walk.proofs.InOrderLemmas.{IsOneAnswer, same_answer, two_of}
 use Rattle.fax_walk.proofs.PageLawLemmas.{one_form, one_forms, one_page, page_few}
-use Rattle.fax_reads.specs.Lines.{read_line}
+use Rattle.fax_page.specs.reads.Lines.{read_line}
+use Rattle.fax_page.specs.laws.Graphs.{StripsAreReadByFunctions}
 use Rattle.fax_reads.specs.Files.{AllRead, ChainRead, all_after, page_under, forms_from, read_all, read_chain}
 use Rattle.fax_reads.specs.Files.{read_form, read_forms, read_in_strip}
 use Rattle.fax_reads.specs.Files.{read_page, read_row, read_rows, row_or_end, rows_from}
 use Rattle.fax_reads.specs.laws.Files.{FilesAreReadByFunctions}
 use Rattle.fax_reads.proofs.ChainGraph.{chain_is, chain_of}
-use Rattle.fax_reads.proofs.LineGraph.{line_is}
+use Rattle.fax_rows.proofs.RowLaws.{read_is}
 
 -- one answer that a function gives is the one that is defined, and the other way round
 both_ways : {A : Type 0} {holds : A → Type 0} → IsOneAnswer holds → (read : A) → holds read → (answer : A)
@@ -105,7 +105,7 @@ module _ (chains : FilesHaveOneChain) (file : List ℕ) where
   forms_are p = all_are (IsForm file) (read_form file) form_is (λ p. length file - p) form_falls (length file + 1) p
       (omega arith)
 
-module _ (runs_read : (colour : Colour) → ReadsRunsOneWay colour) (modes_read : ReadsOneWay modes)
+module _ (strips : StripsAreReadByFunctions)
     (by_place : AreBitsByPlace)
     (lines_read : LinesAreRead) where
   -- the row at a place of a strip
@@ -138,7 +138,7 @@ module _ (runs_read : (colour : Colour) → ReadsRunsOneWay colour) (modes_read 
     in_bytes : IsInStrip form at (Some bytes) (read_in_strip form at (Some bytes))
     in_bytes =
         by_line (read_line strip i inner.reference (drop inner.bits all))
-        (line_is runs_read modes_read strip i inner.reference (drop inner.bits all))
+        (read_is (strips.line strip i inner.reference) (drop inner.bits all))
 
   in_strip_is : (form : PageForm) (at : RowPlace) (found : Option (List ℕ))
       → IsInStrip form at found (read_in_strip form at found)

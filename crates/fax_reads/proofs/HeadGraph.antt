@@ -12,8 +12,8 @@ use Rattle.fax_files.specs.code.Pbm as Code
 use Rattle.fax_files.specs.code.Pbm.{begins_piece, has_digit, is_digit, is_line_end}
 use Rattle.fax_files.proofs.PbmGapLemmas.{gap_is_read, gap_passed, gap_has_no_digit, white_is_no_digit}
 use Rattle.fax_files.proofs.PbmNumberLemmas.{number_begins}
-use Rattle.fax_reads.proofs.RunGraph.{bound, goes}
-use Rattle.fax_reads.specs.Codes.{◌>>=◌}
+use Rattle.fax_rows.proofs.RunGraph.{bound, goes}
+use Rattle.fax_rows.specs.reads.Codes.{◌>>=◌}
 use Rattle.fax_reads.specs.Images.{after_magic, after_pieces, after_gap, read_digits, read_number, after_space}
 use Rattle.fax_reads.specs.Images.{HeadRead, read_head}
 

@@ -12,11 +12,12 @@ use Rattle.fax_files.specs.declared.pbm.PbmFault.TheVariants.{BadHeader, OutOfLi
 use Rattle.fax_files.specs.Pbm.{Image, IsHead, IsImage, IsImageFault, AreImages, is_within_limits, raster_rows}
 use Rattle.fax_files.specs.laws.Pbm.{ImagesAreReadInOneWay}
 use Rattle.fax_files.proofs.PbmHeadLemmas.{length-take_of}
-use Rattle.fax_reads.specs.Codes.{◌>>=◌}
+use Rattle.fax_rows.specs.reads.Codes.{◌>>=◌}
 use Rattle.fax_reads.specs.Images.{HeadRead, ImagesRead, read_head, read_raster, read_image, images_after, images_from}
 use Rattle.fax_reads.specs.Images.{read_images}
 use Rattle.fax_reads.specs.laws.Images.{ImagesAreReadByFunctions}
 use Rattle.fax_reads.proofs.HeadGraph.{head_is, head_of, head_bad}
+use Rattle.fax_walk.proofs.ConversionLemmas.{image_is_long}
 
 below : (a b : ℕ) → nat_lt a b ≡ true → a < b
 below a b is = grind (arith, nat_tests)
@@ -132,22 +133,12 @@ image_at bytes image rest is = subst (λ (r : Result (Image × List ℕ) PbmFaul
 fault_at : (bytes : List ℕ) (fault : PbmFault) → read_image bytes ≡ Err fault → IsImageFault bytes fault
 fault_at bytes fault is = subst (λ (r : Result (Image × List ℕ) PbmFault). IsRead bytes r) is (image_is bytes)
 
--- what follows an image is shorter
-head_falls : (bytes : List ℕ) (width height : ℕ) (rest : List ℕ) → IsHead bytes width height rest
-    → length rest < length bytes
-head_falls bytes width height rest head = grind (arith, length-append)
-
-image_falls : (bytes : List ℕ) (image : Image) (rest : List ℕ) → IsImage bytes image rest
-    → length rest < length bytes
-image_falls bytes image rest is =
-    omega (arith, head_falls bytes image.width is.height (is.raster ++ rest) is.head, length-append is.raster rest)
-
 by_image : (from : List ℕ → ImagesRead) (bytes : List ℕ) → bytes ≢ [] → (r : Result (Image × List ℕ) PbmFault)
     → IsRead bytes r
     → ((rest : List ℕ) → length rest < length bytes → AreImages rest (from rest).images (from rest).end)
     → AreImages bytes (images_after from r).images (images_after from r).end
 by_image from bytes some (Err fault) is more = inr (fault, some, is, refl)
-by_image from bytes some (Ok (image, rest)) is more = (rest, is, more rest (image_falls bytes image rest is))
+by_image from bytes some (Ok (image, rest)) is more = (rest, is, more rest (image_is_long bytes image rest is))
 
 images_are : (limit : ℕ) (bytes : List ℕ) → length bytes ≤ limit
     → AreImages bytes (images_from limit bytes).images (images_from limit bytes).end

@@ -1,11 +1,4 @@
-mod CodeGraph
 mod ExampleLemmas
-mod GraphLaws
-mod LineGraph
-mod RunGraph
-mod StepGraph
-mod StripGraph
-mod EndGraph
 mod ChainGraph
 mod FileGraph
 mod TailGraph
@@ -19,8 +12,6 @@ mod ImageGraph
 mod ImageExampleLemmas
 pub mod SampleExampleLemmas
 pub mod CodedExampleLemmas
-mod SalvageGraph
-mod LeftUncountedGraph
 mod SalvageFileGraph
 pub mod SalvageExampleLemmas
 pub mod EolLemmas

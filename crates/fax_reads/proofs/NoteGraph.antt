@@ -5,9 +5,7 @@ use Rattle.std.proofs.Common.{Option, Some, None, Ok}
 use Rattle.std.specs.Prelude.{MatchOption, is_some, not, ◌&&◌, ◌||◌, unwrap_or}
 use Rattle.std.specs.List.{Contains}
 use Rattle.fax_bits.specs.declared.Colour.{Colour}
-use Rattle.fax_bits.specs.laws.Codes.{ReadsOneWay, ReadsRunsOneWay}
 use Rattle.fax_bits.specs.Bits.{BeginsWith}
-use Rattle.fax_bits.specs.Tables.{modes}
 use Rattle.fax_page.specs.declared.Coding.{Coding}
 use Rattle.fax_page.specs.declared.Coding.TheVariants.{Mh, Mr, Mmr}
 use Rattle.fax_page.specs.declared.StripForm.{StripForm}
@@ -15,13 +13,14 @@ use Rattle.fax_page.specs.declared.StripFault.{StripFault}
 use Rattle.fax_page.specs.Lines.{IsLine, white_row}
 use Rattle.fax_page.specs.Strip.{AreLines, HasEndMark, HasOtherChoice, IsEndMark, IsNotedAs}
 use Rattle.fax_page.specs.Strip.{row_bits}
-use Rattle.fax_reads.specs.Codes.{after_front}
-use Rattle.fax_reads.specs.Lines.{after_one, read_start}
-use Rattle.fax_reads.specs.Uncounted.{after_mark}
+use Rattle.fax_rows.specs.reads.Codes.{after_front}
+use Rattle.fax_page.specs.reads.Lines.{after_one, read_start}
+use Rattle.fax_page.specs.reads.Uncounted.{after_mark}
+use Rattle.fax_page.specs.laws.Graphs.{StripsAreReadByFunctions}
 use Rattle.fax_reads.specs.Reports.{has_other_choice, is_all, is_mmr, is_other, strip_notes}
-use Rattle.fax_reads.proofs.CodeGraph.{front_is}
-use Rattle.fax_reads.proofs.EndGraph.{IsAfterMark, has_mark, mark_is}
-use Rattle.fax_reads.proofs.LineGraph.{line_of, start_of}
+use Rattle.fax_rows.proofs.CodeGraph.{front_is}
+use Rattle.fax_page.proofs.EndGraph.{IsAfterMark, has_mark, mark_is}
+use Rattle.fax_page.proofs.LineGraph.{start_of}
 
 -- what stands after the end mark
 after_end : (coding : Coding) (b : List Bool) (r : Option (List Bool)) → IsAfterMark coding b r
@@ -78,7 +77,7 @@ differ front b other = by_test (is_all (after_front front b)) refl
 alike : (front b : List Bool) → b ≡ front → after_front front b ≡ Some []
 alike front b same = ap (after_front front) same ∙ all_of front
 
-module _ (runs_read : (colour : Colour) → ReadsRunsOneWay colour) (modes_read : ReadsOneWay modes) where
+module _ (strips : StripsAreReadByFunctions) where
   -- a choice that is defined to be other is said to be
   abbrev tested : StripForm → ℕ → List Colour → List Colour → List (List Colour) → List Bool → List Bool → List Bool
       → Bool
@@ -92,7 +91,7 @@ module _ (runs_read : (colour : Colour) → ReadsRunsOneWay colour) (modes_read 
   test_is form i reference b row rows rest line =
       let more : List Bool → Bool = λ left. has_other_choice form (i + 1) row left rows in
       ap (is_other reference row more (read_start form.coding i b))
-      (line_of runs_read modes_read form i reference b row rest line)
+      (((strips.line form i reference).answer b row rest).0 line)
       ∙ ap (λ start. is_other reference row more start (Ok (row, rest)))
       (start_of form.coding i b (Ok (line.dimension, line.codes)) line.start)
 

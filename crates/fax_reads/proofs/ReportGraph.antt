@@ -4,9 +4,8 @@ use Rattle.std.proofs.Common.{sym, ◌∙◌, subst, Bool, true, false, Option, 
 use Rattle.std.specs.Prelude.{◌==◌, flat_map, if◌then◌else◌, nat_lt}
 use Rattle.std.proofs.lemmas.Bool.Decides.{nat_tests}
 use Rattle.fax_bits.specs.declared.Colour.{Colour}
-use Rattle.fax_bits.specs.laws.Codes.{AreBitsByPlace, ReadsOneWay, ReadsRunsOneWay}
+use Rattle.fax_bits.specs.laws.Codes.{AreBitsByPlace}
 use Rattle.fax_bits.specs.Bits.{bits}
-use Rattle.fax_bits.specs.Tables.{modes}
 use Rattle.fax_page.specs.declared.StripFault.{StripFault}
 use Rattle.fax_page.specs.declared.notes.StripNotes.{StripNotes}
 use Rattle.fax_page.specs.Lines.{white_row}
@@ -34,7 +33,8 @@ use Rattle.fax_walk.proofs.RowLawLemmas.{LinesAreRead, any_row, same_page, whole
 use Rattle.fax_walk.proofs.StripPlaceLemmas.{in_strip, strip_count}
 use Rattle.fax_walk.proofs.StripRowLemmas.{row_at, strip_rows}
 use Rattle.fax_walk.proofs.TailLawLemmas.{files_have_one_items}
-use Rattle.fax_reads.specs.Lines.{StripRead, read_strip}
+use Rattle.fax_page.specs.reads.Lines.{StripRead, read_strip}
+use Rattle.fax_page.specs.laws.Graphs.{StripsAreReadByFunctions}
 use Rattle.fax_reads.specs.Files.{all_after, read_all, read_rows}
 use Rattle.fax_reads.specs.Reports.{ReportRead, fault_of, noted_by, noted_in, noted_on, pages_to, read_noted}
 use Rattle.fax_reads.specs.Reports.{read_notes, read_report, strip_notes}
@@ -42,19 +42,18 @@ use Rattle.fax_reads.specs.laws.Reports.{ReportsAreReadByAFunction, parts_of}
 use Rattle.fax_reads.proofs.ChainGraph.{chain_of}
 use Rattle.fax_reads.proofs.FileGraph.{on_page, rows_are}
 use Rattle.fax_reads.proofs.NoteGraph.{notes_are}
-use Rattle.fax_reads.proofs.StripGraph.{lines_are, lines_of}
 
 abbrev Next : Type 0
 Next = ℕ × Option ℕ
 
-module _ (runs_read : (colour : Colour) → ReadsRunsOneWay colour) (modes_read : ReadsOneWay modes) where
+module _ (strips : StripsAreReadByFunctions) where
   -- what is noted of a strip
   by_end : (form : PageForm) (p s : ℕ) (bytes : List ℕ) (rows : List (List Colour)) (left : List Bool)
       (end : Option StripFault)
       → AreLines (strip_form form s) 0 (white_row form.width) (bits form.order bytes) rows end left
       → IsStripNoted form p s (Some bytes) (noted_by form p s (bits form.order bytes) rows left end)
   by_end form p s bytes rows left None lines =
-      (rows, _, notes_are runs_read modes_read (strip_form form s) (bits form.order bytes) rows left lines, refl, refl)
+      (rows, _, notes_are strips (strip_form form s) (bits form.order bytes) rows left lines, refl, refl)
   by_end form p s bytes rows left (Some fault) lines = (rows, fault, left, lines, refl)
 
   in_strip_is : (form : PageForm) (p s : ℕ) (found : Option (List ℕ))
@@ -65,7 +64,7 @@ module _ (runs_read : (colour : Colour) → ReadsRunsOneWay colour) (modes_read 
       let b = bits form.order bytes in
       let read = read_strip strip b in
       by_end form p s bytes read.rows read.left read.end
-      (lines_are runs_read modes_read strip.rows strip 0 (white_row strip.width) b (omega arith))
+      ((strips.strip strip b read.rows read.end read.left).1 refl)
 
   module _ (chains : FilesHaveOneChain) (file : List ℕ) where
     noted_is : (at : Next) → IsNoted file at (read_noted file at)
@@ -298,14 +297,14 @@ end_is chains file items notes Proper are noted =
 end_is chains file items notes (Fault p r cause) are noted = (refl, refl)
 end_is chains file items notes Outside are noted = absurd (never_outside chains file items are)
 
-module _ (runs_read : (colour : Colour) → ReadsRunsOneWay colour) (modes_read : ReadsOneWay modes)
+module _ (strips : StripsAreReadByFunctions)
     (by_place : AreBitsByPlace) (lines_read : LinesAreRead) (chains : FilesHaveOneChain) (forms : FormsAreWhole) where
   report_is : (file : List ℕ) (report : Report) → read_report file ≡ parts_of report → IsReport file report
   report_is file report e =
       let all = read_rows file in
       let notes = read_notes file in
-      let are = rows_are runs_read modes_read by_place lines_read chains forms file (first_at 0 0) in
-      let noted = all_are chains forms file (noted_is runs_read modes_read chains file) in
+      let are = rows_are strips by_place lines_read chains forms file (first_at 0 0) in
+      let noted = all_are chains forms file (noted_is strips chains file) in
       let found = agree by_place lines_read chains forms file (0, None) notes.items notes.end noted in
       let same = two_of (files_have_one_items by_place lines_read chains forms file) all.items found.0 all.end notes.end
       are found.1 in
@@ -333,18 +332,16 @@ module _ (runs_read : (colour : Colour) → ReadsRunsOneWay colour) (modes_read 
     strip_of form p s (Some bytes) (goes_on notes to) (rows, found, noted, is, to_is) =
         let strip = strip_form form s in
         let b = bits form.order bytes in
-        let read = lines_of runs_read modes_read strip.rows strip 0 (white_row strip.width) b rows None noted.left
-        (omega arith) noted.lines in
+        let read = (strips.strip strip b rows None noted.left).0 noted.lines in
         let same = once strip b rows rows (strip_notes strip b rows noted.left) found
-        (notes_are runs_read modes_read strip b rows noted.left noted.lines) noted in
+        (notes_are strips strip b rows noted.left noted.lines) noted in
         let after : Next = if s + 1 == form.strips then (p + 1, None) else (p, Some (s + 1)) in
         ap (λ (all : StripRead). noted_by form p s b all.rows all.left all.end) read
         ∙ ap (λ (of : StripNotes). goes_on (notes_on_strip p s of) after) same ∙ rw (is, to_is) refl
     strip_of form p s (Some bytes) (ends_as end) (rows, fault, left, lines, is) =
         let strip = strip_form form s in
         let b = bits form.order bytes in
-        let read = lines_of runs_read modes_read strip.rows strip 0 (white_row strip.width) b rows (Some fault) left
-        (omega arith) lines in
+        let read = (strips.strip strip b rows (Some fault) left).0 lines in
         ap (λ (all : StripRead). noted_by form p s b all.rows all.left all.end) read ∙ rw is refl
 
     single_strip : (form : PageForm) (p s : ℕ) (found : Option (List ℕ)) → IsSingle (IsStripNoted form p s found)
@@ -372,9 +369,9 @@ module _ (runs_read : (colour : Colour) → ReadsRunsOneWay colour) (modes_read 
         let all = read_rows file in
         let notes = read_notes file in
         let rows = two_of (files_have_one_items by_place lines_read chains forms file) all.items is.items all.end is.end
-        (rows_are runs_read modes_read by_place lines_read chains forms file (first_at 0 0)) is.read in
+        (rows_are strips by_place lines_read chains forms file (first_at 0 0)) is.read in
         let noted = single_from (IsNoted file) (single_noted file) (0, None) notes.items is.notes notes.end is.end
-        (all_are chains forms file (noted_is runs_read modes_read chains file)) is.noted in
+        (all_are chains forms file (noted_is strips chains file)) is.noted in
         let ends = end_of file is.end report.pages report.fault is.end_is in
         parts (ap (flat_map (λ (own : List Note). own)) noted.0 ∙ sym is.notes_are)
         (ap (pages_to file) rows.1 ∙ ends.0)

@@ -12,8 +12,9 @@ use Rattle.fax_bits.specs.declared.FillOrder.TheVariants.{MsbFirst}
 use Rattle.fax_page.specs.declared.Coding.{Coding}
 use Rattle.fax_page.specs.declared.RowsEnd.{RowsEnd}
 use Rattle.fax_page.specs.Salvage.{SalvagedRow}
+use Rattle.fax_page.specs.laws.Graphs.{DamagedStripsAreReadByFunctions}
 use Rattle.fax_page.specs.Strip.{most_rows}
-use Rattle.fax_reads.specs.LeftUncounted.{salvage_rows_and_end}
+use Rattle.fax_page.specs.reads.Salvage.{salvage_rows_and_end}
 use Rattle.fax_reads.specs.Salvage.{salvage_file}
 use Rattle.fax_reads.specs.laws.Examples.{form}
 use Rattle.fax_reads.specs.laws.Salvage.{SalvagesAreReadByFunctions}
@@ -21,21 +22,21 @@ use Rattle.fax_reads.specs.laws.SalvageExamples.{AreSalvagesRead, HasLeft, HasLe
 
 has : SalvagesAreReadByFunctions → (file : List ℕ) (items : List LeftItem) → salvage_file file ≡ items
     → HasLeft file items
-has read file items same = record { are = (read.file file items).1 same }
+has read file items same = record { are = (read file items).1 same }
 
-has_uncounted : SalvagesAreReadByFunctions → (coding : Coding) (bytes : List ℕ) (rows : List SalvagedRow)
+has_uncounted : DamagedStripsAreReadByFunctions → (coding : Coding) (bytes : List ℕ) (rows : List SalvagedRow)
     (end : RowsEnd)
     → salvage_rows_and_end (form coding 8 most_rows) (bits MsbFirst bytes) ≡ (rows, end)
     → HasLeftUncounted coding bytes rows end
 has_uncounted read coding bytes rows end same =
     record { are = (read.uncounted (form coding 8 most_rows) (bits MsbFirst bytes) rows end).1 same }
 
-pub salvages : SalvagesAreReadByFunctions → AreSalvagesRead
+pub salvages : SalvagesAreReadByFunctions → DamagedStripsAreReadByFunctions → AreSalvagesRead
 unfolding bits byte_bits code_bits modes white_runs black_runs white_terminating black_terminating white_make_up
     black_make_up common_make_up first_place next_change b1 number_at header entries_at values_place value_at
     has_integers
     scalar rational_of form_in page strip_bytes bytes_inside field_bytes
-salvages read = record {
+salvages read strips = record {
   whole = has read _ _ refl;
   raw_pbm_by_another_name_is = has read _ _ refl;
   mh_bad_code_between_two_rows_is = has read _ _ refl;
@@ -56,10 +57,10 @@ salvages read = record {
   mh_strip_cut_in_its_third_row_is = has read _ _ refl;
   page_of_width_0_between_two_is = has read _ _ refl;
   uncounted = record {
-    bad_code_between_two_rows = has_uncounted read _ _ _ _ refl;
-    codes_after_the_last_row = has_uncounted read _ _ _ _ refl;
-    return_to_control_after_a_row = has_uncounted read _ _ _ _ refl;
-    row_over_a_lost_one = has_uncounted read _ _ _ _ refl;
-    end_of_a_block = has_uncounted read _ _ _ _ refl;
+    bad_code_between_two_rows = has_uncounted strips _ _ _ _ refl;
+    codes_after_the_last_row = has_uncounted strips _ _ _ _ refl;
+    return_to_control_after_a_row = has_uncounted strips _ _ _ _ refl;
+    row_over_a_lost_one = has_uncounted strips _ _ _ _ refl;
+    end_of_a_block = has_uncounted strips _ _ _ _ refl;
   };
 }

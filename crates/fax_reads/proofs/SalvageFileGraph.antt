@@ -1,14 +1,8 @@
 -- What functions read of damaged files is what is defined.
-use Rattle.std.proofs.Common.{arith, ◌≡◌, ℕ, zero, suc, ◌+◌, List, [], ◌∷◌, refl, sym, ◌∙◌, subst, None, Result, Ok}
+use Rattle.std.proofs.Common.{arith, ◌≡◌, ℕ, zero, suc, ◌+◌, List, [], ◌∷◌, refl, sym, ◌∙◌, subst, Result, Ok}
 use Rattle.std.proofs.Common.{Err}
-use Rattle.fax_bits.specs.declared.Colour.{Colour}
-use Rattle.fax_bits.specs.laws.Codes.{ReadsOneWay, ReadsRunsOneWay}
 use Rattle.fax_bits.specs.Bits.{bits}
-use Rattle.fax_bits.specs.Tables.{modes}
-use Rattle.fax_page.specs.laws.LeftUncounted.{LeavesUncounted}
-use Rattle.fax_page.specs.laws.Salvage.{SalvagesStripsOneWay}
-use Rattle.fax_page.specs.Lines.{white_row}
-use Rattle.fax_page.specs.Salvage.{IsSalvagedStrip}
+use Rattle.fax_page.specs.laws.Graphs.{DamagedStripsAreReadByFunctions}
 use Rattle.fax_files.specs.declared.Endian.{Endian}
 use Rattle.fax_files.specs.declared.FileFault.{FileFault}
 use Rattle.fax_files.specs.declared.PageForm.{PageForm}
@@ -20,20 +14,19 @@ use Rattle.fax_walk.specs.Salvaged.{ArePagesLeft, AreStripsLeft, IsPageLeftAs, I
 use Rattle.fax_walk.specs.Salvaged.{strip_left}
 use Rattle.fax_walk.specs.laws.Salvaged.{IsSalvagedOneWay}
 use Rattle.fax_reads.specs.Files.{read_chain}
-use Rattle.fax_reads.specs.Salvage.{salvage_file, salvage_page, salvage_page_strip, salvage_pages, salvage_strip}
+use Rattle.fax_page.specs.reads.Salvage.{salvage_strip}
+use Rattle.fax_reads.specs.Salvage.{salvage_file, salvage_page, salvage_page_strip, salvage_pages}
 use Rattle.fax_reads.specs.Salvage.{salvage_strips, salvage_under}
 use Rattle.fax_reads.specs.laws.Salvage.{SalvagesAreReadByFunctions}
 use Rattle.fax_reads.proofs.ChainGraph.{chain_is}
-use Rattle.fax_reads.proofs.LeftUncountedGraph.{uncounted_graph}
-use Rattle.fax_reads.proofs.SalvageGraph.{strip_is}
 
-module _ (runs_read : (colour : Colour) → ReadsRunsOneWay colour) (modes_read : ReadsOneWay modes) (file : List ℕ) where
+module _ (strips : DamagedStripsAreReadByFunctions) (file : List ℕ) where
   page_strip_is : (here : FilePage) (s : ℕ) → IsStripLeft file here s (salvage_page_strip file here s)
   page_strip_is here s =
       let left = strip_left here file s in
       let form = strip_form here.form s in
       let all = bits here.form.order left.0 in
-      (salvage_strip form all, strip_is runs_read modes_read form all, refl)
+      (salvage_strip form all, (strips.strip form all (salvage_strip form all)).1 refl, refl)
 
   strips_are : (n : ℕ) (here : FilePage) (s : ℕ) → s + n ≡ here.form.strips
       → AreStripsLeft file here s (salvage_strips n file here s)
@@ -69,21 +62,11 @@ module _ (runs_read : (colour : Colour) → ReadsRunsOneWay colour) (modes_read 
     pages_are head.endian 0 (read_chain head file).offsets,
   )
 
-module _ (runs_read : (colour : Colour) → ReadsRunsOneWay colour) (modes_read : ReadsOneWay modes) where
-  pub salvages_graph : SalvagesStripsOneWay → LeavesUncounted → FilesHaveOneChain
-      → ((file : List ℕ) → IsSalvagedOneWay file) → SalvagesAreReadByFunctions
-  salvages_graph strips leaves chains files = record {
-    strip = λ form b rows.
-        let is = strip_is runs_read modes_read form b in
-        let one = strips form 0 None (white_row form.width) b (omega arith) in (
-          λ at. one.one (salvage_strip form b) is ∙ sym (one.one rows at),
-          λ same. subst (λ all. IsSalvagedStrip form b all) same is,
-        );
-    uncounted = uncounted_graph runs_read modes_read leaves;
-    file = λ file items.
-        let is = file_is runs_read modes_read file chains (header file) in
-        let one = files file in (
-          λ at. one.one (salvage_file file) is ∙ sym (one.one items at),
-          λ same. subst (λ all. IsSalvaged file all) same is,
-        );
-  }
+module _ (strips : DamagedStripsAreReadByFunctions) where
+  pub salvages_graph : FilesHaveOneChain → ((file : List ℕ) → IsSalvagedOneWay file) → SalvagesAreReadByFunctions
+  salvages_graph chains files file items =
+      let is = file_is strips file chains (header file) in
+      let one = files file in (
+        λ at. one.one (salvage_file file) is ∙ sym (one.one items at),
+        λ same. subst (λ all. IsSalvaged file all) same is,
+      )

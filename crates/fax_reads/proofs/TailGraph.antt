@@ -4,9 +4,8 @@ use Rattle.std.proofs.Common.{Bool, true, false, Option, Some, None, Result, Ok,
 use Rattle.std.specs.Prelude.{MatchResult, if◌then◌else◌}
 use Rattle.std.proofs.lemmas.Bool.Decides.{nat_tests}
 use Rattle.std.proofs.lemmas.Slice.Eq.{bytes_eq-Decides}
-use Rattle.fax_bits.specs.declared.Colour.{Colour}
-use Rattle.fax_bits.specs.laws.Codes.{AreBitsByPlace, ReadsOneWay, ReadsRunsOneWay}
-use Rattle.fax_bits.specs.Tables.{modes}
+use Rattle.fax_bits.specs.laws.Codes.{AreBitsByPlace}
+use Rattle.fax_page.specs.laws.Graphs.{StripsAreReadByFunctions}
 use Rattle.fax_files.specs.laws.Files.{FilesHaveOneChain, FormsAreWhole}
 use Rattle.fax_walk.specs.declared.begun.Begun.{Begun}
 use Rattle.fax_walk.specs.declared.begun.Begun.TheVariants.{At, Inside}
@@ -18,7 +17,7 @@ use Rattle.fax_walk.specs.Items.{IsBegunOn, IsInnerOn, IsRow, IsTailFrom, RowIte
 use Rattle.fax_walk.specs.code.Places.{FitsStrip}
 use Rattle.fax_walk.proofs.RowLawLemmas.{LinesAreRead, one_tail_from}
 use Rattle.fax_walk.proofs.PageLawLemmas.{one_form_tail}
-use Rattle.fax_reads.specs.Codes.{◌>>=◌}
+use Rattle.fax_rows.specs.reads.Codes.{◌>>=◌}
 use Rattle.fax_reads.specs.Files.{read_page, rows_from}
 use Rattle.fax_reads.specs.Tails.{begin_on, first_form, fits_strip, form_tail_from, is_inner_on, read_form_tail}
 use Rattle.fax_reads.specs.Tails.{read_tail, tail_from}
@@ -70,7 +69,7 @@ module _ (chains : FilesHaveOneChain) (file : List ℕ) where
     forms_by (read_page file at >>= first_form at),
   )
 
-module _ (runs_read : (colour : Colour) → ReadsRunsOneWay colour) (modes_read : ReadsOneWay modes)
+module _ (strips : StripsAreReadByFunctions)
     (by_place : AreBitsByPlace)
     (lines_read : LinesAreRead) (chains : FilesHaveOneChain) (forms : FormsAreWhole) where
   module _ (file : List ℕ) where
@@ -81,7 +80,7 @@ module _ (runs_read : (colour : Colour) → ReadsRunsOneWay colour) (modes_read 
     rows_by (Err none) = (refl, refl)
     rows_by (Ok from) = (
       (rows_from file from.0).items,
-      rows_are runs_read modes_read by_place lines_read chains forms file from.0,
+      rows_are strips by_place lines_read chains forms file from.0,
       refl,
     )
 

@@ -20,7 +20,7 @@ use Rattle.fax_walk.specs.declared.end.End.{End}
 use Rattle.fax_walk.specs.declared.end.End.TheVariants.{Proper, Fault, Outside}
 use Rattle.fax_walk.specs.Pages.{FilePage, FormItem, NextItem, goes_on, ends_as, File, Strip}
 use Rattle.fax_walk.specs.Items.{RowItem, RowPlace, first_at, exchanged, before, place_after}
-use Rattle.fax_reads.specs.Lines.{read_line}
+use Rattle.fax_page.specs.reads.Lines.{read_line}
 
 -- the offsets of directories, and the fault that ends them, if any
 pub record ChainRead : Type 0 where

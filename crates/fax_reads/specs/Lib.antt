@@ -1,11 +1,6 @@
-pub mod Codes
-pub mod Rows
-pub mod Lines
-pub mod Uncounted
 pub mod Files
 pub mod Tails
 pub mod Reports
 pub mod Images
 pub mod Salvage
-pub mod LeftUncounted
 pub mod laws

@@ -25,9 +25,9 @@ use Rattle.fax_walk.specs.declared.end.End.TheVariants.{Fault}
 use Rattle.fax_walk.specs.declared.walk.Place.{Place}
 use Rattle.fax_walk.specs.Pages.{FilePage, NextItem, goes_on, ends_as, File, Strip}
 use Rattle.fax_walk.specs.Report.{note_if, notes_on_strip}
-use Rattle.fax_reads.specs.Codes.{after_front}
-use Rattle.fax_reads.specs.Lines.{after_one, read_line, read_start, read_strip}
-use Rattle.fax_reads.specs.Uncounted.{after_mark}
+use Rattle.fax_rows.specs.reads.Codes.{after_front}
+use Rattle.fax_page.specs.reads.Lines.{after_one, read_line, read_start, read_strip}
+use Rattle.fax_page.specs.reads.Uncounted.{after_mark}
 use Rattle.fax_reads.specs.Files.{AllRead, read_all, read_chain, read_page, read_rows}
 
 -- nothing is left

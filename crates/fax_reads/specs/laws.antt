@@ -1,4 +1,3 @@
-pub mod Graphs
 pub mod Examples
 pub mod Files
 pub mod FileExamples

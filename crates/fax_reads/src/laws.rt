@@ -1,5 +1,4 @@
 //! Laws of the functions. These here compute nothing: each has a law as its contract.
-ghost use Rattle.fax_reads.specs.laws.Graphs as Law;
 ghost use Rattle.fax_reads.specs.laws.Examples.{AreRead};
 ghost use Rattle.fax_reads.specs.laws.Files.{FilesAreReadByFunctions, TailsAreReadByFunctions};
 ghost use Rattle.fax_reads.specs.laws.FileExamples.{AreFilesRead};
@@ -14,30 +13,6 @@ ghost use Rattle.fax_reads.specs.laws.Eols.{FoundRowsReachToTheNextEol, RowsHold
 ghost use Rattle.fax_reads.specs.laws.Salvage.{SalvagesAreReadByFunctions};
 ghost use Rattle.fax_reads.specs.laws.SalvageExamples.{AreSalvagesRead};
 
-/// A row of bits, or its fault, is what a function reads of them, in one-dimensional coding and in
-/// two-dimensional coding over a reference row (T.4, sections 4.1.1 and 4.2.1.3.3; T.6, section
-/// 2.2.4).
-pub fn rows_are_read_by_functions()
-    ensures { Law.RowsAreReadByFunctions }
-{
-    fax_bits::laws::run_codes_are_read_in_one_way();
-    fax_bits::laws::codes_are_read_in_one_way::<fax_bits::Modes>();
-}
-
-/// A row of a strip, or the fault in its way, and the rows of a strip, are what a function reads of
-/// its bits, in any coding.
-pub fn strips_are_read_by_functions()
-    ensures { Law.StripsAreReadByFunctions }
-{
-    fax_bits::laws::run_codes_are_read_in_one_way();
-    fax_bits::laws::codes_are_read_in_one_way::<fax_bits::Modes>();
-}
-
-/// How rows end that nobody counted is what a function says, in any coding.
-pub fn ends_are_told_by_a_function()
-    ensures { Law.EndsAreToldByAFunction }
-{}
-
 /// Worked strips are read as they are meant.
 pub fn examples_are_read()
     ensures { AreRead }
@@ -49,8 +24,7 @@ pub fn examples_are_read()
 pub fn files_are_read_by_functions()
     ensures { FilesAreReadByFunctions }
 {
-    fax_bits::laws::run_codes_are_read_in_one_way();
-    fax_bits::laws::codes_are_read_in_one_way::<fax_bits::Modes>();
+    fax_page::laws::strips_are_read_by_functions();
     fax_bits::laws::bits_stand_by_place();
     fax_page::laws::lines_are_read_in_one_way();
     fax_files::laws::files_have_one_chain();
@@ -69,8 +43,7 @@ pub fn worked_files_are_read()
 pub fn tails_are_read_by_functions()
     ensures { TailsAreReadByFunctions }
 {
-    fax_bits::laws::run_codes_are_read_in_one_way();
-    fax_bits::laws::codes_are_read_in_one_way::<fax_bits::Modes>();
+    fax_page::laws::strips_are_read_by_functions();
     fax_bits::laws::bits_stand_by_place();
     fax_page::laws::lines_are_read_in_one_way();
     fax_files::laws::files_have_one_chain();
@@ -101,8 +74,7 @@ pub fn codes_are_chosen_so()
 pub fn reports_are_read_by_a_function()
     ensures { ReportsAreReadByAFunction }
 {
-    fax_bits::laws::run_codes_are_read_in_one_way();
-    fax_bits::laws::codes_are_read_in_one_way::<fax_bits::Modes>();
+    fax_page::laws::strips_are_read_by_functions();
     fax_bits::laws::bits_stand_by_place();
     fax_page::laws::lines_are_read_in_one_way();
     fax_files::laws::files_have_one_chain();
@@ -132,15 +104,11 @@ pub fn worked_images_are_read()
     images_are_read_by_functions();
 }
 
-/// What is left of a damaged strip, of damaged rows that nobody counted, and of a damaged file, is
-/// what functions read of its bits and bytes (T.4, sections 4.1.2 and 4.2.2; T.6, section 2.2.1; TIFF 6.0, section 2).
+/// What is left of a damaged file is what a function reads of its bytes (TIFF 6.0, section 2).
 pub fn salvages_are_read_by_functions()
     ensures { SalvagesAreReadByFunctions }
 {
-    fax_bits::laws::run_codes_are_read_in_one_way();
-    fax_bits::laws::codes_are_read_in_one_way::<fax_bits::Modes>();
-    fax_page::laws::strips_are_salvaged_in_one_way();
-    fax_page::laws::uncounted_rows_are_left_in_one_way();
+    fax_page::laws::damaged_strips_are_read_by_functions();
     fax_files::laws::files_have_one_chain();
     fax_walk::laws::files_are_salvaged_in_one_way();
 }
@@ -150,6 +118,7 @@ pub fn worked_salvages_are_read()
     ensures { AreSalvagesRead }
 {
     salvages_are_read_by_functions();
+    fax_page::laws::damaged_strips_are_read_by_functions();
 }
 
 /// No EOL stands among the codes of a row, and none begins there where one follows them: each code

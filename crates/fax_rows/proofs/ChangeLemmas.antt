@@ -30,10 +30,6 @@ unfolding first_place
 first_place_is test i zero = grind (arith, common_steps)
 first_place_is test i (suc n) = first_place_more test i n (test i) refl (first_place_is test (i + 1) n)
 
--- a place right of `from` that is a changing element
-abbrev pub ChangeTest : List Colour → Option ℕ → ℕ → Bool
-ChangeTest row from i = is_right_of from i && is_changing row i
-
 -- where the next changing element right of a place stands
 pub record IsNextChange (row : List Colour) (from : Option ℕ) (place : ℕ) : Type 0 where
   pub within : place ≤ length row

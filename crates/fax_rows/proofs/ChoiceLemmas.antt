@@ -222,10 +222,6 @@ module _ (reference row : List Colour) (same_width : length reference ≡ length
       → IsChosen reference row a0 rest (chosen_mode (places reference row a0))
   chosen runs_read limits rest = by_tests runs_read limits rest _ _ refl refl
 
-  -- a1 is not left of the first pel of the step
-  pub a1_ahead : first_of a0 ≤ next_change row a0
-  a1_ahead = first_passed a0 (next_change row a0) a1_right
-
   -- the next step begins further right, and within the row
   place_by_tests : (pass near : Bool) → nat_lt (b2 reference a0 (colour_of row a0)) (next_change row a0) ≡ pass
       → IsPlaceAhead a0 (length row)

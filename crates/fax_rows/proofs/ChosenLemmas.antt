@@ -30,10 +30,6 @@ use Rattle.fax_rows.proofs.TakenModeLemmas.{is_near}
 
 -- ---- pels of one colour from a place on
 
-from_start : (from : Option ℕ) (colour : Colour) → (from ≡ None → White ≡ colour) → is_right_of from 0 ≡ true
-    → White ≡ colour
-from_start from colour start right = grind arith
-
 module _ (row : List Colour) (from : Option ℕ) (colour : Colour) (to : ℕ) (start : from ≡ None → White ≡ colour)
     (each : (k : ℕ) → first_of from ≤ k → k < to → pel row k ≡ colour) where
   before_is : (k : ℕ) → k ≤ to → is_right_of from k ≡ true → pel_before row k ≡ colour

@@ -13,7 +13,7 @@ use Rattle.fax_rows.specs.laws.Rows.{OneDimensionalBitsAreOneRow}
 use Rattle.fax_rows.proofs.GivenRunLemmas.{longest_are_back}
 use Rattle.fax_rows.proofs.RowLaws.{length-pels_of}
 use Rattle.fax_rows.proofs.RowLemmas.{colour_after_runs-push}
-use Rattle.fax_rows.proofs.RunLaws.{sum-cons}
+use Rattle.fax_rows.proofs.RunGraph.{sum-cons}
 use Rattle.fax_rows.proofs.RunLemmas.{sum-push}
 
 -- the bits begin with those of runs, of which the first alone may have no pels

@@ -7,7 +7,7 @@ use Rattle.fax_bits.specs.Codes.{IsRun}
 use Rattle.fax_rows.specs.declared.RowFault.{RowFault}
 use Rattle.fax_rows.specs.Rows.{other, AreRuns}
 use Rattle.fax_rows.specs.Faults.{IsRunFault, StopsAtRun}
-use Rattle.fax_rows.proofs.RunLaws.{sum-cons}
+use Rattle.fax_rows.proofs.RunGraph.{sum-cons}
 
 -- the bits are runs of these lengths in alternating colours, and the rest follows them
 abbrev pub AreCodedRuns : Colour → List Bool → List ℕ → List Bool → Type 0

@@ -189,11 +189,6 @@ plain_on bytes colour from middle to before after k l h = grind (arith, common_s
 
 -- by the law of the bits of bytes
 module _ (law : AreBitsByPlace) where
-  -- bit i of the byte q
-  bit_of : (bytes : List ℕ) (colour : Colour) (q i k : ℕ) → q < length bytes → i < 8 → 8 * q + i ≡ k
-      → is_other bytes colour k ≡ is_other_bit (get_or bytes q 0) colour i
-  bit_of bytes colour q i k inside within at = grind (arith, common_steps)
-
   pub plain_in_byte : (bytes : List ℕ) (colour : Colour) (q from to : ℕ) → q < length bytes → from < 8
       → to ≤ first_other_in_byte (get_or bytes q 0) from colour → IsPlain bytes colour (8 * q + from) (8 * q + to)
   unfolding first_other_in_byte

@@ -1,7 +1,7 @@
 -- Rows that are made of their longest runs.
 use Rattle.std.proofs.lemmas.Grind.{common_steps}
 use Rattle.std.proofs.Common.{◌≡◌, ℕ, zero, suc, ◌+◌, ◌<◌, ◌≤◌, List, [], ◌∷◌, ◌++◌, length, take, get_or, replicate}
-use Rattle.std.proofs.Common.{refl, ap, sym}
+use Rattle.std.proofs.Common.{refl, ap, sym, subst}
 use Rattle.std.proofs.Common.{◌∙◌, arith}
 use Rattle.std.specs.Prelude.{sum}
 use Rattle.std.proofs.lemmas.List.{ext_get_or}
@@ -128,3 +128,9 @@ runs_are_longest row = record {
       (pels_of-runs_after White 0 row);
   some = first_may_be_0 White 0 row;
 }
+
+-- and so of any row of this width with these runs
+pub longest_of : (row : List Colour) (runs : List ℕ) (width : ℕ) → length row ≡ width → runs_of row ≡ runs
+    → AreLongest runs width
+longest_of row runs width same is =
+    subst (λ n. AreLongest runs n) same (subst (λ ns. AreLongest ns (length row)) is (runs_are_longest row))

@@ -19,9 +19,6 @@ use Rattle.fax_rows.specs.code.Turns.{alternate, HasPassed}
 use Rattle.fax_rows.proofs.PackingLemmas.{bit_after, none_after}
 use Rattle.fax_rows.proofs.TurnLemmas.{alternate-suc, not_later}
 
-same_bit : (bit : ℕ) → bit < 2 → nat_eq ((bit + 0) % 2) 1 ≡ nat_eq bit 1
-same_bit bit h = grind arith
-
 -- a word with its bits turned from one on
 abbrev pub turned_word : ℕ → ℕ → ℕ
 turned_word word s = bit_xor word ((2 ^ 64 - 1) / 2 ^ s)

@@ -173,10 +173,6 @@ module _ (row : PlacedRow) where
       → get_or row.places.now (b + 1) 0 ≡ b2 (placed_pels row) a0 colour
   b2_is at = grind (arith, after_b1, b1_is)
 
-  -- the search goes on by two places
-  before_end : (place b : ℕ) → place < row.width → get_or row.places.now b 0 ≤ place → b ≤ row.end + 1 → b < row.end
-  before_end place b inside left within = grind arith
-
   pub search_goes_on : (place b : ℕ) → place < row.width → get_or row.places.now b 0 ≤ place → (colour : Colour)
       → IsBeforeB1 row place colour b → IsBeforeB1 row place colour (b + 2)
   search_goes_on place b inside left colour before = grind arith

@@ -1,16 +1,16 @@
 -- Places of change that are put one after the other while a row is read.
 use Rattle.std.proofs.lemmas.Grind.{common_steps}
-use Rattle.std.proofs.Common.{◌≡◌, ℕ, ◌+◌, ◌-◌, ◌<◌, ◌≤◌, ◌≢◌, List, ◌++◌, length, take, drop, get_or, Bool}
+use Rattle.std.proofs.Common.{◌≡◌, ℕ, ◌+◌, ◌-◌, ◌<◌, ◌≤◌, ◌≢◌, List, length, take, get_or, Bool}
 use Rattle.std.proofs.Common.{sym, ◌∙◌, subst, arith, inl, inr}
 use Rattle.std.specs.Prelude.{◌⊎◌}
 use Rattle.std.proofs.Math.ListN.{set}
 use Rattle.std.proofs.Math.Nat.{eq-or-lt_of_le}
-use Rattle.std.proofs.lemmas.List.{take_at, ext_get_or}
+use Rattle.std.proofs.lemmas.List.{ext_get_or}
 use Rattle.fax_bits.specs.declared.Colour.{Colour}
 use Rattle.fax_bits.specs.declared.Colour.TheVariants.{White, Black}
 use Rattle.fax_bits.specs.Codes.{IsRun}
 use Rattle.fax_rows.specs.Rows.{other}
-use Rattle.fax_rows.specs.code.Put.{ArePut, HasRoom}
+use Rattle.fax_rows.specs.code.Put.{ArePut}
 use Rattle.fax_rows.specs.code.Turns.{turned, pels_by, IsAscending, IsTurnedFrom, TurnsAt}
 use Rattle.fax_rows.proofs.TurnLemmas.{length-pels_by, pel-pels_by, turned-push_left, turned-push_right, at_least}
 use Rattle.fax_rows.proofs.TurnLemmas.{below_later}
@@ -47,11 +47,6 @@ without_last width places end some within is =
 pub places_within : (places : List ℕ) (end total : ℕ) → IsAscending places end → get_or places (end - 1) 0 ≤ total
     → end ≤ total + 2
 places_within places end total up last = omega (arith, up.started, at_least up (end - 1) (omega (arith, up.started)))
-
--- before the first pel
-pub none_put : {width : ℕ} {places : List ℕ} (total : ℕ) → HasRoom width places → total ≤ width
-    → ArePut width places 1 total
-none_put total room within = grind (arith, common_steps)
 
 -- there is room for two places more
 pub more_room : {width : ℕ} {places : List ℕ} {end total : ℕ} → ArePut width places end total → end + 1 < length places
@@ -94,7 +89,3 @@ pub run_turned : {width : ℕ} {b : List Bool} {total n : ℕ} {colour : Colour}
     → ((i : ℕ) → total ≤ i → turned Black old i ≡ colour) → IsTurnedFrom old new (total + n)
     → IsRowSoFar width b (total + n) (other colour) (pels_by width new) rest
 run_turned so_far unfinished within run after turn = grind (arith, row_goes_on, pel-pels_by)
-
--- elements that are all written over
-pub refilled : (len : ℕ) (new old : List ℕ) → length new ≡ len → take len (new ++ drop (length new) old) ≡ new
-refilled len new old same = take_at new (drop (length new) old) len same

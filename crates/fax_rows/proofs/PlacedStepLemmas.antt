@@ -1,10 +1,9 @@
 -- Steps of two-dimensional coding over places of change.
 use Rattle.std.proofs.Common.{rules, ◌≡◌, ℕ, ◌+◌, ◌-◌, ℤ, negsuc, ◌+ℤ◌, ◌≤ℤ◌, ◌<◌, ◌≤◌, List, [], ◌++◌, length, take}
 use Rattle.std.proofs.Common.{get_or, replicate}
-use Rattle.std.proofs.Common.{Bool, true, refl, ap, sym, ◌∙◌, arith, pos}
+use Rattle.std.proofs.Common.{Bool, true, ap, sym, ◌∙◌, arith, pos}
 use Rattle.std.proofs.lemmas.Grind.{common_steps}
 use Rattle.std.specs.Prelude.{Option, Some, None, unwrap_or, ◌<ℤ◌, nat_abs}
-use Rattle.std.proofs.lemmas.Int.{ints}
 use Rattle.fax_bits.specs.declared.Colour.{Colour}
 use Rattle.fax_bits.specs.declared.Colour.TheVariants.{White, Black}
 use Rattle.fax_rows.specs.declared.two_dimensional.steps.Reached.{Reached}
@@ -21,7 +20,6 @@ use Rattle.fax_rows.specs.code.Turns.{turned, pels_by, IsTurnedFrom, TurnsAt}
 use Rattle.fax_rows.specs.code.PlacedReached.{placed_position, IsReadTo, IsReadInside}
 use Rattle.fax_rows.specs.code.Chosen.{after_pair, GoesOn}
 use Rattle.fax_bits.specs.Codes.{IsRun}
-use Rattle.fax_rows.proofs.StepLemmas.{abs-same}
 use Rattle.fax_rows.proofs.PaintLemmas.{painted_front}
 use Rattle.fax_rows.proofs.TurnLemmas.{length-pels_by, pel-pels_by}
 use Rattle.fax_rows.proofs.PlacedRowLemmas.{end_within, turned-first}
@@ -141,15 +139,6 @@ module _ {reference : PlacedRow} {places : List ℕ} {at : PlacedReached} (here 
   module _ (d z : ℤ) (z_is : z ≡ pos (get_or reference.places.now at.b1 0) +ℤ d)
       (least : negsuc 0 ≤ℤ a0_number (position_of at.reached []))
       (right : a0_number (position_of at.reached []) <ℤ z) (inside : z ≤ℤ pos reference.width) where
-    pub a1_is : pos (nat_abs z) ≡ z
-    a1_is = abs-same z z (omega (arith, ints)) refl
-
-    pub a1_right : is_right_of at.reached.a0 (nat_abs z) ≡ true
-    a1_right = number_right at.reached (nat_abs z) (omega (arith, ints, a1_is))
-
-    pub a1_ahead : reached_pel at.reached ≤ nat_abs z
-    a1_ahead = right_after_first at.reached.a0 (nat_abs z) a1_right
-
     pub vertical_placed : (new : List ℕ) (next_end next_b1 : ℕ) (colour : Colour)
         → TurnsAt places new at.end next_end (nat_abs z) → colour ≡ other at.reached.colour
         → IsVerticalStep (placed_pels reference) (placed_position reference.width places at) d

@@ -42,9 +42,6 @@ pub record IsRowSoFar (width : ℕ) (b : List Bool) (total : ℕ) (colour : Colo
   pub pels : (k : ℕ) → k < total → get_or row k White ≡ get_or (pels_of White runs) k White
   pub below : (k : ℕ) → k < length runs → sum (take k runs) < width
 
-pub row_begins : (width : ℕ) (b : List Bool) (row : List Colour) → IsRowSoFar width b 0 White row b
-row_begins width b row = grind (arith, common_steps)
-
 below_push : (width : ℕ) (runs : List ℕ) (n : ℕ) → ((k : ℕ) → k < length runs → sum (take k runs) < width)
     → sum runs < width
     → (k : ℕ) → k < length (runs ++ n ∷ []) → sum (take k (runs ++ n ∷ [])) < width

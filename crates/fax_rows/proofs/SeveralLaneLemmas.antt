@@ -1,7 +1,7 @@
 -- The a1s of vertical modes in lanes.
 use Rattle.std.proofs.Common.{rules, ◌≡◌, ℕ, zero, suc, ◌+◌, ◌-◌, ◌^◌, ◌<◌, ◌≤◌, List, [], ◌∷◌, ◌++◌, length, map, take}
-use Rattle.std.proofs.Common.{drop, get_or, Bool}
-use Rattle.std.proofs.Common.{cond, refl, ap, ◌∙◌, subst, arith, w8, w32, ltb, bit_and}
+use Rattle.std.proofs.Common.{drop, get_or}
+use Rattle.std.proofs.Common.{refl, ap, ◌∙◌, subst, arith, w8, w32, ltb, bit_and}
 use Rattle.std.proofs.lemmas.Grind.{common_steps}
 use Rattle.std.specs.Int.{bit_at}
 use Rattle.std.proofs.lemmas.List.{get_or-map, length-map}
@@ -36,10 +36,6 @@ raised_at f others ys b i room long h =
 pub length-raised : (f : ℕ → ℕ → ℕ) (others ys : List ℕ) (b : ℕ) → b + 4 ≤ length others → length ys ≡ 4
     → length (zip2 f (take 4 (drop b others)) ys) ≡ 4
 length-raised f others ys b room long = grind (arith, common_steps, length-zip2)
-
--- lanes that are less
-abbrev bit_of : Bool → ℕ
-bit_of t = cond t 1 0
 
 pub lane_less : (xs ys : List ℕ) (i : ℕ) → i < length xs → i < length ys → bit_at (mask_l (zip2 ltb xs ys)) i ≡ 1
     → get_or xs i 0 < get_or ys i 0

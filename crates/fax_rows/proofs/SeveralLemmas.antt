@@ -19,12 +19,12 @@ use Rattle.fax_rows.specs.Rows.{other, is_right_of, a0_number, IsVerticalStep}
 use Rattle.fax_rows.specs.code.Chosen.{GoesOn, GoesOnAsChosen}
 use Rattle.fax_rows.specs.code.PlacedRow.{placed_pels, IsB1At}
 use Rattle.fax_rows.specs.code.PlacedReached.{placed_position, IsReadTo, IsReadInside, IsReadOn}
-use Rattle.fax_rows.specs.code.Reached.{reached_pel, position_of}
+use Rattle.fax_rows.specs.code.Reached.{position_of}
 use Rattle.fax_rows.specs.code.Several.{AreFine}
 use Rattle.fax_rows.specs.code.Turns.{alternate, pels_by, IsAscending, TurnsAt}
 use Rattle.fax_rows.proofs.ChosenStepLemmas.{vertical_chosen}
 use Rattle.fax_rows.proofs.PlacedB1Lemmas.{length-placed_pels, b2_is, b1_at_most}
-use Rattle.fax_rows.proofs.PlacedStepLemmas.{vertical_placed, from_start, right_after_first}
+use Rattle.fax_rows.proofs.PlacedStepLemmas.{vertical_placed, from_start}
 use Rattle.fax_rows.proofs.StepLemmas.{unfinished_below}
 use Rattle.fax_rows.proofs.TurnLemmas.{alternate-suc}
 use Rattle.fax_rows.proofs.UnderLemmas.{turned_more, so_far_kept, alternate-add}
@@ -55,9 +55,6 @@ module _ (reference : PlacedRow) (places : List ℕ) where
 
     below : place < reference.width
     below = grind (arith, b1_at_most)
-
-    ahead : reached_pel at.reached ≤ place
-    ahead = right_after_first at.reached.a0 place fine.0
 
     ascending_more : IsAscending places (at.end + 1)
     ascending_more = grind (arith, common_steps)

@@ -1,7 +1,6 @@
 -- Lanes that are compared with a sign.
-use Rattle.std.proofs.Common.{◌≡◌, ℕ, ◌-◌, ◌<◌, ◌^◌, suc, List, [], ◌∷◌, map, Bool, ltb, cond, refl, ap, ◌∙◌, length}
+use Rattle.std.proofs.Common.{◌≡◌, ℕ, ◌-◌, ◌<◌, ◌^◌, suc, List, [], ◌∷◌, map, ltb, cond, refl, ap, ◌∙◌, length}
 use Rattle.std.proofs.Common.{get_or, arith, w32}
-use Rattle.std.specs.Prelude.{ℤ, pos, negsuc}
 use lib.Lanes.{zip2}
 use borrow.Rule.Simd.Lanes.{act1, act2}
 use borrow.Table.Row.{s_int}
@@ -12,10 +11,6 @@ turned = act1 (cast unsigned signed w32) (s_int w32) (s_int w32)
 
 abbrev pub compared : ℕ → ℕ → ℕ
 compared = act2 (mask (lt signed)) (s_int w32) (s_int w32) (s_int w32)
-
--- a lane by its highest bit
-abbrev with_sign : Bool → ℕ → ℤ
-with_sign s a = cond s (pos a) (negsuc (2 ^ 32 - suc a))
 
 compared_is : (a b : ℕ) → a < 2 ^ 31 → b < 2 ^ 31 → compared a b ≡ cond (ltb a b) (2 ^ 32 - 1) 0
 compared_is a b small less = grind arith

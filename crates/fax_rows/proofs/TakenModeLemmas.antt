@@ -1,5 +1,4 @@
 -- A mode that is read has the bits that are written.
-use Rattle.std.proofs.lemmas.Grind.{common_steps}
 use Rattle.std.proofs.Common.{◌≡◌, ℕ, ◌<◌, List, ◌++◌, length, Bool, true, refl, ap, sym, ◌∙◌, arith}
 use Rattle.std.specs.Prelude.{Some, slice_get, nat_abs, nat_le}
 use Rattle.std.proofs.lemmas.Option.{slice_get_read}
@@ -20,10 +19,6 @@ is_near _ = true
 record IsOwn (entry : CodeEntry ModeCode) : Type 0 where
   bits : bits_of entry ≡ mode_bits entry.meaning
   near : is_near entry.meaning ≡ true
-
-own : (entry listed : CodeEntry ModeCode) → Some listed ≡ Some entry → bits_of listed ≡ mode_bits listed.meaning
-    → is_near listed.meaning ≡ true → IsOwn entry
-own entry listed found bits near = grind (arith, common_steps)
 
 own_at : (place : ℕ) → place < 10 → (entry : CodeEntry ModeCode) → slice_get modes place ≡ Some entry → IsOwn entry
 unfolding modes mode_bits code_bits

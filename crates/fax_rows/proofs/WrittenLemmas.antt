@@ -20,7 +20,7 @@ use Rattle.fax_rows.specs.Coded.{step_bits, two_dimensional_bits, alternating_bi
 use Rattle.fax_rows.specs.code.Choice.{places, colour_of, chosen_mode, run_pair_bits, next_a0}
 use Rattle.fax_rows.proofs.ChangeLemmas.{first_of}
 use Rattle.fax_rows.proofs.RowLaws.{length-pels_of}
-use Rattle.fax_rows.proofs.RunLaws.{sum-cons}
+use Rattle.fax_rows.proofs.RunGraph.{sum-cons}
 use Rattle.fax_rows.proofs.CodedRunLemmas.{AreCodedRuns, runs_from}
 use Rattle.fax_rows.proofs.ChoiceLemmas.{here, passed, colour_after, IsChosen, chosen}
 

@@ -1,6 +1,6 @@
 -- How far a row is written after a step: the indexes of a1 and b1 after each mode.
 use Rattle.std.proofs.lemmas.Grind.{common_steps}
-use Rattle.std.proofs.Common.{◌≡◌, ℕ, ◌+◌, ◌-◌, ◌<◌, ◌≤◌, ◌++◌, length, get_or, true, sym, ◌∙◌, subst, arith}
+use Rattle.std.proofs.Common.{◌≡◌, ℕ, ◌+◌, ◌-◌, ◌<◌, ◌≤◌, ◌++◌, length, true, sym, ◌∙◌, subst, arith}
 use Rattle.std.specs.Prelude.{Option, Some, unwrap_or, pos}
 use Rattle.std.proofs.lemmas.Int.{ints}
 use Rattle.fax_bits.specs.declared.modes.ModeCode.{ModeCode}
@@ -19,25 +19,16 @@ use Rattle.fax_rows.specs.code.Turns.{alternate, IsFrom}
 use Rattle.fax_rows.proofs.ChangeLemmas.{first_of}
 use Rattle.fax_rows.proofs.ChoiceLemmas.{a1_right, passed_right}
 use Rattle.fax_rows.proofs.PlacedB1Lemmas.{inside_end, b1_ahead, b2_ahead, b1_next, b1_passed, same_start}
-use Rattle.fax_rows.proofs.PlacedRowLemmas.{at_from}
 use Rattle.fax_rows.proofs.TurnLemmas.{alternate-suc, pel_after}
 use Rattle.fax_rows.proofs.WrittenPlaceLemmas.{known_bounds, same_widths, written_width}
 
 module _ (row : PlacedRow) where
-  -- the places before that index are not right of a0
-  first_left : (a0 : Option ℕ) (k : ℕ) → IsFrom row.places.now row.end a0 k
-      → get_or row.places.now (k - 1) 0 ≤ unwrap_or a0 0
-  first_left a0 k at = grind arith
-
   -- the colour of a0, where it is inside the row
   pub colour_here : (a0 : Option ℕ) (k : ℕ) → IsFrom row.places.now row.end a0 k → unwrap_or a0 0 < row.width
       → alternate Black k ≡ colour_of (placed_pels row) a0
   colour_here a0 k at inside = grind (arith, pel_after)
 
 module _ {rows : RowPair} {ahead : ChangesAhead} (is : AreAhead rows ahead) where
-  row_at : (0 < ahead.row) × (ahead.row ≤ rows.row.end)
-  row_at = at_from rows.row.placed ahead.a0 ahead.row is.row
-
   pub from_a1 : ahead.a1 < rows.row.width → IsFrom rows.row.places.now rows.row.end (Some ahead.a1) (ahead.row + 1)
   from_a1 inside = grind (arith, common_steps, inside_end)
 
@@ -92,11 +83,6 @@ module _ {rows : RowPair} {ahead : ChangesAhead} (is : AreAhead rows ahead) wher
       (same_start rows.reference ahead.a0 ahead.colour ahead.reference ahead.a2
       is.reference
       (omega (arith, known.a0, known.a1_a2))))
-
-  -- the mode that is chosen is that of the step from a0
-  pub mode_is : mode_from (placed_pels rows.reference) (placed_pels rows.row) ahead.a0
-      ≡ chosen_mode (record { a1 = ahead.a1; a2 = 0; b1 = ahead.b1; b2 = ahead.b2 })
-  mode_is = grind (arith, common_steps)
 
   pub horizontal_bits : (mode : ModeCode) → mode ≡ chosen_mode
       (record { a1 = ahead.a1; a2 = 0; b1 = ahead.b1; b2 = ahead.b2 })

@@ -15,6 +15,8 @@ use std::simd::prelude::*;
 
 /// The longest runs of a row that are still to come. Contracts see the list of their lengths in
 /// pels.
+// It is public so that a caller goes over a row's runs without a list of them, and knows how many
+// there are.
 #[derive(Drop)]
 pub struct LongestRuns<'a> {
     /// Where the next run begins, and then where each run ends.
@@ -72,6 +74,8 @@ impl<'a> LongestRuns<'a> {
         ensures { MatchOption result (length self.now < 8)
             (λ runs. (runs ≡ take 8 self.now) × (8 ≤ length self.now)) }
     {
+        // The text of `rows` is written by eight runs at a time. `skip` leaves out those that are
+        // written.
         if self.places.len() <= 8 {
             return None;
         }

@@ -59,6 +59,9 @@ fn put_ones_by_bytes(places: &mut [u32], end: usize, from: u32, word: u64) -> us
     ensures within { result ≤ end + 64 }
     ensures same_len { length places.new ≡ length places.old }
 {
+    // Eight lanes are stored for each byte, of which the next byte's are put over those that do not
+    // count. That needs no test for room, since a word has at most 64 changes. A word of fewer than
+    // ten takes less one by one.
     let bytes = word.to_be_bytes();
     let mut end = end;
     for k in 0..8 {

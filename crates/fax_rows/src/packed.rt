@@ -90,6 +90,8 @@ fn pack_words(row: PlacedRow, words: u32, out: &mut [u8]) -> usize
     ensures so_far { HasPassed row.entry.places.now row.entry.end (64 * words) result }
     ensures same_len { length out.new ≡ length out.old }
 {
+    // Words are turned from each change on; those in which no colour changes are filled. The bytes
+    // after the last whole word are packed by runs of bits.
     let mut passed = 1;
     let mut k = 0;
     while k < words {

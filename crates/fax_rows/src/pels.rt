@@ -133,6 +133,17 @@ impl Row {
         self.end = row.end;
     }
 
+    /// Whether some row of this width has these longest runs, white first.
+    pub fn has_runs(runs: &[u32], width: u32) -> bool
+        requires some { 0 < width }
+        ensures row { IsTrue result
+            → (row : List Colour) × (length row ≡ width) × (runs_of row ≡ runs.now) }
+        ensures no_such_row { result ≡ false
+            → (row : List Colour) → length row ≡ width → runs_of row ≢ runs.now }
+    {
+        are_longest(runs, width)
+    }
+
     /// Takes the pels of the row of this width that has these longest runs, white first, and
     /// answers whether there is one. Where there is none, the row stays as it is. It takes no
     /// memory.
@@ -166,6 +177,7 @@ impl Row {
     pub fn whiten(&mut self)
         ensures { self.new ≡ replicate (length self.old) Colour.White }
     {
+        // It is public, so that a strip's reader is restarted without memory.
         let places = self.places.as_mut_slice();
         self.end = close(places, 1, self.width);
     }

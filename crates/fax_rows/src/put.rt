@@ -263,6 +263,8 @@ fn put_steps(rows: RowPair, sink: &mut BitSink) -> Result<(), Memory>
     ensures err { OnErr result (AppendsPrefix sink.old (Coded.two_dimensional_bits
         (placed_pels rows.entry.reference) (placed_pels rows.entry.row)) sink.new) }
 {
+    // One index goes along the row and one along its reference: after each step both go on to the
+    // first place right of a0, by which a1, a2, a0's colour, b1 and b2 are known.
     let mut at = WrittenTo {
         a0: None,
         row: 1,
@@ -288,6 +290,8 @@ pub fn put_2d(reference: &Row, row: &Row, sink: &mut BitSink) -> Result<(), Memo
     ensures err { OnErr result
         (AppendsPrefix sink.old (Coded.two_dimensional_bits reference.now row.now) sink.new) }
 {
+    // That its bits are read back is a law of the definitions (`laws`), which a caller calls where
+    // a proof needs it.
     let rows = RowPair {
         reference: reference.placed(),
         row: row.placed(),

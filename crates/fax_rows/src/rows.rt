@@ -70,6 +70,8 @@ impl PlacedRow<'_> {
         ensures { (colour : Colour) → IsBeforeB1 self.entry place colour (b1 - 1)
             → IsB1At self.entry (Some place) colour result }
     {
+        // Nothing is searched: the next b1 is the changing element before the old one, or the one
+        // after it.
         if self.places[b1 - 1] > place {
             b1 - 1
         } else {

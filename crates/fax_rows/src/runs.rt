@@ -111,6 +111,8 @@ pub(crate) fn last_run(
     ensures same_end { KeepsEnd source.old source.new }
     ensures shorter { OnOk result (length source.new.left < length source.old.left) }
 {
+    // What is lent to a function stands in memory: so `read_run`, which knows every fault, gets a
+    // copy, and the source goes to the copy's place.
     let mut copy = source.again();
     let run = read_run(&mut copy, colour, width, from)?;
     source.skip_to(copy.place());

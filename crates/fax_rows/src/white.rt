@@ -25,6 +25,9 @@ pub fn take_white_1d(source: &mut BitSource, white: &Row) -> bool
     // The source goes on in the same bits.
     ensures same_end { KeepsEnd source.old source.new }
 {
+    // Nearly half of the rows of a usual page are white ones after white ones: nothing is put, and
+    // the bytes of such a row in a PBM are zeros that are there already. To answer no is always
+    // right: then the row is read as any other, and slower.
     crate::laws::one_dimensional_rows_are_read_back();
     if !white.is_white() || white.width >= LONG_RUN {
         return false;

@@ -1,6 +1,6 @@
 -- The answers of words exclude one another.
 use Rattle.std.proofs.Common.{arith, ◌≡◌, ◌∙◌, Bool, ap, codes, inl, inr, refl, subst, sym, List, Option, Some, None}
-use Rattle.std.proofs.Common.{[], map}
+use Rattle.std.proofs.Common.{map}
 use mathlib.Core.HLevel.{Π_prop, is_prop→PathP, ⊥_prop}
 use native.Mathlib.Bridge.{le_prop}
 use Rattle.std.specs.Prelude.{IfSome, false, true, ◌⊎◌, ◌≢◌, ◌<◌}
@@ -27,25 +27,13 @@ use Rattle.fax_tool.specs.Program.{file_name}
 use Rattle.fax_tool.specs.laws.Words.{AskTheSame, WordsHaveOneAnswer}
 use Rattle.fax_walk.specs.laws.Cursors.{TextsNameOne}
 use Rattle.fax_tool.specs.declared.words.Command.{Command}
-use Rattle.fax_tool.specs.declared.words.Command.TheVariants.{Check, Convert, List as Forms, Rows, Salvage, Version}
+use Rattle.fax_tool.specs.declared.words.Command.TheVariants.{Check, Convert, List as Forms, Rows, Salvage}
 use Rattle.fax_tool.specs.declared.words.Job.{Job}
 use Rattle.fax_tool.specs.declared.words.Part.{Part}
 use Rattle.fax_tool.specs.declared.words.WordsFault.{WordsFault}
 use Rattle.fax_tool.specs.declared.words.WordsFault.TheVariants.{NotACursor, Usage}
 use Rattle.std.specs.Prelude.{option_map}
 use Rattle.std.specs.String.{string_bytes}
-
--- the name of a command; none has that of the version
-abbrev name_of : Command → Text
-name_of (Forms part) = codes "list"
-name_of (Rows part) = codes "rows"
-name_of (Convert options) = codes "convert"
-name_of Check = codes "check"
-name_of Salvage = codes "salvage"
-name_of Version = []
-
-named : (name : Text) (given : Given) (command : Command) → IsCommand name given command → name ≡ name_of command
-named name given command is = grind arith
 
 -- words that ask for the version are those of no command
 no_version : (words : List Text) → AskForVersion words → AreOfNoCommand words

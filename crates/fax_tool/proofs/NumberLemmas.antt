@@ -22,17 +22,9 @@ module _ (bytes : List ℕ) (at : ℕ) where
   pub one : (a : ℕ) → at + 1 ≤ length bytes → take (at + 1) (set bytes at a) ≡ take at bytes ++ a ∷ []
   one a room = after bytes (take at bytes) at (at + 1) a refl (omega arith) refl
 
-  pub two : (a b : ℕ) → at + 2 ≤ length bytes → take (at + 2) (set (set bytes at a) (at + 1) b)
-      ≡ take at bytes ++ a ∷ b ∷ []
-  two a b room = grind (arith, after, length-set, append_assoc)
-
   pub three : (a b c : ℕ) → at + 3 ≤ length bytes
       → take (at + 3) (set (set (set bytes at a) (at + 1) b) (at + 2) c) ≡ take at bytes ++ a ∷ b ∷ c ∷ []
   three a b c room = grind (arith, after, length-set, append_assoc)
-
--- what is written in two parts
-pub joined : (s₀ s₁ s₂ xs ys : List ℕ) → s₁ ≡ s₀ ++ xs → s₂ ≡ s₁ ++ ys → s₂ ≡ s₀ ++ (xs ++ ys)
-joined s₀ s₁ s₂ xs ys first second = second ∙ ap (λ s. s ++ ys) first ∙ append_assoc s₀ xs ys
 
 -- a row's line, part by part
 pub line_is : (text word page row runs end s₀ s₁ s₂ s₃ s₄ : List ℕ) → s₀ ≡ text ++ word → s₁ ≡ s₀ ++ page

@@ -84,20 +84,6 @@ module _ {are now : List (List ℕ) → Type 0} (one : IsOneList are) {given : �
             ∙ ap (λ xs. some.sent ++ xs) (sym grown);
       })
 
-  -- all lines are printed
-  pub all_printed : (all : List (List ℕ)) (new_written : Option (List ℕ)) → now all → given ≡ length all
-      → Appends written new_written text
-      → (lines : List (List ℕ)) × are lines × Appends output new_written (texts_of lines)
-  all_printed all new_written is ended moved =
-      let same = lines_are all is in
-      let whole : texts_of some.lines ≡ some.sent ++ text =
-      ap texts_of (sym (take-length some.lines)) ∙ ap (λ n. texts_of (take n some.lines))
-      (sym (ended ∙ ap (λ (l : List (List ℕ)). length l) same)) ∙ some.collected in (
-        some.lines,
-        some.is,
-        rw whole (Appends-trans output written new_written some.sent text some.printed moved),
-      )
-
   front : IsFrontOf are (some.sent ++ text)
   front = (some.lines, some.is, given, some.within, sym some.collected)
 

@@ -15,7 +15,7 @@ use Rattle.fax_tool.specs.Run.{Counts, IsTextOfFirst, IsTextOfLines}
 use Rattle.fax_tool.specs.Streams.{output_after}
 use Rattle.fax_tool.specs.Text.{PrintedLine, end_text, named, next_after, next_line, text_of, texts_of}
 use Rattle.fax_tool.specs.code.Outcome.{StopsPrinting, WritesOutput, end_line, error_of, status_of}
-use Rattle.fax_tool.specs.code.Printing.{EndsWith, IsLastLine, IsNextAfter, IsNextLine, PrintsLines}
+use Rattle.fax_tool.specs.code.Printing.{EndsWith, IsLastLine, IsNextLine, PrintsLines}
 use Rattle.fax_tool.proofs.StopLemmas.{NoText, stops_after}
 
 pub all_taken : {A : Type 0} (n : ℕ) (xs : List A) → length xs ≤ n → take n xs ≡ xs
@@ -82,9 +82,6 @@ module _ {tail now : List PrintedLine → End → Type 0} (one : IsOne tail)
     {output written : Option (List ℕ)} (prints : PrintsLines tail max ending count output written) where
   ended : IsEndedText prints.lines prints.end count long max begun ending
   ended = by_ending prints.lines prints.end count long max begun ending prints.ends
-
-  next_is : (next : Begun) → IsNextAfter now now_begun count next → next ≡ next_after begun (take count prints.lines)
-  next_is next after = grind arith
 
   abbrev texts : List ℕ
   texts = texts_of (take count prints.lines)

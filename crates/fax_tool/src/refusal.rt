@@ -6,6 +6,7 @@ use fax_bits::Memory as OutOfMemory;
 use thiserror::Error;
 
 /// Why a run ended with status 3.
+// It is public since the contract of `run` names it: what a run with status 3 said, and why.
 #[derive(Clone, Copy, Debug, PartialEq, Eq, Error)]
 pub enum Refusal {
     /// A growth was refused.

@@ -138,6 +138,7 @@ impl<R: io::Read> FromRead<R> {
         ensures counts { ⟦<FromRead<R> as Source>⟧.counts self.new
             ≡ counts_unopened (⟦<FromRead<R> as Source>⟧.counts self.old) }
     {
+        // Counted as a call that failed, it was a reason for `fault: Read`.
         self.faults.unopened = self.faults.unopened.saturating_add(1);
     }
 

@@ -58,6 +58,8 @@ pub enum Command {
 }
 
 /// The part of a file's pages or rows that is printed.
+// It is lent and not copied, since it may hold a long cursor. What the walk needs of it is copied
+// before the input is read.
 #[derive(Debug, Drop)]
 pub struct Part {
     /// Where to begin: at page 0, row 0 where no cursor is named; where a long one is, at its row.
@@ -149,6 +151,8 @@ fn name_salvage(words: &[&str]) -> bool
 fn usage_for(words: &[&str]) -> &'static str
     ensures { result.now ≡ usage_for (texts words.now) }
 {
+    // The four lines were asked for before there was `salvage`, and stay for all other words. Words
+    // that are not UTF-8 have the four lines, since nothing is read of them.
     if name_salvage(words) {
         SALVAGE_USAGE
     } else {
@@ -392,6 +396,8 @@ fn rows_of(alloc: Global, matches: &ArgMatches) -> Result<Part, WordsFault>
 fn target_of(matches: &ArgMatches) -> Option<Target>
     ensures { result ≡ target_in (given_by (entries_of matches.now)) }
 {
+    // To clap that word is any text: a list of values would be a borrowed slice there, and the
+    // command would equal no written-out one. The answer is `Usage` in both cases.
     match matches.get_str("o")? {
         "pbm" => Some(Target::Pbm),
         "mh" => Some(Target::Mh),
@@ -474,6 +480,8 @@ fn ask_for_version(words: &[&str]) -> bool
     ensures some { result ≡ true → AskForVersion (texts words.now) }
     ensures none { result ≡ false → ¬ AskForVersion (texts words.now) }
 {
+    // Beside any other word, and after a command's name, it is refused. It is no command of the
+    // grammar, and clap is not asked.
     match words {
         [_, word] => *word == "--version",
         _ => false,

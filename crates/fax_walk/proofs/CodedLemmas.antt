@@ -1,12 +1,11 @@
 -- A file of coded strips has the rows and the forms of the pages that it was written of.
 use Rattle.std.proofs.lemmas.Grind.{common_steps}
-use Rattle.std.proofs.Common.{◌≡◌, ◌≢◌, true, ℕ, zero, suc, ◌+◌, ◌*◌, ◌<◌, ◌≤◌, min, List, [], ◌∷◌, ◌++◌, length, map}
+use Rattle.std.proofs.Common.{◌≡◌, ◌≢◌, true, ℕ, zero, suc, ◌+◌, ◌*◌, ◌<◌, ◌≤◌, List, [], ◌∷◌, ◌++◌, length, map}
 use Rattle.std.proofs.Common.{take, drop}
-use Rattle.std.proofs.Common.{Option, refl, sym, ap, ◌∙◌, subst, arith, length-take, length-drop}
-use Rattle.std.specs.Prelude.{All, unwrap_or, IsTrue}
+use Rattle.std.proofs.Common.{refl, sym, ap, ◌∙◌, subst, arith, length-take, length-drop}
+use Rattle.std.specs.Prelude.{All}
 use Rattle.std.specs.List.{AllZip, range_with_len}
 use Rattle.std.specs.Option.{ForSome}
-use Rattle.std.proofs.lemmas.Bool.Decides.{nat_tests}
 use Rattle.std.proofs.lemmas.List.FromFn.{length-map-range_with_len}
 use Rattle.std.proofs.lemmas.List.{drop-drop, drop_all, take-append-drop, length-map}
 use Rattle.std.proofs.lemmas.List.Elements.{All-take, All-drop, All-nil, All-cons, All-head, All-tail}
@@ -18,7 +17,6 @@ use Rattle.fax_files.specs.declared.PageForm.{PageForm}
 use Rattle.fax_files.specs.views.Page.{IsPageForm}
 use Rattle.fax_files.specs.Page.{strip_form}
 use Rattle.fax_files.specs.laws.Files.{joined, IsWritable, AreWritable, HoldStripRows}
-use Rattle.fax_files.specs.Pbm.{is_within_limits}
 use Rattle.fax_files.specs.laws.Pbm.{AreOfWidth}
 use Rattle.fax_walk.specs.declared.options.Options.{Options}
 use Rattle.fax_walk.specs.Converted.{SourcePage, written_page}
@@ -74,19 +72,6 @@ module _ (law : CodedStripsAreRead) (form : PageForm) (limits : IsPageForm form)
             }) shape,
         holds_from rows count wide (s + 1) n (omega arith),
       )
-
-height : (strip : Option ℕ) (rows : ℕ) → ForSome strip (λ n. 0 < n) → 1 ≤ rows → 1 ≤ min (unwrap_or strip rows) rows
-height strip rows some any = grind arith
-
-within_limits : (width rows : ℕ) → IsTrue (is_within_limits width rows)
-    → (1 ≤ width) × (width ≤ 65535) × (1 ≤ rows) × (rows ≤ 1000000)
-within_limits width rows within = (
-  grind (arith, nat_tests),
-  grind (arith, nat_tests),
-  grind (arith, nat_tests),
-  grind
-      (arith, nat_tests),
-)
 
 module _ (law : CodedStripsAreRead) (options : Options) (coding : Coding)
     (some_strip : ForSome options.strip (λ rows. 0 < rows))

@@ -13,9 +13,6 @@ use Rattle.fax_walk.specs.Converted.{IsConverted, IsNotConverted, IsSource}
 use Rattle.fax_walk.specs.code.Output.{FinishesAs, IsRefusedAs, IsWrittenTo, Progress}
 use Rattle.fax_walk.specs.code.Conversion.{AreImagesRead, IsImageCount, IsImagesFault}
 
-pub none_read : (bytes : List ℕ) → AreImagesRead bytes bytes 0
-none_read bytes = record { images = []; count_is = refl; after = λ more end are. are }
-
 pub one_more : (bytes left : List ℕ) (count : ℕ) (image : Image) (rest : List ℕ) → AreImagesRead bytes left count
     → IsImage left image rest
     → AreImagesRead bytes rest (count + 1)

@@ -26,13 +26,13 @@ use Rattle.fax_walk.specs.declared.end.End.{End}
 use Rattle.fax_walk.specs.declared.end.End.TheVariants.{Fault}
 use Rattle.fax_walk.specs.declared.opening.OpenFault.{OpenFault}
 use Rattle.fax_walk.specs.Pages.{LongPlace, IsPageAt, goes_on, ends_as}
-use Rattle.fax_walk.specs.Items.{Inner, RowItem, RowPlace, IsRow, before, exchanged, first_at, IsInnerOn, long_at}
+use Rattle.fax_walk.specs.Items.{Inner, RowItem, RowPlace, IsRow, before, exchanged, first_at, long_at}
 use Rattle.fax_walk.specs.Items.{place_after}
 use Rattle.fax_walk.specs.code.Places.{IsInner, cursor_at, row_in_strip, strip_at, place_on}
 use Rattle.fax_walk.specs.laws.InOrder.{LeadTo}
 use Rattle.fax_walk.specs.code.Opening.{IsFilePage, PageDue, page_with}
 use Rattle.fax_walk.specs.views.Walk.{HasPage}
-use Rattle.fax_walk.specs.code.Stages.{GivesRow, HasSkipped, IsNoInner, IsNoPlace, IsNoStrip, IsRefusal, IsOpen}
+use Rattle.fax_walk.specs.code.Stages.{GivesRow, HasSkipped, IsNoInner, IsNoStrip, IsRefusal, IsOpen}
 use Rattle.fax_walk.specs.code.Stages.{IsSamePage, IsStripOf}
 use Rattle.fax_walk.specs.code.Stages.{KeepsPlace, PageState, ReadsPageRow, StopsAtRow, item_of, place_of, row_of}
 use Rattle.fax_walk.specs.code.Stages.{skipped}
@@ -351,11 +351,6 @@ module _ (due : PageDue) (first : ℕ) (its : IsFilePage due.page due.chain due.
     told = refl;
   }
 
--- the first row of a page is that of its first strip
-pub page_first : (due : PageDue) (p : ℕ) → due.page ≡ p → first_at due.page
-    (strip_at due.form 0 * due.form.rows_per_strip) ≡ first_at p 0
-page_first due p is = grind (arith, common_steps)
-
 -- a page that is due is there
 pub due_there : (p : ℕ) (chain : ChainState) (directory : TiffDirectory) (form : PageForm)
     → IsFilePage p chain directory form
@@ -392,16 +387,6 @@ module _ (due : PageDue) (place : LongPlace) (its : IsFilePage due.page due.chai
     record { row = below; not_first = some; fits = rw outside tt },
     (Ok (page_with due.directory due.form), its_here, rw outside (rw same_page refl)),
   )
-
-  module _ (bytes : List ℕ) (there : bytes_of due.directory its_number ≡ Some bytes) where
-    pub is_inner : IsInner due.form.width bytes place → IsInnerOn due.directory.file (page_with due.directory due.form)
-        place
-    is_inner inner = record { row = below; not_first = some; fits = rw there inner }
-
-    pub no_place : (fault : OpenFault) → IsNoPlace (strip_form due.form its_number) bytes place fault
-        → IsRefusal (IsNoInner due place)
-        fault
-    no_place fault none = grind arith
 
 -- the place inside the strip after the row that was read last
 module _ (page : PageState) (limits : IsPageForm page.form) (within : page.number < page.form.strips)

@@ -48,9 +48,6 @@ rows_length packs width (row ∷ rows) are =
     let len : length (packed_row row) ≡ packed_len width = packs.packed_count row ∙ ap packed_len are.0 in
     omega (arith, length-append {A = ℕ}, len, rows_length packs width rows are.1)
 
-image_of : SourcePage → Image
-image_of page = page.image
-
 -- an image as it is written
 abbrev image_bytes : Image → List ℕ
 image_bytes image = head_bytes image.width (length image.rows) ++ flat_map packed_row image.rows
@@ -203,9 +200,6 @@ module _ (part : Part) (coding : Coding) (writer : Writing) (page : OpenStrips)
 
   abbrev as_put : PageForm
   as_put = sheet_form options coding part.sheet
-
-  form_is : page.form ≡ (written source).form
-  form_is = rw (has.2.form_is, ← all) refl
 
   strips_are : contents page.done.items ≡ (written source).strips
   strips_are = rw (has.2.done, all_strips as_put options.k part.rows page has.2 all, ← all) refl

@@ -333,25 +333,6 @@ module _ (salvages : SalvagesStripsOneWay) (old new : SalvageState) (bytes : Bor
         rest = rest_of_strip (omega (arith, form_is.1, rows_are));
       }
 
-  pub strip_ended : IsSalvageStep old None new → IsNextOf (Strip_ old bytes) None (Strip_ new bytes)
-  strip_ended (all, same) =
-      let none : AreSalvaged new.form new.row new.before new.reference new.due [] = rw same all in
-      record {
-        same_its = rw same refl;
-        same_rows = rw same refl;
-        same_width = rw same refl;
-        over = (
-          record {
-            next = rw same (omega arith);
-            within = rw same (omega (arith, all));
-            followed = λ rows is. rw same at is;
-          },
-          rw same all,
-          ([], none, refl),
-        );
-        rest = ([], ([], none, refl));
-      }
-
 -- what a call for the next rows answers, of those that nobody counted
 module _ (leaves : LeavesUncounted) (old new : UncountedState) (bytes : Bor (List ℕ)) (count : ℕ)
     (sound : IsGoneOver (Uncounted old bytes count)) where

@@ -399,11 +399,6 @@ module _ (salvages : SalvagesStripsOneWay) (chains : FilesHaveOneChain) (file : 
         later,
       )
 
-  -- the file has no good header, or no page more
-  pub none_of_header : (page : Option SalvagePageState) → IsHandedOut file None page given → (items : List LeftItem)
-      → IsSalvaged file items → length items ≡ given
-  none_of_header page sound = all_handed file given one (AreLeftInFile file None page) sound.handed refl
-
   pub none_of_chain : (chain : ChainState) (page : Option SalvagePageState) → IsHandedOut file (Some chain) page given
       → AreLeftOnPage page [] → IsLastPassed chain → (items : List LeftItem) → IsSalvaged file items
       → length items ≡ given

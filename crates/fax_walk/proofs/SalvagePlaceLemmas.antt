@@ -128,9 +128,11 @@ module _ (strips : PageStrips) (form : PageForm) (r s i place : ℕ) (bytes : Li
       let same : s' ≡ s = sym (one_strip form r s' i' there) ∙ sym s_is in
       let its = rw same at inner in
       none (rw (left form) at its.within) at.reference its.reference
-  not_begun_at Memory s_is i_is fits = λ s' i' there.
-      let same : s' ≡ s = sym (one_strip form r s' i' there) ∙ sym s_is in
-      rw (same, left form) fits
+  not_begun_at Memory s_is i_is (fits, row, is) = λ s' i' there.
+      let same : s' ≡ s = sym (one_strip form r s' i' there) ∙ sym s_is in (
+        record { bits = place; reference = row },
+        record { bits_are = refl; within = rw (same, left form) fits; reference = is },
+      )
 
 -- the bytes of a strip are the same
 one_bytes : (directory : TiffDirectory) (form : PageForm) (s : ℕ) (bytes others : List ℕ) (whole another : Bool)
@@ -248,7 +250,7 @@ pub begun_fits : (directory : TiffDirectory) (form : PageForm) (r bits : ℕ) (b
     → IsBegunAt directory form r bits before state → IsNotBegunAt directory form r bits before Memory
 begun_fits directory form r bits before state (same, also, begun) s i there =
     let one : s ≡ begun.s = sym (one_strip form r s i there) ∙ one_strip form r begun.s begun.i begun.there in
-    rw one begun.inner.within
+    (begun.at, rw one begun.inner)
 
 -- rows of a page are passed
 passes_over : (old new : ShownState) (over : List PageRow) → GoesOverRows old.rows over new.rows

@@ -20,10 +20,7 @@ use Rattle.fax_files.specs.views.Page.{IsPageForm}
 use Rattle.fax_files.specs.views.Tiff.{PageStrips, TiffDirectory, bytes_of, form_of, inside_of}
 use Rattle.fax_walk.specs.code.Salvage.{IsInPage, StandsInStrip, seen_from}
 use Rattle.fax_walk.specs.views.RowsFrom.{EndsWithPage}
-use Rattle.fax_page.specs.laws.Salvage.{DueRowsStandInStrips, FindsWholeStrips, IsRestOf}
-use Rattle.std.proofs.Common.{drop, length}
-use Rattle.std.proofs.lemmas.List.{drop-drop, length-drop}
-use Rattle.std.specs.Prelude.{◌&&◌}
+use Rattle.fax_page.specs.laws.Salvage.{DueRowsStandInStrips, FindsWholeStrips}
 use Rattle.std.proofs.Common.{subst}
 use Rattle.fax_walk.specs.Items.{exchanged}
 use Rattle.fax_walk.specs.Salvaged.{PageRow, on_page, IsStripLeft, AreStripsLeft}
@@ -36,6 +33,7 @@ use Rattle.std.proofs.Common.{inl, inr, suc}
 use Rattle.std.proofs.lemmas.List.{map-append}
 use Rattle.std.proofs.Common.{zero}
 use Rattle.fax_walk.proofs.OpenPageLemmas.{whole_of}
+use Rattle.fax_page.proofs.SalvagePlaceLaws.{rest_of_rest}
 
 -- after the last row of a strip there is none
 pub none_after : (form : StripForm) (i : ℕ) (before : Option StripFault) (reference : List Colour) (b : List Bool)
@@ -141,9 +139,6 @@ whole_after directory form strip before this s below = elim (cases_lt s strip) [
       let same : strip ≡ s = omega (arith, below, late) in
       subst (λ n. IsWholeStrip directory form n) same this
 ]
-
-pub both_true : (a b : Bool) → (a && b) ≡ true → (a ≡ true) × (b ≡ true)
-both_true a b is = grind arith
 
 found_alone : (salvaged : Salvaged) → is_found salvaged ≡ true → salvaged ≡ in_strip.Found
 found_alone in_strip.Found is = refl
@@ -465,15 +460,6 @@ step_due : (old new : SalvageState) (salvaged : Salvaged) → IsSalvageStep old 
 step_due old new in_strip.Found finds = finds.due
 step_due old new (in_strip.Lost fault count) (due, is_lost, after) = due
 step_due old new (in_strip.Unended count) (row, rest, read, eol_due, below, after) = omega (arith, eol_due.1)
-
--- the rest of a rest
-rest_of_rest : (all middle last : List Bool) → IsRestOf all middle → IsRestOf middle last → IsRestOf all last
-rest_of_rest all middle last (n, within, is) (more, fits, ends) =
-    let count : length middle ≡ length all - n = ap (λ (l : List Bool). length l) (sym is) ∙ length-drop n all in (
-      n + more,
-      omega (arith, within, fits, count),
-      sym (drop-drop more n all) ∙ ap (drop more) is ∙ ends,
-    )
 
 -- a strip that is begun stands in its bits
 stands_begun : (directory : TiffDirectory) (form : PageForm) (s : ℕ) (bytes : List ℕ) (whole : Bool)

@@ -30,7 +30,7 @@ runs_short colour n most (first ∷ pels) within =
     )
 
 -- there is one at least
-some_run : (colour : Colour) (n : ℕ) (pels : List Colour) → 0 < length (runs_after colour n pels)
+pub some_run : (colour : Colour) (n : ℕ) (pels : List Colour) → 0 < length (runs_after colour n pels)
 unfolding runs_after
 some_run colour n [] = omega arith
 some_run colour n (first ∷ pels) = grind (arith, common_steps, some_run colour (n + 1) pels)

@@ -18,6 +18,8 @@ const VERSION: u32 = 2;
 
 /// Where to go on inside a strip: a cursor, how many bits of the strip stand before its row, and
 /// the runs of the row before it, before any exchange of colours.
+// Runs are short for most rows, and say the row whole. That a list is the runs of a row is tested
+// before it is taken, so that a forged cursor is outside and nothing else.
 #[derive(Debug, Drop)]
 pub struct LongCursor {
     pub at: Cursor,
@@ -181,6 +183,7 @@ impl LongCursor {
             ++ long_cursor_text self.now) }
         ensures err { OnErr result (string_bytes text.new ≡ string_bytes text.old) }
     {
+        // It takes a long cursor without runs too, whose text is none that is read.
         let mut own = String::new(*text.allocator());
         self.put_parts(&mut own)?;
         text.push_str(own.as_str()).map_err(|_| Memory)

@@ -20,6 +20,9 @@ const MAX_OUTPUT: usize = MAX_FILE as usize;
 const MAX_PAGES: u64 = 65_535;
 
 /// What is written, page by page.
+// An output that is too large takes every row without doing anything, and stays so whatever
+// follows. An image is measured before its rows are put, a page of a TIFF file when its strips are
+// whole.
 #[derive(Drop)]
 pub(crate) enum Output {
     /// Images.

@@ -321,6 +321,8 @@ impl<'a> OpenPage<'a> {
         ensures outside { result ≡ false → Spec.StopsAtRow self.old
             (Fault self.old.page (row_of self.old) (File StripOutside)) }
     {
+        // It stands apart, so that the step from row to row is short enough to be written out in
+        // its callers.
         let number = self.number + 1;
         match self.strips.bytes(number) {
             Ok(bytes) => {

@@ -24,6 +24,8 @@ enum PagesStage<'a> {
 /// A reader of a file's pages, without their strips. Contracts see its file, the cursor that it
 /// began with, how many pages it handed out, and how the pages ended, once it told that. It takes
 /// no memory.
+// It counts what it handed out, so that its contract can say page number `given`; its view has no
+// stage. It takes no memory, so that its `WalkFault` is never `Memory`.
 #[derive(Drop)]
 pub struct Pages<'a> {
     file: &'a [u8],

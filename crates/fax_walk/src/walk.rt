@@ -140,6 +140,9 @@ fn go_on<'a>(
     requires { Spec.IsOpenOrNone page.old }
     ensures { Spec.IsReadNext file.now begun.now page.old result page.new }
 {
+    // The next page is opened beside the one that is read to its end, and takes its place when it
+    // is open: where memory is refused the walk is as it was. After the last row the page stays for
+    // its long cursor alone.
     fax_bits::laws::bits_stand_by_place();
     fax_page::laws::lines_are_read_in_one_way();
     fax_files::laws::files_have_one_chain();

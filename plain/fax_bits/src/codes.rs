@@ -73,6 +73,9 @@ pub(crate) fn within<M: Copy>(entry: CodeEntry<M>, n: u32) -> Option<(u32, M)> {
 /// `DataEnds` where the bits end within a code, `BadCode` where no code begins so. The source is
 /// then as it was.
 pub fn read_code<T: CodeTable>(source: &mut BitSource) -> Result<T::Meaning, CodeFault> {
+    // It looks at the next thirteen bits, or at all that are left: near the end of the bytes the
+    // window loads single bytes, so that one function reads every code and names each fault. Each
+    // table finds a code by its own `find`, those here by small arrays over these bits.
     let n = source.remaining().min(u64::from(LONGEST_CODE)) as u32;
     let window = source.peek(n);
     match T::find(window, n) {

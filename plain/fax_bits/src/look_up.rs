@@ -52,6 +52,9 @@ impl<'a> BitSource<'a> {
     #[inline(always)]
     // requires { total < 2 ^ 31 }
     pub fn pair_within(&mut self, total: u32, width: u32) -> Option<Pair> {
+        // A look-up for each run took nearly half of the time of a dithered page's one-dimensional
+        // rows. To compare the sum with the width takes fewer steps than to compute what is left of
+        // it.
         self.window = self.window.loaded(self.bytes, self.order)?;
         let (len, pair) = find_pair(self.window.number(LOOKED_AT) >> AFTER_CODE)?;
         if total + pair.white + pair.black > width {
@@ -83,6 +86,9 @@ impl<'a> BitSource<'a> {
     /// section 4.1.1). Where it has more, or is not found so, the source is as it was.
     #[inline(always)]
     pub fn run_within(&mut self, colour: Colour, most: u32) -> Option<u32> {
+        // Each look-up is a few lines of its own: one generic function for all of them needed a
+        // trait, and a type for each of what is looked up. Both codes of a run are found in
+        // thirty-two bits, so that no source has to be put back after the first of them.
         self.window = self.window.loaded(self.bytes, self.order)?;
         let (len, pels) = find_whole_run(colour, self.window.number(LOOKED_AT))?;
         if pels > most {
@@ -96,6 +102,9 @@ impl<'a> BitSource<'a> {
     /// was.
     #[inline(always)]
     pub fn mode(&mut self) -> Option<ModeCode> {
+        // One loaded bit alone tells that a1 is under b1, as it is in most modes of a page. Where
+        // no look-up finds the mode, as near the end of the bytes, the caller reads it by
+        // `read_code`.
         if self.window.begins_with_one() {
             self.window = self.window.after(1);
             return Some(ModeCode::Vertical(0));
@@ -136,6 +145,7 @@ impl<'a> BitSource<'a> {
     /// and answers whether it finds them so. Else the source is as it was.
     #[inline(always)]
     pub fn past_zeros_and_one(&mut self, least: u32) -> bool {
+        // An EOL is so where it stands in thirty-two bits; fill that is longer goes by bytes.
         let Some(ahead) = self.window.loaded(self.bytes, self.order) else {
             return false;
         };

@@ -75,6 +75,10 @@ impl CodeTable for Modes {
 #[inline(always)]
 // requires { bits < 2 ^ LONGEST_CODE }
 pub(crate) fn find_mode(bits: u32) -> Option<(u32, ModeCode)> {
+    // Vertical modes are found by one look-up of seven bits, pass and horizontal mode by their
+    // first four: three of four modes of a dithered page are vertical ones, which nine compares in
+    // turn had to part. `crates/fax_bits/make-indexes` prints the arrays, and a computed proof ties
+    // them to `MODES`.
     let at = (bits >> 6) as usize;
     let len = VERTICAL_MODES.lens[at];
     if len > 0 {

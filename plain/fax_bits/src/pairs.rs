@@ -19,6 +19,8 @@ pub struct Pair {
 #[inline(always)]
 // requires { bits < 2 ^ LONGEST_CODE }
 pub(crate) fn find_pair(bits: u32) -> Option<(u32, Pair)> {
+    // The three arrays are one static, so that they have one address in a register. `make-indexes`
+    // prints them; a computed proof goes through all 4,096 numbers.
     let at = (bits >> 1) as usize;
     let len = PAIRS.lens[at];
     if len == 0 {
@@ -37,6 +39,8 @@ pub(crate) fn find_pair(bits: u32) -> Option<(u32, Pair)> {
 // requires first { first < SHORT_RUN }
 // requires second { second < SHORT_RUN }
 pub(crate) fn short_pair_code(colour: Colour, first: u32, second: u32) -> PendingBits {
+    // The codes of both stand together in arrays of 256, for white first and for black first, which
+    // `make-indexes` prints; a computed proof compares each with the code tables.
     let at = (first * SHORT_RUN + second) as usize;
     let (code, len) = match colour {
         Colour::White => (WHITE_PAIR_CODES[at], WHITE_PAIR_LENS[at]),

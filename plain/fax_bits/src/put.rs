@@ -141,6 +141,7 @@ impl PendingBits {
         first: u32,
         second: u32,
     ) -> Result<Self, Memory> {
+        // Nearly all pairs of a dithered page are so short. Longer runs are put one by one.
         self.put(sink, short_pair_code(colour, first, second))
     }
 

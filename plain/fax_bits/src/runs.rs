@@ -155,6 +155,9 @@ fn run_place(colour: Colour, bits: u32) -> usize {
 #[inline(always)]
 // requires { bits < 2 ^ LONGEST_CODE }
 pub(crate) fn find_run_code(colour: Colour, bits: u32) -> Option<(u32, RunCode)> {
+    // The array of the long codes has numbers of sixteen bits and that of the short ones of eight,
+    // so that the compiler does not load from either by one address, which it would compute at each
+    // code.
     let at = bits as usize;
     let short = match colour {
         Colour::White => WHITE_SHORT[at >> 4],

@@ -40,6 +40,8 @@ fn push_word(bytes: &mut Vec<u8>, word: u32) {
 
 /// Bits, and the bytes that hold them. Contracts see the order of the bits in a byte and the list
 /// of the bits.
+// Pending bits are one number, and are stored by words of four bytes. While any may be pending
+// there is room for five bytes more, so that `pad` takes no memory.
 pub struct BitSink {
     order: FillOrder,
     /// Whole bytes, the highest bit of each first. Where bits may be pending there is room for five

@@ -127,6 +127,8 @@ impl Window {
     // requires within { self.at ≤ length bytes.now }
     // requires few { least ≤ 32 }
     pub fn loaded_for(self, least: u32, bytes: &[u8], order: FillOrder) -> Option<Window> {
+        // It gives up where fewer than four bytes are left: to load single bytes would cost each
+        // look-up a test. The last codes of a strip are read one by one (`read_code`).
         if self.count >= least {
             return Some(self);
         }

@@ -50,6 +50,8 @@ pub fn faxpages_place_parse(
     place: &mut FaxPlace,
     runs: &mut [u32],
 ) -> u32 {
+    // A text of more than 65,536 runs is NO_PLACE: NO_ROOM would have a caller grow `runs` for
+    // ever.
     fax_walk::laws::cursors_are_named();
     let Ok(text) = str::from_utf8(text) else {
         return status::NO_PLACE;

@@ -52,6 +52,10 @@ fn put_totals(file: &mut [u8], pages: u16) {
 
 /// Tells each page of a file of the caller how many there are, if these are its pages.
 fn end_pages(file: &mut [u8], written: &mut FaxWritten) -> u32 {
+    // Until the pages are ended the total is 0, which TIFF calls not available: so the file is a
+    // whole one after each page. One call at the end takes a time in proportion to the pages; a
+    // page that told all before it would take the square of that. The chain is believed only where
+    // each directory stands after its link, so that what is written is none of what it goes by.
     if !is_endable(written) {
         return status::NO_OPTIONS;
     }

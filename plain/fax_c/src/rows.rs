@@ -53,6 +53,10 @@ fn fill<F: RowFormat>(
     rows: &mut [FaxRow],
     out: &mut [F::Number],
 ) -> Filled {
+    // Where less room is left than the largest row takes, the place is told before a row is read: a
+    // walk that has read the row has passed the place, and cannot step back. So the runs after
+    // those of the place may change, of the first 65,536: to keep the others would cost a copy of
+    // all.
     fax_walk::laws::beginnings_have_one_tail();
     let mut count = 0;
     let mut used = 0;
@@ -147,6 +151,7 @@ pub(crate) fn fill_from<F: RowFormat>(
     out: &mut [F::Number],
     told: &mut FaxTold,
 ) -> u32 {
+    // A place that lacks its runs is OUTSIDE: NO_ROOM would have a caller grow `out` for ever.
     fax_walk::laws::beginnings_have_one_tail();
     let cursor = place.cursor();
     if place.lacks_runs(runs) {

@@ -196,6 +196,9 @@ pub fn faxpages_salvage(
     lost: &mut [FaxLost],
     told: &mut FaxTold,
 ) -> u32 {
+    // All rows are written or none, and all lost stretches are counted, also where the table has
+    // room for fewer: so a caller knows how large it has to be. (rows + 1) / 2 lines are always
+    // enough.
     let cursor = Cursor { page, row: 0 };
     let found = match PageLeft::at(file, page) {
         Ok(found) => found,

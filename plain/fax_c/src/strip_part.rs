@@ -5,18 +5,22 @@ use crate::filled::{Filled, Stop};
 use crate::places::FaxPlace;
 use crate::status;
 use crate::strip_form::FaxStrip;
-use crate::strips::{MOST_RUNS, read_strip, readable_form};
+use crate::strips::{MOST_BYTES, MOST_RUNS, read_strip, readable_form};
 use crate::told::FaxTold;
-use crate::uncounted::{end_at, met_in_strip, tell_end, uncounted_form};
+use crate::uncounted::{end_at, met_in_strip, source_at, tell_end, uncounted_form};
 use fax_files::Cause;
-use fax_page::{RowsEnd, StripFault, StripForm};
+use fax_page::{RowsEnd, StripFault, StripForm, may_be_end_mark};
 use fax_walk::End;
 use kit_std::alloc::Global;
 
-/// Whether a row is due at a place that is after these bytes.
+/// No strip that is read has more bits.
+const MOST_BITS: u64 = 8 * MOST_BYTES as u64;
+
+/// Whether a row is due at a place that is after these bytes, and that a strip may reach.
 // requires count { length strip.now ≤ 536870911 }
 fn is_ahead(strip: &[u8], form: StripForm, place: &FaxPlace) -> bool {
-    place.row < form.rows && u64::from(place.bits) > 8 * strip.len() as u64
+    let bits = u64::from(place.bits);
+    place.row < form.rows && bits > 8 * strip.len() as u64 && bits <= MOST_BITS
 }
 
 /// Whether a stop may be another one where more bytes follow.
@@ -34,12 +38,23 @@ fn may_change(strip: &[u8], form: StripForm, place: &FaxPlace, stop: Stop) -> bo
     }
 }
 
-/// Whether rows that end so may end otherwise where more bytes follow.
-fn end_may_change(end: RowsEnd) -> bool {
+/// Whether rows that nobody counted and that end so at a place may end otherwise where more bytes
+/// follow: with an end mark, where one may stand there.
+// requires count { length strip.now ≤ 536870911 }
+fn end_may_change(strip: &[u8], form: StripForm, place: &FaxPlace, end: RowsEnd) -> bool {
     match end {
-        RowsEnd::Marked => false,
-        RowsEnd::Fault(fault) => fault == StripFault::DataEnds || fault == StripFault::EndMarker,
-        RowsEnd::DataEnd | RowsEnd::TooMany => true,
+        RowsEnd::DataEnd | RowsEnd::Fault(StripFault::DataEnds) => true,
+        RowsEnd::TooMany | RowsEnd::Fault(StripFault::EndMarker) => {
+            may_be_end_mark(&source_at(strip, form, place), form.coding)
+        }
+        RowsEnd::Marked
+        | RowsEnd::Fault(
+            StripFault::BadCode
+            | StripFault::Extension
+            | StripFault::RunTooLong
+            | StripFault::OutOfRow
+            | StripFault::MissingEol,
+        ) => false,
     }
 }
 
@@ -91,7 +106,7 @@ pub fn faxpages_strip_part(
         return filled.tell(told);
     };
     let end = end_at(strip, form, place, met);
-    if end_may_change(end) {
+    if end_may_change(strip, form, place, end) {
         return tell_more(&filled, told);
     }
     tell_end(&filled, place, end, told)

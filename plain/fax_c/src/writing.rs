@@ -101,6 +101,8 @@ fn code_strips(
 
 /// Whether a page can be added to a file that is written so far.
 fn is_writing(written: &FaxWritten) -> bool {
+    // A link before byte 4 is NO_OPTIONS, since the page's directory would be written over the
+    // header. That the numbers are those that a call told is the caller's to see to.
     if written.total > MOST_PAGES || written.added >= MOST_PAGES {
         return false;
     }
@@ -125,6 +127,8 @@ fn is_held(written: &FaxWritten, room: usize) -> bool {
 // requires writing { Spec.IsWriting written.now }
 // requires held { Spec.IsHeld written.now (length file.now) }
 fn is_total_said(written: &FaxWritten, file: &[u8]) -> bool {
+    // The numbers of a caller are believed but for this, since a mistake here would give pages that
+    // contradict each other.
     written.added == 0 || u32::from(two_at(file, written.link as usize - 2)) == written.total
 }
 

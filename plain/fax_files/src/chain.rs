@@ -129,6 +129,9 @@ fn turns_at(search: Search, given: u32) -> bool {
 
 /// A reader of a file's directories, in the order of their chain. Contracts see its file and how
 /// many directories were handed out.
+// The search takes no memory, which could be refused at the first page, and no pass over the chain
+// before the first page, which a stranger could make long. Each page costs at most three steps of
+// the chain, which no clause says.
 pub struct Chain<'a> {
     tiff: Tiff<'a>,
     due: u32,

@@ -52,6 +52,8 @@ impl<'a> Directory<'a> {
 
     /// The first entry of each tag of `TAGS`. It goes from the last entry to the first.
     pub(crate) fn first_entries(&self) -> FirstEntries {
+        // From the last to the first, so that the first of a tag is the one that stays. A stranger
+        // can chain many directories of 65,535 entries over one another, so one pass finds all.
         let file = self.file();
         let mut first = FirstEntries::new();
         let count = entry_count(&file, self.offset);

@@ -55,6 +55,8 @@ impl<'a> File<'a> {
     /// Where the values of an entry stand.
     // requires { entry.now.place + 4 ≤ length self.now.bytes.now }
     fn values_place(&self, entry: &Entry) -> usize {
+        // The entry's own count decides whether its values stand in it, also where fewer are
+        // needed. Only the needed ones have to lie in the file.
         if (entry.count as usize).saturating_mul(entry.value_len()) <= 4 {
             entry.place
         } else {

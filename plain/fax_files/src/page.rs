@@ -74,6 +74,8 @@ fn read_form(fields: &Fields) -> Result<PageForm, FileFault> {
 
 /// T4Options, which are looked at in T.4 alone, and 0 in T.6.
 fn read_options(fields: &Fields, compression: u32) -> Result<u32, FileFault> {
+    // T6Options is never looked at: what its one bit allows, uncompressed mode, begins with an
+    // extension code, which is refused where it stands.
     if compression == COMPRESSION_T6 {
         return Ok(0);
     }

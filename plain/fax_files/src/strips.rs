@@ -42,6 +42,8 @@ impl<'a> Strips<'a> {
     /// (TIFF 6.0, StripOffsets and StripByteCounts).
     // requires { s < self.now.count }
     pub fn bytes(&self, s: u32) -> Result<&'a [u8], FileFault> {
+        // A byte count of 0 at an offset past the file's end is refused too: zero bytes have a
+        // place.
         let file = self.directory.file();
         let offset = file.value_at(&self.offsets, s) as usize;
         let len = file.value_at(&self.byte_counts, s) as usize;

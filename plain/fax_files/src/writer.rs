@@ -117,6 +117,8 @@ impl TiffWriter {
     // requires exchanged { form.now.exchanged ≡ false }
     // requires strips { length strips.now ≡ form.now.strips }
     pub fn add_page(&mut self, form: &PageForm, strips: &[Vec<u8>]) -> Result<(), WriteFault> {
+        // The page's tail is made first, memory is reserved once for strips and tail, and only then
+        // is anything appended. The link to the page is set last.
         let start = self.bytes.len() as u32;
         let Some(end) = strips_end(start, strips) else {
             return Err(WriteFault::OutputTooLarge);

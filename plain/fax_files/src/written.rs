@@ -150,6 +150,8 @@ fn put_rational(out: &mut Vec<u8>, value: (u32, u32)) -> Result<(), AllocError> 
 /// The fields of a page.
 // requires { at.now.directory ≤ max_file }
 fn page_fields(form: &PageForm, at: &Layout) -> [Field; FIELDS] {
+    // The places of a directory's parts are computed from `FIELDS`, in the definitions too: one
+    // more field is a line in each, and the two counts.
     [
         long_field(tags::NEW_SUBFILE_TYPE, 1, 2),
         long_field(tags::IMAGE_WIDTH, 1, form.width),

@@ -1,22 +1,30 @@
 //! Laws of strips. The functions compute nothing: each has a law as its contract.
 
+/// A row of a strip, or the fault in its way, and the rows of a strip, are what a function reads of
+/// its bits, in any coding.
+pub fn strips_are_read_by_functions() {
+    fax_rows::laws::rows_are_read_by_functions();
+}
+
+/// How rows end that nobody counted is what a function says, in any coding.
+pub fn ends_are_told_by_a_function() {}
+
 /// Bits are read in one way as a row of a strip, in any coding: they begin with one row and one
 /// rest follows it, or one fault is in its way, never both. The rest is the end of the bits, and
 /// the row is as wide as its reference.
 pub fn lines_are_read_in_one_way() {
-    fax_rows::laws::rows_are_read_in_one_way();
-    fax_rows::laws::rows_over_a_reference_are_read_in_one_way();
+    strips_are_read_by_functions();
     fax_rows::laws::rows_have_their_width();
 }
 
 /// Bits are read in one way as a strip, in any coding: they have one list of rows and one end.
 pub fn strips_are_read_in_one_way() {
-    lines_are_read_in_one_way();
+    strips_are_read_by_functions();
 }
 
 /// A strip is noted in one way: of any bits that have all its rows there is one set of notes.
 pub fn strips_are_noted_in_one_way() {
-    lines_are_read_in_one_way();
+    strips_are_read_by_functions();
 }
 
 /// An aligned EOL ends on a byte boundary of its strip, after as little fill as does so (T.4,
@@ -59,7 +67,8 @@ pub fn strips_are_written_row_by_row() {}
 /// Any bits are read in one way as rows that nobody counted, in any coding: they have one list of
 /// rows, of at most 1,000,000, and one end.
 pub fn uncounted_rows_are_read_in_one_way() {
-    lines_are_read_in_one_way();
+    strips_are_read_by_functions();
+    ends_are_told_by_a_function();
 }
 
 /// Rows that nobody counted, however they end, are all rows of a strip of as many, and no fault.
@@ -90,13 +99,13 @@ pub fn ends_stay_whatever_follows() {
 /// What is left of a damaged strip is found and lost in one way, from any row on, in any coding:
 /// there is one list of what becomes of its rows, of as many as it has.
 pub fn strips_are_salvaged_in_one_way() {
-    lines_are_read_in_one_way();
+    strips_are_read_by_functions();
 }
 
 /// The rows that are read before a fault are found: all of them, or where an EOL is missing after
 /// the last, all but that one.
 pub fn rows_before_a_fault_are_found() {
-    lines_are_read_in_one_way();
+    strips_are_salvaged_in_one_way();
 }
 
 /// In MH and MR the row after a lost one is due at the next EOL, whatever bits that hold no EOL stand
@@ -115,6 +124,12 @@ pub fn whole_strips_are_found() {}
 /// coding: one list and one end. It is what is left of the first rows of a strip with as many as there
 /// may be, and where the rows are read to an end mark, or to the end of the data, all are found.
 pub fn uncounted_rows_are_left_in_one_way() {
-    lines_are_read_in_one_way();
+    strips_are_read_by_functions();
     strips_are_salvaged_in_one_way();
+}
+
+/// What is left of a damaged strip, and of damaged rows that nobody counted, with their end, is what
+/// functions read of its bits (T.4, sections 4.1.2 and 4.2.2; T.6, section 2.2.1).
+pub fn damaged_strips_are_read_by_functions() {
+    strips_are_read_by_functions();
 }

@@ -68,6 +68,9 @@ pub(crate) fn read_start(
 /// Whether a row's first code may be read: an EOL in its place is the end of the page (T.4,
 /// section 4.1.4), or of the facsimile block (T.6).
 fn check_first_code(source: &BitSource) -> Result<(), StripFault> {
+    // In MH the search for the EOL comes before this: so a strip without a single 1 where a row is
+    // due is `DataEnds` there, with eleven zeros or more too. In MMR no EOL is sought, and eleven
+    // zeros or more are `EndMarker`.
     // Eleven zeros settle it, and what follows them is not looked at.
     if source.again().take(0, EOL_ZEROS as u32) {
         return Err(StripFault::EndMarker);
@@ -124,6 +127,7 @@ pub(crate) enum LineStop {
 #[cold]
 #[inline(never)]
 pub(crate) fn line_fault(mut start: BitSource, form: StripForm, i: u32, why: LineStop) -> StripFault {
+    // A copy of the source there would be made at each row.
     match why {
         LineStop::Start(fault) => fault,
         LineStop::Codes(cause) => match read_start(&mut start, form.coding, i) {

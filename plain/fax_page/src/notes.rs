@@ -11,15 +11,16 @@ use kit_std::mem::swap;
 use thiserror::Error;
 
 /// How many EOLs a return to control has (T.4, section 4.1.4).
-const RETURN_EOLS: u32 = 6;
+pub(crate) const RETURN_EOLS: u32 = 6;
 
 /// The end of a facsimile block as a number: two EOLs (T.6, End-of-facsimile block).
-const END_OF_BLOCK: u32 = 0x1001;
+pub(crate) const END_OF_BLOCK: u32 = 0x1001;
 
 /// How many bits the end of a facsimile block has.
-const END_OF_BLOCK_BITS: u32 = 24;
+pub(crate) const END_OF_BLOCK_BITS: u32 = 24;
 
 /// What is worth a note in a strip of which all rows can be read.
+// Its fields are words, as flags are; the numbers that are printed belong to `NoteKind`.
 #[derive(Clone, Copy, Debug, PartialEq, Eq)]
 pub struct StripNotes {
     /// The strip is MMR, and no end of a facsimile block stands after its last row (T.6,
@@ -107,6 +108,9 @@ impl<'a> NotedStrip<'a> {
         dimension: Dimension,
         i: u32,
     ) -> Result<bool, NotesFault> {
+        // The readers answer whether each step was T.4's choice; at any doubt the row is written
+        // again, in a sink that is emptied for each row, and compared. That a row begins so is that
+        // it is coded so, since what is written is read as nothing else (a law of `fax_rows`).
         fax_rows::laws::one_dimensional_rows_are_read_as_nothing_else();
         fax_rows::laws::two_dimensional_rows_are_read_as_nothing_else();
         let codes = self.source.again();
@@ -201,6 +205,8 @@ fn after_return_to_control<'a>(source: &BitSource<'a>, coding: Coding) -> Option
 /// What stands after the end mark of a strip, where there is one (T.4, section 4.1.4; T.6,
 /// End-of-facsimile block).
 pub(crate) fn after_end<'a>(source: &BitSource<'a>, coding: Coding) -> Option<BitSource<'a>> {
+    // The end of a facsimile block has no fill: with a zero before it a strip of MMR has none, and
+    // data.
     match coding {
         Coding::Mh | Coding::Mr => after_return_to_control(source, coding),
         Coding::Mmr => {
@@ -216,6 +222,8 @@ pub(crate) fn after_end<'a>(source: &BitSource<'a>, coding: Coding) -> Option<Bi
 
 /// The notes on a strip whose rows end at a source.
 fn notes_after(source: &BitSource, coding: Coding, not_t4_choice: bool) -> StripNotes {
+    // A lone EOL after the last row is data after the end: no return to control stands there. Six
+    // EOLs after a strip of MMR are the end of its block, two EOLs, and then data.
     let (ended, data_after_end) = match after_end(source, coding) {
         Some(after) => (true, after.zeros().is_some()),
         None => (false, source.zeros().is_some()),

@@ -1,7 +1,7 @@
 //! A reader of strips.
 
 use crate::lines::{begins_below_eleven, line_fault, next_eol, read_start};
-use crate::turns::RowsInTurn;
+use crate::turns::{RowsInTurn, is_row};
 use crate::uncounted::end_of_rows;
 use crate::{Coding, Dimension, PlaceFault, RowBefore, RowsEnd, StripFault, StripForm};
 use fax_bits::laws::bits_stand_by_place;
@@ -12,6 +12,8 @@ use kit_std::marker::Model;
 /// Reads strips row by row, one strip after another. Contracts see how far a strip is read: its
 /// form, its bytes, the place in bits and the number of the row that is due, how many rows the
 /// reader answered, the row before the one that is due, and the fault that was answered.
+// The place of the row that is due stands apart from the source: after a fault the source stands
+// anywhere, and the reader is as it was but for the fault.
 pub struct StripReader<'a> {
     bytes: &'a [u8],
     /// Where the row that is due begins; after a fault, anywhere.
@@ -73,12 +75,12 @@ impl<'a> StripReader<'a> {
     ) -> Result<Self, PlaceFault> {
         bits_stand_by_place();
         let place = u64::from(bits);
-        if place > 8 * bytes.len() as u64 {
+        if place > 8 * bytes.len() as u64 || !is_row(before, form.width) {
             return Err(PlaceFault::Outside);
         }
         let mut rows = RowsInTurn::new(alloc, form.width)?;
         if !rows.begin_after(before) {
-            return Err(PlaceFault::Outside);
+            unreachable!();
         }
         let mut source = BitSource::new(bytes, form.order);
         source.skip(place);
@@ -145,6 +147,8 @@ impl<'a> StripReader<'a> {
     /// `restart` or `restart_at`.
     #[inline(always)]
     pub fn advance(&mut self) -> Result<bool, StripFault> {
+        // It stands beside `next_row`, which lends the row: the checker proves a lent row through
+        // one layer of crates and not through two, and the walk lends it on.
         bits_stand_by_place();
         if let Some(fault) = self.fault {
             return Err(fault);
@@ -182,6 +186,8 @@ impl<'a> StripReader<'a> {
     /// Why the row that is due could not be read. Every later call answers the same, until
     /// `restart` or `restart_at`.
     pub fn next_row(&mut self) -> Result<Option<&Row>, StripFault> {
+        // The contract says plainly which row is lent (`IsDue`), beside what the reader is once the
+        // row is given back: a caller that goes no further needs no more.
         if self.advance()? {
             Ok(Some(self.rows.reference()))
         } else {
@@ -287,6 +293,8 @@ impl<'a> StripReader<'a> {
     /// How many rows were read since `new`, over all restarts, up to the greatest number of 64
     /// bits.
     pub fn rows_read(&self) -> u64 {
+        // A row adds one to `row` alone: what was read before is added up where a strip is begun. A
+        // walk adds what was read before its page, and counts itself only what it handed out.
         self.read_before
             .saturating_add(u64::from(self.row - self.begun))
     }

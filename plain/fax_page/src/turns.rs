@@ -6,8 +6,19 @@ use fax_rows::{BitSource, Memory, Row, RowFault};
 use kit_std::alloc::Global;
 use kit_std::marker::Model;
 
+/// Whether some row of this width is the one before a place.
+// requires some { 0 < width }
+pub(crate) fn is_row(before: RowBefore, width: u32) -> bool {
+    match before {
+        RowBefore::White => true,
+        RowBefore::Runs(runs) => Row::has_runs(runs, width),
+    }
+}
+
 /// Two rows of one width that take turns: one is the reference, and the next row is read to the
 /// other, which is the reference then. Neither is moved. Contracts see the reference.
+// There are two in MH too, where the row before is not looked at: one form of reader for all
+// codings, at the price of a second row in memory. Which of them is the reference is one bit.
 pub(crate) struct RowsInTurn {
     first: Row,
     second: Row,

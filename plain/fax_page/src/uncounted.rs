@@ -1,6 +1,7 @@
 //! How rows end that nobody counted.
 
-use crate::notes::after_end;
+use crate::lines::read_eol;
+use crate::notes::{END_OF_BLOCK, END_OF_BLOCK_BITS, RETURN_EOLS, after_end};
 use crate::{Coding, RowsEnd, StripFault};
 use fax_rows::BitSource;
 
@@ -12,6 +13,67 @@ fn has_data_end(source: &BitSource, rows: u32) -> bool {
     match source.zeros() {
         Some(_one) => false,
         None => true,
+    }
+}
+
+/// What stands where an EOL of a return to control is due.
+#[derive(Clone, Copy)]
+enum MarkEol {
+    /// One stands there.
+    Whole,
+    /// Bits that follow may make one.
+    Cut,
+    /// Something else, whatever follows.
+    Other,
+}
+
+/// Goes after an EOL of a return to control, and answers what stands where it is due (T.4, sections
+/// 4.1.4 and 4.2.4).
+// requires with_eols { coding ≢ Mmr }
+fn take_mark_eol(source: &mut BitSource, coding: Coding) -> MarkEol {
+    if let Err(fault) = read_eol(source, false) {
+        return if fault == StripFault::DataEnds {
+            MarkEol::Cut
+        } else {
+            MarkEol::Other
+        };
+    }
+    match coding {
+        Coding::Mh | Coding::Mmr => MarkEol::Whole,
+        Coding::Mr if source.take(1, 1) => MarkEol::Whole,
+        Coding::Mr if source.remaining() == 0 => MarkEol::Cut,
+        Coding::Mr => MarkEol::Other,
+    }
+}
+
+/// Whether a return to control stands at a source, or may where more bits follow (T.4, section
+/// 4.1.4).
+// requires with_eols { coding ≢ Mmr }
+fn may_be_return_to_control(source: &BitSource, coding: Coding) -> bool {
+    let mut ahead = source.again();
+    for _eol in 0..RETURN_EOLS {
+        match take_mark_eol(&mut ahead, coding) {
+            MarkEol::Whole => {}
+            MarkEol::Cut => return true,
+            MarkEol::Other => return false,
+        }
+    }
+    true
+}
+
+/// Whether an end mark stands at a source, or may where more bits follow (T.4, section 4.1.4; T.6,
+/// End-of-facsimile block).
+#[cold]
+#[inline(never)]
+pub fn may_be_end_mark(source: &BitSource, coding: Coding) -> bool {
+    match coding {
+        Coding::Mh | Coding::Mr => may_be_return_to_control(source, coding),
+        Coding::Mmr => {
+            let bits = source.remaining().min(u64::from(END_OF_BLOCK_BITS)) as u32;
+            source
+                .again()
+                .take(END_OF_BLOCK >> (END_OF_BLOCK_BITS - bits), bits)
+        }
     }
 }
 

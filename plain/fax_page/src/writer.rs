@@ -28,6 +28,8 @@ fn written_dimension(coding: Coding, k: u32, i: u32) -> Dimension {
 /// aligned the fewest that make it end on a byte boundary, and else none (T.4, section 4.1.3; TIFF
 /// 6.0, T4Options).
 fn fill_zeros(aligned: bool, before: u128) -> u32 {
+    // The first EOL of a strip is aligned too, to the strip's own bytes: four zeros stand before
+    // it.
     if aligned {
         let in_byte = (before % 8) as u32;
         (EOL_BITS - in_byte) % 8
@@ -40,6 +42,7 @@ fn fill_zeros(aligned: bool, before: u128) -> u32 {
 /// fill where EOLs are aligned, nothing in MMR (T.4, sections 4.1.2, 4.1.3 and 4.2.2; T.6, section
 /// 2.2.1).
 fn put_start(sink: &mut BitSink, form: StripForm, dimension: Dimension) -> Result<(), Memory> {
+    // Fill is put with its EOL in one call, so that MMR, which has no EOLs, has no fill.
     let fill = fill_zeros(form.aligned, sink.len());
     match (form.coding, dimension) {
         (Coding::Mh, _) => sink.put(EOL, EOL_BITS + fill),
@@ -91,6 +94,8 @@ fn are_bytes(bytes: &[u8]) {}
 
 /// Writes a strip row by row. Contracts see how far it is written: its form and k, its bits, how
 /// many rows were put, the last of them, and whether memory was refused.
+// The last row is kept in MH too, where no row is coded over another: the contract says the last
+// row, and to keep it costs no more than to write it.
 pub struct StripWriter {
     form: StripForm,
     k: u32,

@@ -8,6 +8,8 @@ use kit_std::simd::prelude::*;
 
 /// The longest runs of a row that are still to come. Contracts see the list of their lengths in
 /// pels.
+// It is public so that a caller goes over a row's runs without a list of them, and knows how many
+// there are.
 pub struct LongestRuns<'a> {
     /// Where the next run begins, and then where each run ends.
     places: &'a [u32],
@@ -43,6 +45,8 @@ impl<'a> LongestRuns<'a> {
     /// are left.
     #[inline(always)]
     pub fn eight_ahead(&self) -> Option<[u16; 8]> {
+        // The text of `rows` is written by eight runs at a time. `skip` leaves out those that are
+        // written.
         if self.places.len() <= 8 {
             return None;
         }

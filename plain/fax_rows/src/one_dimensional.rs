@@ -71,6 +71,8 @@ fn read_on(
 // requires short { width < 2 ^ 16 }
 // requires room { HasRoom width places.old }
 fn read_runs(source: &mut BitSource, places: &mut [u32], width: u32) -> Result<Runs, RowFault> {
+    // One reader serves those who ask whether the codes are T.4's choice and those who do not: to
+    // see it costs nothing where no run is empty.
     crate::laws::one_dimensional_rows_are_read_as_nothing_else();
     let mut ahead = source.again();
     let mut runs = Runs {

@@ -49,6 +49,9 @@ fn put_ones_of_byte(places: &mut [u32], end: usize, from: u32, byte: u8) -> usiz
 // requires room { end + 64 ≤ length places.old }
 // requires short { from + 64 < 2 ^ 32 }
 fn put_ones_by_bytes(places: &mut [u32], end: usize, from: u32, word: u64) -> usize {
+    // Eight lanes are stored for each byte, of which the next byte's are put over those that do not
+    // count. That needs no test for room, since a word has at most 64 changes. A word of fewer than
+    // ten takes less one by one.
     let bytes = word.to_be_bytes();
     let mut end = end;
     for k in 0..8 {

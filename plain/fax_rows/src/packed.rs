@@ -67,6 +67,8 @@ fn pack_row(row: PlacedRow, out: &mut [u8]) {
 // requires within { words ≡ row.width / 64 }
 // requires room { 8 * words ≤ length out.old }
 fn pack_words(row: PlacedRow, words: u32, out: &mut [u8]) -> usize {
+    // Words are turned from each change on; those in which no colour changes are filled. The bytes
+    // after the last whole word are packed by runs of bits.
     let mut passed = 1;
     let mut k = 0;
     while k < words {

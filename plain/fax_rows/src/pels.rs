@@ -96,6 +96,12 @@ impl Row {
         self.end = row.end;
     }
 
+    /// Whether some row of this width has these longest runs, white first.
+    // requires some { 0 < width }
+    pub fn has_runs(runs: &[u32], width: u32) -> bool {
+        are_longest(runs, width)
+    }
+
     /// Takes the pels of the row of this width that has these longest runs, white first, and
     /// answers whether there is one. Where there is none, the row stays as it is. It takes no
     /// memory.
@@ -117,6 +123,7 @@ impl Row {
 
     /// Turns all pels white. It takes no memory.
     pub fn whiten(&mut self) {
+        // It is public, so that a strip's reader is restarted without memory.
         let places = self.places.as_mut_slice();
         self.end = close(places, 1, self.width);
     }

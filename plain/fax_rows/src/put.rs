@@ -207,6 +207,8 @@ fn put_step(
 
 /// Puts the steps of a row.
 fn put_steps(rows: RowPair, sink: &mut BitSink) -> Result<(), Memory> {
+    // One index goes along the row and one along its reference: after each step both go on to the
+    // first place right of a0, by which a1, a2, a0's colour, b1 and b2 are known.
     let mut at = WrittenTo {
         a0: None,
         row: 1,
@@ -227,6 +229,8 @@ fn put_steps(rows: RowPair, sink: &mut BitSink) -> Result<(), Memory> {
 /// `Memory` where a growth was refused. The row's bits were put up to some place then.
 // requires same_width { length reference.now ≡ length row.now }
 pub fn put_2d(reference: &Row, row: &Row, sink: &mut BitSink) -> Result<(), Memory> {
+    // That its bits are read back is a law of the definitions (`laws`), which a caller calls where
+    // a proof needs it.
     let rows = RowPair {
         reference: reference.placed(),
         row: row.placed(),

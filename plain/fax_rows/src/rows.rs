@@ -51,6 +51,8 @@ impl PlacedRow<'_> {
     // requires within { b1 ≤ self.end + 1 }
     // requires left { place < slice_index self.places.now b1 }
     pub fn b1_before(self, b1: usize, place: u32) -> usize {
+        // Nothing is searched: the next b1 is the changing element before the old one, or the one
+        // after it.
         if self.places[b1 - 1] > place {
             b1 - 1
         } else {

@@ -79,6 +79,8 @@ pub(crate) fn last_run(
     width: u32,
     from: u32,
 ) -> Result<ReadRun, RowFault> {
+    // What is lent to a function stands in memory: so `read_run`, which knows every fault, gets a
+    // copy, and the source goes to the copy's place.
     let mut copy = source.again();
     let run = read_run(&mut copy, colour, width, from)?;
     source.skip_to(copy.place());

@@ -43,6 +43,10 @@ fn read_modes<const CHOICE: bool>(
     reference: PlacedRow,
     places: &mut [u32],
 ) -> Result<usize, Stop<Due>> {
+    // Each reader by look-ups hands out what is due where none finds the next code, with its place
+    // and how far the row is read, and leaves the source as it was. `read_on` goes on from there to
+    // the row's end by the tables, which know every fault. So no row is read twice but for its
+    // choice.
     let read = if reference.end == 1 {
         read_over_white::<CHOICE>(source, reference, places)
     } else if reference.end < reference.width as usize / FEW_CHANGES {
@@ -67,6 +71,8 @@ fn read_places<const CHOICE: bool>(
     reference: PlacedRow,
     places: &mut [u32],
 ) -> Result<ReadRow, RowFault> {
+    // At the first step that is not seen to be T.4's choice the row is read again, without the
+    // question. That happens where the first codes of a strip stand that are not T.4's choice.
     match read_modes::<CHOICE>(source, reference, places) {
         Ok(end) => return Ok(ReadRow {
             end,

@@ -18,6 +18,7 @@ mod text;
 mod words;
 
 pub use fax_bits::{FillOrder, Memory};
+use fax_files::MAX_FILE;
 pub use fax_walk::{
     Begun, Cause, Cursor, End, FileFault, LongCursor, NotACursor, Options, StripFault, Target,
 };
@@ -31,6 +32,9 @@ use kit_std::process::ExitCode;
 use kit_std::{env, io};
 pub use streams::{FromRead, Sink, Source, StreamFault, ToWrite};
 pub use words::{Command, Job, Part, WordsFault, parse_words};
+
+/// The most bytes of an input that are read (TIFF 6.0 has no limit; this one is the program's).
+const MOST_BYTES: u64 = MAX_FILE as u64;
 
 /// The words of the command line, the program's name first. Words that are no text are refused.
 fn given_words(rt: &HostRuntime) -> Result<Vec<String>, WordsFault> {
@@ -47,6 +51,17 @@ fn given_words(rt: &HostRuntime) -> Result<Vec<String>, WordsFault> {
 enum SystemReader {
     Standard(Stdin),
     File(File),
+    /// A file with more bytes than are read: no call for them is made, and each one fails.
+    TooLarge,
+}
+
+/// What reads a file that was opened. Of one that is no regular file, as a pipe, nobody knows how
+/// many bytes it has.
+fn reader_of(file: File) -> SystemReader {
+    match file.metadata() {
+        Ok(found) if found.is_file() && found.len() > MOST_BYTES => SystemReader::TooLarge,
+        _ => SystemReader::File(file),
+    }
 }
 
 impl io::Read for SystemReader {
@@ -54,11 +69,13 @@ impl io::Read for SystemReader {
         match self {
             SystemReader::Standard(standard) => standard.read(buf),
             SystemReader::File(file) => file.read(buf),
+            SystemReader::TooLarge => Err(io::ErrorKind::InvalidInput.into()),
         }
     }
 }
 
 /// The system's standard input, or the file that was opened. Of their bytes nothing is known.
+// Std says of no file what bytes it has, so that its clauses name none, and it may refuse any name.
 struct SystemInput<'a> {
     rt: &'a HostRuntime,
     reader: FromRead<SystemReader>,
@@ -74,7 +91,7 @@ impl Input for SystemInput<'_> {
     fn open(&mut self, name: &str) -> Result<(), NotOpened> {
         match File::open(self.rt, name) {
             Ok(file) => {
-                self.reader = FromRead::new(SystemReader::File(file));
+                self.reader = FromRead::new(reader_of(file));
                 Ok(())
             }
             Err(_) => {

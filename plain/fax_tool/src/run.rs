@@ -67,8 +67,8 @@ fn carry_out<R: Source, W: Sink>(
 }
 
 /// Carries out a job: reads the input whole, but for the version, writes the output, and says on
-/// the error stream why that is not all. It answers the program's status: 0 where all is done; 1 at a fault of the
-/// input; 3 where memory, a read or a write was refused, or the error stream failed.
+/// the error stream why that is not all. It answers the program's status: 0 where all is done; 1 at
+/// a fault of the input; 3 where memory, a read or a write was refused, or the error stream failed.
 // requires input_counts { R.counts input.old ≡ no_faults }
 // requires taken { R.taken input.old ≡ 0 }
 // requires output_counts { W.counts out.old ≡ no_faults }

@@ -85,6 +85,7 @@ impl<R: io::Read> FromRead<R> {
 
     /// Counts a file that was not opened, apart from calls that failed. The reader stays.
     pub fn count_unopened(&mut self) {
+        // Counted as a call that failed, it was a reason for `fault: Read`.
         self.faults.unopened = self.faults.unopened.saturating_add(1);
     }
 

@@ -37,6 +37,8 @@ pub enum Command {
 }
 
 /// The part of a file's pages or rows that is printed.
+// It is lent and not copied, since it may hold a long cursor. What the walk needs of it is copied
+// before the input is read.
 #[derive(Debug)]
 pub struct Part {
     /// Where to begin: at page 0, row 0 where no cursor is named; where a long one is, at its row.
@@ -117,6 +119,8 @@ fn name_salvage(words: &[&str]) -> bool {
 
 /// The usage for words: that of `salvage` where they name it.
 fn usage_for(words: &[&str]) -> &'static str {
+    // The four lines were asked for before there was `salvage`, and stay for all other words. Words
+    // that are not UTF-8 have the four lines, since nothing is read of them.
     if name_salvage(words) {
         SALVAGE_USAGE
     } else {
@@ -292,6 +296,8 @@ fn rows_of(alloc: Global, matches: &ArgMatches) -> Result<Part, WordsFault> {
 
 /// What the word after `-o` names, if it names a target.
 fn target_of(matches: &ArgMatches) -> Option<Target> {
+    // To clap that word is any text: a list of values would be a borrowed slice there, and the
+    // command would equal no written-out one. The answer is `Usage` in both cases.
     match matches.get_str("o")? {
         "pbm" => Some(Target::Pbm),
         "mh" => Some(Target::Mh),
@@ -356,6 +362,8 @@ fn command_of(alloc: Global, name: &str, matches: &ArgMatches) -> Result<Command
 
 /// Whether the words ask for the version: `--version`, alone.
 fn ask_for_version(words: &[&str]) -> bool {
+    // Beside any other word, and after a command's name, it is refused. It is no command of the
+    // grammar, and clap is not asked.
     match words {
         [_, word] => *word == "--version",
         _ => false,

@@ -51,6 +51,7 @@ impl NoteKind {
 }
 
 /// A note on a page, or on a strip of it.
+// The kind has the number and the name that are printed.
 #[derive(Clone, Copy, Debug, PartialEq, Eq)]
 pub struct Note {
     /// The page, from 0.
@@ -204,6 +205,8 @@ fn check_page(
 /// The report on a file with a good header.
 // requires { header tiff.file ≡ Ok tiff.head }
 fn check_pages(alloc: Global, tiff: Tiff) -> Result<Report, Memory> {
+    // It does not go by a walk, which hands out rows and not their bits. What it counts are the
+    // items of the same definition (`AreItems`).
     fax_files::laws::files_have_one_chain();
     let mut chain = Chain::new(tiff);
     let mut report = Report {

@@ -136,6 +136,8 @@ fn put_last_row(
     options: &Options,
     output: &mut Output,
 ) -> Result<(), Memory> {
+    // A reader of pages beside the walk would give the page's form too, but reads each directory
+    // once more, and it has to be proved that the two stay on one page.
     crate::laws::beginnings_have_one_tail();
     let Some(last) = walk.last_row() else {
         return Ok(());

@@ -14,6 +14,8 @@ const VERSION: u32 = 2;
 
 /// Where to go on inside a strip: a cursor, how many bits of the strip stand before its row, and
 /// the runs of the row before it, before any exchange of colours.
+// Runs are short for most rows, and say the row whole. That a list is the runs of a row is tested
+// before it is taken, so that a forged cursor is outside and nothing else.
 #[derive(Debug)]
 pub struct LongCursor {
     pub at: Cursor,
@@ -137,6 +139,7 @@ impl LongCursor {
     ///
     /// `Memory` where a growth was refused; the text is then as it was.
     pub fn put_text(&self, text: &mut String) -> Result<(), Memory> {
+        // It takes a long cursor without runs too, whose text is none that is read.
         let mut own = String::new(*text.allocator());
         self.put_parts(&mut own)?;
         text.push_str(own.as_str()).map_err(|_| Memory)

@@ -224,6 +224,8 @@ impl<'a> OpenPage<'a> {
     // requires all_read { self.old.strip.row ≡ self.old.strip.form.rows }
     // requires due { row_of self.old < self.old.form.rows }
     fn next_strip(&mut self) -> bool {
+        // It stands apart, so that the step from row to row is short enough to be written out in
+        // its callers.
         let number = self.number + 1;
         match self.strips.bytes(number) {
             Ok(bytes) => {

@@ -1,9 +1,6 @@
 -- What bytes that follow may change.
-use Rattle.std.specs.Prelude.{◌≡◌, ◌≢◌, ℕ, ◌*◌, ◌<◌, List, length, ⊤}
-use Rattle.fax_page.specs.declared.RowsEnd.{RowsEnd}
-use Rattle.fax_page.specs.declared.RowsEnd.TheVariants.{Marked, DataEnd, Fault as RowFaulty}
-use Rattle.fax_page.specs.declared.RowsEnd.TheVariants.{TooMany}
-use Rattle.fax_page.specs.declared.StripFault.TheVariants.{DataEnds, EndMarker}
+use Rattle.std.specs.Prelude.{◌≡◌, ℕ, ◌*◌, ◌<◌, ◌≤◌, List, length}
+use Rattle.fax_page.specs.declared.StripFault.TheVariants.{DataEnds}
 use Rattle.fax_page.specs.declared.StripForm.{StripForm}
 use Rattle.fax_files.specs.declared.Cause.TheVariants.{Strip}
 use Rattle.fax_walk.specs.declared.end.End.TheVariants.{Fault, Outside}
@@ -16,20 +13,14 @@ use Rattle.fax_c.specs.Told.{no_fault}
 
 -- a place may be one of a strip where more bytes follow: a row is due there, after these bytes
 abbrev pub IsAhead : StripForm → List ℕ → FaxPlace → Type 0
-IsAhead form strip place = (place.row < form.rows) × (8 * length strip < place.bits)
+IsAhead form strip place =
+    (place.row < form.rows) × (8 * length strip < place.bits) × (place.bits ≤ 8 * 536870911)
 
 -- the stop may be another one where more bytes follow: the data end in a row, or before its place
 abbrev pub StopMayChange : StripForm → List ℕ → FaxPlace → Stop → Type 0
 StopMayChange form strip place (Ended (Fault page row (Strip fault))) = fault ≡ DataEnds
 StopMayChange form strip place (Ended Outside) = IsAhead form strip place
 StopMayChange form strip place stop = ⊥
-
--- an end stays, whatever follows
-abbrev pub Stays : RowsEnd → Type 0
-Stays Marked = ⊤
-Stays DataEnd = ⊥
-Stays (RowFaulty fault) = (fault ≢ DataEnds) × (fault ≢ EndMarker)
-Stays TooMany = ⊥
 
 -- what was written is told, and that more is waited for
 pub record IsMoreTold (filled : Filled) (told : FaxTold) (status : ℕ) : Type 0 where

@@ -1,5 +1,5 @@
 -- One step of a call on a strip.
-use Rattle.std.specs.Prelude.{◌≡◌, ◌≢◌, ℕ, ◌<◌, ◌≤◌, ◌*◌, ◌⊎◌, List, length, take}
+use Rattle.std.specs.Prelude.{◌≡◌, ◌≢◌, ℕ, ◌<◌, ◌⊎◌, List, take}
 use Rattle.std.specs.Prelude.{Option, Some, None, Result, Ok, Err}
 use Rattle.fax_bits.specs.Bits.{bits}
 use Rattle.fax_page.specs.declared.Coding.{Coding}
@@ -44,7 +44,7 @@ IsReaderAt form strip place runs (Ok state) =
     (state.form ≡ form) × (state.bytes ≡ strip) × (state.fault ≡ None)
     × IsDueAt form strip place runs (place_due state)
 IsReaderAt form strip place runs (Err stop) =
-    ((stop ≡ Memory) × (place.bits ≤ 8 * length strip))
+    ((stop ≡ Memory) × (at : StripPlace) × IsDueAt form strip place runs at)
     ⊎ ((stop ≡ Ended Outside) × ((at : StripPlace) → IsDueAt form strip place runs at → ⊥))
 
 -- why a strip has no row after those that were read

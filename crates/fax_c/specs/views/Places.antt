@@ -38,8 +38,7 @@ HasRuns place runs = (0 < place.runs) × (place.runs ≤ length runs)
 abbrev pub LacksRuns : FaxPlace → List ℕ → Type 0
 LacksRuns place runs = length runs < place.runs
 
--- what a walk begins with that goes on at a place: inside a strip where it has runs, else at the
--- cursor
+-- what a walk begins with at a place: inside a strip where that has runs, else at the cursor
 abbrev pub place_begun : FaxPlace → List ℕ → Begun
 place_begun place runs =
     if nat_lt 0 place.runs then Inside (long_place_of place runs) else At (cursor_of place)

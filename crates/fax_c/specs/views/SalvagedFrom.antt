@@ -26,8 +26,7 @@ use Rattle.fax_c.specs.views.Salvaged.{none_filled_at}
 abbrev pub most_bytes : ℕ
 most_bytes = 536870911
 
--- so many bytes, of which some are used, have room for one more row, and a table one for one more
--- stretch
+-- so many bytes, of which some are used, have room for a row more, and a table for a stretch more
 abbrev pub HasRoom : ℕ → ℕ → ℕ → ℕ → ℕ → Type 0
 HasRoom len used stride stretches room = (stride ≤ len - used) × (stretches < room)
 
@@ -98,7 +97,7 @@ IsPlaceAfter file here rest cursor place old_runs runs =
     × AreRowsFrom file here s i at rest))
 
 -- why nothing is written from a place on: a row or a stretch has no room; or no row of the page is
--- left, or it is no place of the page, or memory was refused, where it is one but for its runs
+-- left, or it is no place of the page, or it is one, and memory was refused
 abbrev pub WritesNone : List ℕ → FilePage → ℕ → FaxPlace → List ℕ → ℕ → ℕ → Stop → Type 0
 WritesNone file here stride place runs len room NoRoom =
     HasRoomFor here.form.width stride len room → ⊥
@@ -109,9 +108,8 @@ WritesNone file here stride place runs len room (Ended Outside) =
     × ((s i : ℕ) (at : Inner) → IsPlaceOn file here place runs s i at → ⊥)
 WritesNone file here stride place runs len room Memory =
     HasRoomFor here.form.width stride len room × (place.row < here.form.rows)
-    × (place.runs ≤ length runs) × ((s i : ℕ) → IsRowOfStrip here.form place.row s i
-    → (place.runs ≡ 0 → i ≡ 0)
-    × (0 < place.runs → place.bits ≤ 8 * length (strip_left here file s).0))
+    × ((s i : ℕ) → IsRowOfStrip here.form place.row s i
+    → (at : Inner) × IsPlaceOn file here place runs s i at)
 WritesNone file here stride place runs len room stop = ⊥
 
 -- what is left of a page from a place on is written, which is then the one after it; or nothing is,

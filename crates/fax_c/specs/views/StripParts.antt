@@ -1,9 +1,10 @@
 -- The rows of a strip of which the first bytes are there, where more may follow.
 -- A definition without a citation is this project's profile.
-use Rattle.std.specs.Prelude.{◌≡◌, ℕ, ◌-◌, ◌*◌, ◌<◌, ◌≤◌, ◌⊎◌, List, [], ◌++◌, length, drop}
+use Rattle.std.specs.Prelude.{◌≡◌, ℕ, ◌-◌, ◌*◌, ◌<◌, ◌≤◌, ◌⊎◌, Bool, List, [], ◌++◌, length, drop}
 use Rattle.std.specs.Prelude.{flat_map, ⊤, Option, None}
 use Rattle.fax_bits.specs.Bits.{bits}
 use Rattle.fax_rows.specs.Rows.{Colour}
+use Rattle.fax_page.specs.declared.Coding.{Coding}
 use Rattle.fax_page.specs.declared.RowsEnd.{RowsEnd}
 use Rattle.fax_page.specs.declared.RowsEnd.TheVariants.{Marked, DataEnd, Fault, TooMany}
 use Rattle.fax_page.specs.declared.StripFault.{StripFault}
@@ -11,7 +12,7 @@ use Rattle.fax_page.specs.declared.StripFault.TheVariants.{DataEnds, EndMarker}
 use Rattle.fax_page.specs.declared.StripForm.{StripForm}
 use Rattle.fax_page.specs.Lines.{IsCause}
 use Rattle.fax_page.specs.Strip.{AreLines}
-use Rattle.fax_page.specs.Uncounted.{EndsSo}
+use Rattle.fax_page.specs.Uncounted.{EndsSo, MayHaveEndMark}
 use Rattle.fax_c.specs.declared.places.FaxPlace.{FaxPlace}
 use Rattle.fax_c.specs.declared.strip_form.FaxStrip.{FaxStrip}
 use Rattle.fax_c.specs.declared.told.FaxTold.{FaxTold}
@@ -48,12 +49,14 @@ pub record IsNothingRead (old_place : FaxPlace) (old_runs old : List ℕ) (place
   pub page : told.page ≡ old_place.page
   pub row : told.row ≡ old_place.row
 
--- rows that nobody counted may end otherwise where more bytes follow
-abbrev pub MayChange : RowsEnd → Type 0
-MayChange Marked = ⊥
-MayChange DataEnd = ⊤
-MayChange (Fault fault) = (fault ≡ DataEnds) ⊎ (fault ≡ EndMarker)
-MayChange TooMany = ⊤
+-- rows that nobody counted, after which these bits are left, may end otherwise where more follow:
+-- the data end in a row or after it, or an end mark may stand there
+abbrev pub MayChange : Coding → List Bool → RowsEnd → Type 0
+MayChange coding left Marked = ⊥
+MayChange coding left DataEnd = ⊤
+MayChange coding left (Fault fault) =
+    (fault ≡ DataEnds) ⊎ ((fault ≡ EndMarker) × MayHaveEndMark coding left)
+MayChange coding left TooMany = MayHaveEndMark coding left
 
 -- the row that is due at a place is not settled by these bytes: they end in it; or nobody counted
 -- the rows, and those up to there may end otherwise where more follow
@@ -63,16 +66,16 @@ IsUnsettled given form strip to =
     ((to.row < form.rows) × IsCause form to.row to.reference left DataEnds)
     ⊎ ((given.rows ≡ 0) × (stop : Option StripFault) × (end : RowsEnd)
     × AreLines form to.row to.reference left [] stop left
-    × EndsSo form.coding to.row left stop end × MayChange end)
+    × EndsSo form.coding to.row left stop end × MayChange form.coding left end)
 
--- no row is read from a place that these bytes do not settle: they end before it; or nobody counted
--- the rows, they are as many as a strip has, and may end otherwise where more follow
+-- no row is read from a place that these bytes do not settle: they end before it, and a strip may
+-- reach it; or nobody counted the rows, they are as many as a strip has, and may end otherwise
 abbrev pub IsUnsettledAt : FaxStrip → StripForm → List ℕ → FaxPlace → Type 0
 IsUnsettledAt given form strip place =
-    ((place.row < form.rows) × (8 * length strip < place.bits))
+    let left = drop place.bits (bits form.order strip) in
+    ((place.row < form.rows) × (8 * length strip < place.bits) × (place.bits ≤ 8 * 536870911))
     ⊎ ((given.rows ≡ 0) × (place.row ≡ form.rows) × (end : RowsEnd)
-    × EndsSo form.coding place.row (drop place.bits (bits form.order strip)) None end
-    × MayChange end)
+    × EndsSo form.coding place.row left None end × MayChange form.coding left end)
 
 -- rows are read up to one that has room and is not settled
 abbrev pub AwaitsMore : FaxStrip → StripForm → List ℕ → ℕ → FaxPlace → List ℕ → List ℕ → FaxPlace

@@ -52,8 +52,7 @@ pub record StripPlace : Type 0 where
   pub bits : ℕ
   pub reference : List Colour
 
--- a place in memory of the caller is this one: the row before it has its runs, or is white where it
--- has none
+-- the caller's place is this one: the row before it has its runs, or is white where it has none
 pub record IsPlace (width : ℕ) (place : FaxPlace) (runs : List ℕ) (at : StripPlace) : Type 0 where
   pub row : at.row ≡ place.row
   pub bits : at.bits ≡ place.bits
@@ -85,8 +84,7 @@ StopsAt form all to page stride left (Ended (Fault p r (Strip fault))) =
     × IsCause form to.row to.reference (drop to.bits all) fault
 StopsAt form all to page stride left stop = ⊥
 
--- the rows from one place of a strip to another are written, each in so many bytes, and nothing
--- else is changed
+-- the rows from one place of a strip to another are written, each in so many bytes, and no more
 pub record AreStripRows (form : StripForm) (all : List Bool) (page stride : ℕ) (from : StripPlace)
     (old : List ℕ) (filled : Filled) (to : StripPlace) (new : List ℕ) : Type 0 where
   pub rows : List (List Colour)
@@ -119,7 +117,7 @@ ReadsNone form strip stride place runs room (Ended Outside) =
     HasRoom form stride room × (place.row ≢ form.rows)
     × ((at : StripPlace) → IsDueAt form strip place runs at → ⊥)
 ReadsNone form strip stride place runs room Memory =
-    HasRoom form stride room × (place.row < form.rows) × (place.bits ≤ 8 * length strip)
+    HasRoom form stride room × (at : StripPlace) × IsDueAt form strip place runs at
 ReadsNone form strip stride place runs room stop = ⊥
 
 -- rows are read from a place on, which is then the one after them; or there are none, and nothing

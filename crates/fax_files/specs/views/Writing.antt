@@ -1,6 +1,5 @@
 -- A file that is being written.
-use Rattle.std.specs.Prelude.{ℕ, ◌+◌, List, [], ◌∷◌}
-use Rattle.std.specs.Prelude.{◌++◌, length, codes, Vec}
+use Rattle.std.specs.Prelude.{ℕ, ◌+◌, List, [], ◌∷◌, ◌++◌, length, codes, Vec}
 use Rattle.std.specs.declared.alloc.Global.{Global}
 use Rattle.fax_files.specs.declared.PageForm.{PageForm}
 use Rattle.fax_files.specs.Layout.{two, four, Written, with_page}

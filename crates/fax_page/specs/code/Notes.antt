@@ -1,5 +1,5 @@
 -- A strip that is read for its notes.
-use Rattle.std.specs.Prelude.{◌≡◌, ◌≢◌, ℕ, ◌+◌, ◌⊎◌, ◌↔◌, Bool, true, false, List, ◌++◌, length}
+use Rattle.std.specs.Prelude.{◌≡◌, ◌≢◌, ℕ, ◌+◌, ◌⊎◌, ◌↔◌, Bool, true, false, List, [], ◌++◌, length}
 use Rattle.std.specs.Prelude.{Option, Some, None, IsTrue, ⊤}
 use Rattle.std.specs.List.{Contains}
 use Rattle.fax_bits.specs.declared.Colour.{Colour}
@@ -8,6 +8,8 @@ use Rattle.fax_page.specs.declared.Coding.{Coding}
 use Rattle.fax_page.specs.declared.Coding.TheVariants.{Mmr}
 use Rattle.fax_page.specs.declared.StripForm.{StripForm}
 use Rattle.fax_page.specs.declared.StripFault.{StripFault}
+use Rattle.fax_page.specs.declared.uncounted.MarkEol.{MarkEol}
+use Rattle.fax_page.specs.declared.uncounted.MarkEol.TheVariants.{Cut, Other, Whole}
 use Rattle.fax_page.specs.declared.notes.NotedRows.{NotedRows}
 use Rattle.fax_page.specs.declared.notes.NotedStrip.{NotedStrip}
 use Rattle.fax_page.specs.declared.notes.NotesFault.{NotesFault}
@@ -99,6 +101,18 @@ pub record AreRowsRead (form : StripForm) (b : List Bool) (i : ℕ) (reference :
 abbrev pub TakesReturnEol : Coding → List Bool → Bool → List Bool → Type 0
 TakesReturnEol coding b true rest = IsReturnEol coding b rest
 TakesReturnEol coding b false rest = (after : List Bool) → IsReturnEol coding b after → ⊥
+
+-- an EOL of a return to control was taken; or bits that follow may make one, which ends with them;
+-- or none may
+abbrev pub IsMarkEol : Coding → List Bool → MarkEol → List Bool → Type 0
+IsMarkEol coding b Whole rest = IsReturnEol coding b rest
+IsMarkEol coding b Cut rest = (more : List Bool) × IsReturnEol coding (b ++ more) []
+IsMarkEol coding b Other rest =
+    (more after : List Bool) → IsReturnEol coding (b ++ more) after → ⊥
+
+-- the bits begin with a return to control, or may where more follow
+abbrev pub MayHaveReturn : Coding → List Bool → Type 0
+MayHaveReturn coding b = (more rest : List Bool) × AreReturnEols coding 6 (b ++ more) rest
 
 -- so many EOLs were taken: as many as stand ahead, and these, stand in the bits
 pub record AreEolsTaken (coding : Coding) (b : List Bool) (i : ℕ) (ahead : List Bool) : Type 0 where

@@ -5,7 +5,7 @@ use Rattle.fax_bits.specs.declared.Colour.{Colour}
 use Rattle.fax_page.specs.declared.StripFault.TheVariants.{DataEnds, EndMarker}
 use Rattle.fax_page.specs.Lines.{Coding, IsCause, IsLine, StripFault, StripForm}
 use Rattle.fax_page.specs.Strip.{AreLines, HasEndMark}
-use Rattle.fax_page.specs.Uncounted.{EndsSo, Fault, Marked}
+use Rattle.fax_page.specs.Uncounted.{EndsSo, Fault, HasDataEnd, Marked}
 use Rattle.fax_page.specs.laws.Writer.{last_of}
 
 -- row i of a strip is the same row, whatever follows the bits; and the fault in its way is the same
@@ -29,7 +29,8 @@ ReadsInPieces =
     → AreLines form i reference (b ++ more) (rows ++ others) end after
 
 -- how rows that nobody counted end stays, whatever follows: with an end mark, or with a fault that
--- is neither the end of the data nor an end marker
+-- is neither the end of the data nor an end marker. And where nothing but fill is left of all bits,
+-- nothing else is left of the first of them
 pub record EndsStayWhateverFollows : Type 0 where
   pub mark : (coding : Coding) (row : ℕ) (left more : List Bool) (stop : Option StripFault)
       → HasEndMark coding left → EndsSo coding row (left ++ more) stop Marked
@@ -37,3 +38,5 @@ pub record EndsStayWhateverFollows : Type 0 where
       (fault : StripFault) → fault ≢ DataEnds → fault ≢ EndMarker
       → IsCause form i reference left fault
       → EndsSo form.coding row (left ++ more) (Some fault) (Fault fault)
+  pub fill : (row : ℕ) (left more : List Bool) → HasDataEnd row (left ++ more)
+      → HasDataEnd row left

@@ -75,7 +75,8 @@ IsBegunInside form bytes i place before (Ok state) =
     × (state ≡ restarted_at (strip_beginning form bytes) bytes form.rows i place state.reference)
 IsBegunInside form bytes i place before (Err Outside) =
     place ≤ 8 * length bytes → (row : List Colour) → IsBefore form.width before row → ⊥
-IsBegunInside form bytes i place before (Err Memory) = place ≤ 8 * length bytes
+IsBegunInside form bytes i place before (Err Memory) =
+    (place ≤ 8 * length bytes) × (row : List Colour) × IsBefore form.width before row
 
 -- a count of rows and one more, up to the greatest number of 64 bits
 abbrev pub counted : ℕ → ℕ

@@ -42,7 +42,8 @@ IsSalvageInside form bytes i place before (Ok state) =
     × (state ≡ salvage_from form i (drop place (bits form.order bytes)) state.reference)
 IsSalvageInside form bytes i place before (Err Outside) =
     place ≤ 8 * length bytes → (row : List Colour) → IsBefore form.width before row → ⊥
-IsSalvageInside form bytes i place before (Err Memory) = place ≤ 8 * length bytes
+IsSalvageInside form bytes i place before (Err Memory) =
+    (place ≤ 8 * length bytes) × (row : List Colour) × IsBefore form.width before row
 
 -- so many rows are lost from the one that was due on, for this cause: that one alone, and the next
 -- one is due at the next EOL; or all, where no EOL is left

@@ -74,6 +74,7 @@ fn horizontal<const CHOICE: bool, const SEVERAL: bool>(
     ensures same_end { KeepsEnd source.old source.new }
     ensures no_longer { OnOk result (length source.new.left ≤ length source.old.left) }
 {
+    // The parity of b1's index tells a0's colour, so that no step needs to keep it.
     let from = at.reached.first_pel();
     let colour = colour_after(at.b1);
     match two_runs::<CHOICE, SEVERAL>(source, colour, reference.width, from) {
@@ -223,6 +224,10 @@ pub(super) fn read_by_look_ups<const CHOICE: bool, const SEVERAL: bool>(
     ensures room { HasRoom reference.entry.width places.new }
     ensures same_end { KeepsEnd source.old source.new }
 {
+    // Nothing returns into this loop: whatever stops it leaves it for good, so that the row's
+    // width, its places and the bits ahead stay in registers. What it hands out are the numbers
+    // that it keeps anyway: a0 with -1 for none, the index after the last place, and that of b1, by
+    // which a0's colour is known.
     let mut ahead = source.again();
     let mut at = PlacedReached::BEGINNING;
     while at.reached.first_pel() < reference.width {

@@ -196,6 +196,11 @@ pub(super) fn read_over_white<const CHOICE: bool>(
     ensures room { HasRoom reference.entry.width places.new }
     ensures same_end { KeepsEnd source.old source.new }
 {
+    // For the first row of each strip, and rows below white ones: nearly each pair of runs is in
+    // horizontal mode there, and b1 and b2 are at the row's end. Two numbers stand for a0, its
+    // colour and b1. Runs without pels, but the first of a row, are left to the tables, where a
+    // file that is made of them takes four times as many instructions, still in proportion to its
+    // length.
     let mut ahead = source.again();
     let mut at = ReachedOverWhite::BEGINNING;
     while at.first_pel < reference.width {

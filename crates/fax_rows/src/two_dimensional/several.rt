@@ -136,6 +136,9 @@ pub(super) fn several<const ASKED: bool>(
     ensures same_end { KeepsEnd source.old source.new }
     ensures shorter { IsSome result → length source.new.left < length source.old.left }
 {
+    // Their a1s are computed in lanes, and taken where none needs another b1. It is asked for row
+    // by row, by a const parameter: one loop that tries both is slower on dithered pages, and two
+    // copies of it cost nothing.
     if !ASKED
         || source.ones() >= ONES
         || at.b1 + LANES > reference.end

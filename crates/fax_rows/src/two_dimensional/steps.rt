@@ -41,6 +41,8 @@ impl Reached {
         requires { reached_pel self < 2 ^ 16 }
         ensures { result ≡ Spec.a0_number (position_of self []) }
     {
+        // With a sign one compare says that a1 is right of a0, and where it is left of b1 that it
+        // is in the row too. Nothing else in the loop asks whether there is an a0.
         match self.a0 {
             None => -1,
             Some(place) => place as i32,
@@ -140,6 +142,7 @@ fn turned_at(
         (placed_position reference.entry.width places.new result) }
     ensures so_far { IsReadTo reference.entry places.new result }
 {
+    // One function for vertical modes of each kind: a1 left of b1, right of it or under it.
     let end = put_turn(places, at.end, a1);
     PlacedReached {
         reached: Reached {

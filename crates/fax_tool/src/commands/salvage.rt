@@ -160,6 +160,9 @@ fn end_of_rows(alloc: Global, file: &[u8], is_whole: bool) -> Result<End, Memory
     ensures { IfOk result (λ end.
         (rows : List RowItem) × AreItems file.now rows end) }
 {
+    // A walk of its own finds the first fault, after all lines are printed: the definition of
+    // `rows` alone says it, and nothing that comes after a fault can change it. Where all was whole
+    // the rows end properly, and nothing is read twice.
     if is_whole {
         return Ok(End::Proper);
     }

@@ -64,6 +64,8 @@ impl Interruptions {
             < most_interrupted - self.old }
         ensures failed { result ≡ false → HasFailed (counts_after (Err fault) (counted self.old)) }
     {
+        // Each stream of a run has its own count. An interrupted read has moved nothing, so that
+        // the bytes after it are known; a read that failed may leave them unknown.
         match fault {
             StreamFault::Interrupted if self.count < MOST_INTERRUPTED => {
                 self.count += 1;

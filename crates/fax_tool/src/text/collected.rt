@@ -37,6 +37,8 @@ pub(crate) fn make_room(bytes: &mut Vec<u8>, end: usize, more: usize) -> Result<
     ensures within { end ≤ vec_len bytes.new }
     ensures text { take end bytes.new.items ≡ take end bytes.old.items }
 {
+    // Room for a whole line is made before any of it is written, so that no part of it stands among
+    // the lines that are written where memory is refused.
     if bytes.len() - end >= more {
         return Ok(());
     }

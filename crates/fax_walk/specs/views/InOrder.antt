@@ -29,8 +29,7 @@ pub record Reading (B : Type 0) : Type 0 where
 abbrev pub reading_from : {B : Type 0} → List ℕ → B → Reading B
 reading_from file begun = record { file = file; begun = begun; given = 0; told = None }
 
--- this item is handed out: it is number `given` of what is handed out in all, and one of fewer than
--- the limit
+-- this item is handed out: it is number `given` of all of them, and one of fewer than the limit
 pub record HandsOut {A B : Type 0} (tail : List ℕ → B → List A → End → Type 0) (limit : ℕ)
     (old : Reading B) (item : A) (new : Reading B) : Type 0 where
   pub untold : old.told ≡ None

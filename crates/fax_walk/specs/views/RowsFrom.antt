@@ -69,7 +69,7 @@ IsNotBegunFrom page r bits row_before Outside =
     → IsInnerOf page.file page.here s bits row_before at → ⊥
 IsNotBegunFrom page r bits row_before Memory =
     (s i : ℕ) → IsRowOfStrip page.here.form r s i
-    → bits ≤ 8 * length (strip_left page.here page.file s).0
+    → (at : Inner) × IsInnerOf page.file page.here s bits row_before at
 
 -- these rows are passed, and no others
 pub record PassesOver (old : RowsFromView) (over : List PageRow) (new : RowsFromView) : Type 0 where

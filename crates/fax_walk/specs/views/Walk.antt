@@ -59,8 +59,7 @@ EntersPage file begun n =
     × IsItemNumber file begun before item × (item.row + 1 ≡ item.form.rows)
     × HasPage file (item.page + 1))
 
--- fewer rows than these are handed out: a file has no more pages than bytes, and a page at most
--- 1,000,000 rows
+-- fewer rows are handed out: of at most as many pages as the file has bytes, each of 1,000,000 rows
 abbrev pub row_limit : ℕ
 row_limit = 2 ^ 53
 

@@ -33,6 +33,9 @@ pub(super) fn under_several(
     places: &mut [u32],
     at: PlacedReached,
 ) -> PlacedReached {
+    // Eight places are copied from the reference row, of which as many count as codes are read: so
+    // both rows have room for eight after their last place, or the steps are read one by one. On a
+    // page of text three of five modes are so.
     fax_bits::laws::modes_are_read_back();
     if source.ones() < LEAST_MORE
         || at.b1 + COPIED > reference.end

@@ -93,6 +93,9 @@ pub(super) fn several<const ASKED: bool>(
     places: &mut [u32],
     at: PlacedReached,
 ) -> Option<PlacedReached> {
+    // Their a1s are computed in lanes, and taken where none needs another b1. It is asked for row
+    // by row, by a const parameter: one loop that tries both is slower on dithered pages, and two
+    // copies of it cost nothing.
     if !ASKED
         || source.ones() >= ONES
         || at.b1 + LANES > reference.end

@@ -25,6 +25,8 @@ impl Reached {
     #[inline(always)]
     // requires { reached_pel self < 2 ^ 16 }
     pub fn number(self) -> i32 {
+        // With a sign one compare says that a1 is right of a0, and where it is left of b1 that it
+        // is in the row too. Nothing else in the loop asks whether there is an a0.
         match self.a0 {
             None => -1,
             Some(place) => place as i32,
@@ -105,6 +107,7 @@ fn turned_at(
     a1: u32,
     b1: usize,
 ) -> PlacedReached {
+    // One function for vertical modes of each kind: a1 left of b1, right of it or under it.
     let end = put_turn(places, at.end, a1);
     PlacedReached {
         reached: Reached {

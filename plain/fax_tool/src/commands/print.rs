@@ -73,6 +73,8 @@ pub fn write_where_long<W: Sink>(
     interruptions: &mut Interruptions,
     text: &mut Collected,
 ) -> Result<(), Refusal> {
+    // A line may come on top: the longest has 131,085 bytes, the widest row with a change at each
+    // pel.
     if text.len() < ENOUGH_TEXT {
         return Ok(());
     }

@@ -90,6 +90,9 @@ fn pass_row(walk: &mut Walk<'_>) -> Result<Option<End>, Memory> {
 /// How the rows of a file end: properly where it is known that nothing is lost.
 // requires { is_whole ≡ true → (rows : List RowItem) × AreItems file.now rows Proper }
 fn end_of_rows(alloc: Global, file: &[u8], is_whole: bool) -> Result<End, Memory> {
+    // A walk of its own finds the first fault, after all lines are printed: the definition of
+    // `rows` alone says it, and nothing that comes after a fault can change it. Where all was whole
+    // the rows end properly, and nothing is read twice.
     if is_whole {
         return Ok(End::Proper);
     }

@@ -40,6 +40,8 @@ impl Interruptions {
     /// Whether a call with this fault is made again: an interrupted one, up to 1,023 times on a
     /// stream.
     fn allow(&mut self, fault: StreamFault) -> bool {
+        // Each stream of a run has its own count. An interrupted read has moved nothing, so that
+        // the bytes after it are known; a read that failed may leave them unknown.
         match fault {
             StreamFault::Interrupted if self.count < MOST_INTERRUPTED => {
                 self.count += 1;

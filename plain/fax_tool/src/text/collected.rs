@@ -25,6 +25,8 @@ const LEAST_ROOM: usize = 1024;
 /// Makes room for so many bytes after a text that ends here.
 // requires { end ≤ vec_len bytes.old }
 pub(crate) fn make_room(bytes: &mut Vec<u8>, end: usize, more: usize) -> Result<(), Memory> {
+    // Room for a whole line is made before any of it is written, so that no part of it stands among
+    // the lines that are written where memory is refused.
     if bytes.len() - end >= more {
         return Ok(());
     }

@@ -69,13 +69,19 @@ returns-in-Err-Memory c =
     let place = c.args.place.now in
     let some = rw c.form-form.ensures.form at c.form-form.ensures.limits.some_rows_per_strip in
     let due = rw c.form-form.ensures.form at c.in_default.ensures in
+    let none : place.runs ≡ 0 → c.if-place-eq0.bits ≡ 0 = elim c.if-place-eq0.branch [
+      | then-place-eq0 w ↦ λ _. w.bits-is
+      | else-place-eq0 w ↦ λ is. absurd (w.if-place-eq0.false is)
+    ]
+    in
     let some_bits : place.runs ≢ 0 → c.if-place-eq0.bits ≡ place.bits = elim c.if-place-eq0.branch [
       | then-place-eq0 w ↦ λ not. absurd (not w.if-place-eq0.true)
       | else-place-eq0 w ↦ λ _. w.bits-is
     ]
     in
     no_memory_from c.args.found.file c.args.found.here c.args.stride place c.args.runs.now c.args.out.now
-    c.args.lost.now c.if-place-eq0.bits c.in-Some-row_before.before c.in-Some-row_before.ensures some_bits
+    c.args.lost.now c.if-place-eq0.bits c.in-Some-row_before.before c.in-Some-row_before.ensures none
+    some_bits
     c.nothing-in-Err-Memory.result some due.0 due.1 due.2
     (rw c.in-Err-Memory.field-0-is at c.in-Err-Memory.ensures.err)
     (rw c.cursor-cursor.ensures at c.nothing-in-Err-Memory.ensures)

@@ -3,6 +3,5 @@ use Rattle.fax_reads.proofs.laws.salvages_are_read_by_functions.Goals as goal
 
 pub returns : goal.returns
 returns c =
-    salvages_graph c.run_codes_are_read_in_one_way.ensures c.codes_are_read_in_one_way.ensures
-    c.strips_are_salvaged_in_one_way.ensures c.uncounted_rows_are_left_in_one_way.ensures
-    c.files_have_one_chain.ensures c.files_are_salvaged_in_one_way.ensures
+    salvages_graph c.damaged_strips_are_read_by_functions.ensures c.files_have_one_chain.ensures
+    c.files_are_salvaged_in_one_way.ensures

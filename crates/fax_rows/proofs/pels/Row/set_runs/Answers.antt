@@ -1,32 +1,23 @@
-use Rattle.std.proofs.Common.{◌≡◌, ℕ, List, length, take, ap, sym, ◌∙◌, subst, arith}
+use Rattle.std.proofs.Common.{take, ap, sym, ◌∙◌, arith}
 use Rattle.std.proofs.lemmas.Bool.{false≢true}
-use Rattle.fax_bits.specs.declared.Colour.{Colour}
 use Rattle.fax_rows.specs.Rows.{runs_of}
-use Rattle.fax_rows.specs.code.LongestRuns.{AreLongest}
 use Rattle.fax_rows.specs.code.Turns.{pels_by}
-use Rattle.fax_rows.proofs.GivenRunLemmas.{longest_are_back, runs_are_longest}
-use Rattle.fax_rows.proofs.PlacedReadLemmas.{refilled}
+use Rattle.fax_rows.proofs.GivenRunLemmas.{longest_are_back, longest_of}
+use Rattle.fax_bits.proofs.SinkLemmas.{written_over}
 use Rattle.fax_rows.proofs.PlacedRowLemmas.{width_is}
 use Rattle.fax_rows.proofs.TurnLemmas.{length-pels_by}
 use Rattle.fax_rows.proofs.pels.Row.set_runs.Goals as goal
-
--- the runs of a row of this width would have passed
-longest_of : (row : List Colour) (runs : List ℕ) (len width : ℕ) → length row ≡ len → width ≡ len → runs_of row ≡ runs
-    → AreLongest runs width
-longest_of row runs len width same wide is =
-    subst (λ n. AreLongest runs n) (same ∙ sym wide) (subst (λ ns. AreLongest ns (length row)) is
-    (runs_are_longest row))
 
 pub returns-then-not-are_longest-clause-no_such_row : goal.returns-then-not-are_longest-clause-no_such_row
 returns-then-not-are_longest-clause-no_such_row c = λ told row len is.
     let wide = width_is c.self.invariant c.self.view_is in
     absurd (false≢true (c.if-not-are_longest.ensures.1
-    (longest_of row c.args.runs.now (length c.args.self.now) c.self.inside.width len wide is)))
+    (longest_of row c.args.runs.now c.self.inside.width (len ∙ sym wide) is)))
 
 pub returns-clause-set : goal.returns-clause-set
 returns-clause-set c = λ told.
     ap (λ places. runs_of (pels_by c.self.inside.width (take c.close-self-inside.result places)))
-    (refilled c.self.inside.places.len c.close-self-inside.new.places c.self.inside.places.items (omega arith))
+    (written_over c.self.inside.places.len c.close-self-inside.new.places c.self.inside.places.items (omega arith))
     ∙ ap runs_of (c.close-self-inside.ensures.pels ∙ c.put_runs-end.ensures.pels)
     ∙ longest_are_back c.args.runs.now c.self.inside.width c.self.invariant.some (c.if-not-are_longest.ensures.0 told)
 

@@ -1,0 +1,302 @@
+-- What functions read of damaged strips is what is defined.
+use Rattle.std.proofs.Common.{arith, ◌≡◌, ◌≢◌, ℕ, zero, suc, ◌+◌, ◌-◌, ◌<◌, List, [], ◌∷◌, Bool, true, false, refl}
+use Rattle.std.proofs.Common.{sym, ap, ◌∙◌, inl, inr, Option, Some, None, Result, Ok, Err, replicate}
+use Rattle.std.specs.Prelude.{MatchOption, MatchResult, nat_lt, if◌then◌else◌, ◌&&◌}
+use Rattle.std.proofs.lemmas.Bool.Decides.{nat_tests}
+use Rattle.fax_bits.specs.declared.Colour.{Colour}
+use Rattle.fax_rows.proofs.RowLaws.{read_is}
+use Rattle.fax_rows.proofs.StepGraph.{is_false}
+use Rattle.fax_page.specs.declared.Coding.{Coding}
+use Rattle.fax_page.specs.declared.Coding.TheVariants.{Mh, Mr, Mmr}
+use Rattle.fax_page.specs.declared.Dimension.{Dimension}
+use Rattle.fax_page.specs.declared.Dimension.TheVariants.{OneDimensional, TwoDimensional}
+use Rattle.fax_page.specs.declared.StripFault.{StripFault}
+use Rattle.fax_page.specs.declared.StripFault.TheVariants.{DataEnds, MissingEol}
+use Rattle.fax_page.specs.declared.StripForm.{StripForm}
+use Rattle.fax_page.specs.Lines.{BeginsBelowEleven, IsCause, IsLine, IsStart, white_row}
+use Rattle.fax_page.specs.Salvage.{AreSalvaged, BeginsTwoDimensional, GoesOnAfter, IsEolDue, IsLostFor, IsReadOver}
+use Rattle.fax_page.specs.Salvage.{IsSoughtFrom, SalvagedRow, found, lost, next_due, unended}
+use Rattle.fax_page.specs.reads.Lines.{after_one, has_few, read_line, read_start, start_in_mh, start_in_mr}
+use Rattle.fax_page.specs.reads.Salvage.{after_lost, begins_below_eleven, cause_over, from_eol, has_eols, lacks_eol}
+use Rattle.fax_page.specs.reads.Salvage.{read_over, row_and_more, salvage_rows, sought_from, unless}
+use Rattle.fax_page.specs.laws.Graphs.{StripsAreReadByFunctions}
+use Rattle.fax_page.proofs.LineGraph.{IsOne, below_eleven, few_below, start_is, start_of, zeros_is}
+
+abbrev pub Start : Type 0
+Start = Result (Dimension × List Bool) StripFault
+
+abbrev pub Line : Type 0
+Line = Result (List Colour × List Bool) StripFault
+
+-- where the next EOL is looked for
+sought_in_mh : (i : ℕ) (b : List Bool) (after : Option (List Bool)) (few : Bool)
+    → IsStart Mh i b (start_in_mh i b after few) → IsSoughtFrom Mh i b (sought_from b (start_in_mh i b after few))
+sought_in_mh i b None few is = inr (inr (is, refl))
+sought_in_mh i b (Some codes) false is = inl (OneDimensional, is)
+sought_in_mh zero b (Some codes) true is = inl (OneDimensional, is)
+sought_in_mh (suc i) b (Some codes) true is = inr (inl (is, refl))
+
+sought_in_mr : (i : ℕ) (b : List Bool) (after : Option (List Bool)) (few : Bool)
+    → IsStart Mr i b (start_in_mr after few) → IsSoughtFrom Mr i b (sought_from b (start_in_mr after few))
+sought_in_mr i b None few is = inr (inr (is, refl))
+sought_in_mr i b (Some codes) true is = inr (inl (is, refl))
+sought_in_mr i b (Some []) false is = inr (inr (is, refl))
+sought_in_mr i b (Some (true ∷ codes)) false is = inl (OneDimensional, is)
+sought_in_mr i b (Some (false ∷ codes)) false is = inl (TwoDimensional, is)
+
+pub sought_is : (coding : Coding) (i : ℕ) (b : List Bool)
+    → IsSoughtFrom coding i b (sought_from b (read_start coding i b))
+sought_is Mh i b = sought_in_mh i b (after_one b) (has_few b) (start_is Mh i b)
+sought_is Mr i b = sought_in_mr i b (after_one b) (has_few b) (start_is Mr i b)
+sought_is Mmr i b = inl (TwoDimensional, start_is Mmr i b)
+
+pub sought_of : (coding : Coding) (i : ℕ) (b from : List Bool) → IsSoughtFrom coding i b from
+    → sought_from b (read_start coding i b) ≡ from
+sought_of coding i b from (inl (dimension, begun)) =
+    ap (sought_from b) (start_of coding i b (Ok (dimension, from)) begun)
+sought_of coding i b from (inr (inl (missing, same))) =
+    ap (sought_from b) (start_of coding i b (Err MissingEol) missing) ∙ sym same
+sought_of coding i b from (inr (inr (ends, same))) =
+    ap (sought_from b) (start_of coding i b (Err DataEnds) ends) ∙ sym same
+
+-- whether an EOL is missing after a row
+begins : (b : List Bool) → BeginsBelowEleven b → begins_below_eleven (after_one b) (has_few b) ≡ true
+begins b below = let at = below_eleven b below in rw (at.1, at.2) refl
+
+begins_where : (b : List Bool) (after : Option (List Bool)) (few : Bool) → IsOne b after → has_few b ≡ few
+    → begins_below_eleven after few ≡ true → BeginsBelowEleven b
+begins_where b None few one at is = absurd (cc is)
+begins_where b (Some after) false one at is = absurd (cc is)
+begins_where b (Some after) true one at is = few_below b after one at
+
+eols : (coding : Coding) → coding ≢ Mmr → has_eols coding ≡ true
+eols Mh other = refl
+eols Mr other = refl
+eols Mmr other = absurd (other refl)
+
+eols_where : (coding : Coding) → has_eols coding ≡ true → coding ≢ Mmr
+eols_where Mh is = λ mmr. cc
+eols_where Mr is = λ mmr. cc
+eols_where Mmr is = absurd (cc is)
+
+all_three : (first second third : Bool) → first ≡ true → second ≡ true → third ≡ true
+    → ((first && second) && third) ≡ true
+all_three first second third one two three = rw (one, two, three) refl
+
+each_of : (first second third : Bool) → ((first && second) && third) ≡ true
+    → (first ≡ true) × (second ≡ true) × (third ≡ true)
+each_of false second third is = absurd (cc is)
+each_of true false third is = absurd (cc is)
+each_of true true third is = (refl, refl, is)
+
+pub lacks : (form : StripForm) (i : ℕ) (rest : List Bool) → IsEolDue form i → BeginsBelowEleven rest
+    → lacks_eol form i rest ≡ true
+lacks form i rest due below =
+    let more : nat_lt (i + 1) form.rows ≡ true = grind (arith, nat_tests, due.1) in
+    all_three (has_eols form.coding) (nat_lt (i + 1) form.rows) (begins_below_eleven (after_one rest) (has_few rest))
+    (eols form.coding due.0) more (begins rest below)
+
+pub lacks_where : (form : StripForm) (i : ℕ) (rest : List Bool) → lacks_eol form i rest ≡ true
+    → IsEolDue form i × BeginsBelowEleven rest
+lacks_where form i rest is =
+    let each = each_of (has_eols form.coding) (nat_lt (i + 1) form.rows)
+    (begins_below_eleven (after_one rest) (has_few rest)) is in
+    let more : i + 1 < form.rows = grind (arith, nat_tests, each.1) in (
+      (eols_where form.coding each.0, more),
+      begins_where rest (after_one rest) (has_few rest) (zeros_is rest) refl each.2,
+    )
+
+abbrev dimension_of : Start → Dimension
+dimension_of (Ok start) = start.0
+dimension_of (Err fault) = OneDimensional
+
+-- a row that is read, or lost, by how it begins
+pub by_start : (form : StripForm) (i : ℕ) (before : Option StripFault) (reference : List Colour) (b : List Bool)
+    (start : Start) → read_start form.coding i b ≡ start → IsStart form.coding i b start → (r : Line)
+    → MatchResult r (λ line. IsLine form i reference b line.0 line.1) (IsCause form i reference b)
+    → MatchResult (unless (cause_over before start) r) (λ line. IsReadOver form i before reference b line.0 line.1)
+    (IsLostFor form i before reference b)
+by_start form i None reference b start same is (Ok line) read =
+    record { line = read; alone = λ some. absurd (some refl) }
+by_start form i None reference b start same is (Err fault) cause = inr (inl refl, cause)
+by_start form i (Some before) reference b (Ok (TwoDimensional, codes)) same is r read = inl (refl, (codes, is))
+by_start form i (Some before) reference b (Ok (OneDimensional, codes)) same is (Ok line) read =
+    let begun = start_of form.coding i b (Ok (read.dimension, read.codes)) read.start in
+    record { line = read; alone = λ some. ap dimension_of (sym begun ∙ same) }
+by_start form i (Some before) reference b (Ok (OneDimensional, codes)) same is (Err fault) cause =
+    let no_two : BeginsTwoDimensional form.coding i b → ⊥ = λ two.
+    let begun = start_of form.coding i b (Ok (TwoDimensional, two.0)) two.1 in
+    let differ : TwoDimensional ≡ OneDimensional = ap dimension_of (sym begun ∙ same) in absurd (cc differ) in
+    inr (inr no_two, cause)
+by_start form i (Some before) reference b (Err stop) same is (Ok line) read =
+    let begun = start_of form.coding i b (Ok (read.dimension, read.codes)) read.start in absurd (cc (same, begun))
+by_start form i (Some before) reference b (Err stop) same is (Err fault) cause =
+    let no_two : BeginsTwoDimensional form.coding i b → ⊥ = λ two.
+    let begun = start_of form.coding i b (Ok (TwoDimensional, two.0)) two.1 in absurd (cc (same, begun)) in
+    inr (inr no_two, cause)
+
+abbrev More : Type 0
+More = Option StripFault → List Colour → List Bool → List SalvagedRow
+
+-- the rows after a lost one
+by_due : (n : ℕ) (form : StripForm) (i : ℕ) (more : More) (fault : StripFault) (at : Option (List Bool))
+    → n ≡ form.rows - (i + 1)
+    → ((due : List Bool) → AreSalvaged form (i + 1) (Some fault) (white_row form.width) due
+    (more (Some fault) (white_row form.width) due))
+    → MatchOption at (from_eol n form more fault at ≡ replicate (form.rows - (i + 1)) (lost fault))
+    (λ due. AreSalvaged form (i + 1) (Some fault) (white_row form.width) due (from_eol n form more fault at))
+by_due n form i more fault None count are = ap (λ k. replicate k (lost fault)) count
+by_due n form i more fault (Some due) count are = are due
+
+goes_on : (n : ℕ) (form : StripForm) (i : ℕ) (b : List Bool) (more : More) (fault : StripFault)
+    → n ≡ form.rows - (i + 1)
+    → ((due : List Bool) → AreSalvaged form (i + 1) (Some fault) (white_row form.width) due
+    (more (Some fault) (white_row form.width) due))
+    → GoesOnAfter form i b fault
+    (λ due. AreSalvaged form (i + 1) (Some fault) (white_row form.width) due (after_lost n form i b more fault))
+    (after_lost n form i b more fault)
+goes_on n form i b more fault count are = (
+  sought_from b (read_start form.coding i b),
+  sought_is form.coding i b,
+  by_due n form i more fault (next_due form.coding (sought_from b (read_start form.coding i b))) count are,
+)
+
+-- a row and those after it
+module _ (n : ℕ) (form : StripForm) (i : ℕ) (before : Option StripFault) (reference : List Colour) (b : List Bool)
+    (more : More) (due : i + suc n ≡ form.rows)
+    (are : (lost : Option StripFault) (row : List Colour) (rest : List Bool)
+    → AreSalvaged form (i + 1) lost row rest (more lost row rest)) where
+  by_end : (row : List Colour) (rest : List Bool) → IsReadOver form i before reference b row rest → (missing : Bool)
+      → lacks_eol form i rest ≡ missing
+      → AreSalvaged form i before reference b
+      (if missing then (unended row ∷ after_lost n form i b more MissingEol) else (found row ∷ more None row rest))
+  by_end row rest read true at =
+      let missing = lacks_where form i rest at in (
+        rest,
+        read,
+        missing.0,
+        missing.1,
+        goes_on n form i b more MissingEol (omega (arith, due))
+            (λ next. are (Some MissingEol) (white_row form.width) next),
+      )
+  by_end row rest read false at = (
+    rest,
+    omega (arith, due),
+    read,
+    (λ eol below. let missing = lacks form i rest eol below in absurd (cc (at, missing))),
+    are None row rest,
+  )
+
+  by_line : (r : Line)
+      → MatchResult r (λ line. IsReadOver form i before reference b line.0 line.1) (IsLostFor form i before reference b)
+      → AreSalvaged form i before reference b (row_and_more n form i b more r)
+  by_line (Ok (row, rest)) read = by_end row rest read (lacks_eol form i rest) refl
+  by_line (Err fault) cause = (
+    omega (arith, due),
+    cause,
+    goes_on n form i b more fault (omega (arith, due)) (λ next. are (Some fault) (white_row form.width) next),
+  )
+
+module _ (strips : StripsAreReadByFunctions) where
+  -- a row that is read, or lost, is defined so
+  pub over_is : (form : StripForm) (i : ℕ) (before : Option StripFault) (reference : List Colour) (b : List Bool)
+      → MatchResult (read_over form i before reference b)
+      (λ line. IsReadOver form i before reference b line.0 line.1) (IsLostFor form i before reference b)
+  over_is form i before reference b =
+      by_start form i before reference b (read_start form.coding i b) refl (start_is form.coding i b)
+      (read_line form i reference b) (read_is (strips.line form i reference) b)
+
+  -- and what is defined is read
+  pub over_of : (form : StripForm) (i : ℕ) (before : Option StripFault) (reference : List Colour) (b : List Bool)
+      (row : List Colour) (rest : List Bool) → IsReadOver form i before reference b row rest
+      → read_over form i before reference b ≡ Ok (row, rest)
+  over_of form i None reference b row rest over = ((strips.line form i reference).answer b row rest).0 over.line
+  over_of form i (Some before) reference b row rest over =
+      ap (λ start. unless (cause_over (Some before) start) (read_line form i reference b))
+      (start_of form.coding i b (Ok (over.line.dimension, over.line.codes)) over.line.start)
+      ∙ ap (λ dimension. unless (cause_over (Some before) (Ok (dimension, over.line.codes)))
+      (read_line form i reference b))
+      (over.alone (λ none. cc))
+      ∙ ((strips.line form i reference).answer b row rest).0 over.line
+
+  no_cause : (form : StripForm) (i : ℕ) (before : StripFault) (b : List Bool) (start : Start)
+      → IsStart form.coding i b start → (BeginsTwoDimensional form.coding i b → ⊥)
+      → cause_over (Some before) start ≡ None
+  no_cause form i before b (Err fault) is not_two = refl
+  no_cause form i before b (Ok (OneDimensional, codes)) is not_two = refl
+  no_cause form i before b (Ok (TwoDimensional, codes)) is not_two = absurd (not_two (codes, is))
+
+  pub lost_of : (form : StripForm) (i : ℕ) (before : Option StripFault) (reference : List Colour) (b : List Bool)
+      (fault : StripFault) → IsLostFor form i before reference b fault
+      → read_over form i before reference b ≡ Err fault
+  lost_of form i before reference b fault (inl (is, (codes, two))) =
+      ap (λ cause. unless (cause_over cause (read_start form.coding i b)) (read_line form i reference b)) is
+      ∙ ap (λ start. unless (cause_over (Some fault) start) (read_line form i reference b))
+      (start_of form.coding i b (Ok (TwoDimensional, codes)) two)
+  lost_of form i None reference b fault (inr (_, cause)) = ((strips.line form i reference).fault b fault).0 cause
+  lost_of form i (Some before) reference b fault (inr (inl none, cause)) = absurd (cc none)
+  lost_of form i (Some before) reference b fault (inr (inr not_two, cause)) =
+      ap (λ over. unless over (read_line form i reference b))
+      (no_cause form i before b (read_start form.coding i b) (start_is form.coding i b) not_two)
+      ∙ ((strips.line form i reference).fault b fault).0 cause
+
+  pub rows_are : (n : ℕ) (form : StripForm) (i : ℕ) (before : Option StripFault) (reference : List Colour)
+      (b : List Bool) → i + n ≡ form.rows
+      → AreSalvaged form i before reference b (salvage_rows n form i before reference b)
+  rows_are zero form i before reference b due = omega (arith, due)
+  rows_are (suc n) form i before reference b due =
+      by_line n form i before reference b (λ before row rest. salvage_rows n form (i + 1) before row rest) due
+      (λ before row rest. rows_are n form (i + 1) before row rest (omega (arith, due)))
+      (read_over form i before reference b) (over_is form i before reference b)
+
+  -- what follows a lost row
+  after_of : (n : ℕ) (form : StripForm) (i : ℕ) (b : List Bool) (fault : StripFault) (rows : List SalvagedRow)
+      → i + suc n ≡ form.rows
+      → ((due : List Bool) → AreSalvaged form (i + 1) (Some fault) (white_row form.width) due rows
+      → salvage_rows n form (i + 1) (Some fault) (white_row form.width) due ≡ rows)
+      → GoesOnAfter form i b fault (λ due. AreSalvaged form (i + 1) (Some fault) (white_row form.width) due rows) rows
+      → after_lost n form i b (λ before row rest. salvage_rows n form (i + 1) before row rest) fault ≡ rows
+  after_of n form i b fault rows count later (from, sought, after) =
+      ap (λ f. from_eol n form more fault (next_due form.coding f)) (sought_of form.coding i b from sought)
+      ∙ at_due (next_due form.coding from) after
+    where
+      more : More
+      more before row rest = salvage_rows n form (i + 1) before row rest
+
+      at_due : (o : Option (List Bool)) → MatchOption o (rows ≡ replicate (form.rows - (i + 1)) (lost fault))
+          (λ due. AreSalvaged form (i + 1) (Some fault) (white_row form.width) due rows)
+          → from_eol n form more fault o ≡ rows
+      at_due None all =
+          let many : n ≡ form.rows - (i + 1) = omega (arith, count) in
+          ap (λ k. replicate k (lost fault)) many ∙ sym all
+      at_due (Some due) are = later due are
+
+  pub rows_of : (n : ℕ) (form : StripForm) (i : ℕ) (before : Option StripFault) (reference : List Colour)
+      (b : List Bool) (rows : List SalvagedRow) → i + n ≡ form.rows → AreSalvaged form i before reference b rows
+      → salvage_rows n form i before reference b ≡ rows
+  rows_of zero form i before reference b [] count are = refl
+  rows_of zero form i before reference b (found row ∷ rows) count are = absurd (omega (arith, count, are.1))
+  rows_of zero form i before reference b (lost fault ∷ rows) count are = absurd (omega (arith, count, are.0))
+  rows_of zero form i before reference b (unended row ∷ rows) count are = absurd (omega (arith, count, are.2.1))
+  rows_of (suc n) form i before reference b [] count are = absurd (omega (arith, count, are))
+  rows_of (suc n) form i before reference b (found row ∷ rows) count (rest, low, over, ended, are) =
+      let more : More = λ before row rest. salvage_rows n form (i + 1) before row rest in
+      let none = is_false (lacks_eol form i rest) (λ is. let missing = lacks_where form i rest is in
+      ended missing.0 missing.1) in
+      ap (row_and_more n form i b more) (over_of form i before reference b row rest over)
+      ∙ ap (λ missing. if missing then unended row ∷ after_lost n form i b more MissingEol
+      else found row ∷ more None row rest) none
+      ∙ ap (λ all. found row ∷ all) (rows_of n form (i + 1) None row rest rows (omega (arith, count)) are)
+  rows_of (suc n) form i before reference b (lost fault ∷ rows) count (low, is, after) =
+      let more : More = λ before row rest. salvage_rows n form (i + 1) before row rest in
+      ap (row_and_more n form i b more) (lost_of form i before reference b fault is)
+      ∙ ap (λ all. lost fault ∷ all) (after_of n form i b fault rows count
+      (λ due are. rows_of n form (i + 1) (Some fault) (white_row form.width) due rows (omega (arith, count)) are) after)
+  rows_of (suc n) form i before reference b (unended row ∷ rows) count (rest, over, due, below, after) =
+      let more : More = λ before row rest. salvage_rows n form (i + 1) before row rest in
+      ap (row_and_more n form i b more) (over_of form i before reference b row rest over)
+      ∙ ap (λ missing. if missing then unended row ∷ after_lost n form i b more MissingEol
+      else found row ∷ more None row rest) (lacks form i rest due below)
+      ∙ ap (λ all. unended row ∷ all) (after_of n form i b MissingEol rows count
+      (λ due are. rows_of n form (i + 1) (Some MissingEol) (white_row form.width) due rows (omega (arith, count)) are)
+      after)

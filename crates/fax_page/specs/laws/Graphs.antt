@@ -1,0 +1,40 @@
+-- The functions read what the relations define, and the relations hold of what they read. Functions
+-- of the module `laws` prove it.
+use Rattle.std.specs.Prelude.{◌≡◌, ℕ, ◌↔◌, Bool, List, Option}
+use Rattle.fax_bits.specs.declared.Colour.{Colour}
+use Rattle.fax_rows.specs.laws.Graphs.{IsGraph}
+use Rattle.fax_page.specs.declared.Coding.{Coding}
+use Rattle.fax_page.specs.declared.RowsEnd.{RowsEnd}
+use Rattle.fax_page.specs.declared.StripFault.{StripFault}
+use Rattle.fax_page.specs.declared.StripForm.{StripForm}
+use Rattle.fax_page.specs.Lines.{IsLine, IsCause, white_row}
+use Rattle.fax_page.specs.Strip.{AreLines}
+use Rattle.fax_page.specs.Uncounted.{EndsSo}
+use Rattle.fax_page.specs.reads.Lines.{read_line, read_strip}
+use Rattle.fax_page.specs.LeftUncounted.{IsLeftUncounted}
+use Rattle.fax_page.specs.Salvage.{IsSalvagedStrip, SalvagedRow}
+use Rattle.fax_page.specs.reads.Salvage.{salvage_rows_and_end}
+use Rattle.fax_page.specs.reads.Salvage.{salvage_strip}
+use Rattle.fax_page.specs.reads.Uncounted.{rows_end}
+
+-- a row of a strip, and all its rows
+pub record StripsAreReadByFunctions : Type 0 where
+  pub line : (form : StripForm) (i : ℕ) (reference : List Colour)
+      → IsGraph (IsLine form i reference) (IsCause form i reference) (read_line form i reference)
+  pub strip : (form : StripForm) (b : List Bool) (rows : List (List Colour))
+      (end : Option StripFault) (left : List Bool)
+      → AreLines form 0 (white_row form.width) b rows end left
+      ↔ (read_strip form b ≡ record { rows = rows; end = end; left = left })
+
+-- how rows end that nobody counted
+abbrev pub EndsAreToldByAFunction : Type 0
+EndsAreToldByAFunction =
+    (coding : Coding) (row : ℕ) (left : List Bool) (stop : Option StripFault) (end : RowsEnd)
+    → EndsSo coding row left stop end ↔ (rows_end coding row left stop ≡ end)
+
+-- what becomes of the rows of a damaged strip, counted or not
+pub record DamagedStripsAreReadByFunctions : Type 0 where
+  pub strip : (form : StripForm) (b : List Bool) (rows : List SalvagedRow)
+      → IsSalvagedStrip form b rows ↔ (salvage_strip form b ≡ rows)
+  pub uncounted : (form : StripForm) (b : List Bool) (rows : List SalvagedRow) (end : RowsEnd)
+      → IsLeftUncounted form b rows end ↔ (salvage_rows_and_end form b ≡ (rows, end))

@@ -1,0 +1,3 @@
+pub mod Lines
+pub mod Uncounted
+pub mod Salvage
