@@ -1,5 +1,5 @@
 """What a fault and a note mean is one table, that of docs/TROUBLESHOOTING.md: the manual page, the page for a browser
-and the docstrings of Python begin with its words, wholly; and each name of theirs stands in it."""
+the docstrings of Python and its sentences, and those of Rust, have its words, wholly; and each name of theirs stands in it."""
 
 from __future__ import annotations
 
@@ -82,6 +82,14 @@ def in_python() -> dict[str, str]:
             for it in tree.body if isinstance(it, ast.ClassDef)}
 
 
+def by_the_module() -> dict[str, str]:
+    """What the module for Python says in a sentence of each fault of a file or a strip."""
+    for node in ast.parse(read("python", "faxpages", "faults.py")).body:
+        if isinstance(node, ast.AnnAssign) and node.value and ast.unparse(node.target) == "_MEANINGS":
+            return {str(name): str(means) for name, means in ast.literal_eval(node.value).items()}
+    return {}
+
+
 def in_rust() -> dict[str, str]:
     """What the crate for Rust says of each fault of a file or a strip."""
     pieces = re.findall(r'^ +Fault::(\w+?)(?:\((\d+|_)\))? => (?:\{\s+)?"(.*)",?$', read("rust", "src", "words.rs"), re.M)
@@ -92,6 +100,8 @@ def claims() -> Iterator[tuple[str, bool]]:
     known = table()
     yield "meanings: there is a table", len(known) > 30
     manual, page, module, crate = in_manual(), in_page(), in_python(), in_rust()
+    sentences = by_the_module()
+    yield "meanings: Python explains each fault that Rust does", sentences.keys() == crate.keys()
     of_others = OF_THE_PROGRAM | notes() | {"Memory", "BadHeader", "ShortRaster", "UnknownInput", "OutputTooLarge"}
     yield "meanings: Rust explains each fault", crate.keys() == {
         name for name in known if not name.startswith("image")} - of_others
@@ -103,7 +113,8 @@ def claims() -> Iterator[tuple[str, bool]]:
         name for name in known if " " not in name} - NO_CLASSES - notes()
     for name, means in known.items():
         for where, said, is_whole in (("faxpages(1)", manual, False), ("web/texts.js", page, True),
-                                      ("Python", module, False), ("Rust", crate, True)):
+                                      ("Python", module, False), ("Rust", crate, True),
+                                      ("Python's sentences", sentences, True)):
             if name in said:
                 text = said[name] if is_whole else said[name][:len(means)]
                 yield f"meanings: {where}: {name}: {said[name]}: {means}", text == means

@@ -16,6 +16,15 @@ impl File {
     pub fn open(_rt: &HostRuntime, name: &str) -> io::Result<File> {
         std::fs::File::open(name).map(File)
     }
+
+    /// What the system says of the file: its kind, and its bytes.
+    ///
+    /// # Errors
+    ///
+    /// Those of Rust's `File::metadata`.
+    pub fn metadata(&self) -> io::Result<std::fs::Metadata> {
+        self.0.metadata()
+    }
 }
 
 impl Read for File {
