@@ -3,8 +3,8 @@
 use crate::table::WrongLine;
 use crate::{text, words};
 use fax_bits::{
-    put_mode, put_run, read_code, reverse_bits, BitSink, BitSource, BlackRuns, CodeFault,
-    CodeTable, FillOrder, Memory, ModeCode, Modes, PendingBits, WhiteRuns, SHORT_RUN,
+    BitSink, BitSource, BlackRuns, CodeFault, CodeTable, FillOrder, Memory, ModeCode, Modes, Pair,
+    PendingBits, SHORT_RUN, WhiteRuns, put_mode, put_run, read_code, reverse_bits,
 };
 use kit_std::alloc::Global;
 
@@ -87,8 +87,13 @@ fn pairs(skip: &str, bits: &str, most: &str) -> Result<String, WrongLine> {
     Err(WrongLine::OutOfLimits)
 }
 
-/// The pair that is read where so many pels of the row's width stand before it, and the place then.
-fn pair_within(total: &str, width: &str, bits: &str) -> Result<String, WrongLine> {
+/// A pair that is read where so many pels of the row's width stand before it, and the place then.
+fn pair(
+    total: &str,
+    width: &str,
+    bits: &str,
+    read: impl FnOnce(&mut BitSource, u32, u32) -> Option<Pair>,
+) -> Result<String, WrongLine> {
     let total = words::number(total)?;
     let width = words::number(width)?;
     let bytes = words::bytes(bits)?;
@@ -96,26 +101,24 @@ fn pair_within(total: &str, width: &str, bits: &str) -> Result<String, WrongLine
     if total >= 0x8000_0000 {
         return Err(WrongLine::OutOfLimits);
     }
-    match source.pair_within(total, width) {
+    match read(&mut source, total, width) {
         Some(pair) => Ok(format!("{},{} {}", pair.white, pair.black, source.place())),
         None => Ok(format!("none {}", source.place())),
     }
 }
 
-/// The pair that is read after horizontal mode where so many pels of the row's width stand before
-/// it, and the place then.
+/// The pair at the front of the bits.
+fn pair_within(total: &str, width: &str, bits: &str) -> Result<String, WrongLine> {
+    pair(total, width, bits, |source, total, width| {
+        source.pair_within(total, width)
+    })
+}
+
+/// The pair after horizontal mode.
 fn horizontal_pair_within(total: &str, width: &str, bits: &str) -> Result<String, WrongLine> {
-    let total = words::number(total)?;
-    let width = words::number(width)?;
-    let bytes = words::bytes(bits)?;
-    let mut source = BitSource::new(&bytes, FillOrder::MsbFirst);
-    if total >= 0x8000_0000 {
-        return Err(WrongLine::OutOfLimits);
-    }
-    match source.horizontal_pair_within(total, width) {
-        Some(pair) => Ok(format!("{},{} {}", pair.white, pair.black, source.place())),
-        None => Ok(format!("none {}", source.place())),
-    }
+    pair(total, width, bits, |source, total, width| {
+        source.horizontal_pair_within(total, width)
+    })
 }
 
 /// The run of at most so many pels that is read, and the place then.

@@ -3,8 +3,8 @@
 use crate::table::WrongLine;
 use crate::{text, words};
 use fax_rows::{
-    b1_b2, first_other, put_1d, put_2d, read_1d, read_2d, take_white_1d, take_white_2d, BitSink,
-    BitSource, FillOrder, LongestRuns, Row, RowFault,
+    BitSink, BitSource, FillOrder, LongestRuns, Row, RowFault, b1_b2, first_other, put_1d, put_2d,
+    read_1d, read_2d, take_white_1d, take_white_2d,
 };
 use kit_std::alloc::Global;
 
@@ -221,27 +221,27 @@ fn exchanged(row: &str) -> Result<String, WrongLine> {
     text::runs(&row)
 }
 
-/// The eight runs after so many.
-fn eight_ahead(row: &str, skip: &str) -> Result<String, WrongLine> {
-    let row = words::row(row)?;
+/// The runs of a row after so many.
+fn runs_after<'a>(row: &'a Row, skip: &str) -> Result<LongestRuns<'a>, WrongLine> {
     let skip = words::number(skip)? as usize;
-    let mut runs = LongestRuns::of_row(&row);
+    let mut runs = LongestRuns::of_row(row);
     if skip > runs.len() {
         return Err(WrongLine::OutOfLimits);
     }
     runs.skip(skip);
-    Ok(format!("{:?}", runs.eight_ahead()))
+    Ok(runs)
+}
+
+/// The eight runs after so many.
+fn eight_ahead(row: &str, skip: &str) -> Result<String, WrongLine> {
+    let row = words::row(row)?;
+    Ok(format!("{:?}", runs_after(&row, skip)?.eight_ahead()))
 }
 
 /// Each run after so many.
 fn next_runs(row: &str, skip: &str) -> Result<String, WrongLine> {
     let row = words::row(row)?;
-    let skip = words::number(skip)? as usize;
-    let mut runs = LongestRuns::of_row(&row);
-    if skip > runs.len() {
-        return Err(WrongLine::OutOfLimits);
-    }
-    runs.skip(skip);
+    let mut runs = runs_after(&row, skip)?;
     let mut left = Vec::new();
     for _ in 0..65_537u32 {
         match runs.next_run() {
