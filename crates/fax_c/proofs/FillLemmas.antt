@@ -9,7 +9,7 @@ use Rattle.fax_rows.specs.Rows.{Colour}
 use Rattle.fax_walk.specs.declared.begun.Begun.{Begun}
 use Rattle.fax_walk.specs.declared.cursor.Cursor.{Cursor}
 use Rattle.fax_walk.specs.declared.end.End.{End}
-use Rattle.fax_walk.specs.Pages.{IsPageAt}
+use Rattle.fax_walk.specs.Pages.{read_page}
 use Rattle.fax_walk.specs.Items.{RowItem, IsTailFrom, begun_cursor, cursor_after}
 use Rattle.fax_walk.specs.views.InOrder.{IsNumber}
 use Rattle.fax_walk.specs.views.Walk.{EntersPage, HasPage, WalkView, IsCursorOf}
@@ -265,7 +265,7 @@ module _ {N : Type 0} (numbers : List Colour → List N) (file : List ℕ) (begu
   refused_at_once (Ended end) one takes (some, none) =
       none_filled (Ended end) [] end (
         Err end,
-        (Err end, subst (λ c. IsPageAt file c (Err end)) is none, refl),
+        rw (subst (λ c. read_page file c ≡ Err end) is none) refl,
         (refl, refl),
       ) (some, refl, refl)
   refused_at_once NoRoom one takes refused = absurd refused

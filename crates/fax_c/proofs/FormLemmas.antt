@@ -10,7 +10,7 @@ use Rattle.fax_bits.specs.laws.Codes.{IsOne}
 use Rattle.fax_walk.specs.declared.cursor.Cursor.{Cursor}
 use Rattle.fax_walk.specs.declared.end.End.{End}
 use Rattle.fax_walk.specs.declared.end.End.TheVariants.{Proper, Fault, Outside}
-use Rattle.fax_walk.specs.Pages.{AreFrom, FilePage, FormItem, IsForm, IsFormTail, IsPageAt}
+use Rattle.fax_walk.specs.Pages.{FormItem, IsForm, IsFormTail, ends_as, read_page}
 use Rattle.fax_walk.specs.views.InOrder.{EndsAfter, HasEndedAs, IsNumber}
 use Rattle.fax_walk.specs.views.Pages.{HandsOutPage, IsCursorOfPages, PagesView}
 use Rattle.fax_walk.specs.laws.Tails.{CursorsHaveOneFormTail}
@@ -18,6 +18,7 @@ use Rattle.fax_c.specs.declared.filled.Stop.TheVariants.{Done, Ended}
 use Rattle.fax_c.specs.declared.forms.FaxForm.{FaxForm}
 use Rattle.fax_c.specs.code.Put.{end_at_row}
 use Rattle.fax_c.specs.Forms.{AreFormsFilled, cursor_after_pages, form_numbers}
+use Rattle.fax_walk.proofs.PageLawLemmas.{by_page, form_tail_of_page}
 use Rattle.fax_c.proofs.ListLemmas.{one_set, take_at}
 use Rattle.fax_c.proofs.NumberLemmas.{end_is, number_is}
 
@@ -140,23 +141,21 @@ module _ (file : List ℕ) (from : Cursor) (pages : PagesView) (count : ℕ) (ol
   }
 
 -- a file has no page with this number, and ends so there
-no_page_from : (file : List ℕ) (page : ℕ) (end : End) (all : List FormItem) (begin : Result ℕ End)
-    (found : Result FilePage End)
-    → IsPageAt file (record { page = page; row = 0 }) found
-    → MatchResult found (λ here. begin ≡ Ok page) (λ none. begin ≡ Err none)
-    → MatchResult begin (λ p. AreFrom (IsForm file) p all end) (λ none. (all ≡ []) × (end ≡ none)) → length all ≡ 0
-    → IsPageAt file (record { page = page; row = 0 }) (Err end)
-no_page_from file page end all begin found is on rest none = grind (arith, common_steps)
+no_form : (file : List ℕ) (page : ℕ) (end : End) → IsForm file page (ends_as end)
+    → read_page file (record { page = page; row = 0 }) ≡ Err end
+no_form file page end is = by_page file (record { page = page; row = 0 }) is (λ here page is. absurd (cc is))
+    (λ none page is. let same : end ≡ none = cc is in rw same page)
 
 pub no_page : (file : List ℕ) (page : ℕ) (end : End) → EndsAfter (IsFormTail file (record { page = page; row = 0 })) 0
     end
-    → IsPageAt file (record { page = page; row = 0 }) (Err end)
-no_page file page end (all, (begin, (found, is, on), rest), none) =
-    no_page_from file page end all begin found is on rest none
+    → read_page file (record { page = page; row = 0 }) ≡ Err end
+no_page file page end ([], tail, none) = no_form file page end ((form_tail_of_page file page [] end).0 tail)
+no_page file page end (item ∷ all, tail, none) = absurd (omega (arith, none))
 
 -- how it ends at each row of it
-pub no_row : (file : List ℕ) (page row : ℕ) (end : End) → IsPageAt file (record { page = page; row = 0 }) (Err end)
-    → IsPageAt file (record { page = page; row = row }) (Err (end_at_row end row))
+pub no_row : (file : List ℕ) (page row : ℕ) (end : End) → read_page file (record { page = page; row = 0 }) ≡ Err end
+    → read_page file (record { page = page; row = row }) ≡ Err (end_at_row end row)
+unfolding read_page
 no_row file page row Proper is = grind (arith, common_steps)
 no_row file page row Outside is = grind (arith, common_steps)
 no_row file page row (Fault p r cause) is = grind (arith, common_steps)

@@ -3,7 +3,7 @@ ghost use Rattle.std.specs.Prelude.{◌≡◌, ◌+◌, ◌<◌, ◌≤◌, leng
 ghost use Rattle.fax_c.specs.declared.filled.Stop.TheVariants.{NoRoom};
 ghost use Rattle.fax_rows.specs.Coded.{packed_row};
 ghost use Rattle.fax_walk.specs.declared.begun.Begun.TheVariants.{At};
-ghost use Rattle.fax_walk.specs.Pages.{IsPageAt};
+ghost use Rattle.fax_walk.specs.Pages.{read_page};
 ghost use Rattle.fax_walk.specs.views.Walk.{HasPage};
 ghost use Rattle.fax_c.specs.code.Put as Code;
 ghost use Rattle.fax_c.specs.views.Filled as Spec;
@@ -138,7 +138,7 @@ fn end_at_row(end: End, row: u32) -> End
 /// How the rows end at a cursor, where the file has not its page.
 fn end_without_page(file: &[u8], at: Cursor) -> Option<End>
     ensures page { result ≡ None → HasPage file.now at.page }
-    ensures end { IfSome result (λ end. IsPageAt file.now at (Err end)) }
+    ensures end { IfSome result (λ end. (read_page file.now at ≡ Err end)) }
 {
     let mut pages = Pages::resume(
         file,

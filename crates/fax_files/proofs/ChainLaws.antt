@@ -7,8 +7,10 @@ use Rattle.std.proofs.lemmas.List.Elements.{All-nil, All-cons, recursion_from_Al
 use Rattle.std.proofs.lemmas.Map.Steps.{length-le_from_distinct_below}
 use Rattle.fax_files.specs.declared.FileFault.{FileFault}
 use Rattle.fax_files.specs.declared.Endian.{Endian}
-use Rattle.fax_files.specs.Directory.{Header, is_directory, next_offset, offset_fault, IsChainFrom}
-use Rattle.fax_files.specs.laws.Files.{HasOneChain}
+use Rattle.std.proofs.lemmas.Bool.Decides.{nat_tests}
+use Rattle.fax_files.specs.Directory.{ChainRead, Header, is_directory, next_offset, offset_fault, read_chain}
+use Rattle.fax_files.specs.Directory.{read_chain_from}
+use Rattle.fax_files.specs.laws.Files.{HasOneChain, IsChainFrom}
 
 -- the chain goes on at an offset
 pub record GoesOn (endian : Endian) (file before : List ℕ) (due : ℕ) : Type 0 where
@@ -52,77 +54,84 @@ still_below xs n x within all = grind arith
 pub few : (xs : List ℕ) (n : ℕ) → IsApart xs → AreBelow xs n → length xs ≤ n
 few xs n apart all = length-le_from_distinct_below xs n (distinct xs apart) all
 
+-- an offset that is not 0 is not the last one
+pub not_last : (due : ℕ) → due ≢ 0 → (due == 0) ≡ false
+not_last due some = grind (arith, nat_tests)
+
 module _ (endian : Endian) (file : List ℕ) where
-  -- a chain of at most so many offsets
-  abbrev Found : ℕ → List ℕ → ℕ → Type 0
-  Found most before due =
-      (offsets : List ℕ) × (end : Option FileFault) × IsChainFrom endian file before due offsets end
-      × (length offsets ≤ most)
+  -- the limit is as high as there may be directories after those before, which are apart
+  record HasRoom (limit : ℕ) (before : List ℕ) : Type 0 where
+    count : length before + limit ≡ suc (length file)
+    apart : IsApart before
+    below : AreBelow before (length file)
 
-  at_fault : (most : ℕ) (before : List ℕ) (due : ℕ) (fault : Option FileFault) → due ≢ 0
-      → offset_fault endian file before due ≡ fault
-      → (GoesOn endian file before due → Found most (due ∷ before) (next_offset endian file due))
-      → Found (most + 1) before due
-  at_fault most before due (Some fault) some e rest = ([], Some fault, (some, e), omega arith)
-  at_fault most before due None some e rest =
-      let found = rest (going_on endian file before due some e) in
-      (due ∷ found.0, found.1, (refl, some, e, found.2), omega (arith, found.3))
+  are_few : (limit : ℕ) (before : List ℕ) → HasRoom limit before → length before ≤ length file
+  are_few limit before room = few before (length file) room.apart room.below
 
-  at_offset : (most : ℕ) (before : List ℕ) (due : ℕ)
-      → (GoesOn endian file before due → Found most (due ∷ before) (next_offset endian file due))
-      → Found (most + 1) before due
-  at_offset most before zero rest = ([], None, refl, omega arith)
-  at_offset most before (suc n) rest =
-      at_fault most before (suc n) (offset_fault endian file before (suc n)) (λ e. absurd cc) refl rest
+  no_room : (before : List ℕ) → HasRoom 0 before → ⊥
+  no_room before room = omega (arith, room.count, are_few 0 before room)
 
-  -- at the most so many offsets, the chain has ended
-  at_last_fault : (before : List ℕ) (due : ℕ) (fault : Option FileFault) → due ≢ 0
-      → offset_fault endian file before due ≡ fault
-      → (GoesOn endian file before due → ⊥) → Found 0 before due
-  at_last_fault before due (Some fault) some e none = ([], Some fault, (some, e), omega arith)
-  at_last_fault before due None some e none = absurd (none (going_on endian file before due some e))
+  room_on : (limit : ℕ) (before : List ℕ) (due : ℕ) → HasRoom (suc limit) before → GoesOn endian file before due
+      → HasRoom limit (due ∷ before)
+  room_on limit before due room on = record {
+    count = omega (arith, room.count);
+    apart = (on.fresh, room.apart);
+    below = still_below before (length file) due (begins_inside endian file due on.there) room.below;
+  }
 
-  at_last : (before : List ℕ) (due : ℕ) → (GoesOn endian file before due → ⊥) → Found 0 before due
-  at_last before zero none = ([], None, refl, omega arith)
-  at_last before (suc n) none =
-      at_last_fault before (suc n) (offset_fault endian file before (suc n)) (λ e. absurd cc) refl none
+  abbrev read : ℕ → List ℕ → ℕ → ChainRead
+  read limit before due = read_chain_from limit endian file before due
 
-  -- there are at most as many offsets as the file has bytes
-  exists : (fuel : ℕ) (before : List ℕ) (due : ℕ) → length before + fuel ≡ length file → IsApart before
-      → AreBelow before (length file)
-      → Found fuel before due
-  exists zero before due count apart all = at_last before due (λ on.
-      let within = begins_inside endian file due on.there in
-      let n : length (due ∷ before) ≤ length file =
-      few (due ∷ before) (length file) (on.fresh, apart) (still_below before (length file) due within all) in
-      omega arith)
-  exists (suc fuel) before due count apart all =
-      let more : fuel + 1 ≡ suc fuel = omega arith in
-      subst (λ (n : ℕ). Found n before due) more (at_offset fuel before due (λ on.
-      exists fuel (due ∷ before) (next_offset endian file due) (omega arith) (on.fresh, apart)
-      (still_below before (length file) due (begins_inside endian file due on.there) all)))
+  -- what is read is a chain, with at most as many directories as the file has bytes
+  abbrev IsWhole : List ℕ → ℕ → ChainRead → Type 0
+  IsWhole before due chain =
+      IsChainFrom endian file before due chain.offsets chain.end
+      × (length before + length chain.offsets ≤ length file)
 
-  one : (before : List ℕ) (due : ℕ) (offsets others : List ℕ) (end other : Option FileFault)
-      → IsChainFrom endian file before due offsets end → IsChainFrom endian file before due others other
-      → (others ≡ offsets) × (other ≡ end)
-  one before due [] [] None None is that = (refl, refl)
-  one before due [] [] None (Some fault) is that = absurd (that.0 is)
-  one before due [] [] (Some fault) None is that = absurd (is.0 that)
-  one before due [] [] (Some fault) (Some other) is that = (refl, cc)
-  one before due [] (q ∷ others) None other is that = absurd (that.1 is)
-  one before due [] (q ∷ others) (Some fault) other is that = absurd cc
-  one before due (q ∷ offsets) [] end None is that = absurd (is.1 that)
-  one before due (q ∷ offsets) [] end (Some other) is that = absurd cc
-  one before due (p ∷ offsets) (q ∷ others) end other is that =
-      grind (arith, one (due ∷ before) (next_offset endian file due) offsets others end other is.3 that.3)
+  at_offset : (limit : ℕ) (before : List ℕ) (due : ℕ) → due ≢ 0 → HasRoom (suc limit) before
+      → (GoesOn endian file before due → IsWhole (due ∷ before) (next_offset endian file due)
+      (read limit (due ∷ before) (next_offset endian file due)))
+      → (fault : Option FileFault) → offset_fault endian file before due ≡ fault
+      → IsWhole before due (read (suc limit) before due)
+  unfolding read_chain_from
+  at_offset limit before due some room rest (Some fault) e =
+      rw (not_last due some, e, read_chain_from) ((some, e), omega (arith, are_few (suc limit) before room))
+  at_offset limit before due some room rest None e =
+      let more = rest (going_on endian file before due some e) in
+      rw (not_last due some, e, read_chain_from) ((refl, some, e, more.0), omega (arith, more.1))
+
+  whole : (limit : ℕ) (before : List ℕ) (due : ℕ) → HasRoom limit before → IsWhole before due (read limit before due)
+  unfolding read_chain_from
+  whole zero before due room = absurd (no_room before room)
+  whole (suc limit) before zero room =
+      (refl, omega (arith, are_few (suc limit) before room))
+  whole (suc limit) before (suc n) room =
+      at_offset limit before (suc n) (λ e. absurd cc) room (λ on.
+      whole limit (suc n ∷ before) (next_offset endian file (suc n)) (room_on limit before (suc n) room on))
+      (offset_fault endian file before (suc n)) refl
+
+  -- and there is no other
+  one : (limit : ℕ) (before : List ℕ) (due : ℕ) (offsets : List ℕ) (end : Option FileFault) → HasRoom limit before
+      → IsChainFrom endian file before due offsets end
+      → read limit before due ≡ record { offsets = offsets; end = end }
+  unfolding read_chain_from
+  one zero before due offsets end room is = absurd (no_room before room)
+  one (suc limit) before due [] None room is = rw (is, read_chain_from) refl
+  one (suc limit) before due [] (Some fault) room is = rw (not_last due is.0, is.1, read_chain_from) refl
+  one (suc limit) before due (q ∷ offsets) end room (is, some, good, rest) =
+      let on = going_on endian file before due some good in
+      let more = one limit (due ∷ before) (next_offset endian file due) offsets end
+      (room_on limit before due room on) rest in
+      rw (not_last due some, good, more, is, read_chain_from) refl
 
 pub has_one_chain : (head : Header) (file : List ℕ) → HasOneChain head file
+unfolding read_chain
 has_one_chain head file =
-    let found = exists head.endian file (length file) [] head.first (omega arith) tt (λ q e. absurd cc) in
+    let room : HasRoom head.endian file (suc (length file)) [] =
+    record { count = omega arith; apart = tt; below = λ q e. absurd cc } in
+    let found = whole head.endian file (suc (length file)) [] head.first room in
     record {
-      offsets = found.0;
-      end = found.1;
-      is = found.2;
-      few = found.3;
-      one = λ others other that. one head.endian file [] head.first found.0 others found.1 other found.2 that;
+      is = found.0;
+      few = omega (arith, found.1);
+      one = λ other is. one head.endian file (suc (length file)) [] head.first other.offsets other.end room is;
     }

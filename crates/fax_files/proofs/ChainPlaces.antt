@@ -9,7 +9,8 @@ use Rattle.std.proofs.lemmas.List.{get_or-drop}
 use Rattle.fax_files.specs.declared.FileFault.{FileFault}
 use Rattle.fax_files.specs.declared.FileFault.TheVariants.{DirectoryOutside, DirectoryLoop}
 use Rattle.fax_files.specs.declared.Endian.{Endian}
-use Rattle.fax_files.specs.Directory.{number_at, is_directory, next_offset, IsChainFrom}
+use Rattle.fax_files.specs.Directory.{number_at, is_directory, next_offset}
+use Rattle.fax_files.specs.laws.Files.{IsChainFrom}
 use Rattle.fax_files.specs.code.Chain.{link, onward}
 use Rattle.fax_files.proofs.ChainLaws.{IsApart, AreBelow, GoesOn, going_on, still_below, few}
 

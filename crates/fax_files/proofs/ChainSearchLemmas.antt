@@ -8,12 +8,10 @@ use Rattle.fax_files.specs.declared.FileFault.TheVariants.{DirectoryLoop}
 use Rattle.fax_files.specs.declared.chain.Search.{Search}
 use Rattle.fax_files.specs.declared.chain.Search.TheVariants.{Running, Known}
 use Rattle.fax_files.specs.views.Tiff.{TiffFile}
-use Rattle.fax_files.specs.Directory.{IsChain}
-use Rattle.fax_files.specs.code.Chain.{onward, place, LeadsOn, IsTurningPage, turning_page, IsChainPlace, IsSearch}
-use Rattle.fax_files.specs.code.Chain.{IsSearchPlace, turns_at}
-use Rattle.fax_files.proofs.ChainLaws.{has_one_chain}
-use Rattle.fax_files.proofs.ChainPlaces.{IsByPlaces, by_places}
-use Rattle.fax_files.proofs.LoopLemmas.{along_places, leads, stops, no_turning_page}
+use Rattle.fax_files.specs.views.Chain.{chain_of}
+use Rattle.fax_files.specs.code.Chain.{onward, place, LeadsOn, turn_of, turning_page, IsSearch}
+use Rattle.fax_files.specs.code.Chain.{turns_at}
+use Rattle.fax_files.proofs.LoopLemmas.{along_places, leads, stops, the_places, no_turning_page}
 
 module _ (tiff : TiffFile) where
   -- so many rounds on, a place has the same offset
@@ -25,87 +23,48 @@ module _ (tiff : TiffFile) where
       one ∙ rounds j p i m back from
 
   -- a chain that turns back has a place that is met again after as many steps, at its end at the latest
-  module _ (offsets : List ℕ) (end : Option FileFault) (is : IsChain tiff.head tiff.file offsets end)
-      (loop : end ≡ Some DirectoryLoop) where
-    the_places : IsByPlaces tiff.head.endian tiff.file tiff.head.first offsets end
-    the_places = by_places tiff.head.endian tiff.file tiff.head.first offsets end is
-
-    pub met : (k : ℕ) × (0 < k) × (k ≤ length offsets) × (place tiff k ≡ place tiff (k + k))
-    met = elim the_places.ends [
-      | inl e ↦ absurd (cc (e.1, loop))
-      | inr (inl e) ↦ absurd (cc (e.2, loop))
-      | inr (inr (j, earlier, again, is_loop)) ↦
-          let n = length offsets in
-          let p = n - j in
-          let some : 0 < p = omega arith in
-          let m = j / p + 1 in
-          let count : p * (j / p) + j % p ≡ j = omega arith in
-          let low : j % p < p = omega arith in
-          let whole : m * p ≡ p * (j / p) + p = omega arith in
-          let split : j + p ≡ n = omega arith in
-          let back : place tiff (j + p) ≡ place tiff j = ap (place tiff) split ∙ again in
-          (m * p, omega arith, omega arith, sym (rounds j p (m * p) m back (omega arith)))
-    ]
-
-  -- the page at which the chain turns back
-  pub true_turn : (turn : Option ℕ) × IsTurningPage tiff turn
-  true_turn =
-      let one = has_one_chain tiff.head tiff.file in (
-        turning_page one.end (length one.offsets),
-        λ offsets end is.
-            let same = one.one offsets end is in
-            ap (λ (e : Option FileFault). turning_page e (length one.offsets)) (sym same.1)
-            ∙ ap (λ (l : List ℕ). turning_page end (length l)) (sym same.0),
-      )
+  pub met : (chain_of tiff).end ≡ Some DirectoryLoop
+      → (k : ℕ) × (0 < k) × (k ≤ length (chain_of tiff).offsets) × (place tiff k ≡ place tiff (k + k))
+  met loop = elim (the_places tiff).ends [
+    | inl e ↦ absurd (cc (e.1, loop))
+    | inr (inl e) ↦ absurd (cc (e.2, loop))
+    | inr (inr (j, earlier, again, is_loop)) ↦
+        let n = length (chain_of tiff).offsets in
+        let p = n - j in
+        let some : 0 < p = omega arith in
+        let m = j / p + 1 in
+        let count : p * (j / p) + j % p ≡ j = omega arith in
+        let low : j % p < p = omega arith in
+        let whole : m * p ≡ p * (j / p) + p = omega arith in
+        let split : j + p ≡ n = omega arith in
+        let back : place tiff (j + p) ≡ place tiff j = ap (place tiff) split ∙ again in
+        (m * p, omega arith, omega arith, sym (rounds j p (m * p) m back (omega arith)))
+  ]
 
   turning : (end : Option FileFault) (pages given : ℕ) → Some given ≡ turning_page end pages
       → (end ≡ Some DirectoryLoop) × (given ≡ pages)
   turning end pages given e = grind arith
 
   -- while a search runs, the chain does not turn back at the reader's place
-  pub running : (given fast : ℕ) → IsSearch tiff given (Running fast) → true_turn.0 ≢ Some given
+  pub running : (given fast : ℕ) → IsSearch tiff given (Running fast) → turn_of tiff ≢ Some given
   running given fast search = λ here.
-      let one = has_one_chain tiff.head tiff.file in
-      let p = turning one.end (length one.offsets) given (sym here ∙ true_turn.1 one.offsets one.end one.is) in
-      let found = met one.offsets one.end one.is p.0 in
+      let p = turning (chain_of tiff).end (length (chain_of tiff).offsets) given (sym here) in
+      let found = met p.0 in
       search.2 found.0 found.1 (omega (arith, found.2, p.1)) found.3
 
-  -- the turn that a search has found, or the true one
-  pub turn_of : Search → Option ℕ
-  turn_of (Running fast) = true_turn.0
-  turn_of (Known turn) = turn
-
-  pub place_of : (due given : ℕ) (search : Search) → IsSearchPlace tiff due given search
-      → IsChainPlace tiff due given (turn_of search)
-  unfolding turn_of
-  place_of due given (Running fast) sound = record {
-    due_is = sound.due_is;
-    within = sound.within;
-    turn_is =
-        true_turn.1;
-    few = sound.few;
-  }
-  place_of due given (Known turn) sound = grind arith
-
-  pub turned_here : (search : Search) (given : ℕ) → turns_at search given ≡ true → turn_of search ≡ Some given
-  unfolding turn_of
-  turned_here (Running fast) given e = absurd cc
-  turned_here (Known None) given e = absurd cc
-  turned_here (Known (Some turn)) given e = let same : turn ≡ given = grind (arith, nat_tests) in
-      ap (λ (n : ℕ). Some n) same
+  pub turned_here : (search : Search) (given : ℕ) → IsSearch tiff given search → turns_at search given ≡ true
+      → turn_of tiff ≡ Some given
+  turned_here (Running fast) given is e = absurd cc
+  turned_here (Known None) given is e = absurd cc
+  turned_here (Known (Some turn)) given is e = let same : turn ≡ given = grind (arith, nat_tests) in
+      sym is ∙ ap (λ (n : ℕ). Some n) same
 
   pub not_here : (search : Search) (given : ℕ) → IsSearch tiff given search → turns_at search given ≡ false
-      → turn_of search ≢ Some given
-  unfolding turn_of
+      → turn_of tiff ≢ Some given
   not_here (Running fast) given is e = running given fast is
   not_here (Known None) given is e = λ same. cc
-  not_here (Known (Some turn)) given is e = λ same. let equal : turn ≡ given = cc in absurd (grind (arith, nat_tests))
-
-  -- one directory on
-  pub one_further : (due given : ℕ) (search later : Search) (next : ℕ) → IsSearchPlace tiff due given search
-      → IsChainPlace tiff next (given + 1) (turn_of search) → IsSearch tiff (given + 1) later
-      → IsSearchPlace tiff next (given + 1) later
-  one_further due given search later next sound on found = grind arith
+  not_here (Known (Some turn)) given is e = λ same.
+      let equal : turn ≡ given = cc in absurd (grind (arith, nat_tests))
 
   -- A step of the search.
   module _ (given fast between : ℕ) (search : IsSearch tiff given (Running fast))
@@ -113,9 +72,8 @@ module _ (tiff : TiffFile) where
     first_lead : (between ≡ place tiff (given + given + 1)) × LeadsOn tiff (given + given)
     first_lead = leads tiff (given + given) between (rw search.0 at first)
 
-    pub stopped : onward tiff.head.endian tiff.file between ≡ None → IsTurningPage tiff None
-    stopped none = no_turning_page tiff (λ offsets end is. stops tiff offsets end is (given + given + 1)
-        (rw first_lead.0 at none))
+    pub stopped : onward tiff.head.endian tiff.file between ≡ None → None ≡ turn_of tiff
+    stopped none = no_turning_page tiff (stops tiff (given + given + 1) (rw first_lead.0 at none))
 
     module _ (next : ℕ) (second : onward tiff.head.endian tiff.file between ≡ Some next) where
       second_lead : (next ≡ place tiff (given + given + 1 + 1)) × LeadsOn tiff (given + given + 1)
@@ -133,5 +91,5 @@ module _ (tiff : TiffFile) where
 
   pub stopped_first : (given fast : ℕ) → IsSearch tiff given (Running fast)
       → onward tiff.head.endian tiff.file fast ≡ None
-      → IsTurningPage tiff None
-  stopped_first given fast search none = grind (arith, stops)
+      → None ≡ turn_of tiff
+  stopped_first given fast search none = no_turning_page tiff (stops tiff (given + given) (rw search.0 at none))

@@ -6,10 +6,11 @@ use Rattle.std.specs.Prelude.{◌==◌}
 use Rattle.std.proofs.lemmas.Bool.{cases_lt}
 use Rattle.fax_files.specs.declared.FileFault.{FileFault}
 use Rattle.fax_files.specs.declared.FileFault.TheVariants.{DirectoryLoop}
-use Rattle.fax_files.specs.Directory.{is_directory, next_offset, IsChain}
+use Rattle.fax_files.specs.Directory.{is_directory, next_offset}
 use Rattle.fax_files.specs.views.Tiff.{TiffFile}
-use Rattle.fax_files.specs.code.Chain.{onward, place, LeadsOn, IsRound, IsTurn, HasNoLoop, HasFewPages, IsTurningPage}
+use Rattle.fax_files.specs.code.Chain.{onward, place, LeadsOn, IsRound, IsTurn, HasNoLoop, HasFewPages, turn_of}
 use Rattle.fax_files.specs.code.Chain.{turning_page}
+use Rattle.fax_files.specs.views.Chain.{chain_of}
 use Rattle.fax_files.proofs.ChainLaws.{has_one_chain}
 use Rattle.fax_files.proofs.ChainPlaces.{IsByPlaces, by_places, along, link_next, onward_on}
 
@@ -53,133 +54,131 @@ module _ (tiff : TiffFile) where
   pub always : (start len : ℕ) → IsRound tiff start len → (i : ℕ) → LeadsOn tiff i
   always start len round i = always_by start len round i i (omega arith)
 
-  module _ (offsets : List ℕ) (end : Option FileFault) (is : IsChain tiff.head tiff.file offsets end) where
-    abbrev n : ℕ
-    n = length offsets
+  abbrev n : ℕ
+  n = length (chain_of tiff).offsets
 
-    the_places : IsByPlaces tiff.head.endian tiff.file tiff.head.first offsets end
-    the_places = by_places tiff.head.endian tiff.file tiff.head.first offsets end is
+  pub the_places : IsByPlaces tiff.head.endian tiff.file tiff.head.first (chain_of tiff).offsets (chain_of tiff).end
+  the_places = by_places tiff.head.endian tiff.file tiff.head.first (chain_of tiff).offsets (chain_of tiff).end
+      (has_one_chain tiff.head tiff.file).is
 
-    pub before_end : (i : ℕ) → i < n → LeadsOn tiff i
-    before_end i h =
-        let p = the_places.on i h in
-        (leads i (next_offset tiff.head.endian tiff.file (place tiff i))
-        (onward_on tiff.head.endian tiff.file p.0 (place tiff i) p.1)).1
+  pub before_end : (i : ℕ) → i < n → LeadsOn tiff i
+  before_end i h =
+      let p = the_places.on i h in
+      (leads i (next_offset tiff.head.endian tiff.file (place tiff i))
+      (onward_on tiff.head.endian tiff.file p.0 (place tiff i) p.1)).1
 
-    abbrev Turns : Type 0
-    Turns = (j : ℕ) × (j < n) × (place tiff n ≡ place tiff j) × (end ≡ Some DirectoryLoop)
+  abbrev Turns : Type 0
+  Turns = (j : ℕ) × (j < n) × (place tiff n ≡ place tiff j) × ((chain_of tiff).end ≡ Some DirectoryLoop)
 
-    -- a chain whose end leads on turns back there
-    pub turns : LeadsOn tiff n → Turns
-    turns on = grind (arith, the_places)
+  -- a chain whose end leads on turns back there
+  pub turns : LeadsOn tiff n → Turns
+  turns on = grind (arith, the_places)
 
-    module _ (j : ℕ) (earlier : j < n) (back : place tiff n ≡ place tiff j) where
-      -- each place on the loop has the offset of one of the chain
-      pub canonical : (i : ℕ) → j ≤ i → (k : ℕ) × (j ≤ k) × (k < n) × (place tiff i ≡ place tiff k)
-      canonical zero h = let none : j ≡ 0 = omega arith in (0, omega arith, omega arith, refl)
-      canonical (suc i) h = elim (cases_lt i j) [
-        | inl low ↦ let same : suc i ≡ j = omega arith in (j, omega arith, earlier, ap (place tiff) same)
-        | inr high ↦
-            let before = canonical i high in
-            let k = before.0 in
-            let moved : place tiff (suc i) ≡ place tiff (k + 1) = along_places i k 1 (suc i) (k + 1) (omega arith) refl
-            before.3 in
-            let _kept = before.1 in
-            let below : k < n = before.2 in
-            elim (cases_lt (k + 1) n) [
-              | inl inside ↦ (k + 1, omega (arith, before.1), inside, moved)
-              | inr outside ↦ let whole : k + 1 ≡ n = omega arith in
-                  (j, omega arith, earlier, moved ∙ ap (place tiff) whole ∙ back)
-            ]
-      ]
-
-      leads_everywhere : (i : ℕ) → LeadsOn tiff i
-      leads_everywhere i = elim (cases_lt i j) [
-        | inl low ↦ before_end i (omega (arith, earlier))
-        | inr high ↦ let p = canonical i high in leads_alike i p.0 p.3 (before_end p.0 p.2)
-      ]
-
-    -- a chain that stops does not turn back
-    pub stops : (t : ℕ) → onward tiff.head.endian tiff.file (place tiff t) ≡ None → end ≢ Some DirectoryLoop
-    stops t none = λ loop. elim the_places.ends [
-      | inl e ↦ cc (e.1, loop)
-      | inr (inl e) ↦ cc (e.2, loop)
-      | inr (inr e) ↦ cc (leads_everywhere e.0 e.1 e.2 t, none)
+  module _ (j : ℕ) (earlier : j < n) (back : place tiff n ≡ place tiff j) where
+    -- each place on the loop has the offset of one of the chain
+    pub canonical : (i : ℕ) → j ≤ i → (k : ℕ) × (j ≤ k) × (k < n) × (place tiff i ≡ place tiff k)
+    canonical zero h = let none : j ≡ 0 = omega arith in (0, omega arith, omega arith, refl)
+    canonical (suc i) h = elim (cases_lt i j) [
+      | inl low ↦ let same : suc i ≡ j = omega arith in (j, omega arith, earlier, ap (place tiff) same)
+      | inr high ↦
+          let before = canonical i high in
+          let k = before.0 in
+          let moved : place tiff (suc i) ≡ place tiff (k + 1) = along_places i k 1 (suc i) (k + 1) (omega arith) refl
+          before.3 in
+          let _kept = before.1 in
+          let below : k < n = before.2 in
+          elim (cases_lt (k + 1) n) [
+            | inl inside ↦ (k + 1, omega (arith, before.1), inside, moved)
+            | inr outside ↦ let whole : k + 1 ≡ n = omega arith in
+                (j, omega arith, earlier, moved ∙ ap (place tiff) whole ∙ back)
+          ]
     ]
 
-    module _ (start len page : ℕ) (round : IsRound tiff start len) (turn : IsTurn tiff len page) where
-      some : 0 < len
-      some = round.some
+    leads_everywhere : (i : ℕ) → LeadsOn tiff i
+    leads_everywhere i = elim (cases_lt i j) [
+      | inl low ↦ before_end i (omega (arith, earlier))
+      | inr high ↦ let p = canonical i high in leads_alike i p.0 p.3 (before_end p.0 p.2)
+    ]
 
-      the_turn : Turns
-      the_turn = turns (always start len round n)
+  -- a chain that stops does not turn back
+  pub stops : (t : ℕ) → onward tiff.head.endian tiff.file (place tiff t) ≡ None → HasNoLoop tiff
+  stops t none = λ loop. elim the_places.ends [
+    | inl e ↦ cc (e.1, loop)
+    | inr (inl e) ↦ cc (e.2, loop)
+    | inr (inr e) ↦ cc (leads_everywhere e.0 e.1 e.2 t, none)
+  ]
 
-      -- the round is on the loop
-      on_loop : the_turn.0 ≤ start
-      on_loop =
-          let j = the_turn.0 in
-          let earlier : j < n = the_turn.1 in
-          elim (cases_lt start j) [
-            | inl low ↦ elim (cases_lt (start + len) n) [
-              | inl inside ↦ absurd (the_places.apart start (start + len) (omega (arith, some)) inside (sym round.back))
-              | inr outside ↦
-                  let p = canonical j earlier the_turn.2 (start + len) (omega arith) in
-                  absurd (the_places.apart start p.0 (omega (arith, p.1)) p.2 (sym round.back ∙ p.3))
-            ]
-            | inr high ↦ high
+  module _ (start len page : ℕ) (round : IsRound tiff start len) (turn : IsTurn tiff len page) where
+    some : 0 < len
+    some = round.some
+
+    the_turn : Turns
+    the_turn = turns (always start len round n)
+
+    -- the round is on the loop
+    on_loop : the_turn.0 ≤ start
+    on_loop =
+        let j = the_turn.0 in
+        let earlier : j < n = the_turn.1 in
+        elim (cases_lt start j) [
+          | inl low ↦ elim (cases_lt (start + len) n) [
+            | inl inside ↦ absurd (the_places.apart start (start + len) (omega (arith, some)) inside (sym round.back))
+            | inr outside ↦
+                let p = canonical j earlier the_turn.2 (start + len) (omega arith) in
+                absurd (the_places.apart start p.0 (omega (arith, p.1)) p.2 (sym round.back ∙ p.3))
           ]
+          | inr high ↦ high
+        ]
 
-      -- its length is the loop's
-      length_is : len ≡ n - the_turn.0
-      length_is =
-          let j = the_turn.0 in
-          let earlier : j < n = the_turn.1 in
-          let reached : j ≤ start = on_loop in
-          let around : place tiff (start + (n - j)) ≡ place tiff start =
-          along_places n j (start - j) (start + (n - j)) start (omega arith) (omega arith) the_turn.2 in
-          let at_most : len ≤ n - j = elim (cases_lt (n - j) len) [
-            | inl fewer ↦ absurd (round.first (n - j) (omega arith) fewer around)
-            | inr more ↦ more
-          ] in
-          let p = canonical j earlier the_turn.2 start reached in
-          let k = p.0 in
-          let low : j ≤ k = p.1 in
-          let high : k < n = p.2 in
-          let moved : place tiff (k + len) ≡ place tiff k =
-          sym (along_places start k len (start + len) (k + len) refl refl p.3) ∙ round.back ∙ p.3 in
-          elim (cases_lt len (n - j)) [
-            | inl fewer ↦ elim (cases_lt (k + len) n) [
-              | inl inside ↦ absurd (the_places.apart k (k + len) (omega (arith, some)) inside (sym moved))
-              | inr outside ↦
-                  let wrapped : place tiff (k + len) ≡ place tiff (k + len - (n - j)) =
-                  along_places n j (k + len - n) (k + len) (k + len - (n - j)) (omega arith) (omega arith) the_turn.2 in
-                  absurd (the_places.apart (k + len - (n - j)) k (omega arith) high (sym wrapped ∙ moved))
-            ]
-            | inr more ↦ omega arith
+    -- its length is the loop's
+    length_is : len ≡ n - the_turn.0
+    length_is =
+        let j = the_turn.0 in
+        let earlier : j < n = the_turn.1 in
+        let reached : j ≤ start = on_loop in
+        let around : place tiff (start + (n - j)) ≡ place tiff start =
+        along_places n j (start - j) (start + (n - j)) start (omega arith) (omega arith) the_turn.2 in
+        let at_most : len ≤ n - j = elim (cases_lt (n - j) len) [
+          | inl fewer ↦ absurd (round.first (n - j) (omega arith) fewer around)
+          | inr more ↦ more
+        ] in
+        let p = canonical j earlier the_turn.2 start reached in
+        let k = p.0 in
+        let low : j ≤ k = p.1 in
+        let high : k < n = p.2 in
+        let moved : place tiff (k + len) ≡ place tiff k =
+        sym (along_places start k len (start + len) (k + len) refl refl p.3) ∙ round.back ∙ p.3 in
+        elim (cases_lt len (n - j)) [
+          | inl fewer ↦ elim (cases_lt (k + len) n) [
+            | inl inside ↦ absurd (the_places.apart k (k + len) (omega (arith, some)) inside (sym moved))
+            | inr outside ↦
+                let wrapped : place tiff (k + len) ≡ place tiff (k + len - (n - j)) =
+                along_places n j (k + len - n) (k + len) (k + len - (n - j)) (omega arith) (omega arith) the_turn.2 in
+                absurd (the_places.apart (k + len - (n - j)) k (omega arith) high (sym wrapped ∙ moved))
           ]
+          | inr more ↦ omega arith
+        ]
 
-      page_is : page ≡ the_turn.0
-      page_is = grind (arith, length_is, the_places)
+    page_is : page ≡ the_turn.0
+    page_is = grind (arith, length_is, the_places)
 
-      pub turning : (end ≡ Some DirectoryLoop) × (page + len ≡ n)
-      turning = grind (arith, length_is, page_is)
+    pub turning : ((chain_of tiff).end ≡ Some DirectoryLoop) × (page + len ≡ n)
+    turning = grind (arith, length_is, page_is)
 
   pub is_turning_page : (start len page : ℕ) → IsRound tiff start len → IsTurn tiff len page
-      → IsTurningPage tiff (Some (page + len))
-  is_turning_page start len page round turn = λ offsets end is.
-      let p = turning offsets end is start len page round turn in
-      rw (p.0, p.1) refl
+      → Some (page + len) ≡ turn_of tiff
+  is_turning_page start len page round turn =
+      let p = turning start len page round turn in rw (p.0, p.1) refl
 
   not_turning : (end : Option FileFault) (pages : ℕ) → end ≢ Some DirectoryLoop → None ≡ turning_page end pages
   not_turning end pages h = grind arith
 
-  pub no_turning_page : HasNoLoop tiff → IsTurningPage tiff None
-  no_turning_page none = λ offsets end is. not_turning end (length offsets) (none offsets end is)
+  pub no_turning_page : HasNoLoop tiff → None ≡ turn_of tiff
+  no_turning_page none = not_turning (chain_of tiff).end n none
 
   pub turning_below : HasFewPages tiff → (start len page : ℕ) → IsRound tiff start len → IsTurn tiff len page
       → page + len < 2 ^ 32
   turning_below few start len page round turn =
-      let one = has_one_chain tiff.head tiff.file in
-      let p = turning one.offsets one.end one.is start len page round turn in
-      let count : length one.offsets < 2 ^ 32 = few one.offsets one.end one.is in
+      let p = turning start len page round turn in
+      let count : n < 2 ^ 32 = few in
       omega (arith, p.1)

@@ -5,6 +5,9 @@ use Rattle.std.specs.Prelude.{◌==◌, nat_le, if◌then◌else◌, replicate}
 use Rattle.std.specs.declared.alloc.Global.{Global}
 use Rattle.std.proofs.lemmas.Bool.{ne_eqb}
 use Rattle.std.proofs.lemmas.List.{length-append, length-replicate, take-append-le, drop-append-le}
+use Rattle.std.specs.Prelude.{Err, Result, ◌↔◌}
+use Rattle.fax_files.specs.declared.writer.WriteFault.{WriteFault}
+use Rattle.fax_files.specs.declared.writer.WriteFault.TheVariants.{OutputTooLarge}
 use Rattle.fax_files.specs.declared.PageForm.{PageForm}
 use Rattle.fax_files.specs.declared.written.Layout.{Layout}
 use Rattle.fax_files.specs.views.Page.{IsPageForm}
@@ -43,6 +46,11 @@ patched bytes more link n inside = grind (arith, take-append-le, drop-append-le,
 regrouped : (j r f z v : List ℕ) → j ++ (r ++ (f ++ z ++ v)) ≡ j ++ r ++ f ++ z ++ v
 regrouped j r f z v = simp append_assoc
 
+-- an answer that is not that the file is too large, where it is not
+pub not_too_large : (answer : Result (Unit {0}) WriteFault) (n : ℕ) → (answer ≡ Err OutputTooLarge → ⊥) → n ≤ max_file
+    → (answer ≡ Err OutputTooLarge) ↔ (max_file < n)
+not_too_large answer n other short = (λ e. absurd (other e), λ long. absurd (omega (arith, long, short)))
+
 -- a file, and a page that is added to it
 module _ (bytes : List ℕ) (link total added end : ℕ) (form : PageForm) (strips : List (Vec ℕ Global))
     (inside : link + 4 ≤ length bytes)
@@ -75,6 +83,10 @@ module _ (bytes : List ℕ) (link total added end : ℕ) (form : PageForm) (stri
     pub size : length new.bytes ≡ page_end (end + end % 2) form.strips
     size = grind (arith, count, new_length)
 
+    pub is_short : (found : ℕ) → found ≡ page_end (end + end % 2) form.strips → found ≤ max_file
+        → length new.bytes ≤ max_file
+    is_short found is short = omega (arith, size, is, short)
+
     module _ (at : Layout) (laid : IsLayout at form.strips (length bytes) end added total) where
       place : at.directory ≡ directory_place (length bytes) (contents strips)
       place = laid.directory_is ∙ ap (λ (e : ℕ). e + e % 2) end_is
@@ -105,25 +117,13 @@ module _ (bytes : List ℕ) (link total added end : ℕ) (form : PageForm) (stri
       pub added_bytes : (tail now : List ℕ) → tail ≡ tail_bytes end (laid_out_fields at form) form (length bytes)
           (contents strips)
           → now ≡ bytes ++ (joined_strips (contents strips) ++ tail) → with_four_at now link at.directory ≡ new.bytes
-      unfolding with_page page_bytes
+      unfolding with_page
       added_bytes tail now tail_is now_is =
-          let q = directory_place (length bytes) (contents strips) in
-          let all = joined_strips (contents strips) in
-          let fields = fields_of q total added form (offsets_from (length bytes) (contents strips))
-          (lengths_of (contents strips)) in
-          let values = values_bytes form (offsets_from (length bytes) (contents strips)) (lengths_of (contents strips))
-          in
-          let pad : List ℕ = replicate ((length bytes + length all) % 2) 0 in
-          let tail_same : tail ≡ pad ++ (fields_bytes fields ++ four 0 ++ values) =
-          tail_is ∙ ap (λ fs. tail_bytes end fs form (length bytes) (contents strips)) fields_are
-          ∙ ap (λ (e : ℕ). tail_bytes e fields form (length bytes) (contents strips)) end_is in
+          let page = page_bytes (length bytes) total added form (contents strips) in
           ap (λ (l : List ℕ). with_four_at l link at.directory) now_is
-          ∙ patched bytes (all ++ tail) link at.directory inside
-          ∙ ap (λ (t : List ℕ). with_four_at bytes link at.directory ++ (all ++ t)) tail_same
-          ∙ ap (λ (n : ℕ). with_four_at bytes link n ++ (all ++ (pad ++ (fields_bytes fields ++ four 0 ++ values))))
-          place
-          ∙ ap (λ (l : List ℕ). with_four_at bytes link q ++ l) (regrouped all pad (fields_bytes fields) (four 0)
-          values)
+          ∙ patched bytes (joined_strips (contents strips) ++ tail) link at.directory inside
+          ∙ ap (λ (t : List ℕ). with_four_at bytes link at.directory ++ t) (page_is tail tail_is)
+          ∙ ap (λ (n : ℕ). with_four_at bytes link n ++ page) place
 
       pub new_link : at.directory + to_link ≡ new.link
       unfolding with_page

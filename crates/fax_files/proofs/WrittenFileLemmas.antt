@@ -10,7 +10,9 @@ use Rattle.std.proofs.lemmas.List.Folds.{list_any_none}
 use Rattle.std.specs.Prelude.{◌==◌, replicate, codes, bytes_eq, nat_le, if◌then◌else◌}
 use Rattle.fax_files.specs.declared.FileFault.TheVariants as file_fault
 use Rattle.fax_files.specs.Directory.{is_inside, number_at, is_directory, next_offset, Endian, Little, Big, FileFault}
-use Rattle.fax_files.specs.Directory.{header, IsChainFrom}
+use Rattle.fax_files.specs.Directory.{Header, header}
+use Rattle.fax_files.specs.laws.Files.{IsChainFrom}
+use Rattle.fax_files.proofs.ChainLaws.{has_one_chain}
 use Rattle.fax_files.specs.Layout.{to_link, two, four, offsets_from, directory_place, page_bytes, Written, with_page}
 use Rattle.fax_files.specs.Layout.{with_pages}
 use Rattle.fax_files.specs.Layout.{WrittenPage, file_of, array_bytes}
@@ -292,12 +294,16 @@ written_files_are_read (written ∷ pages) some many w short =
     let start = stays_through empty_file total 0 (written ∷ pages) open' w 0 (codes "II" ++ two 42) (inl (omega arith))
     (at_start (codes "II" ++ two 42) (four 0)) in
     let first = first_there written total 0 pages w small in
+    let head : Header = record { endian = Little; first = number_at Little 4 file 4 } in
     record {
-      head = record { endian = Little; first = number_at Little 4 file 4 };
+      head = head;
       offsets = offsets_of empty_file total 0 (written ∷ pages);
       head_is = header_there file first.1 start first.0;
       little = refl;
-      chain = chain_through empty_file total 0 (written ∷ pages) open' w small []
-          (All-nil (λ o. o < length empty_file.bytes));
+      chain = (has_one_chain head file).one (record {
+        offsets = offsets_of empty_file total 0 (written ∷ pages);
+        end = None;
+      }) (chain_through empty_file total 0 (written ∷ pages) open' w small []
+          (All-nil (λ o. o < length empty_file.bytes)));
       read = pages_through empty_file total 0 (written ∷ pages) open' w small;
     }

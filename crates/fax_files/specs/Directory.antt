@@ -1,6 +1,6 @@
 -- Numbers in a TIFF file, its header, its directories and their chain (TIFF 6.0, section 2).
 -- 'Ours' is this project's profile.
-use Rattle.std.specs.Prelude.{◌≡◌, ◌≢◌, ℕ, zero, suc, ◌+◌, ◌*◌, Bool, true, nat_le, nat_lt, ◌==◌}
+use Rattle.std.specs.Prelude.{ℕ, zero, suc, ◌+◌, ◌*◌, Bool, true, nat_le, nat_lt, ◌==◌}
 use Rattle.std.specs.Prelude.{◌&&◌, ◌||◌, not, if◌then◌else◌, List, [], ◌∷◌, length, take, drop}
 use Rattle.std.specs.Prelude.{find, Option, Some, None, Result, Ok, Err, codes, bytes_eq}
 use Rattle.std.specs.List.{list_any}
@@ -140,16 +140,26 @@ offset_fault endian file before due =
     if list_any (λ q. due == q) before then (Some file_fault.DirectoryLoop)
     else (if is_directory endian file due then None else (Some file_fault.DirectoryOutside))
 
--- from the offset that is due on, after these directories, the last one first, the chain goes over
--- these offsets to this end: at an offset of 0, or at one with a fault
-abbrev pub IsChainFrom : Endian → List ℕ → List ℕ → ℕ → List ℕ → Option FileFault → Type 0
-IsChainFrom endian file before due [] None = due ≡ 0
-IsChainFrom endian file before due [] (Some fault) =
-    (due ≢ 0) × (offset_fault endian file before due ≡ Some fault)
-IsChainFrom endian file before due (q ∷ offsets) end =
-    (q ≡ due) × (due ≢ 0) × (offset_fault endian file before due ≡ None)
-    × IsChainFrom endian file (due ∷ before) (next_offset endian file due) offsets end
+-- the chain of a file's directories, each one a page, as far as it goes: their offsets, and the
+-- fault that ends it, if any
+pub record ChainRead : Type 0 where
+  pub offsets : List ℕ
+  pub end : Option FileFault
 
--- the offsets of a file's directories, each one a page, and the fault that ends them, if any
-abbrev pub IsChain : Header → List ℕ → List ℕ → Option FileFault → Type 0
-IsChain head file offsets end = IsChainFrom head.endian file [] head.first offsets end
+-- the chain from the offset that is due on, after these directories, the last one first: it ends at
+-- an offset of 0, or at one with a fault, and before the limit, which is above all that can be
+unfoldable pub read_chain_from : ℕ → Endian → List ℕ → List ℕ → ℕ → ChainRead
+read_chain_from zero endian file before due = record { offsets = []; end = None }
+read_chain_from (suc limit) endian file before due =
+    if due == 0 then (record { offsets = []; end = None })
+    else elim (offset_fault endian file before due) [
+      | Some fault ↦ record { offsets = []; end = Some fault }
+      | None ↦
+          let next = next_offset endian file due in
+          let more = read_chain_from limit endian file (due ∷ before) next in
+          record more { offsets = due ∷ more.offsets }
+    ]
+
+-- the chain of a file with this header: no two of its directories begin at one byte
+unfoldable pub read_chain : Header → List ℕ → ChainRead
+read_chain head file = read_chain_from (suc (length file)) head.endian file [] head.first

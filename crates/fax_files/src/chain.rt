@@ -109,7 +109,7 @@ fn turning_from(tiff: &Tiff, start: u64, kept: u32) -> u32
     requires limit { start < 2 ^ 32 }
     requires back { place tiff.now (start + start) ≡ place tiff.now start }
     requires on { (i : ℕ) → i < start + start → LeadsOn tiff.now i }
-    ensures { Spec.IsTurningPage tiff.now (Some result) }
+    ensures { Some result ≡ Spec.turn_of tiff.now }
 {
     has_few_pages(tiff, tiff.bytes());
     let round = round_from(tiff, start, kept);
@@ -176,7 +176,7 @@ impl<'a> Model for Chain<'a> {
 
 impl<'a> Chain<'a> {
     ghost use Rattle.std.specs.Prelude.{IfOk, IfSome};
-    ghost use Rattle.fax_files.specs.views.Chain.{IsDirectoryOf, IsDueAnswer, after_answer};
+    ghost use Rattle.fax_files.specs.views.Chain.{IsDirectoryOf, after_answer, due_answer};
 
     /// A reader of the directories of a file, before the first one. Nothing is read yet.
     pub fn new(tiff: Tiff<'a>) -> Self
@@ -218,7 +218,7 @@ impl<'a> Chain<'a> {
     /// `DirectoryLoop` where the offset that is due was handed out before, `DirectoryOutside`
     /// where no whole directory stands there.
     pub fn due(&self) -> Result<Option<Directory<'a>>, FileFault>
-        ensures answer { IsDueAnswer self.now result }
+        ensures answer { result ≡ due_answer self.now }
         ensures file { IfOk result (λ found. IfSome found (IsDirectoryOf self.now.tiff)) }
     {
         if self.due == 0 {
@@ -236,7 +236,7 @@ impl<'a> Chain<'a> {
     ///
     /// As `due`, from then on.
     pub fn next(&mut self) -> Result<Option<Directory<'a>>, FileFault>
-        ensures answer { IsDueAnswer self.old result }
+        ensures answer { result ≡ due_answer self.old }
         ensures file { IfOk result (λ found. IfSome found (IsDirectoryOf self.old.tiff)) }
         ensures counted { self.new ≡ after_answer self.old result }
     {

@@ -9,28 +9,21 @@ use Rattle.fax_bits.specs.Bits.{bits}
 use Rattle.fax_page.specs.declared.StripFault.{StripFault}
 use Rattle.fax_page.specs.declared.StripForm.{StripForm}
 use Rattle.fax_page.specs.Lines.{IsCause, IsLine}
-use Rattle.fax_files.specs.declared.FileFault.{FileFault}
 use Rattle.fax_files.specs.declared.PageForm.{PageForm}
-use Rattle.fax_files.specs.Directory.{Header, header, IsChain}
 use Rattle.fax_files.specs.Page.{most_rows, strip_bytes, strip_form}
 use Rattle.fax_files.specs.laws.Files.{FilesHaveOneChain, FormsAreWhole}
-use Rattle.fax_walk.specs.declared.cursor.Cursor.{Cursor}
 use Rattle.fax_walk.specs.declared.end.End.{End}
-use Rattle.fax_walk.specs.Pages.{AreFrom, FilePage, FormItem, IsForm, IsOnPage, IsPageAt, NextItem, goes_on, ends_as}
+use Rattle.fax_walk.specs.Pages.{AreFrom, FilePage, FormItem, IsForm, NextItem, ends_as, goes_on, read_page}
 use Rattle.fax_walk.specs.Items.{Inner, IsInStrip, IsRow, RowItem, RowPlace, before, first_at}
-use Rattle.fax_walk.specs.code.Opening.{IsPageUnder}
-use Rattle.fax_walk.proofs.RowLawLemmas.{LinesAreRead, after_read, exchanged_twice, read_at, whole_page}
-use Rattle.fax_walk.proofs.RowLawLemmas.{one_row}
+use Rattle.fax_walk.proofs.RowLawLemmas.{LinesAreRead, exchanged_twice, measure, one_row, row_falls}
 use Rattle.fax_walk.proofs.TailLawLemmas.{files_have_one_items}
 use Rattle.fax_walk.proofs.InOrderLemmas.{IsOneAnswer, same_answer, two_of}
-use Rattle.fax_walk.proofs.PageLawLemmas.{one_form, one_forms, one_page, page_few}
+use Rattle.fax_walk.proofs.PageLawLemmas.{form_falls, one_form, one_forms}
 use Rattle.fax_page.specs.reads.Lines.{read_line}
 use Rattle.fax_page.specs.laws.Graphs.{StripsAreReadByFunctions}
-use Rattle.fax_reads.specs.Files.{AllRead, ChainRead, all_after, page_under, forms_from, read_all, read_chain}
-use Rattle.fax_reads.specs.Files.{read_form, read_forms, read_in_strip}
-use Rattle.fax_reads.specs.Files.{read_page, read_row, read_rows, row_or_end, rows_from}
+use Rattle.fax_reads.specs.Files.{AllRead, all_after, forms_from, read_all, read_form, read_forms, read_in_strip}
+use Rattle.fax_reads.specs.Files.{read_row, read_rows, row_or_end, rows_from}
 use Rattle.fax_reads.specs.laws.Files.{FilesAreReadByFunctions}
-use Rattle.fax_reads.proofs.ChainGraph.{chain_is, chain_of}
 use Rattle.fax_rows.proofs.RowLaws.{read_is}
 
 -- one answer that a function gives is the one that is defined, and the other way round
@@ -65,31 +58,18 @@ module _ {S A : Type 0} (next : S → NextItem A S → Type 0) (read : S → Nex
       by_step limit at (read at) (is at) (λ item to here. let less = falls at item to here in
       all_are limit to (omega (arith, few, less)))
 
-module _ (chains : FilesHaveOneChain) (file : List ℕ) where
-  -- the page that a cursor names, with what the header says
-  by_header : (at : Cursor) (answer : Result Header FileFault) → IsPageUnder file at answer (page_under file at answer)
-  by_header at (Err fault) = refl
-  by_header at (Ok head) =
-      ((read_chain head file).offsets, (read_chain head file).end, chain_is chains head file, refl)
+-- what is made of the page that is found
+pub on_page : {A : Type 0} (found : Result FilePage End) (asked : FilePage → A → Type 0) (ended : End → A)
+    (of : Result FilePage End → A)
+    → ((end : End) → of (Err end) ≡ ended end) → ((here : FilePage) → asked here (of (Ok here)))
+    → MatchResult found (λ here. asked here (of found)) (λ end. of found ≡ ended end)
+on_page (Err end) asked ended of ends is = ends end
+on_page (Ok here) asked ended of ends is = is here
 
-  page_is : (at : Cursor) → IsPageAt file at (read_page file at)
-  page_is at = by_header at (header file)
-
-  -- what is made of the page that is read
-  pub on_page : {A : Type 0} (at : Cursor) (asked : FilePage → A → Type 0) (ended : End → A)
-      (of : Result FilePage End → A)
-      → ((end : End) → of (Err end) ≡ ended end) → ((here : FilePage) → asked here (of (Ok here)))
-      → IsOnPage file at (λ here. asked here (of (read_page file at))) (λ end. of (read_page file at) ≡ ended end)
-  on_page {A} at asked ended of ends is = (read_page file at, page_is at, by_page (read_page file at))
-    where
-      by_page : (found : Result FilePage End) → MatchResult found (λ here. asked here (of found))
-          (λ end. of found ≡ ended end)
-      by_page (Err end) = ends end
-      by_page (Ok here) = is here
-
+module _ (file : List ℕ) where
   form_is : (p : ℕ) → IsForm file p (read_form file p)
   form_is p =
-      on_page (record { page = p; row = 0 }) (λ here (step : NextItem FormItem ℕ). step
+      on_page (read_page file (record { page = p; row = 0 })) (λ here (step : NextItem FormItem ℕ). step
       ≡ goes_on (record { page = p; form = here.form }) (p + 1))
       ends_as (λ found. elim found [
         | Err end ↦ ends_as end
@@ -98,12 +78,10 @@ module _ (chains : FilesHaveOneChain) (file : List ℕ) where
       ])
       (λ end. refl) (λ here. refl)
 
-  form_falls : (p : ℕ) (item : FormItem) (to : ℕ) → IsForm file p (goes_on item to) → length file - to < length file - p
-  form_falls p item to h = grind (arith, page_few)
-
-  pub forms_are : (p : ℕ) → AreFrom (IsForm file) p (forms_from file p).items (forms_from file p).end
-  forms_are p = all_are (IsForm file) (read_form file) form_is (λ p. length file - p) form_falls (length file + 1) p
-      (omega arith)
+  pub forms_are : FilesHaveOneChain → (p : ℕ)
+      → AreFrom (IsForm file) p (forms_from file p).items (forms_from file p).end
+  forms_are chains p = all_are (IsForm file) (read_form file) form_is (λ p. length file - p) (form_falls chains file)
+      (length file + 1) p (omega arith)
 
 module _ (strips : StripsAreReadByFunctions)
     (by_place : AreBitsByPlace)
@@ -148,7 +126,7 @@ module _ (strips : StripsAreReadByFunctions)
   module _ (chains : FilesHaveOneChain) (forms : FormsAreWhole) (file : List ℕ) where
     row_is : (at : RowPlace) → IsRow file at (read_row file at)
     row_is at =
-        on_page chains file (record { page = at.page; row = at.row })
+        on_page (read_page file (record { page = at.page; row = at.row }))
         (λ here. IsInStrip here.form at (strip_bytes here.endian file here.offset (at.row / here.form.rows_per_strip)))
         ends_as
         (λ found. elim found [
@@ -160,33 +138,18 @@ module _ (strips : StripsAreReadByFunctions)
         (λ here. in_strip_is here.form at (strip_bytes here.endian file here.offset
         (at.row / here.form.rows_per_strip)))
 
-    -- more than the rows that are left
-    abbrev measure : RowPlace → ℕ
-    measure at = (length file - at.page) * 1000001 + (1000000 - at.row)
-
-    below : (at : RowPlace) → measure at < (length file + 1) * (most_rows + 1)
+    below : (at : RowPlace) → measure by_place lines_read chains forms file at < (length file + 1) * (most_rows + 1)
     below at = omega arith
 
-    row_falls : (at : RowPlace) (item : RowItem) (to : RowPlace) → IsRow file at (goes_on item to)
-        → measure to < measure at
-    row_falls at item to step = grind (arith, read_at, page_few, whole_page, after_read)
-
     pub rows_are : (at : RowPlace) → AreFrom (IsRow file) at (rows_from file at).items (rows_from file at).end
-    rows_are at = all_are (IsRow file) (read_row file) row_is measure row_falls ((length file + 1) * (most_rows + 1)) at
-        (below at)
+    rows_are at = all_are (IsRow file) (read_row file) row_is (measure by_place lines_read chains forms file)
+        (row_falls by_place lines_read chains forms file) ((length file + 1) * (most_rows + 1)) at (below at)
 
   pub files_graph : FilesHaveOneChain → FormsAreWhole → FilesAreReadByFunctions
   files_graph chains forms = record {
-    chain = λ head file offsets end. (
-      chain_of chains head file offsets end,
-      λ at.
-          subst (λ (read : ChainRead). IsChain head file read.offsets read.end) at (chain_is chains head file),
-    );
-    page = λ file at. both_ways (one_page chains file at) (read_page file at) (page_is chains file at);
-    row = λ file at. both_ways (one_row by_place lines_read chains file at) (read_row file at)
-        (row_is chains forms file at);
-    form = λ file p. both_ways (one_form chains file p) (read_form file p) (form_is chains file p);
+    row = λ file at. both_ways (one_row by_place lines_read file at) (read_row file at) (row_is chains forms file at);
+    form = λ file p. both_ways (one_form file p) (read_form file p) (form_is file p);
     rows = λ file items end. both_lists (files_have_one_items by_place lines_read chains forms file) (read_rows file)
         (rows_are chains forms file (first_at 0 0)) items end;
-    forms = λ file items end. both_lists (one_forms chains file) (read_forms file) (forms_are chains file 0) items end;
+    forms = λ file items end. both_lists (one_forms chains file) (read_forms file) (forms_are file chains 0) items end;
   }

@@ -1,5 +1,4 @@
 mod ExampleLemmas
-mod ChainGraph
 mod FileGraph
 mod TailGraph
 mod NoteGraph

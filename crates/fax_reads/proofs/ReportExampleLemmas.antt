@@ -6,7 +6,9 @@ use Rattle.fax_bits.specs.Tables.{black_make_up, common_make_up}
 use Rattle.fax_bits.specs.Written.{run_code_bits, mode_bits, run_bits}
 use Rattle.fax_rows.specs.Coded.{alternating_bits, step_bits}
 use Rattle.fax_rows.specs.Rows.{first_place, next_change, b1, runs_after}
-use Rattle.fax_files.specs.Directory.{number_at, header, entries_at, values_place, value_at, has_integers, scalar}
+use Rattle.fax_files.specs.Directory.{entries_at, has_integers, header, number_at, read_chain, read_chain_from, scalar}
+use Rattle.fax_files.specs.Directory.{value_at, values_place}
+use Rattle.fax_walk.specs.Pages.{read_page}
 use Rattle.fax_files.specs.Page.{rational_of, form_in, page, strip_bytes}
 use Rattle.fax_files.specs.Layout.{field_bytes}
 use Rattle.fax_reads.specs.Reports.{ReportRead, read_report}
@@ -19,9 +21,9 @@ module _ (reads : ReportsAreReadByAFunction) where
 
   pub reports_read : AreReportsRead
   unfolding bits byte_bits code_bits modes white_runs black_runs white_terminating black_terminating white_make_up
-      black_make_up common_make_up first_place next_change b1 number_at header entries_at values_place value_at
-      has_integers run_code_bits mode_bits run_bits alternating_bits step_bits runs_after
-      scalar rational_of form_in page strip_bytes field_bytes
+      black_make_up common_make_up first_place next_change b1 number_at header read_chain_from read_chain read_page
+      entries_at values_place value_at has_integers run_code_bits mode_bits run_bits alternating_bits step_bits
+      runs_after scalar rational_of form_in page strip_bytes field_bytes
   reports_read = record {
     row_alone = has _ _ refl;
     end_of_block = has _ _ refl;

@@ -22,14 +22,14 @@ use Rattle.fax_walk.specs.declared.end.End.{End}
 use Rattle.fax_walk.specs.declared.walk.Place.{Place}
 use Rattle.fax_files.specs.declared.Cause.{Cause}
 use Rattle.fax_walk.specs.declared.end.End.TheVariants.{Proper, Fault, Outside}
-use Rattle.fax_walk.specs.Pages.{AreFrom, FilePage, IsPageAt, NextItem, goes_on, ends_as, File}
+use Rattle.fax_walk.specs.Pages.{AreFrom, FilePage, read_page, NextItem, goes_on, ends_as, File}
 use Rattle.fax_walk.specs.Items.{AreItems, IsRow, RowItem, RowPlace, first_at}
 use Rattle.fax_walk.specs.Report.{IsNoted, IsReport, IsReportedEnd, IsStripNoted, notes_on_strip}
 use Rattle.fax_walk.specs.code.Places.{first_on}
 use Rattle.fax_walk.proofs.EndLemmas.{never_outside}
-use Rattle.fax_walk.proofs.InOrderLemmas.{IsSingle, joined, ended_at, same_answer, single_from, two_of}
-use Rattle.fax_walk.proofs.PageLawLemmas.{one_page, page_few, proper_after, single_on_page}
-use Rattle.fax_walk.proofs.RowLawLemmas.{LinesAreRead, any_row, same_page, whole_page}
+use Rattle.fax_walk.proofs.InOrderLemmas.{IsSingle, joined, ended_at, single_from, two_of}
+use Rattle.fax_walk.proofs.PageLawLemmas.{by_page, page_few, proper_after, single_on_page}
+use Rattle.fax_walk.proofs.RowLawLemmas.{LinesAreRead, any_row, whole_page}
 use Rattle.fax_walk.proofs.StripPlaceLemmas.{in_strip, strip_count}
 use Rattle.fax_walk.proofs.StripRowLemmas.{row_at, strip_rows}
 use Rattle.fax_walk.proofs.TailLawLemmas.{files_have_one_items}
@@ -39,7 +39,6 @@ use Rattle.fax_reads.specs.Files.{all_after, read_all, read_rows}
 use Rattle.fax_reads.specs.Reports.{ReportRead, fault_of, noted_by, noted_in, noted_on, pages_to, read_noted}
 use Rattle.fax_reads.specs.Reports.{read_notes, read_report, strip_notes}
 use Rattle.fax_reads.specs.laws.Reports.{ReportsAreReadByAFunction, parts_of}
-use Rattle.fax_reads.proofs.ChainGraph.{chain_of}
 use Rattle.fax_reads.proofs.FileGraph.{on_page, rows_are}
 use Rattle.fax_reads.proofs.NoteGraph.{notes_are}
 
@@ -66,15 +65,15 @@ module _ (strips : StripsAreReadByFunctions) where
       by_end form p s bytes read.rows read.left read.end
       ((strips.strip strip b read.rows read.end read.left).1 refl)
 
-  module _ (chains : FilesHaveOneChain) (file : List ℕ) where
+  module _ (file : List ℕ) where
     noted_is : (at : Next) → IsNoted file at (read_noted file at)
     noted_is (p, None) =
-        on_page chains file (record { page = p; row = 0 })
+        on_page (read_page file (record { page = p; row = 0 }))
         (λ here (step : NextItem (List Note) Next). step ≡ noted_on file p None here) ends_as
         (λ found. elim found [ Err end ↦ ends_as end | Ok here ↦ noted_on file p None here ])
         (λ end. refl) (λ here. refl)
     noted_is (p, Some s) =
-        on_page chains file (record { page = p; row = 0 })
+        on_page (read_page file (record { page = p; row = 0 }))
         (λ here. IsStripNoted here.form p s (strip_bytes here.endian file here.offset s)) ends_as
         (λ found. elim found [ Err end ↦ ends_as end | Ok here ↦ noted_on file p (Some s) here ])
         (λ end. refl) (λ here. in_strip_is here.form p s (strip_bytes here.endian file here.offset s))
@@ -83,7 +82,7 @@ module _ (strips : StripsAreReadByFunctions) where
 abbrev IsDue : List ℕ → Next → Type 0
 IsDue file (p, None) = Unit {0}
 IsDue file (p, Some s) =
-    (here : FilePage) × IsPageAt file (record { page = p; row = 0 }) (Ok here) × (s < here.form.strips)
+    (here : FilePage) × (read_page file (record { page = p; row = 0 }) ≡ Ok here) × (s < here.form.strips)
 
 -- more than what is left
 abbrev measure : List ℕ → Next → ℕ
@@ -108,7 +107,7 @@ module _ (chains : FilesHaveOneChain) (forms : FormsAreWhole) (file : List ℕ) 
   abbrev Falls : Next → Next → Type 0
   Falls at to = IsDue file to × (measure file to < measure file at)
 
-  after_strip : (p s : ℕ) (here : FilePage) → IsPageAt file (record { page = p; row = 0 }) (Ok here)
+  after_strip : (p s : ℕ) (here : FilePage) → read_page file (record { page = p; row = 0 }) ≡ Ok here
       → s < here.form.strips → (test : Bool) → (s + 1 == here.form.strips) ≡ test
       → Falls (p, Some s) (if test then (p + 1, None) else (p, Some (s + 1)))
   after_strip p s here page due true at =
@@ -119,7 +118,7 @@ module _ (chains : FilesHaveOneChain) (forms : FormsAreWhole) (file : List ℕ) 
       let next : s + 1 < here.form.strips = grind (arith, nat_tests, at, due) in
       ((here, page, next), omega (arith, few))
 
-  in_file : (p s : ℕ) (here : FilePage) → IsPageAt file (record { page = p; row = 0 }) (Ok here)
+  in_file : (p s : ℕ) (here : FilePage) → read_page file (record { page = p; row = 0 }) ≡ Ok here
       → s < here.form.strips → (found : Option (List ℕ)) (item : List Note) (to : Next)
       → IsStripNoted here.form p s found (goes_on item to) → Falls (p, Some s) to
   in_file p s here page due None item to is = absurd (cc (is))
@@ -127,15 +126,13 @@ module _ (chains : FilesHaveOneChain) (forms : FormsAreWhole) (file : List ℕ) 
       subst (Falls (p, Some s)) (sym to_is) (after_strip p s here page due (s + 1 == here.form.strips) refl)
 
   falls : (at : Next) (item : List Note) (to : Next) → IsDue file at → IsNoted file at (goes_on item to) → Falls at to
-  falls (p, None) item to due (Err end, page, is) = absurd (cc (is))
-  falls (p, None) item to due (Ok here, page, is) =
+  falls (p, None) item to due is = by_page file (record { page = p; row = 0 }) is (λ here page is.
       let to_is : to ≡ (p, Some 0) = cc (is) in
       let some = some_strips here.form (whole_page file forms (record { page = p; row = 0 }) here page) in
-      subst (Falls (p, None)) (sym to_is) ((here, page, some), omega arith)
-  falls (p, Some s) item to due (Err end, page, is) = absurd (cc (is))
-  falls (p, Some s) item to (here, page, due) (Ok there, page', is) =
-      let same = same_page file chains (record { page = p; row = 0 }) there here page' page in
-      in_file p s here page due (strip_bytes here.endian file here.offset s) item to (rw same at is)
+      subst (Falls (p, None)) (sym to_is) ((here, page, some), omega arith))
+      (λ end page is. absurd (cc (is)))
+  falls (p, Some s) item to (here, page, due) is =
+      in_file p s here page due (strip_bytes here.endian file here.offset s) item to (rw page at is)
 
   module _ (is : (at : Next) → IsNoted file at (read_noted file at)) where
     by_step : (limit : ℕ) (at : Next) (step : NextItem (List Note) Next) → IsNoted file at step
@@ -162,12 +159,12 @@ module _ (chains : FilesHaveOneChain) (forms : FormsAreWhole) (file : List ℕ) 
 abbrev RowsFrom : List ℕ → ℕ × Option ℕ → End → Type 0
 RowsFrom file (p, None) end = (items : List RowItem) × AreFrom (IsRow file) (first_at p 0) items end
 RowsFrom file (p, Some s) end =
-    (here : FilePage) → IsPageAt file (record { page = p; row = 0 }) (Ok here) → s < here.form.strips
+    (here : FilePage) → read_page file (record { page = p; row = 0 }) ≡ Ok here → s < here.form.strips
     → (items : List RowItem) × AreFrom (IsRow file) (first_at p (s * here.form.rows_per_strip)) items end
 
 module _ (by_place : AreBitsByPlace) (lines_read : LinesAreRead) (chains : FilesHaveOneChain) (forms : FormsAreWhole)
     (file : List ℕ) where
-  module _ (p s : ℕ) (here : FilePage) (page : IsPageAt file (record { page = p; row = 0 }) (Ok here))
+  module _ (p s : ℕ) (here : FilePage) (page : read_page file (record { page = p; row = 0 }) ≡ Ok here)
       (due : s < here.form.strips) where
     abbrev n : ℕ
     n = here.form.rows_per_strip
@@ -178,7 +175,7 @@ module _ (by_place : AreBitsByPlace) (lines_read : LinesAreRead) (chains : Files
     whole : IsWholeForm here.form
     whole = whole_page file forms (record { page = p; row = 0 }) here page
 
-    pages : (r : ℕ) → IsPageAt file (record { page = p; row = r }) (Ok here)
+    pages : (r : ℕ) → read_page file (record { page = p; row = r }) ≡ Ok here
     pages r = any_row file (record { page = p; row = 0 }) r here page
 
     -- a strip that is not whole
@@ -236,36 +233,22 @@ module _ (by_place : AreBitsByPlace) (lines_read : LinesAreRead) (chains : Files
               (rw read.there later.1),
         )
 
-  same : (p : ℕ) (here there : FilePage) → IsPageAt file (record { page = p; row = 0 }) (Ok here)
-      → IsPageAt file (record { page = p; row = 0 }) (Ok there) → here ≡ there
-  same p here there page other = same_page file chains (record { page = p; row = 0 }) here there page other
-
-  not_ended : (p : ℕ) (here : FilePage) (end : End) → IsPageAt file (record { page = p; row = 0 }) (Ok here)
-      → IsPageAt file (record { page = p; row = 0 }) (Err end) → ⊥
-  not_ended p here end page none =
-      let at = same_answer (one_page chains file (record { page = p; row = 0 })) (Ok here) (Err end) page none in
-      absurd (cc (at))
-
   agree : (at : Next) (notes : List (List Note)) (end : End) → AreFrom (IsNoted file) at notes end
       → RowsFrom file at end
-  agree (p, None) [] end (Err e, page, is) = ([], (Err e, page, cc (is)))
-  agree (p, None) [] end (Ok here, page, is) = absurd (cc (is))
-  agree (p, None) (note ∷ notes) end (to, (Err e, page, is), rest) = absurd (cc (is))
-  agree (p, None) (note ∷ notes) end (to, (Ok here, page, is), rest) =
+  agree (p, None) [] end is = by_page file (record { page = p; row = 0 }) is (λ here page is. absurd (cc (is)))
+      (λ e page is. ([], rw page (cc (is))))
+  agree (p, None) (note ∷ notes) end (to, is, rest) = by_page file (record { page = p; row = 0 }) is (λ here page is.
       let to_is : to ≡ (p, Some 0) = cc (is) in
       let more = subst (λ (t : Next). RowsFrom file t end) to_is (agree to notes end rest) in
       let zero : 0 * here.form.rows_per_strip ≡ 0 = omega arith in
       rw zero at
-      (more here page (some_strips here.form (whole_page file forms (record { page = p; row = 0 }) here page)))
-  agree (p, Some s) [] end (Err e, page, is) = λ here page' due. absurd (not_ended p here e page' page)
-  agree (p, Some s) [] end (Ok there, page, is) = λ here page' due.
-      stops p s here page' due end (strip_bytes here.endian file here.offset s) refl
-      (rw (same p here there page' page) is)
-  agree (p, Some s) (note ∷ notes) end (to, (Err e, page, is), rest) = λ here page' due.
-      absurd (not_ended p here e page' page)
-  agree (p, Some s) (note ∷ notes) end (to, (Ok there, page, is), rest) = λ here page' due.
-      goes p s here page' due end note to (strip_bytes here.endian file here.offset s) refl
-      (rw (same p here there page' page) is) (agree to notes end rest)
+      (more here page (some_strips here.form (whole_page file forms (record { page = p; row = 0 }) here page))))
+      (λ e page is. absurd (cc (is)))
+  agree (p, Some s) [] end is = λ here page due.
+      stops p s here page due end (strip_bytes here.endian file here.offset s) refl (rw page at is)
+  agree (p, Some s) (note ∷ notes) end (to, is, rest) = λ here page due.
+      goes p s here page due end note to (strip_bytes here.endian file here.offset s) refl (rw page at is)
+      (agree to notes end rest)
 
 -- where notes end properly, that page is after the last one
 in_strip_proper : (form : PageForm) (p s : ℕ) (found : Option (List ℕ)) → IsStripNoted form p s found (ends_as Proper)
@@ -274,28 +257,26 @@ in_strip_proper form p s None is = absurd (cc (is))
 in_strip_proper form p s (Some bytes) (rows, fault, left, lines, is) = absurd (cc (is))
 
 proper_at : (file : List ℕ) (at : Next) (notes : List (List Note)) → AreFrom (IsNoted file) at notes Proper
-    → (p : ℕ) × IsPageAt file (record { page = p; row = 0 }) (Err Proper)
-proper_at file (p, None) [] (Err e, page, is) = (let same : Proper ≡ e = cc (is) in (p, rw same page))
-proper_at file (p, None) [] (Ok here, page, is) = absurd (cc (is))
-proper_at file (p, Some s) [] (Err e, page, is) = (let same : Proper ≡ e = cc (is) in (p, rw same page))
-proper_at file (p, Some s) [] (Ok here, page, is) =
-    absurd (in_strip_proper here.form p s (strip_bytes here.endian file here.offset s) is)
+    → (p : ℕ) × (read_page file (record { page = p; row = 0 }) ≡ Err Proper)
+proper_at file (p, None) [] is = by_page file (record { page = p; row = 0 }) is (λ here page is. absurd (cc (is)))
+    (λ e page is. let same : Proper ≡ e = cc (is) in (p, rw same page))
+proper_at file (p, Some s) [] is = by_page file (record { page = p; row = 0 }) is (λ here page is.
+    absurd (in_strip_proper here.form p s (strip_bytes here.endian file here.offset s) is))
+    (λ e page is. let same : Proper ≡ e = cc (is) in (p, rw same page))
 proper_at file at (note ∷ notes) (to, step, rest) = proper_at file to notes rest
 
-count_is : FilesHaveOneChain → (file : List ℕ) (p : ℕ) → IsPageAt file (record { page = p; row = 0 }) (Err Proper)
+count_is : (file : List ℕ) (p : ℕ) → read_page file (record { page = p; row = 0 }) ≡ Err Proper
     → p ≡ pages_to file Proper
-count_is chains file p at =
-    let (its, none, count) = proper_after file p at in
-    rw (its.is_head, chain_of chains its.head file its.offsets its.fault its.chain, pages_to) count
+count_is file p at = let (head, is_head, none, count) = proper_after file p at in rw (is_head, pages_to) count
 
-pub end_is : FilesHaveOneChain → (file : List ℕ) (items : List RowItem) (notes : List (List Note)) (end : End)
+pub end_is : (file : List ℕ) (items : List RowItem) (notes : List (List Note)) (end : End)
     → AreItems file items end → AreFrom (IsNoted file) (0, None) notes end
     → IsReportedEnd file end (pages_to file end) (fault_of end)
-end_is chains file items notes Proper are noted =
+end_is file items notes Proper are noted =
     let at = proper_at file (0, None) notes noted in
-    (subst (λ p. IsPageAt file (record { page = p; row = 0 }) (Err Proper)) (count_is chains file at.0 at.1) at.1, refl)
-end_is chains file items notes (Fault p r cause) are noted = (refl, refl)
-end_is chains file items notes Outside are noted = absurd (never_outside chains file items are)
+    (subst (λ p. read_page file (record { page = p; row = 0 }) ≡ Err Proper) (count_is file at.0 at.1) at.1, refl)
+end_is file items notes (Fault p r cause) are noted = (refl, refl)
+end_is file items notes Outside are noted = absurd (never_outside file items are)
 
 module _ (strips : StripsAreReadByFunctions)
     (by_place : AreBitsByPlace) (lines_read : LinesAreRead) (chains : FilesHaveOneChain) (forms : FormsAreWhole) where
@@ -304,7 +285,7 @@ module _ (strips : StripsAreReadByFunctions)
       let all = read_rows file in
       let notes = read_notes file in
       let are = rows_are strips by_place lines_read chains forms file (first_at 0 0) in
-      let noted = all_are chains forms file (noted_is strips chains file) in
+      let noted = all_are chains forms file (noted_is strips file) in
       let found = agree by_place lines_read chains forms file (0, None) notes.items notes.end noted in
       let same = two_of (files_have_one_items by_place lines_read chains forms file) all.items found.0 all.end notes.end
       are found.1 in
@@ -318,7 +299,7 @@ module _ (strips : StripsAreReadByFunctions)
         rows_are = sym (ap (λ (r : ReportRead). r.rows) e);
         end_is = subst (λ f. IsReportedEnd file all.end report.pages f) fault
             (subst (λ n. IsReportedEnd file all.end n (fault_of all.end)) pages
-            (end_is chains file all.items notes.items all.end are noted_so));
+            (end_is file all.items notes.items all.end are noted_so));
         notes = notes.items;
         noted = noted_so;
         notes_are = sym (ap (λ (r : ReportRead). r.notes) e);
@@ -350,17 +331,17 @@ module _ (strips : StripsAreReadByFunctions)
 
     single_noted : (file : List ℕ) (at : Next) → IsSingle (IsNoted file at)
     single_noted file (p, None) =
-        single_on_page chains file (record { page = p; row = 0 })
+        single_on_page (read_page file (record { page = p; row = 0 }))
         (λ here (step : NextItem (List Note) Next). step ≡ noted_on file p None here) ends_as
         (λ here x y first second. first ∙ sym second)
     single_noted file (p, Some s) =
-        single_on_page chains file (record { page = p; row = 0 })
+        single_on_page (read_page file (record { page = p; row = 0 }))
         (λ here. IsStripNoted here.form p s (strip_bytes here.endian file here.offset s)) ends_as
         (λ here. single_strip here.form p s (strip_bytes here.endian file here.offset s))
 
     end_of : (file : List ℕ) (end : End) (pages : ℕ) (fault : Option (Place × Cause))
         → IsReportedEnd file end pages fault → (pages_to file end ≡ pages) × (fault_of end ≡ fault)
-    end_of file Proper pages fault is = (sym (count_is chains file pages is.0), sym is.1)
+    end_of file Proper pages fault is = (sym (count_is file pages is.0), sym is.1)
     end_of file (Fault p r cause) pages fault is = (sym is.0, sym is.1)
     end_of file Outside pages fault is = absurd is
 
@@ -371,7 +352,7 @@ module _ (strips : StripsAreReadByFunctions)
         let rows = two_of (files_have_one_items by_place lines_read chains forms file) all.items is.items all.end is.end
         (rows_are strips by_place lines_read chains forms file (first_at 0 0)) is.read in
         let noted = single_from (IsNoted file) (single_noted file) (0, None) notes.items is.notes notes.end is.end
-        (all_are chains forms file (noted_is strips chains file)) is.noted in
+        (all_are chains forms file (noted_is strips file)) is.noted in
         let ends = end_of file is.end report.pages report.fault is.end_is in
         parts (ap (flat_map (λ (own : List Note). own)) noted.0 ∙ sym is.notes_are)
         (ap (pages_to file) rows.1 ∙ ends.0)

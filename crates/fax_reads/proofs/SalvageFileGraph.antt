@@ -1,24 +1,22 @@
 -- What functions read of damaged files is what is defined.
 use Rattle.std.proofs.Common.{arith, ◌≡◌, ℕ, zero, suc, ◌+◌, List, [], ◌∷◌, refl, sym, ◌∙◌, subst, Result, Ok}
 use Rattle.std.proofs.Common.{Err}
+use Rattle.std.specs.Prelude.{MatchResult}
 use Rattle.fax_bits.specs.Bits.{bits}
 use Rattle.fax_page.specs.laws.Graphs.{DamagedStripsAreReadByFunctions}
 use Rattle.fax_files.specs.declared.Endian.{Endian}
 use Rattle.fax_files.specs.declared.FileFault.{FileFault}
 use Rattle.fax_files.specs.declared.PageForm.{PageForm}
-use Rattle.fax_files.specs.Directory.{Header, header}
+use Rattle.fax_files.specs.Directory.{Header, header, read_chain}
 use Rattle.fax_files.specs.Page.{page, strip_form}
-use Rattle.fax_files.specs.laws.Files.{FilesHaveOneChain}
 use Rattle.fax_walk.specs.Pages.{FilePage}
-use Rattle.fax_walk.specs.Salvaged.{ArePagesLeft, AreStripsLeft, IsPageLeftAs, IsSalvaged, IsSalvagedUnder, IsStripLeft}
+use Rattle.fax_walk.specs.Salvaged.{ArePagesLeft, AreStripsLeft, IsPageLeftAs, IsSalvaged, IsStripLeft, LeftItem}
 use Rattle.fax_walk.specs.Salvaged.{strip_left}
 use Rattle.fax_walk.specs.laws.Salvaged.{IsSalvagedOneWay}
-use Rattle.fax_reads.specs.Files.{read_chain}
 use Rattle.fax_page.specs.reads.Salvage.{salvage_strip}
 use Rattle.fax_reads.specs.Salvage.{salvage_file, salvage_page, salvage_page_strip, salvage_pages}
-use Rattle.fax_reads.specs.Salvage.{salvage_strips, salvage_under}
+use Rattle.fax_reads.specs.Salvage.{salvage_strips}
 use Rattle.fax_reads.specs.laws.Salvage.{SalvagesAreReadByFunctions}
-use Rattle.fax_reads.proofs.ChainGraph.{chain_is}
 
 module _ (strips : DamagedStripsAreReadByFunctions) (file : List ℕ) where
   page_strip_is : (here : FilePage) (s : ℕ) → IsStripLeft file here s (salvage_page_strip file here s)
@@ -52,20 +50,19 @@ module _ (strips : DamagedStripsAreReadByFunctions) (file : List ℕ) where
     refl,
   )
 
-  file_is : FilesHaveOneChain → (answer : Result Header FileFault)
-      → IsSalvagedUnder file answer (salvage_under file answer)
-  file_is chains (Err fault) = refl
-  file_is chains (Ok head) = (
-    (read_chain head file).offsets,
-    (read_chain head file).end,
-    chain_is chains head file,
-    pages_are head.endian 0 (read_chain head file).offsets,
-  )
+  file_is : (answer : Result Header FileFault) → (let all : List LeftItem = elim answer [
+    | Err fault ↦ []
+    | Ok head ↦ salvage_pages head.endian file 0 (read_chain head file).offsets
+  ] in
+      MatchResult answer (λ head. ArePagesLeft head.endian file 0 (read_chain head file).offsets all)
+      (λ fault. all ≡ []))
+  file_is (Err fault) = refl
+  file_is (Ok head) = pages_are head.endian 0 (read_chain head file).offsets
 
 module _ (strips : DamagedStripsAreReadByFunctions) where
-  pub salvages_graph : FilesHaveOneChain → ((file : List ℕ) → IsSalvagedOneWay file) → SalvagesAreReadByFunctions
-  salvages_graph chains files file items =
-      let is = file_is strips file chains (header file) in
+  pub salvages_graph : ((file : List ℕ) → IsSalvagedOneWay file) → SalvagesAreReadByFunctions
+  salvages_graph files file items =
+      let is = file_is strips file (header file) in
       let one = files file in (
         λ at. one.one (salvage_file file) is ∙ sym (one.one items at),
         λ same. subst (λ all. IsSalvaged file all) same is,

@@ -4,7 +4,9 @@ use Rattle.fax_bits.specs.declared.Colour.{Colour}
 use Rattle.fax_bits.specs.Bits.{bits, byte_bits, code_bits}
 use Rattle.fax_bits.specs.Tables.{modes}
 use Rattle.fax_rows.specs.Rows.{first_place, next_change, b1, runs_after}
-use Rattle.fax_files.specs.Directory.{number_at, header, entries_at, values_place, value_at, has_integers, scalar}
+use Rattle.fax_files.specs.Directory.{entries_at, has_integers, header, number_at, read_chain, read_chain_from, scalar}
+use Rattle.fax_files.specs.Directory.{value_at, values_place}
+use Rattle.fax_walk.specs.Pages.{read_page}
 use Rattle.fax_files.specs.Page.{rational_of, form_in, page, strip_bytes}
 use Rattle.fax_files.specs.Layout.{field_bytes}
 use Rattle.fax_walk.specs.declared.begun.Begun.{Begun}
@@ -39,9 +41,9 @@ module _ (read : TailsAreReadByFunctions) where
       }
 
   cursors : AreTailsOfCursors
-  unfolding bits byte_bits code_bits modes first_place next_change b1 number_at header entries_at values_place value_at
-      has_integers
-      scalar rational_of form_in page strip_bytes field_bytes runs_after
+  unfolding bits byte_bits code_bits modes first_place next_change b1 number_at header read_chain_from read_chain
+      read_page entries_at values_place value_at has_integers scalar rational_of form_in page strip_bytes field_bytes
+      runs_after
   cursors = record {
     first_page = has _ _ _ _ refl refl;
     after_a_page = has _ _ _ _ refl refl;
@@ -60,9 +62,9 @@ module _ (read : TailsAreReadByFunctions) where
   }
 
   places : AreTailsOfPlaces
-  unfolding bits byte_bits code_bits modes first_place next_change b1 number_at header entries_at values_place value_at
-      has_integers
-      scalar rational_of form_in page strip_bytes field_bytes runs_after
+  unfolding bits byte_bits code_bits modes first_place next_change b1 number_at header read_chain_from read_chain
+      read_page entries_at values_place value_at has_integers scalar rational_of form_in page strip_bytes field_bytes
+      runs_after
   places = record {
     second_row = has _ _ _ _ refl refl;
     over_its_runs = has _ _ _ _ refl refl;
@@ -75,9 +77,9 @@ module _ (read : TailsAreReadByFunctions) where
   }
 
   forms : AreTailsOfForms
-  unfolding bits byte_bits code_bits modes first_place next_change b1 number_at header entries_at values_place value_at
-      has_integers
-      scalar rational_of form_in page strip_bytes field_bytes runs_after
+  unfolding bits byte_bits code_bits modes first_place next_change b1 number_at header read_chain_from read_chain
+      read_page entries_at values_place value_at has_integers scalar rational_of form_in page strip_bytes field_bytes
+      runs_after
   forms = record {
     first_page = has_forms _ _ _ _ refl refl;
     row_of_a_page = has_forms _ _ _ _ refl refl;

@@ -12,14 +12,14 @@ use Rattle.fax_walk.specs.declared.begun.Begun.TheVariants.{At, Inside}
 use Rattle.fax_walk.specs.declared.cursor.Cursor.{Cursor}
 use Rattle.fax_walk.specs.declared.end.End.{End}
 use Rattle.fax_walk.specs.declared.end.End.TheVariants.{Outside}
-use Rattle.fax_walk.specs.Pages.{AreFrom, FilePage, IsForm, IsFormTail, LongPlace}
+use Rattle.fax_walk.specs.Pages.{AreFrom, FilePage, IsForm, IsFormTail, LongPlace, first_page, read_page}
 use Rattle.fax_walk.specs.Items.{IsBegunOn, IsInnerOn, IsRow, IsTailFrom, RowItem, RowPlace, begun_cursor, inner_at}
 use Rattle.fax_walk.specs.code.Places.{FitsStrip}
 use Rattle.fax_walk.proofs.RowLawLemmas.{LinesAreRead, one_tail_from}
 use Rattle.fax_walk.proofs.PageLawLemmas.{one_form_tail}
 use Rattle.fax_rows.specs.reads.Codes.{◌>>=◌}
-use Rattle.fax_reads.specs.Files.{read_page, rows_from}
-use Rattle.fax_reads.specs.Tails.{begin_on, first_form, fits_strip, form_tail_from, is_inner_on, read_form_tail}
+use Rattle.fax_reads.specs.Files.{rows_from}
+use Rattle.fax_reads.specs.Tails.{begin_on, fits_strip, form_tail_from, is_inner_on, read_form_tail}
 use Rattle.fax_reads.specs.Tails.{read_tail, tail_from}
 use Rattle.fax_reads.specs.laws.Files.{TailsAreReadByFunctions}
 use Rattle.fax_reads.proofs.FileGraph.{both_lists, forms_are, on_page, rows_are}
@@ -57,17 +57,10 @@ module _ (chains : FilesHaveOneChain) (file : List ℕ) where
       (form_tail_from file begin).end)
       (λ none. ((form_tail_from file begin).items ≡ []) × ((form_tail_from file begin).end ≡ none))
   forms_by (Err none) = (refl, refl)
-  forms_by (Ok p) = forms_are chains file p
+  forms_by (Ok p) = forms_are file chains p
 
   form_tail_is : (at : Cursor) → IsFormTail file at (read_form_tail file at).items (read_form_tail file at).end
-  form_tail_is at = (
-    read_page file at >>= first_form at,
-    on_page chains file at (λ here (begin : Result ℕ End). begin ≡ first_form at here) Err
-        (λ found. found >>= first_form at)
-        (λ end. refl)
-        (λ here. refl),
-    forms_by (read_page file at >>= first_form at),
-  )
+  form_tail_is at = forms_by (first_page file at)
 
 module _ (strips : StripsAreReadByFunctions)
     (by_place : AreBitsByPlace)
@@ -87,8 +80,8 @@ module _ (strips : StripsAreReadByFunctions)
     tail_is : (begun : Begun) → IsTailFrom file begun (read_tail file begun).items (read_tail file begun).end
     tail_is begun = (
       read_page file (begun_cursor begun) >>= begin_on file begun,
-      on_page chains file (begun_cursor begun) (λ here (begin : Result (RowPlace × ℕ) End). IsBegunOn file begun here
-          begin) Err
+      on_page (read_page file (begun_cursor begun))
+          (λ here (begin : Result (RowPlace × ℕ) End). IsBegunOn file begun here begin) Err
           (λ found. found >>= begin_on file begun)
           (λ end. refl)
           (begun_on file begun),

@@ -1,7 +1,6 @@
--- Files read by functions: the chain of directories, the page that a cursor names, and a file's
--- rows and forms in order, up to an end (TIFF 6.0, section 2; the faults are this project's
--- profile). A number `limit` is above the number of what is left: a chain has at most as many
--- directories as the file has bytes.
+-- Files read by functions: a file's rows and forms in order, up to an end (TIFF 6.0, section 2; the
+-- faults are this project's profile). A number `limit` is above the number of what is left: a chain
+-- has at most as many directories as the file has bytes.
 use Rattle.std.specs.Prelude.{ℕ, zero, suc, ◌+◌, ◌-◌, ◌*◌, ◌/◌, ◌%◌, ◌==◌, ◌&&◌, if◌then◌else◌}
 use Rattle.std.specs.Prelude.{Bool, true, false, List, [], ◌∷◌, length, drop, Option, Some, None}
 use Rattle.std.specs.Prelude.{Result, Ok, Err, slice_get}
@@ -9,73 +8,14 @@ use Rattle.fax_bits.specs.Bits.{bits}
 use Rattle.fax_bits.specs.declared.Colour.{Colour}
 use Rattle.fax_page.specs.Strip.{most_rows}
 use Rattle.fax_page.specs.declared.StripFault.{StripFault}
-use Rattle.fax_files.specs.declared.Endian.{Endian}
-use Rattle.fax_files.specs.declared.FileFault.{FileFault}
 use Rattle.fax_files.specs.declared.FileFault.TheVariants.{StripOutside}
 use Rattle.fax_files.specs.declared.PageForm.{PageForm}
-use Rattle.fax_files.specs.Directory.{Header, header, next_offset, offset_fault}
-use Rattle.fax_files.specs.Page.{page, strip_bytes, strip_form}
-use Rattle.fax_walk.specs.declared.cursor.Cursor.{Cursor}
+use Rattle.fax_files.specs.Page.{strip_bytes, strip_form}
 use Rattle.fax_walk.specs.declared.end.End.{End}
-use Rattle.fax_walk.specs.declared.end.End.TheVariants.{Proper, Fault, Outside}
-use Rattle.fax_walk.specs.Pages.{FilePage, FormItem, NextItem, goes_on, ends_as, File, Strip}
+use Rattle.fax_walk.specs.declared.end.End.TheVariants.{Fault, Outside}
+use Rattle.fax_walk.specs.Pages.{FormItem, NextItem, goes_on, ends_as, File, Strip, read_page}
 use Rattle.fax_walk.specs.Items.{RowItem, RowPlace, first_at, exchanged, before, place_after}
 use Rattle.fax_page.specs.reads.Lines.{read_line}
-
--- the offsets of directories, and the fault that ends them, if any
-pub record ChainRead : Type 0 where
-  pub offsets : List ℕ
-  pub end : Option FileFault
-
--- the chain from the offset that is due on, after these directories, the last one first
-abbrev pub read_chain_from : ℕ → Endian → List ℕ → List ℕ → ℕ → ChainRead
-read_chain_from zero endian file before due = record { offsets = []; end = None }
-read_chain_from (suc limit) endian file before due =
-    elim (due == 0) [
-      | true ↦ record { offsets = []; end = None }
-      | false ↦ elim (offset_fault endian file before due) [
-        | Some fault ↦ record { offsets = []; end = Some fault }
-        | None ↦
-            let next = next_offset endian file due in
-            let more = read_chain_from limit endian file (due ∷ before) next in
-            record { offsets = due ∷ more.offsets; end = more.end }
-      ]
-    ]
-
--- the chain of a file's directories
-abbrev pub read_chain : Header → List ℕ → ChainRead
-read_chain head file = read_chain_from (length file + 1) head.endian file [] head.first
-
--- how the chain ends for a cursor that names none of its pages: at its fault, for the page after
--- its last directory and all after it, or properly, for row 0 of that page
-abbrev pub chain_end : ChainRead → Cursor → End
-chain_end chain at =
-    elim chain.end [
-      | Some fault ↦ Fault (length chain.offsets) 0 (File fault)
-      | None ↦
-          if (at.page == length chain.offsets) && (at.row == 0) then Proper else Outside
-    ]
-
--- a page by the fields of its directory at offset q, or their fault
-abbrev pub page_at : Header → List ℕ → ℕ → ℕ → Result FilePage End
-page_at head file p q =
-    elim (page head.endian file q) [
-      | Err fault ↦ Err (Fault p 0 (File fault))
-      | Ok form ↦ Ok (record { endian = head.endian; offset = q; form = form })
-    ]
-
--- the page that a cursor names, or the end there, by what the header says
-abbrev pub page_under : List ℕ → Cursor → Result Header FileFault → Result FilePage End
-page_under file at (Err fault) = Err (Fault 0 0 (File fault))
-page_under file at (Ok head) =
-    let chain = read_chain head file in
-    elim (slice_get chain.offsets at.page) [
-      | Some q ↦ page_at head file at.page q
-      | None ↦ Err (chain_end chain at)
-    ]
-
-abbrev pub read_page : List ℕ → Cursor → Result FilePage End
-read_page file at = page_under file at (header file)
 
 -- the row that was read at a place of a strip and the place after it, or the end
 abbrev pub row_or_end : PageForm → RowPlace → List ℕ → Result (List Colour × List Bool) StripFault

@@ -16,19 +16,19 @@ use Rattle.fax_page.specs.Strip.{most_rows, row_bits}
 use Rattle.fax_files.specs.declared.Cause.{Cause}
 use Rattle.fax_files.specs.declared.FileFault.TheVariants.{StripOutside}
 use Rattle.fax_files.specs.declared.PageForm.{PageForm}
-use Rattle.fax_files.specs.Directory.{ascend, entries, header}
+use Rattle.fax_files.specs.Directory.{ascend, entries, header, read_chain}
 use Rattle.fax_files.specs.Page.{strip_bytes, strip_form}
 use Rattle.fax_walk.specs.declared.checking.Note.{Note}
 use Rattle.fax_walk.specs.declared.checking.NoteKind.TheVariants.{EntriesOutOfOrder}
 use Rattle.fax_walk.specs.declared.end.End.{End}
 use Rattle.fax_walk.specs.declared.end.End.TheVariants.{Fault}
 use Rattle.fax_walk.specs.declared.walk.Place.{Place}
-use Rattle.fax_walk.specs.Pages.{FilePage, NextItem, goes_on, ends_as, File, Strip}
+use Rattle.fax_walk.specs.Pages.{FilePage, NextItem, goes_on, ends_as, File, Strip, read_page}
 use Rattle.fax_walk.specs.Report.{note_if, notes_on_strip}
 use Rattle.fax_rows.specs.reads.Codes.{after_front}
 use Rattle.fax_page.specs.reads.Lines.{after_one, read_line, read_start, read_strip}
 use Rattle.fax_page.specs.reads.Uncounted.{after_mark}
-use Rattle.fax_reads.specs.Files.{AllRead, read_all, read_chain, read_page, read_rows}
+use Rattle.fax_reads.specs.Files.{AllRead, read_all, read_rows}
 
 -- nothing is left
 abbrev pub is_all : Option (List Bool) → Bool

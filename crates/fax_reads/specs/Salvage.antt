@@ -7,12 +7,11 @@ use Rattle.fax_page.specs.reads.Salvage.{salvage_strip}
 use Rattle.fax_files.specs.declared.Endian.{Endian}
 use Rattle.fax_files.specs.declared.FileFault.{FileFault}
 use Rattle.fax_files.specs.declared.PageForm.{PageForm}
-use Rattle.fax_files.specs.Directory.{Header, header}
+use Rattle.fax_files.specs.Directory.{header, read_chain}
 use Rattle.fax_files.specs.Page.{page, strip_form}
 use Rattle.fax_walk.specs.Pages.{FilePage}
 use Rattle.fax_walk.specs.Salvaged.{LeftItem, PageRow, on_page, page_items, page_refused}
 use Rattle.fax_walk.specs.Salvaged.{strip_left}
-use Rattle.fax_reads.specs.Files.{read_chain}
 
 -- what is left of strip s of a page, and of n strips from there on
 abbrev pub salvage_page_strip : List ℕ → FilePage → ℕ → List PageRow
@@ -40,11 +39,10 @@ salvage_pages endian file p (q ∷ offsets) =
     salvage_page endian file p q (page endian file q)
     ++ salvage_pages endian file (p + 1) offsets
 
--- what is left of a file, by what its header says
-abbrev pub salvage_under : List ℕ → Result Header FileFault → List LeftItem
-salvage_under file (Err fault) = []
-salvage_under file (Ok head) =
-    salvage_pages head.endian file 0 (read_chain head file).offsets
-
+-- what is left of a file
 abbrev pub salvage_file : List ℕ → List LeftItem
-salvage_file file = salvage_under file (header file)
+salvage_file file =
+    elim (header file) [
+      | Err fault ↦ []
+      | Ok head ↦ salvage_pages head.endian file 0 (read_chain head file).offsets
+    ]

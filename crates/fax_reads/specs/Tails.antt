@@ -10,10 +10,10 @@ use Rattle.fax_walk.specs.declared.begun.Begun.TheVariants.{At, Inside}
 use Rattle.fax_walk.specs.declared.cursor.Cursor.{Cursor}
 use Rattle.fax_walk.specs.declared.end.End.{End}
 use Rattle.fax_walk.specs.declared.end.End.TheVariants.{Outside}
-use Rattle.fax_walk.specs.Pages.{FilePage, FormItem, LongPlace}
+use Rattle.fax_walk.specs.Pages.{FilePage, FormItem, LongPlace, first_page, read_page}
 use Rattle.fax_walk.specs.Items.{RowItem, RowPlace, begun_cursor, first_at, inner_at}
 use Rattle.fax_rows.specs.reads.Codes.{◌>>=◌}
-use Rattle.fax_reads.specs.Files.{AllRead, forms_from, read_page, rows_from}
+use Rattle.fax_reads.specs.Files.{AllRead, forms_from, rows_from}
 
 -- the bits of a place are in the strip, and its runs the longest ones of a row of the width; both
 -- are looked at only where the strip lies in the file
@@ -51,16 +51,10 @@ tail_from file (Ok from) =
 abbrev pub read_tail : List ℕ → Begun → AllRead RowItem
 read_tail file begun = tail_from file (read_page file (begun_cursor begun) >>= begin_on file begun)
 
--- the first page whose form is handed out: the cursor's at row 0, else the one after it
-abbrev pub first_form : Cursor → FilePage → Result ℕ End
-first_form at here =
-    if at.row == 0 then Ok at.page
-    else (if nat_le at.row here.form.rows then Ok (at.page + 1) else Err Outside)
-
 -- what a reader of pages hands out
 abbrev pub form_tail_from : List ℕ → Result ℕ End → AllRead FormItem
 form_tail_from file (Err end) = record { items = []; end = end }
 form_tail_from file (Ok p) = forms_from file p
 
 abbrev pub read_form_tail : List ℕ → Cursor → AllRead FormItem
-read_form_tail file at = form_tail_from file (read_page file at >>= first_form at)
+read_form_tail file at = form_tail_from file (first_page file at)

@@ -18,9 +18,8 @@ pub fn examples_are_read()
     ensures { AreRead }
 {}
 
-/// A file's chain of directories, the page that a cursor names, the row at a place, the form of a
-/// page, and all rows and all forms with their end are what functions read of its bytes (TIFF 6.0,
-/// section 2).
+/// The row at a place of a file, the form of a page, and all rows and all forms with their end are
+/// what functions read of its bytes (TIFF 6.0, section 2).
 pub fn files_are_read_by_functions()
     ensures { FilesAreReadByFunctions }
 {
@@ -109,7 +108,6 @@ pub fn salvages_are_read_by_functions()
     ensures { SalvagesAreReadByFunctions }
 {
     fax_page::laws::damaged_strips_are_read_by_functions();
-    fax_files::laws::files_have_one_chain();
     fax_walk::laws::files_are_salvaged_in_one_way();
 }
 

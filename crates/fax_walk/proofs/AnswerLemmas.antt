@@ -1,15 +1,16 @@
 -- What is converted has one output or one fault, and what is checked has one report.
 use Rattle.std.proofs.lemmas.Grind.{common_steps}
-use Rattle.std.proofs.Common.{arith, ◌≡◌, ℕ, List, length, Option, Some, None, Err, Bool, refl, ap, sym, ◌∙◌, subst}
+use Rattle.std.proofs.Common.{arith, ◌≡◌, ℕ, List, length, Option, Some, None, Result, Ok, Err, Bool, refl, ap, sym}
+use Rattle.std.proofs.Common.{◌∙◌, subst}
 use Rattle.std.proofs.Common.{inl, inr, codes}
 use Rattle.std.specs.Prelude.{flat_map, not}
 use Rattle.fax_bits.specs.Bits.{bits, BeginsWith}
 use Rattle.fax_bits.specs.declared.Colour.{Colour}
 use Rattle.fax_files.specs.declared.Cause.{Cause}
 use Rattle.fax_files.specs.declared.PageForm.{PageForm}
-use Rattle.fax_files.specs.Directory.{entries, ascend}
+use Rattle.fax_files.specs.Directory.{Header, ascend, entries, read_chain}
+use Rattle.fax_files.specs.declared.FileFault.{FileFault}
 use Rattle.fax_files.specs.Page.{strip_bytes, strip_form}
-use Rattle.fax_files.specs.laws.Files.{FilesHaveOneChain}
 use Rattle.fax_files.specs.laws.Pbm.{ImagesAreReadInOneWay}
 use Rattle.fax_page.specs.declared.StripFault.{StripFault}
 use Rattle.fax_page.specs.declared.StripForm.{StripForm}
@@ -25,13 +26,13 @@ use Rattle.fax_walk.specs.declared.options.Options.{Options}
 use Rattle.fax_walk.specs.declared.walk.Place.{Place}
 use Rattle.fax_walk.specs.Converted.{IsConverted, IsNotConverted, IsSource, IsTiff, IsTooLarge, SourcePage, pages_of}
 use Rattle.fax_walk.specs.Converted.{target_bytes}
-use Rattle.fax_walk.specs.Pages.{AreFrom, IsPageAt, goes_on, ends_as}
+use Rattle.fax_walk.specs.Pages.{AreFrom, read_page, goes_on, ends_as}
 use Rattle.fax_walk.specs.Report.{IsNoted, IsReportedEnd, IsStripNoted, note_if}
 use Rattle.fax_walk.specs.Items.{AreItems, RowItem}
 use Rattle.fax_walk.specs.laws.Answers.{BytesAreConvertedInOneWay, FilesHaveOneReport}
 use Rattle.fax_walk.specs.laws.Tails.{FilesHaveOneForms, FilesHaveOneItems}
 use Rattle.fax_walk.proofs.InOrderLemmas.{IsSingle, single_from, two_of}
-use Rattle.fax_walk.proofs.PageLawLemmas.{one_chain, proper_after, single_on_page}
+use Rattle.fax_walk.proofs.PageLawLemmas.{proper_after, single_on_page}
 use Rattle.fax_walk.proofs.ReadBackLemmas.{not_both}
 use Rattle.fax_walk.specs.declared.checking.NoteKind.TheVariants.{EntriesOutOfOrder}
 
@@ -121,13 +122,15 @@ module _ (images_once : ImagesAreReadInOneWay) (one_forms : FilesHaveOneForms) (
     one_fault = one_fault bytes options;
   }
 
-module _ (chains : FilesHaveOneChain) (file : List ℕ) where
-  proper_once : (n m : ℕ) → IsPageAt file (record { page = n; row = 0 }) (Err Proper)
-      → IsPageAt file (record { page = m; row = 0 }) (Err Proper) → n ≡ m
+module _ (file : List ℕ) where
+  proper_once : (n m : ℕ) → read_page file (record { page = n; row = 0 }) ≡ Err Proper
+      → read_page file (record { page = m; row = 0 }) ≡ Err Proper → n ≡ m
   proper_once n m first second =
-      let (its, none, count) = proper_after file n first in
-      let (others, none', count') = proper_after file m second in
-      count ∙ ap (λ (l : List ℕ). length l) (one_chain chains file its others) ∙ sym count'
+      let (head, is_head, none, count) = proper_after file n first in
+      let (other, is_other, none', count') = proper_after file m second in
+      let both : ◌≡◌ {A = Result Header FileFault} (Ok head) (Ok other) = sym is_head ∙ is_other in
+      let same : head ≡ other = cc in
+      count ∙ ap (λ (h : Header). length (read_chain h file).offsets) same ∙ sym count'
 
   one_end : (end : End) (pages others : ℕ) (fault other : Option (Place × Cause)) → IsReportedEnd file end pages fault
       → IsReportedEnd file end others other → (pages ≡ others) × (fault ≡ other)
@@ -169,25 +172,25 @@ module _ (strips_once : (form : StripForm) → ReadsStripsOneWay form) (noted_on
       let faults : fault ≡ fault' = cc (same.1) in
       cc (same.0)
 
-  module _ (chains : FilesHaveOneChain) (file : List ℕ) where
+  module _ (file : List ℕ) where
     single_noted : (at : ℕ × Option ℕ) → IsSingle (IsNoted file at)
     single_noted (p, None) =
-        single_on_page chains file (record { page = p; row = 0 })
+        single_on_page (read_page file (record { page = p; row = 0 }))
         (λ here step. step ≡ goes_on (note_if (not (ascend (entries here.endian file here.offset))) p None
         EntriesOutOfOrder) (p, Some 0))
         ends_as (λ here x y first second. first ∙ sym second)
     single_noted (p, Some s) =
-        single_on_page chains file (record { page = p; row = 0 })
+        single_on_page (read_page file (record { page = p; row = 0 }))
         (λ here. IsStripNoted here.form p s (strip_bytes here.endian file here.offset s)) ends_as
         (λ here. single_strip here.form p s (strip_bytes here.endian file here.offset s))
 
-  pub files_have_one_report : FilesHaveOneChain → FilesHaveOneItems → FilesHaveOneReport
-  files_have_one_report chains one_items file report other first second =
+  pub files_have_one_report : FilesHaveOneItems → FilesHaveOneReport
+  files_have_one_report one_items file report other first second =
       let rows = two_of (one_items file) first.items second.items first.end second.end first.read second.read in
       let end_is = subst (λ (e : End). IsReportedEnd file e other.pages other.fault) (sym rows.1) second.end_is in
-      let ends = one_end chains file first.end report.pages other.pages report.fault other.fault first.end_is end_is in
+      let ends = one_end file first.end report.pages other.pages report.fault other.fault first.end_is end_is in
       let noted = subst (λ (e : End). AreFrom (IsNoted file) (0, None) second.notes e) (sym rows.1) second.noted in
-      let notes = single_from (IsNoted file) (single_noted chains file) (0, None) first.notes second.notes first.end
+      let notes = single_from (IsNoted file) (single_noted file) (0, None) first.notes second.notes first.end
       first.end first.noted noted in
       record {
         notes = first.notes_are ∙ ap (λ l. flat_map (λ own. own) l) notes.0 ∙ sym second.notes_are;

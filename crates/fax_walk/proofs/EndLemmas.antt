@@ -7,14 +7,14 @@ use Rattle.fax_files.specs.Page.{strip_bytes}
 use Rattle.fax_files.specs.laws.Files.{FilesHaveOneChain}
 use Rattle.fax_walk.specs.declared.end.End.{End}
 use Rattle.fax_walk.specs.declared.end.End.TheVariants.{Fault, Outside, Proper}
-use Rattle.fax_walk.specs.Pages.{AreFrom, FilePage, IsPageAt, goes_on, ends_as}
+use Rattle.fax_walk.specs.Pages.{AreFrom, FilePage, read_page, goes_on, ends_as}
 use Rattle.fax_walk.specs.Items.{AreItems, IsInStrip, IsRow, RowItem, RowPlace, cursor_after, first_at}
 use Rattle.fax_walk.specs.code.Places.{cursor_at, strip_at}
 use Rattle.fax_walk.specs.views.Walk.{EndsBefore}
 use Rattle.fax_walk.specs.laws.Printed.{ItemsEndInTheFile}
 use Rattle.fax_walk.specs.laws.Tails.{TailsEndAfter}
 use Rattle.fax_walk.proofs.InOrderLemmas.{same_answer}
-use Rattle.fax_walk.proofs.PageLawLemmas.{IsDue, end_due, one_page}
+use Rattle.fax_walk.proofs.PageLawLemmas.{IsDue, end_due}
 use Rattle.fax_walk.proofs.RowLawLemmas.{IsRead, after_read, its_page, read_at, inner_after}
 use Rattle.fax_walk.proofs.TailLawLemmas.{same_strip, split_at_number, strip_begin}
 
@@ -39,23 +39,19 @@ pub follows : (file : List ℕ) (at : RowPlace) (item : RowItem) (to : RowPlace)
     × (to.page ≡ item.page → to.row ≡ item.row + 1)
 follows file at item to step = grind arith
 
-module _ (chains : FilesHaveOneChain) (file : List ℕ) where
+module _ (file : List ℕ) where
   -- on a page that is due
   on_due : (p : ℕ) → IsDue file p → (end : End) → IsRow file (first_at p 0) (ends_as end) → EndsFrom (first_at p 0) end
   on_due p due end h = grind (arith, end_due)
 
   -- at a row of a page
-  on_page : (at : RowPlace) (here : FilePage) → IsPageAt file (cursor_at at) (Ok here)
+  on_page : (at : RowPlace) (here : FilePage) → read_page file (cursor_at at) ≡ Ok here
       → (strip_bytes here.endian file here.offset (strip_at here.form at.row) ≡ None
       → at.row ≤ strip_at here.form at.row * here.form.rows_per_strip)
       → (end : End) → IsRow file at (ends_as end) → EndsFrom at end
-  on_page at here page first end (Err none, page', is) =
-      let same = same_answer (one_page chains file (cursor_at at)) (Err none) (Ok here) page' page in absurd cc
-  on_page at here page first end (Ok there, page', is) =
-      let same = same_answer (one_page chains file (cursor_at at)) (Ok there) (Ok here) page' page in
-      let is_here : there ≡ here = cc in
+  on_page at here page first end stop =
       in_strip here.form at (strip_bytes here.endian file here.offset (strip_at here.form at.row)) end
-      (rw is_here at is) first
+      (rw page at stop) first
 
   -- after an item
   module _ (at : RowPlace) (item : RowItem) (to : RowPlace) (end : End) where
@@ -69,7 +65,7 @@ module _ (chains : FilesHaveOneChain) (file : List ℕ) where
         (λ none. let same = same_strip file at item to read some in
         let there = rw (← same.0) at read.bytes_are in absurd (cc (none, there))) end)
       where
-        page_there : (r : ℕ) → IsPageAt file (record { page = item.page; row = r }) (Ok read.here)
+        page_there : (r : ℕ) → read_page file (record { page = item.page; row = r }) ≡ Ok read.here
         page_there = its_page file at item to read
 
   ends_there : (at : RowPlace) (items : List RowItem) (end : End)
@@ -82,18 +78,18 @@ module _ (chains : FilesHaveOneChain) (file : List ℕ) where
   pub never_outside : (items : List RowItem) → AreItems file items Outside → ⊥
   never_outside items are = ends_there (first_at 0 0) items Outside (on_due 0 (inl refl)) are refl
 
-pub items_end_in_the_file : FilesHaveOneChain → ItemsEndInTheFile
-items_end_in_the_file chains file items end are outside = grind (arith, never_outside)
+pub items_end_in_the_file : ItemsEndInTheFile
+items_end_in_the_file file items end are outside = grind (arith, never_outside)
 
 not_before : (item : RowItem) (to : RowPlace) (end : End) → item.page ≤ to.page
     → (to.page ≡ item.page → to.row ≡ item.row + 1)
     → EndsFrom to end → EndsBefore end (cursor_after item) → ⊥
 not_before item to end later below h before = grind arith
 
-pub tails_end_after : FilesHaveOneChain → TailsEndAfter
-tails_end_after chains file begun all end n item tail there last before =
+pub tails_end_after : TailsEndAfter
+tails_end_after file begun all end n item tail there last before =
     let row = (split_at_number file begun all end n item tail there).row in
     let stop : IsRow file row.to (ends_as end) = rw (drop_all (n + 1) all (omega (arith, last))) at row.rest in
     let read = read_at file row.at item row.to row.step in
     let (page, row_is, later, below) = follows file row.at item row.to row.step in
-    not_before item row.to end later below (after_item chains file row.at item row.to end read stop) before
+    not_before item row.to end later below (after_item file row.at item row.to end read stop) before

@@ -8,92 +8,93 @@ use Rattle.std.proofs.lemmas.Option.{slice_get_past, slice_get_within}
 use Rattle.fax_files.specs.declared.FileFault.{FileFault}
 use Rattle.fax_files.specs.declared.Cause.TheVariants.{File}
 use Rattle.fax_files.specs.declared.PageForm.{PageForm}
-use Rattle.fax_files.specs.Directory.{IsChain}
-use Rattle.fax_files.specs.laws.Files.{HasOneChain, FilesHaveOneChain}
-use Rattle.fax_files.specs.views.Chain.{ChainState, IsDueAnswer, after_answer}
+use Rattle.fax_files.specs.Directory.{ChainRead, header}
+use Rattle.fax_files.specs.views.Chain.{ChainState, after_answer, chain_of, due_answer}
 use Rattle.fax_files.specs.views.Tiff.{TiffDirectory, directory_of, form_of}
 use Rattle.fax_walk.specs.declared.cursor.Cursor.{Cursor}
 use Rattle.fax_walk.specs.declared.end.End.{End}
 use Rattle.fax_walk.specs.declared.end.End.TheVariants.{Proper, Fault, Outside}
-use Rattle.fax_walk.specs.Pages.{IsPageAt}
-use Rattle.fax_walk.specs.code.Opening.{end_past_chain, page_or_end}
+use Rattle.fax_walk.specs.Pages.{chain_end, page_of_chain, page_with_form, read_page}
 use Rattle.fax_walk.specs.code.Opening.{EndsAt, IsChainBefore, IsFilePage, IsNamed, IsNoPage, IsPageAnswer, PageDue}
 use Rattle.fax_walk.specs.code.Opening.{page_with}
 use Rattle.fax_walk.proofs.OpeningLemmas.{due_some, due_none, due_fault}
-use Rattle.fax_walk.proofs.PageLawLemmas.{none_past, proper_end}
+use Rattle.fax_walk.proofs.PageLawLemmas.{none_past, page_here, proper_end}
 
 -- after more pages than a chain has, all is outside
-outside_past : (pages : ℕ) (at : Cursor) → pages < at.page → end_past_chain pages None at ≡ Outside
+outside_past : (pages : ℕ) (at : Cursor) → pages < at.page → chain_end pages None at ≡ Outside
 outside_past pages at past = let e : (at.page == pages) ≡ false = grind (arith, nat_tests, past) in rw e refl
 
-outside_row : (pages : ℕ) (at : Cursor) → 0 < at.row → end_past_chain pages None at ≡ Outside
+outside_row : (pages : ℕ) (at : Cursor) → 0 < at.row → chain_end pages None at ≡ Outside
 outside_row pages at some = grind arith
+
+-- a file without a good header has no page
+pub no_header : (file : List ℕ) (at : Cursor) (fault : FileFault) → header file ≡ Err fault
+    → read_page file at ≡ Err (Fault 0 0 (File fault))
+unfolding read_page
+no_header file at fault bad = rw (bad, read_page) refl
 
 -- a directory stands there
 pub goes_on : (file : List ℕ) (number : ℕ) (chain new : ChainState) (answer : Result (Option TiffDirectory) FileFault)
     (directory : TiffDirectory)
-    → IsChainBefore file number chain → IsDueAnswer chain answer → answer ≡ Ok (Some directory)
+    → IsChainBefore file number chain → answer ≡ due_answer chain → answer ≡ Ok (Some directory)
     → new ≡ after_answer chain answer
     → IsChainBefore file (number + 1) new
-goes_on file number chain new answer directory before due is counted = grind (arith, slice_get_within)
+goes_on file number chain new answer directory before due is counted = grind (arith, due_some, slice_get_within)
 
 -- a file's chain before a directory, and what it answers for it
 module _ (file : List ℕ) (number : ℕ) (chain : ChainState) (answer : Result (Option TiffDirectory) FileFault)
-    (before : IsChainBefore file number chain) (chains : FilesHaveOneChain) (due : IsDueAnswer chain answer) where
-  abbrev one : HasOneChain chain.tiff.head file
-  one = chains chain.tiff.head file
-
-  is_one : IsChain chain.tiff.head chain.tiff.file one.offsets one.end
-  is_one = rw before.file_is one.is
+    (before : IsChainBefore file number chain) (due : answer ≡ due_answer chain) where
+  abbrev its : ChainRead
+  its = chain_of chain.tiff
 
   -- the chain has no page of a later number
-  past_chain : (at : Cursor) → slice_get one.offsets chain.given ≡ None → number ≤ at.page
-      → IsPageAt file at (Err (end_past_chain (length one.offsets) one.end at))
-  past_chain at none past = grind (arith, none_past, slice_get_past)
-
-  count_is : slice_get one.offsets chain.given ≡ None → length one.offsets ≡ number
-  count_is none = grind (arith, none_past)
+  past_chain : (at : Cursor) → slice_get its.offsets chain.given ≡ None → number ≤ at.page
+      → read_page file at ≡ Err (chain_end number its.end at)
+  past_chain at none past =
+      let count : length its.offsets ≡ number = grind (arith, none_past) in
+      let gone = slice_get_past its.offsets at.page (omega (arith, count, past)) in
+      let gone_there = rw before.file_is at gone in
+      let count_there = rw before.file_is at count in
+      rw before.file_is
+      (rw (gone_there, page_of_chain, count_there) at (page_here file chain.tiff.head before.head at))
 
   -- where the chain ends properly, and where it ends with a fault
-  ended_at : (at : Cursor) → answer ≡ Ok None → number ≤ at.page
-      → IsPageAt file at (Err (end_past_chain number None at))
-  ended_at at is past =
-      let none = due_none chain answer due is one.offsets one.end is_one in
-      let end_is : end_past_chain (length one.offsets) one.end at ≡ end_past_chain number None at =
-      rw (none.1, count_is none.0) refl in
-      rw end_is at (past_chain at none.0 past)
+  ended_at : (at : Cursor) → answer ≡ Ok None → number ≤ at.page → read_page file at ≡ Err (chain_end number None at)
+  ended_at at is past = let none = due_none chain answer due is in rw none.1 at (past_chain at none.0 past)
 
-  pub none_before : (at : Cursor) → answer ≡ Ok None → number < at.page → IsPageAt file at (Err Outside)
+  pub none_before : (at : Cursor) → answer ≡ Ok None → number < at.page → read_page file at ≡ Err Outside
   none_before at is past = rw (outside_past number at past) at (ended_at at is (omega (arith, past)))
 
-  pub row_past : (r : ℕ) → answer ≡ Ok None → 0 < r → IsPageAt file (record { page = number; row = r }) (Err Outside)
+  pub row_past : (r : ℕ) → answer ≡ Ok None → 0 < r → read_page file (record { page = number; row = r }) ≡ Err Outside
   row_past r is some =
       let at : Cursor = record { page = number; row = r } in rw (outside_row number at some) at
       (ended_at at is (omega arith))
 
-  pub proper_end_at : answer ≡ Ok None → IsPageAt file (record { page = number; row = 0 }) (Err Proper)
+  pub proper_end_at : answer ≡ Ok None → read_page file (record { page = number; row = 0 }) ≡ Err Proper
   proper_end_at is = rw (proper_end number) at (ended_at (record { page = number; row = 0 }) is (omega arith))
 
   pub fault_before_page : (at : Cursor) (fault : FileFault) → answer ≡ Err fault → number ≤ at.page
-      → IsPageAt file at (Err (Fault number 0 (File fault)))
+      → read_page file at ≡ Err (Fault number 0 (File fault))
   fault_before_page at fault is past =
-      let none = due_fault chain answer due fault is one.offsets one.end is_one in
-      let end_is : end_past_chain (length one.offsets) one.end at ≡ Fault number 0 (File fault) =
-      rw (none.1, count_is none.0) refl in
-      rw end_is at (past_chain at none.0 past)
+      let none = due_fault chain answer due fault is in rw none.1 at (past_chain at none.0 past)
 
   -- a directory stands there
   module _ (directory : TiffDirectory) (is : answer ≡ Ok (Some directory)) where
-    there : (slice_get one.offsets chain.given ≡ Some directory.offset)
+    there : (slice_get its.offsets chain.given ≡ Some directory.offset)
         × (directory ≡ directory_of chain.tiff directory.offset)
-    there = due_some chain answer due directory is one.offsets one.end is_one
+    there = due_some chain answer due directory is
 
     pub same_file : directory.file ≡ chain.tiff.file
     same_file = ap (λ (d : TiffDirectory). d.file) there.1
 
-    pub found : (r : ℕ) → IsPageAt directory.file (record { page = number; row = r })
-        (page_or_end directory.endian directory.offset number (form_of directory))
-    found r = grind (arith, there)
+    pub found : (r : ℕ) → read_page directory.file (record { page = number; row = r })
+        ≡ page_with_form directory.endian directory.offset number (form_of directory)
+    found r =
+        let at : Cursor = record { page = number; row = r } in
+        let endian_is : directory.endian ≡ chain.tiff.head.endian = ap (λ (d : TiffDirectory). d.endian) there.1 in
+        let file_is : directory.file ≡ file = ap (λ (d : TiffDirectory). d.file) there.1 ∙ before.file_is in
+        let place = rw (before.given, before.file_is) at there.0 in
+        rw (file_is, endian_is) (rw (place, page_of_chain) at (page_here file chain.tiff.head before.head at))
 
     pub fields_refused : (refused : FileFault) → form_of directory ≡ Err refused → IsNoPage directory.file number
         (Fault number 0 (File refused))

@@ -44,7 +44,7 @@ no_row file begun end at n begins stop before = record {
 
 module _ (file : List ℕ) (at : Cursor) where
   ends_at : (end : End) → EndsAt file at end → Begins file (At at) (Err end)
-  ends_at end (inl none) = (Err end, none, refl)
+  ends_at end (inl none) = rw none refl
   ends_at end (inr (here, page, above, end_is)) = rw end_is (begins_past file at here page above)
 
   pub no_page : (end : End) → EndsAt file at end → HasNoRows file (At at) end
@@ -79,7 +79,7 @@ module _ (file : List ℕ) (at : Cursor) where
         ])
 
     pub enters_on : at.row < due.form.rows → EntersFirst file (At at)
-    enters_on below = (Ok (page_with due.directory due.form), named.3, inl below)
+    enters_on below = rw (named.3) (inl below)
 
     module _ (its : IsFilePage due.page due.chain due.directory due.form) where
       begins_next : due.form.rows ≤ at.row → Begins file (At at) (Ok (first_at due.chain.given 0, 0))
@@ -93,11 +93,8 @@ module _ (file : List ℕ) (at : Cursor) where
 
       pub enters_next : due.form.rows ≤ at.row → HasPage due.chain.tiff.file due.chain.given → EntersFirst file (At at)
       enters_next past there =
-          let within = named.2 in (
-            Ok (page_with due.directory due.form),
-            named.3,
-            inr (refl, omega (arith, past, within), rw (its_file, its.after.given, named.1) at there),
-          )
+          let within = named.2 in
+          rw (named.3) (inr (refl, omega (arith, past, within), rw (its_file, its.after.given, named.1) at there))
 
       pub refused_next : due.form.rows ≤ at.row → (result : Result PageState OpenFault)
           → IfErr result (IsRefusal (λ end. IsRow due.chain.tiff.file (first_at due.chain.given 0) (ends_as end)))
@@ -111,9 +108,9 @@ module _ (file : List ℕ) (at : Cursor) where
 
 module _ (file : List ℕ) (place : LongPlace) where
   ends_inside : (end : End) → EndsAt file place.at end → Begins file (Inside place) (Err end)
-  ends_inside end (inl none) = (Err end, none, refl)
+  ends_inside end (inl none) = rw none refl
   ends_inside end (inr (here, page, above, end_is)) =
-      (Ok here, page, inr (λ inner. let row = inner.row in omega (arith, above, row), rw end_is refl))
+      rw page (inr (λ inner. let row = inner.row in omega (arith, above, row), rw end_is refl))
 
   pub no_page_inside : (end : End) → EndsAt file place.at end → HasNoRows file (Inside place) end
   no_page_inside end ends = no_beginning file (Inside place) end (ends_inside end ends)
@@ -121,10 +118,10 @@ module _ (file : List ℕ) (place : LongPlace) where
   module _ (due : PageDue) (named : IsNamed file place.at (Some due)) where
     pub begun_place : IsInnerOn due.directory.file (page_with due.directory due.form) place → Begins file (Inside place)
         (Ok (inner_at place, 0))
-    begun_place inner = (Ok (page_with due.directory due.form), named.3, inl (rw (named.0) at inner, refl))
+    begun_place inner = rw (named.3) (inl (rw (named.0) at inner, refl))
 
     pub enters_inside : place.at.row < due.form.rows → EntersFirst file (Inside place)
-    enters_inside within = (Ok (page_with due.directory due.form), named.3, inl within)
+    enters_inside within = rw (named.3) (inl within)
 
     pub refused_inside : (result : Result PageState OpenFault) → IfErr result (IsRefusal (IsNoInner due place))
         → IfErr result (IsRefusal (HasNoRows file (Inside place)))
@@ -133,4 +130,4 @@ module _ (file : List ℕ) (place : LongPlace) where
     refused_inside (Err (Ended end)) (inl (inner, stop)) = grind (arith, begun_place)
     refused_inside (Err (Ended end)) (inr (not, end_is)) =
         no_beginning file (Inside place) end
-        (Ok (page_with due.directory due.form), named.3, inr (λ inner. not (rw (sym named.0) at inner), rw end_is refl))
+        (rw (named.3) (inr (λ inner. not (rw (sym named.0) at inner), rw end_is refl)))

@@ -25,7 +25,7 @@ use Rattle.fax_files.specs.views.Tiff.{TiffDirectory, bytes_of}
 use Rattle.fax_walk.specs.declared.end.End.{End}
 use Rattle.fax_walk.specs.declared.end.End.TheVariants.{Fault}
 use Rattle.fax_walk.specs.declared.opening.OpenFault.{OpenFault}
-use Rattle.fax_walk.specs.Pages.{LongPlace, IsPageAt, goes_on, ends_as}
+use Rattle.fax_walk.specs.Pages.{LongPlace, read_page, goes_on, ends_as}
 use Rattle.fax_walk.specs.Items.{Inner, RowItem, RowPlace, IsRow, before, exchanged, first_at, long_at}
 use Rattle.fax_walk.specs.Items.{place_after}
 use Rattle.fax_walk.specs.code.Places.{IsInner, cursor_at, row_in_strip, strip_at, place_on}
@@ -124,17 +124,13 @@ module _ (page : PageState) (limits : IsPageForm page.form) (strip_is : IsStripO
         line = rw (reads.same_form, reads.same_bytes, strip_is.form_is) at reads.line
 
         pub row_read : IsRow page.directory.file (place_of page) (goes_on item (place_after item))
-        row_read = rw stands.1 (
-          Ok (page_with page.directory page.form),
-          its.here (row_of page),
-          rw (numbered.0, strip_is.bytes_are) (
-            refl,
-            refl,
-            rw reads.same_bytes at within,
-            rw (numbered.0, numbered.1, stands.2, twice) line,
-            refl,
-            refl,
-          ),
+        row_read = rw (stands.1, its.here (row_of page), numbered.0, strip_is.bytes_are) (
+          refl,
+          refl,
+          rw reads.same_bytes at within,
+          rw (numbered.0, numbered.1, stands.2, twice) line,
+          refl,
+          refl,
         )
 
         pub place_next : place_on page.form page.page (page.number * n + strip.row)
@@ -145,14 +141,10 @@ module _ (page : PageState) (limits : IsPageForm page.form) (strip_is : IsStripO
       -- it is not there
       pub row_fault : (fault : StripFault) (strip : StripState) → MeetsFault page.strip fault strip
           → IsRow page.directory.file (place_of page) (ends_as (Fault page.page (row_of page) (Strip fault)))
-      row_fault fault strip meets = rw stands.1 (
-        Ok (page_with page.directory page.form),
-        its.here (row_of page),
-        rw (numbered.0, strip_is.bytes_are) (
-          fault,
-          rw (numbered.1, stands.2) (rw strip_is.form_is at meets.cause),
-          refl,
-        ),
+      row_fault fault strip meets = rw (stands.1, its.here (row_of page), numbered.0, strip_is.bytes_are) (
+        fault,
+        rw (numbered.1, stands.2) (rw strip_is.form_is at meets.cause),
+        refl,
       )
 
   -- the strip is read to its end, and the page goes on
@@ -169,11 +161,8 @@ module _ (page : PageState) (limits : IsPageForm page.form) (strip_is : IsStripO
     pub strip_outside : IsFilePage page.page page.chain page.directory page.form
         → bytes_of page.directory (page.number + 1) ≡ None
         → IsRow page.directory.file (place_of page) (ends_as (Fault page.page (row_of page) (File StripOutside)))
-    strip_outside its outside = rw first_there (
-      Ok (page_with page.directory page.form),
-      its.here (row_of page),
-      rw (next_numbers.0, outside, next_numbers.0) (rw next_row refl),
-    )
+    strip_outside its outside =
+        rw (first_there, its.here (row_of page), next_numbers.0, outside, next_numbers.0) (rw next_row refl)
 
     pub next_row_is : (strip : StripState) → strip.row ≡ 0 → (page.number + 1) * n + strip.row ≡ row_of page
     next_row_is strip none = omega (arith, none, next_row)
@@ -342,11 +331,7 @@ module _ (due : PageDue) (first : ℕ) (its : IsFilePage due.page due.chain due.
   pub refused_strip : bytes_of due.directory number ≡ None → IsNoStrip due first
       (Fault due.page begins (File StripOutside))
   refused_strip outside = record {
-    stop = (
-      Ok (page_with due.directory due.form),
-      its.here begins,
-      rw (begin_numbers.0, outside, begin_numbers.0) refl,
-    );
+    stop = rw (its.here begins, begin_numbers.0, outside, begin_numbers.0) refl;
     cause = File StripOutside;
     told = refl;
   }
@@ -355,7 +340,7 @@ module _ (due : PageDue) (first : ℕ) (its : IsFilePage due.page due.chain due.
 pub due_there : (p : ℕ) (chain : ChainState) (directory : TiffDirectory) (form : PageForm)
     → IsFilePage p chain directory form
     → HasPage directory.file p
-due_there p chain directory form its = (Ok (page_with directory form), its.here 0, tt)
+due_there p chain directory form its = rw (its.here 0) tt
 
 pub refused_after : (file : List ℕ) (due : PageDue) (p : ℕ) (result : Result PageState OpenFault) → due.page ≡ p
     → due.directory.file ≡ file → IfErr result (IsRefusal (IsNoStrip due 0))
@@ -376,16 +361,14 @@ module _ (due : PageDue) (place : LongPlace) (its : IsFilePage due.page due.chai
   abbrev its_number : ℕ
   its_number = strip_at due.form place.at.row
 
-  its_here : IsPageAt due.directory.file place.at (Ok (page_with due.directory due.form))
-  its_here = subst (λ (p : ℕ). IsPageAt due.directory.file (record { page = p; row = place.at.row })
-      (Ok (page_with due.directory due.form)))
-      same_page (its.here place.at.row)
+  its_here : read_page due.directory.file place.at ≡ Ok (page_with due.directory due.form)
+  its_here = rw same_page at (its.here place.at.row)
 
   pub no_strip : bytes_of due.directory its_number ≡ None
       → IsNoInner due place (Fault due.page (its_number * due.form.rows_per_strip) (File StripOutside))
   no_strip outside = inl (
     record { row = below; not_first = some; fits = rw outside tt },
-    (Ok (page_with due.directory due.form), its_here, rw outside (rw same_page refl)),
+    rw (its_here, outside) (rw same_page refl),
   )
 
 -- the place inside the strip after the row that was read last

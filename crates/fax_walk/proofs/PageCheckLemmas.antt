@@ -16,18 +16,19 @@ use Rattle.fax_walk.specs.declared.checking.PageRead.{PageRead}
 use Rattle.fax_walk.specs.declared.checking.Report.{Report}
 use Rattle.fax_walk.specs.declared.end.End.{End}
 use Rattle.fax_walk.specs.declared.end.End.TheVariants.{Fault}
-use Rattle.fax_walk.specs.Pages.{IsPageAt}
+use Rattle.fax_walk.specs.Pages.{read_page}
 use Rattle.fax_walk.specs.Report.{note_if, IsReportedEnd, IsReport}
 use Rattle.fax_walk.specs.code.Check.{before_page, before_strip, CheckPlace, EndsThere, HasChecked, IsDirectoryOfPage}
 use Rattle.fax_walk.specs.code.Check.{IsRestChecked}
 use Rattle.fax_walk.specs.code.Check.{ArePagesChecked}
 use Rattle.fax_walk.proofs.CheckLemmas.{nothing_checked, checked_on}
+use Rattle.fax_walk.proofs.EndingLemmas.{no_header}
 use Rattle.fax_walk.proofs.InOrderLemmas.{ended_at}
 
 -- page p of a file ends the chain there
-ends_at_page : (file : List ℕ) (p : ℕ) (end : End) → IsPageAt file (record { page = p; row = 0 }) (Err end)
+ends_at_page : (file : List ℕ) (p : ℕ) (end : End) → read_page file (record { page = p; row = 0 }) ≡ Err end
     → EndsThere file (before_page p) end
-ends_at_page file p end at = ((Err end, at, refl), (Err end, at, refl))
+ends_at_page file p end at = (rw at refl, rw at refl)
 
 -- a page whose fields are refused
 pub refused_page : (directory : TiffDirectory) (p : ℕ) (old new : List Note) (fault : FileFault)
@@ -61,7 +62,7 @@ module _ (directory : TiffDirectory) (form : PageForm) (p : ℕ) (limits : IsPag
       let inside : nat_lt 0 form.rows ≡ true = grind (arith, nat_tests, limits.some_rows) in
       rw (test, zero, inside) (record {
         found = on_entries ∷ [];
-        lead = ((p, Some 0), (Ok _, rw form_is at (here 0), refl), refl);
+        lead = ((p, Some 0), rw (here 0, form_is) refl, refl);
         notes_are = sym (append-nil on_entries);
         items = [];
         lead_rows = refl;
@@ -105,7 +106,7 @@ reported file report notes rows to end is ends notes_are rows_are end_is = grind
 -- after the last page
 pub last_report : (file : List ℕ) (given : ℕ) (end : End) (report : Report)
     → ArePagesChecked file given report.rows report.notes.items
-    → IsPageAt file (record { page = given; row = 0 }) (Err end) → IsReportedEnd file end report.pages report.fault
+    → read_page file (record { page = given; row = 0 }) ≡ Err end → IsReportedEnd file end report.pages report.fault
     → IsReport file report
 last_report file given end report so_far at =
     reported file report _ _ (before_page given) end so_far.is (ends_at_page file given end at) refl refl
@@ -128,5 +129,5 @@ pub header_report : (file : List ℕ) (met : FileFault) (report : Report) → he
     → report.rows ≡ 0 → report.fault ≡ Some (record { page = 0; row = 0 }, File met) → IsReport file report
 header_report file met report bad none pages rows fault_is =
     reported file report [] 0 (before_page 0) (Fault 0 0 (File met)) (nothing_checked file (before_page 0))
-    (ends_at_page file 0 (Fault 0 0 (File met)) (rw (bad, IsPageAt) refl))
+    (ends_at_page file 0 (Fault 0 0 (File met)) (no_header file (record { page = 0; row = 0 }) met bad))
     none rows (pages, fault_is)

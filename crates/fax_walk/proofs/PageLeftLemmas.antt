@@ -6,16 +6,15 @@ use Rattle.fax_page.specs.laws.Salvage.{SalvagesStripsOneWay}
 use Rattle.fax_files.specs.declared.Endian.{Endian}
 use Rattle.fax_files.specs.declared.FileFault.{FileFault}
 use Rattle.fax_files.specs.declared.PageForm.{PageForm}
-use Rattle.fax_files.specs.Directory.{Header, header}
+use Rattle.fax_files.specs.Directory.{Header, read_chain}
 use Rattle.fax_files.specs.Page.{page}
-use Rattle.fax_files.specs.laws.Files.{FilesHaveOneChain}
 use Rattle.fax_walk.specs.declared.cursor.Cursor.{Cursor}
 use Rattle.fax_walk.specs.declared.end.End.{End}
-use Rattle.fax_walk.specs.Pages.{FilePage}
-use Rattle.fax_walk.specs.Salvaged.{AreRowsOfPage, IsPageLeftAs, ArePagesLeft, IsSalvagedUnder, LeftItem, PageRow}
+use Rattle.fax_walk.specs.Pages.{FilePage, page_with_form, read_page}
+use Rattle.fax_walk.specs.Salvaged.{AreRowsOfPage, IsPageLeftAs, ArePagesLeft, IsSalvaged, LeftItem, PageRow}
 use Rattle.fax_walk.specs.Salvaged.{page_items}
 use Rattle.fax_walk.specs.laws.RowsLeft.{PagesAreLeft}
-use Rattle.fax_walk.specs.code.Opening.{IsPageUnder, page_or_end, page_over}
+use Rattle.fax_walk.proofs.PageLawLemmas.{in_chain}
 use Rattle.fax_walk.proofs.SalvageLawLemmas.{one_strips}
 
 abbrev StandsIn : List LeftItem → List LeftItem → Type 0
@@ -45,14 +44,14 @@ page_stands endian file first (suc n) q (x ∷ offsets) items at (own, others, i
       ),
     )
 
-module _ (salvages : SalvagesStripsOneWay) (chains : FilesHaveOneChain) (file : List ℕ) (p : ℕ) (here : FilePage)
+module _ (salvages : SalvagesStripsOneWay) (file : List ℕ) (p : ℕ) (here : FilePage)
     (rows : List PageRow) (are : AreRowsOfPage file here rows) (items : List LeftItem) where
   abbrev at : Cursor
   at = record { page = p; row = 0 }
 
   -- it is what its rows are handed out as
   its_items : (endian : Endian) (q : ℕ) (answer : Result PageForm FileFault) (own : List LeftItem)
-      → ◌≡◌ {A = Result FilePage End} (Ok here) (page_or_end endian q p answer)
+      → ◌≡◌ {A = Result FilePage End} (Ok here) (page_with_form endian q p answer)
       → IsPageLeftAs endian file p q answer own → own ≡ page_items p 0 rows
   its_items endian q (Err fault) own is left = absurd cc
   its_items endian q (Ok form) own is left =
@@ -64,25 +63,22 @@ module _ (salvages : SalvagesStripsOneWay) (chains : FilesHaveOneChain) (file : 
       (one_strips salvages file its 0 left.0 there.0 left.1 there.1)
       ∙ ap (page_items p 0) (sym there.2)
 
-  in_chain : (head : Header) (offsets : List ℕ) (fault : Option FileFault) (found : Option ℕ)
-      → slice_get offsets p ≡ found → ArePagesLeft head.endian file 0 offsets items
-      → ◌≡◌ {A = Result FilePage End} (Ok here) (page_over head.endian file offsets fault at found)
-      → StandsIn (page_items p 0 rows) items
-  in_chain head offsets fault None there left is = absurd cc
-  in_chain head offsets fault (Some q) there left is =
+  stands_at : (head : Header) (offsets : List ℕ) (q : ℕ) → slice_get offsets p ≡ Some q
+      → page_with_form head.endian q p (page head.endian file q) ≡ Ok here
+      → ArePagesLeft head.endian file 0 offsets items → StandsIn (page_items p 0 rows) items
+  stands_at head offsets q there is left =
       let stands = page_stands head.endian file 0 p q offsets items there left in
       let number : 0 + p ≡ p = omega arith in
-      let own = its_items head.endian q (page head.endian file q) stands.0 is (rw number at stands.1) in
+      let own = its_items head.endian q (page head.endian file q) stands.0 (sym is) (rw number at stands.1) in
       rw own at stands.2
 
-  in_file : (answer : Result Header FileFault) → IsPageUnder file at answer (Ok here)
-      → IsSalvagedUnder file answer items → StandsIn (page_items p 0 rows) items
-  in_file (Err fault) is left = absurd cc
-  in_file (Ok head) (offsets, fault, chain, is) (offsets', fault', chain', left) =
-      let one = chains head file in
-      let same : offsets ≡ offsets' = (one.one offsets fault chain).0 ∙ sym (one.one offsets' fault' chain').0 in
-      in_chain head offsets fault (slice_get offsets p) refl (rw same left) is
+  in_file : read_page file at ≡ Ok here → IsSalvaged file items → StandsIn (page_items p 0 rows) items
+  in_file is left =
+      let found = in_chain file at here is in
+      let its : page_with_form found.head.endian here.offset p (page found.head.endian file here.offset) ≡ Ok here =
+      rw (found.endian, found.fields) refl in
+      stands_at found.head (read_chain found.head file).offsets here.offset found.there its (rw found.is_head at left)
 
-pub pages_left_in_file : SalvagesStripsOneWay → FilesHaveOneChain → PagesAreLeft
-pages_left_in_file salvages chains file p here rows items there are left =
-    in_file salvages chains file p here rows are items (header file) there left
+pub pages_left_in_file : SalvagesStripsOneWay → PagesAreLeft
+pages_left_in_file salvages file p here rows items there are left =
+    in_file salvages file p here rows are items there left

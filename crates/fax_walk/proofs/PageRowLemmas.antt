@@ -11,8 +11,9 @@ use Rattle.fax_files.specs.declared.PageForm.{PageForm}
 use Rattle.fax_files.specs.declared.Endian.{Endian}
 use Rattle.fax_files.specs.laws.Files.{AreStrips, joined, shown, IsWholeForm}
 use Rattle.fax_files.specs.Page.{strip_form}
-use Rattle.fax_walk.specs.Pages.{IsPageAt}
+use Rattle.fax_walk.specs.Pages.{read_page}
 use Rattle.fax_walk.specs.Items.{RowPlace, first_at}
+use Rattle.fax_walk.specs.code.Opening.{IsPageOf}
 use Rattle.fax_walk.specs.code.Places.{first_on}
 use Rattle.fax_walk.specs.laws.Written.{WalkedRow, numbered}
 use Rattle.fax_walk.proofs.InOrderLemmas.{leads_both}
@@ -44,8 +45,7 @@ read_both file p at middle r rows more reached first second = grind (arith, map-
 
 module _ (by_place : AreBitsByPlace) (lines_read : LinesAreRead) (file : List ℕ) (endian : Endian) (q : ℕ)
     (form : PageForm) (p : ℕ)
-    (page : (r : ℕ) → IsPageAt file (record { page = p; row = r })
-    (Ok (record { endian = endian; offset = q; form = form })))
+    (page : IsPageOf file p (record { endian = endian; offset = q; form = form }))
     (whole : IsWholeForm form) where
   -- the rows of the strips from strip s on lead to the page after it
   pub strips_from : (strips : List (List (List Colour))) (s r : ℕ) → r ≡ min (s * form.rows_per_strip) form.rows

@@ -10,7 +10,7 @@ use Rattle.fax_files.specs.views.Chain.{ChainState}
 use Rattle.fax_files.specs.views.Tiff.{TiffDirectory}
 use Rattle.fax_walk.specs.declared.cursor.Cursor.{Cursor}
 use Rattle.fax_walk.specs.declared.end.End.{End}
-use Rattle.fax_walk.specs.Pages.{AreFrom, FormItem, IsForm, IsFormTail, goes_on, ends_as}
+use Rattle.fax_walk.specs.Pages.{AreFrom, FormItem, IsForm, IsFormTail, first_page, goes_on, ends_as}
 use Rattle.fax_walk.specs.code.Pages.{told_of, IsSoundReader, GoesOnAt, HasGiven, IsPageAfter, IsFirstDue, IsDueIn}
 use Rattle.fax_walk.specs.code.Pages.{EndsNow}
 use Rattle.fax_walk.specs.views.InOrder.{EndsAfter, HasEndedAs}
@@ -31,7 +31,7 @@ use Rattle.fax_walk.specs.declared.pages.PagesStage.TheVariants.{Before, After, 
 pub form_here : (p : ℕ) (chain : ChainState) (directory : TiffDirectory) (form : PageForm)
     → IsFilePage p chain directory form
     → IsForm directory.file p (goes_on (record { page = p; form = form }) (p + 1))
-form_here p chain directory form its = (Ok (page_with directory form), its.here 0, refl)
+form_here p chain directory form its = rw (its.here 0) refl
 
 module _ (file : List ℕ) (at : Cursor) (due : PageDue) (named : IsNamed file at (Some due)) where
   -- a reader from a page's first row begins with that page
@@ -39,11 +39,7 @@ module _ (file : List ℕ) (at : Cursor) (due : PageDue) (named : IsNamed file a
   begins_here first =
       let test : (at.row == 0) ≡ true = grind (arith, nat_tests, first) in
       record {
-        on = λ forms end are. (
-          Ok due.page,
-          (Ok (page_with due.directory due.form), named.3, rw (test, named.1) refl),
-          are,
-        );
+        on = λ forms end are. rw (named.3, first_page, test, ← named.1) are;
         file_is = named.0;
       }
 
@@ -52,7 +48,7 @@ module _ (file : List ℕ) (at : Cursor) (due : PageDue) (named : IsNamed file a
       let within = named.2 in
       let later : (at.row == 0) ≡ false = grind (arith, nat_tests, some) in
       let near : nat_le at.row due.form.rows ≡ true = grind (arith, nat_tests, within) in
-      (Ok (at.page + 1), (Ok (page_with due.directory due.form), named.3, rw (later, near) refl), are)
+      rw (named.3, first_page, later, near) are
 
 module _ (file : List ℕ) (at : Cursor) (due : PageDue) (named : IsNamed file at (Some due))
     (its : IsFilePage due.page due.chain due.directory due.form) where
@@ -79,11 +75,11 @@ module _ (file : List ℕ) (at : Cursor) (due : PageDue) (named : IsNamed file a
 
 -- from a cursor on there are no pages
 pub no_forms : (file : List ℕ) (at : Cursor) (end : End) → EndsAt file at end → IsFormTail file at [] end
-no_forms file at end (inl none) = (Err end, (Err end, none, refl), (refl, refl))
+no_forms file at end (inl none) = rw (none, first_page) (refl, refl)
 no_forms file at end (inr (here, page, above, end_is)) =
     let first : (at.row == 0) ≡ false = grind (arith, nat_tests, above) in
     let near : nat_le at.row here.form.rows ≡ false = grind (arith, nat_tests, above) in
-    (Err end, (Ok here, page, rw (first, near, end_is) refl), (refl, refl))
+    rw (page, first_page, first, near, end_is) (refl, refl)
 
 -- after the forms that lead to a page the pages end
 ended_after : (file : List ℕ) (begun : Cursor) (given p : ℕ) (end : End) → HasGiven file begun given p

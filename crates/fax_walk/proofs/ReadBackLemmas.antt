@@ -17,7 +17,7 @@ use Rattle.fax_walk.specs.declared.end.End.TheVariants.{Proper}
 use Rattle.fax_walk.specs.declared.options.Options.{Options}
 use Rattle.fax_walk.specs.declared.options.Target.{Target}
 use Rattle.fax_walk.specs.declared.options.Target.TheVariants as To
-use Rattle.fax_walk.specs.Pages.{AreFrom, FilePage, FormItem, IsForm, IsPageAt}
+use Rattle.fax_walk.specs.Pages.{AreFrom, FilePage, FormItem, IsForm, read_page}
 use Rattle.fax_walk.specs.Items.{AreItems, RowItem}
 use Rattle.fax_rows.specs.laws.Packed.{PackingUndoesUnpacking}
 use Rattle.fax_walk.specs.Converted.{IsSource, IsTiff, IsTooLarge, SourcePage, pages_of, target_bytes}
@@ -91,7 +91,7 @@ items_kept (one ∷ forms) p items (own, others, items_are, are, inl whole) =
 
 module _ (packs : PackingUndoesUnpacking) (paged : FilesArePaged) (within_limits : FormsAreWithinLimits) where
   page_limits : (file : List ℕ) → All (λ byte. byte < 256) file → (at : Cursor) (here : FilePage)
-      → IsPageAt file at (Ok here)
+      → read_page file at ≡ Ok here
       → IsPageForm here.form
   page_limits file bytes at here is =
       let found = in_chain file at here is in within_limits here.endian file here.offset here.form bytes found.fields

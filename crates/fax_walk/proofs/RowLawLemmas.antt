@@ -24,7 +24,7 @@ use Rattle.fax_walk.specs.declared.begun.Begun.{Begun}
 use Rattle.fax_walk.specs.declared.begun.Begun.TheVariants.{At, Inside}
 use Rattle.fax_walk.specs.declared.end.End.{End}
 use Rattle.fax_walk.specs.declared.end.End.TheVariants.{Fault, Outside}
-use Rattle.fax_walk.specs.Pages.{LongPlace, Cursor, FilePage, IsPageAt, NextItem, goes_on, ends_as}
+use Rattle.fax_walk.specs.Pages.{LongPlace, Cursor, FilePage, read_page, NextItem, goes_on, ends_as}
 use Rattle.fax_walk.specs.Items.{RowItem, RowPlace, first_at, exchanged, before, IsInStrip, IsRow, place_after}
 use Rattle.fax_walk.specs.Items.{IsBegunOn, IsInnerOn}
 use Rattle.fax_walk.specs.Items.{IsTailFrom, inner_at, begun_cursor}
@@ -32,7 +32,7 @@ use Rattle.fax_walk.specs.code.Places.{strip_at, row_in_strip, FitsStrip, cursor
 use Rattle.fax_walk.specs.views.Walk.{Begins}
 use Rattle.fax_walk.specs.laws.Tails.{BeginningsHaveOneTail}
 use Rattle.fax_walk.proofs.InOrderLemmas.{IsOneAnswer, IsListed, listed_by, one_list, same_answer}
-use Rattle.fax_walk.proofs.PageLawLemmas.{in_chain, one_on_page, one_page, page_few}
+use Rattle.fax_walk.proofs.PageLawLemmas.{in_chain, one_on_page, page_few}
 
 abbrev pub LinesAreRead : Type 0
 LinesAreRead = (form : StripForm) (i : ℕ) (reference : List Colour) → ReadsLinesOneWay form i reference
@@ -141,13 +141,12 @@ module _ (by_place : AreBitsByPlace) (lines_read : LinesAreRead) where
   one_in_strip form at (Some bytes) = let only = in_bytes form at bytes in
       record { it = only.it; is = only.is; one = only.one }
 
-  module _ (chains : FilesHaveOneChain) (file : List ℕ) where
+  module _ (file : List ℕ) where
     pub one_row : (at : RowPlace) → IsOneAnswer (IsRow file at)
     one_row at =
-        let only = one_on_page chains file (cursor_at at)
+        one_on_page (read_page file (cursor_at at))
         (λ here. IsInStrip here.form at (strip_bytes here.endian file here.offset (strip_at here.form at.row))) ends_as
-        (λ here. one_in_strip here.form at (strip_bytes here.endian file here.offset (strip_at here.form at.row))) in
-        record { it = only.it; is = only.is; one = only.one }
+        (λ here. one_in_strip here.form at (strip_bytes here.endian file here.offset (strip_at here.form at.row)))
 
 -- the place inside its strip after an item
 abbrev pub inner_after : PageForm → RowItem → RowPlace
@@ -173,7 +172,7 @@ module _ (file : List ℕ) where
   -- the row that was read, on its page and in its strip
   pub record IsRead (at : RowPlace) (item : RowItem) (to : RowPlace) : Type 0 where
     pub here : FilePage
-    pub page : IsPageAt file (cursor_at at) (Ok here)
+    pub page : read_page file (cursor_at at) ≡ Ok here
     pub bytes : List ℕ
     pub bytes_are : strip_bytes here.endian file here.offset (strip_at here.form at.row) ≡ Some bytes
     pub is : IsInStrip here.form at (Some bytes) (goes_on item to)
@@ -182,23 +181,23 @@ module _ (file : List ℕ) where
   read_at at item to h = grind arith
 
   -- a page is the same for each of its rows
-  pub any_row : (at : Cursor) (r : ℕ) (here : FilePage) → IsPageAt file at (Ok here)
-      → IsPageAt file (record { page = at.page; row = r }) (Ok here)
+  pub any_row : (at : Cursor) (r : ℕ) (here : FilePage) → read_page file at ≡ Ok here
+      → read_page file (record { page = at.page; row = r }) ≡ Ok here
+  unfolding read_page
   any_row at r here is = grind arith
 
-  pub whole_page : FormsAreWhole → (at : Cursor) (here : FilePage) → IsPageAt file at (Ok here) → IsWholeForm here.form
+  pub whole_page : FormsAreWhole → (at : Cursor) (here : FilePage) → read_page file at ≡ Ok here → IsWholeForm here.form
   whole_page forms at here is = forms here.endian file here.offset here.form (in_chain file at here is).fields
 
   -- so is that of a row that was read
   pub its_page : (at : RowPlace) (item : RowItem) (to : RowPlace) (read : IsRead at item to) (r : ℕ)
-      → IsPageAt file (record { page = item.page; row = r }) (Ok read.here)
+      → read_page file (record { page = item.page; row = r }) ≡ Ok read.here
   its_page at item to read r = rw read.is.0 (any_row (cursor_at at) r read.here read.page)
 
-  pub same_page : FilesHaveOneChain → (at : Cursor) (here there : FilePage) → IsPageAt file at (Ok here)
-      → IsPageAt file at (Ok there)
+  pub same_page : (at : Cursor) (here there : FilePage) → read_page file at ≡ Ok here → read_page file at ≡ Ok there
       → here ≡ there
-  same_page chains at here there is is_too = let same = same_answer (one_page chains file at) (Ok here) (Ok there) is
-      is_too in cc
+  same_page at here there is is_too =
+      let same : ◌≡◌ {A = Result FilePage End} (Ok here) (Ok there) = sym is ∙ is_too in cc
 
   -- what holds of the place after a row that was read: on the page after, at the next strip, or inside the strip
   pub after_read : (holds : RowPlace → Type 0) (at : RowPlace) (item : RowItem) (to : RowPlace)
@@ -215,15 +214,21 @@ module _ (file : List ℕ) where
 module _ (by_place : AreBitsByPlace) (lines_read : LinesAreRead) (chains : FilesHaveOneChain) (forms : FormsAreWhole)
     (file : List ℕ) where
   -- more than the rows that are left
-  abbrev measure : RowPlace → ℕ
+  abbrev pub measure : RowPlace → ℕ
   measure at = (length file - at.page) * 1000001 + (1000000 - at.row)
 
-  row_falls : (at : RowPlace) (item : RowItem) (to : RowPlace) → IsRow file at (goes_on item to)
+  pub row_falls : (at : RowPlace) (item : RowItem) (to : RowPlace) → IsRow file at (goes_on item to)
       → measure to < measure at
-  row_falls at item to step = grind (arith, read_at, page_few, whole_page, after_read)
+  row_falls at item to step =
+      let read = read_at file at item to step in
+      let few = page_few chains file (cursor_at at) read.here read.page in
+      let whole = whole_page file forms (cursor_at at) read.here read.page in
+      after_read file (λ t. measure t < measure at) at item to read (λ last. omega (arith, few, read.is.0))
+      (λ within first. omega (arith, few, whole.rows, within, read.is.0, read.is.1))
+      (λ within inside. omega (arith, few, whole.rows, within, read.is.0, read.is.1))
 
   pub rows_listed : (at : RowPlace) → IsListed (IsRow file) at
-  rows_listed = listed_by (IsRow file) (one_row by_place lines_read chains file) measure row_falls
+  rows_listed = listed_by (IsRow file) (one_row by_place lines_read file) measure row_falls
 
 same_list : (xs ys : List ℕ) → (xs ≡ ys) ⊎ (xs ≡ ys → ⊥)
 same_list xs ys = by_test (bytes_eq xs ys) (bytes_eq-Decides xs ys)
@@ -279,15 +284,14 @@ module _ (file : List ℕ) (here : FilePage) where
       record { it = only.it; is = only.is; one = only.one }
 
 -- a walk begins in one way
-pub one_beginning : FilesHaveOneChain → (file : List ℕ) (begun : Begun) → IsOneAnswer (Begins file begun)
-one_beginning chains file begun =
-    let only = one_on_page chains file (begun_cursor begun) (IsBegunOn file begun) Err (λ here. one_on file here begun)
-    in
-    record { it = only.it; is = only.is; one = only.one }
+pub one_beginning : (file : List ℕ) (begun : Begun) → IsOneAnswer (Begins file begun)
+one_beginning file begun =
+    one_on_page (read_page file (begun_cursor begun)) (λ here. IsBegunOn file begun here) Err
+    (λ here. one_on file here begun)
 
 pub one_tail_from : AreBitsByPlace → LinesAreRead → FilesHaveOneChain → FormsAreWhole → BeginningsHaveOneTail
 one_tail_from by_place lines_read chains forms file begun =
-    let only = one_beginning chains file begun in by_begin only.it only.is only.one
+    let only = one_beginning file begun in by_begin only.it only.is only.one
   where
     by_begin : (begin : Result (RowPlace × ℕ) End) → Begins file begun begin
         → ((other : Result (RowPlace × ℕ) End) → Begins file begun other → other ≡ begin)
@@ -300,7 +304,7 @@ one_tail_from by_place lines_read chains forms file begun =
     }
     by_begin (Ok (at, n)) is only =
         let listed = rows_listed by_place lines_read chains forms file at in
-        let all = one_list (IsRow file) (one_row by_place lines_read chains file) at listed in
+        let all = one_list (IsRow file) (one_row by_place lines_read file) at listed in
         record {
           items = drop n all.items;
           end = all.end;

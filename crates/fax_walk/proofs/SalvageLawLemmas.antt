@@ -1,19 +1,20 @@
 -- What is left of a damaged file is one list.
 use Rattle.std.proofs.Common.{◌≡◌, ℕ, zero, suc, ◌+◌, List, [], ◌∷◌, ◌++◌, map, None, Result}
 use Rattle.std.proofs.Common.{Ok, Err, refl, sym, ap, ◌∙◌, arith}
-use Rattle.std.specs.Prelude.{flat_map}
+use Rattle.std.specs.Prelude.{MatchResult, flat_map}
 use Rattle.fax_bits.specs.Bits.{bits}
 use Rattle.fax_page.specs.Lines.{white_row}
 use Rattle.fax_page.specs.laws.Salvage.{SalvagesStripsOneWay}
 use Rattle.fax_files.specs.declared.Endian.{Endian}
 use Rattle.fax_files.specs.declared.FileFault.{FileFault}
 use Rattle.fax_files.specs.declared.PageForm.{PageForm}
-use Rattle.fax_files.specs.Directory.{Header, header}
+use Rattle.fax_files.specs.Directory.{Header, header, read_chain}
 use Rattle.fax_files.specs.Page.{page, strip_form}
-use Rattle.fax_files.specs.laws.Files.{FilesHaveOneChain}
 use Rattle.fax_walk.specs.Pages.{FilePage}
 use Rattle.fax_walk.specs.Salvaged.{PageRow, LeftItem, page_refused, page_items, on_page, strip_left, AreStripsLeft}
-use Rattle.fax_walk.specs.Salvaged.{IsStripLeft, IsPageLeftAs, ArePagesLeft, IsSalvagedUnder}
+use Rattle.fax_walk.specs.Salvaged.{IsStripLeft, IsPageLeftAs, ArePagesLeft}
+use Rattle.fax_walk.proofs.InOrderLemmas.{IsOneAnswer}
+use Rattle.fax_walk.proofs.PageLawLemmas.{only_it}
 use Rattle.fax_walk.specs.laws.Salvaged.{IsSalvagedOneWay}
 
 module _ (salvages : SalvagesStripsOneWay) where
@@ -85,28 +86,19 @@ module _ (salvages : SalvagesStripsOneWay) where
       ∙ ap (λ (l : List LeftItem). own' ++ l) (one_pages endian file (p + 1) offsets later later' are are')
       ∙ sym others_are
 
-  module _ (chains : FilesHaveOneChain) where
-    under : (file : List ℕ) (answer : Result Header FileFault)
-        → (items : List LeftItem) × IsSalvagedUnder file answer items
-    under file (Err fault) = ([], refl)
-    under file (Ok head) =
-        let chain = chains head file in
-        let items = pages_left head.endian file 0 chain.offsets in
-        (items.0, (chain.offsets, chain.end, chain.is, items.1))
+  by_header : (file : List ℕ) (answer : Result Header FileFault) → IsOneAnswer (λ items.
+      MatchResult answer (λ head. ArePagesLeft head.endian file 0 (read_chain head file).offsets items)
+      (λ fault. items ≡ []))
+  by_header file (Err fault) = only_it []
+  by_header file (Ok head) =
+      let offsets = (read_chain head file).offsets in
+      let left = pages_left head.endian file 0 offsets in
+      record {
+        it = left.0;
+        is = left.1;
+        one = λ others is. one_pages head.endian file 0 offsets others left.0 is left.1;
+      }
 
-    one_under : (file : List ℕ) (answer : Result Header FileFault) (items others : List LeftItem)
-        → IsSalvagedUnder file answer items → IsSalvagedUnder file answer others → items ≡ others
-    one_under file (Err fault) items others is is' = is ∙ sym is'
-    one_under file (Ok head) items others (offsets, fault, chain, is) (offsets', fault', chain', is') =
-        let one = chains head file in
-        let same : offsets ≡ offsets' = (one.one offsets fault chain).0 ∙ sym (one.one offsets' fault' chain').0 in
-        one_pages head.endian file 0 offsets' items others (rw same at is) is'
-
-    pub salvaged_one_way : (file : List ℕ) → IsSalvagedOneWay file
-    salvaged_one_way file =
-        let left = under file (header file) in
-        record {
-          items = left.0;
-          are = left.1;
-          one = λ others is. one_under file (header file) others left.0 is left.1;
-        }
+  pub salvaged_one_way : (file : List ℕ) → IsSalvagedOneWay file
+  salvaged_one_way file =
+      let left = by_header file (header file) in record { items = left.it; are = left.is; one = left.one }

@@ -14,7 +14,7 @@ use Rattle.fax_walk.specs.Items.{IsRow, RowItem, first_at}
 use Rattle.fax_walk.specs.laws.InOrder.{LeadTo}
 use Rattle.fax_walk.specs.code.Places.{first_on}
 use Rattle.fax_walk.specs.code.Salvage.{AreWholeBefore}
-use Rattle.fax_walk.specs.code.SalvageFile.{IsPageOf}
+use Rattle.fax_walk.specs.code.Opening.{IsPageOf, page_with}
 use Rattle.fax_walk.proofs.InOrderLemmas.{leads_both}
 use Rattle.fax_walk.proofs.OpenPageLemmas.{whole_of}
 use Rattle.fax_walk.proofs.RowLawLemmas.{LinesAreRead}
@@ -22,7 +22,7 @@ use Rattle.fax_walk.proofs.StripPlaceLemmas.{strip_count}
 use Rattle.fax_walk.proofs.StripRowLemmas.{strip_rows}
 
 module _ (by_place : AreBitsByPlace) (lines_read : LinesAreRead) (directory : TiffDirectory) (form : PageForm) (p : ℕ)
-    (limits : IsPageForm form) (page : IsPageOf directory.file p directory form) where
+    (limits : IsPageForm form) (page : IsPageOf directory.file p (page_with directory form)) where
   abbrev n : ℕ
   n = form.rows_per_strip
 

@@ -38,8 +38,8 @@ some_run colour n (first ∷ pels) = grind (arith, common_steps, some_run colour
 pub cursors_are_short : FormsAreWhole → FilesHaveOneChain → CursorsAreShort
 cursors_are_short forms chains file begun all end n item short reached tail there =
     let split = split_at_number file begun all end n item tail there in
-    let row = read forms chains file begun reached item (drop (n + 1) all) end split in
-    let from = here_from forms chains file begun reached item (drop (n + 1) all) end split row.here row.page in
+    let row = read forms file begun reached item (drop (n + 1) all) end split in
+    let from = here_from forms file begun reached item (drop (n + 1) all) end split row.here row.page in
     let whole = whole_page file forms (record { page = split.row.at.page; row = split.row.at.row }) row.here row.page in
     let few = page_few chains file (record { page = split.row.at.page; row = split.row.at.row }) row.here row.page in
     record {
@@ -51,18 +51,18 @@ pub places_are_short : LinesAreRead → FormsAreWhole → FilesHaveOneChain → 
 places_are_short lines_read forms chains file begun all end n item place short tail there long =
     let after = drop (n + 1) all in
     let split = split_at_number file begun all end n item tail there in
-    let row = this forms chains file lines_read begun item after end split place long in
-    let fact = facts forms chains file lines_read begun item after end split place long in
+    let row = this forms file lines_read begun item after end split place long in
+    let fact = facts forms file lines_read begun item after end split place long in
     let whole = whole_page file forms (record { page = split.row.at.page; row = split.row.at.row }) row.here row.page in
     let few = page_few chains file (record { page = split.row.at.page; row = split.row.at.row }) row.here row.page in
     let wide : length (exchanged row.here.form item.pels) ≡ row.here.form.width =
-    ap (λ (l : List Colour). length l) (sym (pels_are forms chains file lines_read begun item after end split place
+    ap (λ (l : List Colour). length l) (sym (pels_are forms file lines_read begun item after end split place
     long))
-    ∙ (inner forms chains file lines_read begun item after end split place long).1 in
+    ∙ (inner forms file lines_read begun item after end split place long).1 in
     let runs : All (λ run. run < 2 ^ 32) (runs_of (exchanged row.here.form item.pels)) =
     runs_short White 0 (2 ^ 32) (exchanged row.here.form item.pels) (omega (arith, wide, whole.width)) in
     let bits : item.bits < 2 ^ 32 = grind (arith, nat_tests, fact.bits) in
-    let found : IsLongCursor (long_of forms chains file row.here.form item) = record {
+    let found : IsLongCursor (long_of forms file row.here.form item) = record {
       cursor = record { page = omega (arith, few, short, row.is.0); row = omega (arith, fact.within, whole.rows) };
       bits = bits;
       runs = runs;

@@ -16,9 +16,10 @@ use Rattle.fax_files.specs.laws.Files.{FilesHaveOneChain, FormsAreWhole}
 use Rattle.fax_walk.specs.declared.cursor.Cursor.{Cursor}
 use Rattle.fax_walk.specs.declared.end.End.{End}
 use Rattle.fax_walk.specs.declared.end.End.TheVariants.{Fault}
-use Rattle.fax_walk.specs.Pages.{AreFrom, FilePage, FormItem, IsForm, IsPageAt, NextItem, goes_on, ends_as}
+use Rattle.fax_walk.specs.Pages.{AreFrom, FilePage, FormItem, IsForm, read_page, NextItem, goes_on, ends_as}
 use Rattle.fax_walk.specs.Items.{RowItem, Inner, RowPlace, first_at, exchanged, before, IsInStrip, IsRow, place_after}
 use Rattle.fax_walk.specs.Converted.{pages_of}
+use Rattle.fax_walk.specs.code.Opening.{IsPageOf}
 use Rattle.fax_walk.specs.code.Output.{form_sheet, page_of}
 use Rattle.fax_walk.specs.code.Places.{strip_at}
 use Rattle.fax_walk.specs.code.Sources.{ArePaged, AreRowsOn, pels_of}
@@ -41,8 +42,7 @@ record HasRows (file : List ℕ) (p : ℕ) (form : PageForm) (r : ℕ) (from : R
 
 module _ (by_place : AreBitsByPlace) (lines_read : LinesAreRead) (file : List ℕ) (endian : Endian) (q : ℕ)
     (form : PageForm) (p : ℕ)
-    (page : (r : ℕ) → IsPageAt file (record { page = p; row = r })
-    (Ok (record { endian = endian; offset = q; form = form }))) where
+    (page : IsPageOf file p (record { endian = endian; offset = q; form = form })) where
   abbrev place_at : ℕ → Option Inner → RowPlace
   place_at r inner = record { page = p; row = r; inner = inner }
 
@@ -101,25 +101,21 @@ module _ (by_place : AreBitsByPlace) (lines_read : LinesAreRead) (file : List �
       let only = one_in_strip by_place lines_read form (place_at r inner) (strip_bytes endian file q (strip_at form r))
       in
       by_found r due (λ later later_wide more. rows_on left (r + 1) later (omega (arith, count)) later_wide more)
-      inner wide (strip_bytes endian file q (strip_at form r)) only.it only.is (Ok _, page r, only.is)
+      inner wide (strip_bytes endian file q (strip_at form r)) only.it only.is (rw (page r) only.is)
 
   page_rows : 0 < form.rows → Rows 0 (first_at p 0)
   page_rows some = rows_on form.rows 0 None (omega arith) (length-replicate form.width White) some
 
 -- a place of a page that is not there has this end, and so has the form due there
 pub not_there : (file : List ℕ) (k : ℕ) (end : End) → IsForm file k (ends_as end)
-    → IsPageAt file (record { page = k; row = 0 }) (Err end)
+    → read_page file (record { page = k; row = 0 }) ≡ Err end
 not_there file k end h = grind arith
 
 -- the page whose form is due, and the page after it
 pub found_page : (file : List ℕ) (p : ℕ) (one : FormItem) (next : ℕ) → IsForm file p (goes_on one next)
-    → (here : FilePage) × IsPageAt file (record { page = p; row = 0 }) (Ok here) × (one.form ≡ here.form)
+    → (here : FilePage) × (read_page file (record { page = p; row = 0 }) ≡ Ok here) × (one.form ≡ here.form)
     × (next ≡ p + 1)
-found_page file p one next (Err end, page, e) = absurd cc
-found_page file p one next (Ok here, page, e) =
-    let item : one ≡ record { page = p; form = here.form } = cc in
-    let to : next ≡ p + 1 = cc in
-    (here, page, ap (λ (i : FormItem). i.form) item, to)
+found_page file p one next is = grind arith
 
 -- what is handed out after items that lead to a place
 after_led : {S A : Type 0} (next : S → NextItem A S → Type 0) → ((at : S) → IsOneAnswer (next at)) → (at to : S)
@@ -137,7 +133,7 @@ after_led {S} {A} next answers at to (x ∷ own) (y ∷ items) end (place, step,
 module _ (by_place : AreBitsByPlace) (lines_read : LinesAreRead) (chains : FilesHaveOneChain) (wholes : FormsAreWhole)
     (file : List ℕ) where
   answers : (at : RowPlace) → IsOneAnswer (IsRow file at)
-  answers = one_row by_place lines_read chains file
+  answers = one_row by_place lines_read file
 
   -- the items of a file are the rows of its pages
   pub paged : (forms : List FormItem) (p : ℕ) (last : End) (items : List RowItem) (end : End)
@@ -145,7 +141,7 @@ module _ (by_place : AreBitsByPlace) (lines_read : LinesAreRead) (chains : Files
       → AreFrom (IsRow file) (first_at p 0) items end → ArePaged p forms last items end
   paged [] p last items end forms_are items_are =
       one_from (IsRow file) answers (first_at p 0) items [] end last items_are
-      (Err last, not_there file p last forms_are, refl)
+      (rw (not_there file p last forms_are) refl)
   paged (one ∷ forms) p last items end (next, step, rest) items_are =
       let found = found_page file p one next step in
       let here = found.0 in

@@ -25,9 +25,10 @@ use Rattle.fax_walk.specs.declared.checking.PageRead.{PageRead}
 use Rattle.fax_walk.specs.declared.end.End.{End}
 use Rattle.fax_walk.specs.declared.end.End.TheVariants.{Fault}
 use Rattle.fax_walk.specs.laws.InOrder.{LeadTo}
-use Rattle.fax_walk.specs.Pages.{IsPageAt, NextItem, ends_as}
+use Rattle.fax_walk.specs.Pages.{read_page, NextItem, ends_as}
 use Rattle.fax_walk.specs.Items.{RowItem, RowPlace, first_at, IsRow}
 use Rattle.fax_walk.specs.Report.{notes_on_strip, IsStripNoted, IsNoted}
+use Rattle.fax_walk.specs.code.Opening.{IsPageOf}
 use Rattle.fax_walk.specs.code.Check.{before_strip, CheckPlace, HasChecked, IsDirectoryOfPage}
 use Rattle.fax_walk.specs.code.Check.{AreStripsChecked, IsRestChecked, IsRowInside, IsReadTo}
 use Rattle.fax_walk.proofs.CheckLemmas.{nothing_checked, checked_on}
@@ -56,9 +57,7 @@ module _ (directory : TiffDirectory) (form : PageForm) (p : ℕ) (on : IsPageToC
   abbrev n : ℕ
   n = form.rows_per_strip
 
-  page : (r : ℕ)
-      → IsPageAt file (record { page = p; row = r })
-      (Ok (record { endian = directory.endian; offset = directory.offset; form = form }))
+  page : IsPageOf file p (record { endian = directory.endian; offset = directory.offset; form = form })
   page r = rw on.form_is at (on.here r)
 
   whole : IsWholeForm form
@@ -74,7 +73,7 @@ module _ (directory : TiffDirectory) (form : PageForm) (p : ℕ) (on : IsPageToC
   -- what is found on a strip
   noted_on : (s : ℕ) (answer : NextItem (List Note) (ℕ × Option ℕ))
       → IsStripNoted form p s (bytes_of directory s) answer → IsNoted file ((p, Some s)) answer
-  noted_on s answer is = (Ok _, page 0, is)
+  noted_on s answer is = rw (page 0) is
 
   -- one more strip is whole
   pub strip_after : (s : ℕ) (old middle new : List Note) (bytes : List ℕ) (rows : List (List Colour))

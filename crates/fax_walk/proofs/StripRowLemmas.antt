@@ -20,8 +20,9 @@ use Rattle.fax_files.specs.Page.{strip_form, strip_bytes}
 use Rattle.fax_files.specs.laws.Files.{shown, IsWholeForm}
 use Rattle.fax_walk.specs.declared.end.End.TheVariants.{Fault}
 use Rattle.fax_walk.specs.laws.InOrder.{LeadTo}
-use Rattle.fax_walk.specs.Pages.{IsPageAt, NextItem, goes_on, ends_as}
+use Rattle.fax_walk.specs.Pages.{read_page, NextItem, goes_on, ends_as}
 use Rattle.fax_walk.specs.Items.{RowItem, Inner, RowPlace, first_at, exchanged, before, IsInStrip, IsRow, place_after}
+use Rattle.fax_walk.specs.code.Opening.{IsPageOf}
 use Rattle.fax_walk.specs.code.Places.{first_on, place_on, strip_at}
 use Rattle.fax_walk.specs.laws.Written.{WalkedRow, walked, numbered}
 use Rattle.fax_walk.proofs.RowLawLemmas.{LinesAreRead, exchanged_twice}
@@ -54,8 +55,7 @@ none_read file p form at r reached here = grind arith
 
 module _ (by_place : AreBitsByPlace) (lines_read : LinesAreRead) (file : List ℕ) (endian : Endian) (q : ℕ)
     (form : PageForm) (p : ℕ)
-    (page : (r : ℕ) → IsPageAt file (record { page = p; row = r })
-    (Ok (record { endian = endian; offset = q; form = form })))
+    (page : IsPageOf file p (record { endian = endian; offset = q; form = form }))
     (whole : IsWholeForm form) where
   abbrev n : ℕ
   n = form.rows_per_strip
@@ -67,12 +67,7 @@ module _ (by_place : AreBitsByPlace) (lines_read : LinesAreRead) (file : List �
   pub row_at : (r : ℕ) (inner : Option Inner) (found : Option (List ℕ)) (answer : NextItem RowItem RowPlace)
       → strip_bytes endian file q (strip_at form r) ≡ found → IsInStrip form (place_at r inner) found answer
       → IsRow file (place_at r inner) answer
-  row_at r inner found answer e is = (
-    Ok _,
-    page r,
-    subst (λ (o : Option (List ℕ)). IsInStrip form (place_at r inner) o
-        answer) (sym e) is,
-  )
+  row_at r inner found answer e is = rw (page r, e) is
 
   -- the rows of a strip lead to the next one, or to the row that is not there
   abbrev pub Reaches : Option StripFault → ℕ → RowPlace → Type 0

@@ -6,33 +6,33 @@ use Rattle.fax_walk.specs.declared.begun.Begun.TheVariants.{At}
 use Rattle.fax_walk.specs.declared.cursor.Cursor.{Cursor}
 use Rattle.fax_walk.specs.declared.end.End.{End}
 use Rattle.fax_walk.specs.declared.end.End.TheVariants.{Outside}
-use Rattle.fax_walk.specs.Pages.{FilePage, IsPageAt}
+use Rattle.fax_walk.specs.Pages.{FilePage, read_page}
 use Rattle.fax_walk.specs.Items.{IsBegunOn, RowPlace, first_at}
 use Rattle.fax_walk.specs.views.Walk.{Begins}
 use Rattle.fax_walk.specs.code.Places.{row_in_strip, strip_at}
 
 -- a walk from a cursor begins at the strip of its row, after the page's last row on the next page, and past that
 -- nowhere
-module _ (file : List ℕ) (at : Cursor) (here : FilePage) (page : IsPageAt file at (Ok here)) where
+module _ (file : List ℕ) (at : Cursor) (here : FilePage) (page : read_page file at ≡ Ok here) where
   abbrev strip : RowPlace
   strip = first_at at.page (strip_at here.form at.row * here.form.rows_per_strip)
 
   pub begins_in : at.row < here.form.rows → Begins file (At at) (Ok (strip, row_in_strip here.form at.row))
   begins_in below =
       let test : nat_lt at.row here.form.rows ≡ true = grind (arith, nat_tests, below) in
-      (Ok here, page, rw test refl)
+      rw (page, test) refl
 
   pub begins_after : at.row ≡ here.form.rows → Begins file (At at) (Ok (first_at (at.page + 1) 0, 0))
   begins_after last =
       let below : nat_lt at.row here.form.rows ≡ false = grind (arith, nat_tests, last) in
       let test : (at.row == here.form.rows) ≡ true = grind (arith, nat_tests, last) in
-      (Ok here, page, rw (below, test) refl)
+      rw (page, below, test) refl
 
   pub begins_past : here.form.rows < at.row → Begins file (At at) (Err Outside)
   begins_past past =
       let below : nat_lt at.row here.form.rows ≡ false = grind (arith, nat_tests, past) in
       let test : (at.row == here.form.rows) ≡ false = grind (arith, nat_tests, past) in
-      (Ok here, page, rw (below, test) refl)
+      rw (page, below, test) refl
 
 pub same_place : (from at : RowPlace) (k n : ℕ) → ◌≡◌ {A = Result (RowPlace × ℕ) End} (Ok (from, k)) (Ok (at, n))
     → from ≡ at

@@ -13,7 +13,7 @@ use Rattle.fax_walk.specs.declared.end.End.{End}
 use Rattle.fax_walk.specs.declared.begun.Begun.TheVariants.{At, Inside}
 use Rattle.fax_walk.specs.declared.opening.OpenFault.{OpenFault}
 use Rattle.fax_walk.specs.declared.opening.OpenFault.TheVariants.{Ended, Memory}
-use Rattle.fax_walk.specs.Pages.{AreFrom, FilePage, IsPageAt, LongPlace, ends_as}
+use Rattle.fax_walk.specs.Pages.{AreFrom, FilePage, read_page, LongPlace, ends_as}
 use Rattle.fax_walk.specs.views.InOrder.{EndsAfter, HasEndedAs, HasToldNoOther}
 use Rattle.fax_walk.specs.laws.InOrder.{LeadTo}
 use Rattle.fax_walk.specs.views.Walk.{AreRead, dropped, EndsBefore, EntersFirst, EntersPage, HasPage, IsCursorOf}
@@ -276,18 +276,18 @@ module _ (file : List ℕ) (begun : Begun) where
 
   -- a page is read whole, and none of its rows was handed out: the walk began on it, or before it
   enters_first : (from : Begun) (page n : ℕ) (first : RowPlace) (found : Result FilePage End)
-      → IsPageAt file (begun_cursor from) found
+      → read_page file (begun_cursor from) ≡ found
       → MatchResult found (λ here. IsBegunOn file from here (starts first n)) (λ none. starts first n ≡ Err none)
       → (n ≡ 0 → first_at (page + 1) 0 ≡ first) → HasPage file (page + 1) → EntersFirst file from
   enters_first from page n first (Err none) is begins same there = grind arith
   enters_first (At at) page n first (Ok here) is begins same there = elim (cases_lt at.row here.form.rows) [
-    | inl below ↦ (Ok here, is, inl below)
+    | inl below ↦ rw is (inl below)
     | inr past ↦
         let begin = begun_past at here first n past begins in
         let next : page + 1 ≡ at.page + 1 = ap (λ (p : RowPlace). p.page) (same begin.1 ∙ begin.0) in
-        (Ok here, is, inr (refl, begun_last at here first n past begins, subst (HasPage file) next there))
+        rw is (inr (refl, begun_last at here first n past begins, subst (HasPage file) next there))
   ]
-  enters_first (Inside place) page n first (Ok here) is (inl (inner, begins)) same there = (Ok here, is, inl inner.row)
+  enters_first (Inside place) page n first (Ok here) is (inl (inner, begins)) same there = rw is (inl inner.row)
   enters_first (Inside place) page n first (Ok here) is (inr (not, begins)) same there = grind arith
 
   last_row : (page : ℕ) (item : RowItem) → item.row < item.form.rows → first_at (page + 1) 0 ≡ place_after item
@@ -307,8 +307,8 @@ module _ (file : List ℕ) (begun : Begun) where
             (none n) come.lead in
             inl (
               zero,
-              enters_first begun old.page come.dropped come.first come.begins.0 come.begins.1 come.begins.2
-                  same_place there,
+              enters_first begun old.page come.dropped come.first (read_page file (begun_cursor begun)) refl
+                  come.begins same_place there,
             )
         | inr after ↦
             let last = last_row old.page after.item after.within (sym place ∙ after.to_is) in

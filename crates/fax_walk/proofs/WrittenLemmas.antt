@@ -7,15 +7,15 @@ use Rattle.std.specs.List.{AllZip}
 use Rattle.fax_bits.specs.declared.Colour.{Colour}
 use Rattle.fax_bits.specs.laws.Codes.{AreBitsByPlace}
 use Rattle.fax_files.specs.declared.Endian.TheVariants.{Little}
-use Rattle.fax_files.specs.Directory.{Header, header, IsChain}
+use Rattle.fax_files.specs.Directory.{Header, header, read_chain}
+use Rattle.fax_files.specs.Page.{page}
 use Rattle.fax_files.specs.laws.Files.{ArePageRows}
 use Rattle.fax_files.specs.Layout.{WrittenPage, file_of}
 use Rattle.fax_files.specs.laws.Files.{IsWritable, AreWritable, IsReadAt, WrittenFilesAreRead, WrittenRowsAreRead}
 use Rattle.fax_files.specs.laws.Files.{FormsAreWhole}
 use Rattle.fax_walk.specs.declared.cursor.Cursor.{Cursor}
 use Rattle.fax_walk.specs.declared.end.End.TheVariants.{Proper}
-use Rattle.fax_walk.specs.Pages.{AreFrom, IsPageAt, IsForm}
-use Rattle.fax_walk.specs.code.Opening.{end_past_chain}
+use Rattle.fax_walk.specs.Pages.{AreFrom, IsForm, chain_end, page_with_form, read_page}
 use Rattle.fax_walk.specs.Items.{RowItem, first_at, IsRow}
 use Rattle.fax_walk.specs.laws.Written.{WalkedRow, walked, numbered, HoldsRows, rows_of, forms_of}
 use Rattle.fax_walk.specs.laws.Written.{WrittenFilesAreWalked}
@@ -28,14 +28,18 @@ use Rattle.fax_walk.proofs.StripRowLemmas.{AreRead}
 
 -- a page of this number ends the chain properly
 module _ (file : List ℕ) (head : Header) (is : header file ≡ Ok head) (offsets : List ℕ)
-    (chain : IsChain head file offsets None) where
+    (chain : read_chain head file ≡ record { offsets = offsets; end = None }) where
   proper_after : (p : ℕ) → drop p offsets ≡ [] → p ≡ length offsets
-      → IsPageAt file (record { page = p; row = 0 }) (Err Proper)
+      → read_page file (record { page = p; row = 0 }) ≡ Err Proper
   proper_after p e all =
       let at : Cursor = record { page = p; row = 0 } in
-      let proper : end_past_chain (length offsets) None at ≡ Proper =
-      ap (λ (n : ℕ). end_past_chain n None at) (sym all) ∙ proper_end p in
-      rw proper at (no_page file head is offsets None chain at e)
+      let proper : chain_end (length offsets) None at ≡ Proper =
+      ap (λ (n : ℕ). chain_end n None at) (sym all) ∙ proper_end p in
+      rw (chain, proper) at (no_page file head is at (rw chain e))
+
+  page_there : (p q : ℕ) (later : List ℕ) → drop p offsets ≡ q ∷ later → (r : ℕ)
+      → read_page file (record { page = p; row = r }) ≡ page_with_form head.endian q p (page head.endian file q)
+  page_there p q later e r = some_page file head is (record { page = p; row = r }) q later (rw chain e)
 
 -- rows that are handed out, and then the rows end properly
 pub record AreAllFrom (file : List ℕ) (p : ℕ) (rows : List WalkedRow) : Type 0 where
@@ -46,7 +50,7 @@ pub record AreAllFrom (file : List ℕ) (p : ℕ) (rows : List WalkedRow) : Type
 module _ (by_place : AreBitsByPlace) (lines_read : LinesAreRead) (wholes : FormsAreWhole) (law : WrittenRowsAreRead)
     (file : List ℕ) (head : Header)
     (is : header file ≡ Ok head) (little : head.endian ≡ Little) (offsets : List ℕ)
-    (chain : IsChain head file offsets None) where
+    (chain : read_chain head file ≡ record { offsets = offsets; end = None }) where
   -- the rows of a page that is read as it was written
   page_read : (p q : ℕ) (later : List ℕ) (written : WrittenPage) (rows : List (List Colour))
       → drop p offsets ≡ q ∷ later
@@ -60,8 +64,7 @@ module _ (by_place : AreBitsByPlace) (lines_read : LinesAreRead) (wholes : Forms
       rw are.rows_are
       (rw some at
       (strips_from by_place lines_read file Little q written.form p
-      (λ r. rw (little, read.form) at (some_page file head is offsets None chain (record { page = p; row = r }) q later
-      e))
+      (λ r. rw (little, read.form) at (page_there file head is offsets chain p q later e r))
       (wholes Little file q written.form read.form) are.strips 0 0 (omega arith) are.read))
 
   pages_read : (later : List ℕ) (p : ℕ) (pages : List WrittenPage) (rows : List (List (List Colour)))
@@ -71,7 +74,7 @@ module _ (by_place : AreBitsByPlace) (lines_read : LinesAreRead) (wholes : Forms
       → AreAllFrom file p (rows_of p rows)
   pages_read [] p [] [] e count writable read holds = record {
     items = [];
-    are = (Err Proper, proper_after file head is offsets chain p e (omega (arith, count)), refl);
+    are = rw (proper_after file head is offsets chain p e (omega (arith, count))) refl;
     rows_are = refl;
   }
   pages_read [] p [] (first ∷ rows) e count writable read holds = absurd holds
@@ -96,17 +99,13 @@ module _ (by_place : AreBitsByPlace) (lines_read : LinesAreRead) (wholes : Forms
   forms_read : (later : List ℕ) (p : ℕ) (pages : List WrittenPage) → drop p offsets ≡ later
       → p + length later ≡ length offsets
       → AllZip (IsReadAt file) later pages → AreFrom (IsForm file) p (forms_of p pages) Proper
-  forms_read [] p [] e count read = (
-    Err Proper,
-    proper_after file head is offsets chain p e (omega (arith, count)),
-    refl,
-  )
+  forms_read [] p [] e count read = rw (proper_after file head is offsets chain p e (omega (arith, count))) refl
   forms_read [] p (written ∷ pages) e count read = absurd read
   forms_read (q ∷ later) p [] e count read = absurd read
   forms_read (q ∷ later) p (written ∷ pages) e count read =
-      let here = some_page file head is offsets None chain (record { page = p; row = 0 }) q later e in (
+      let here = rw (little, read.0.form) at (page_there file head is offsets chain p q later e 0) in (
         p + 1,
-        (Ok (record { endian = Little; offset = q; form = written.form }), rw (little, read.0.form) at here, refl),
+        rw here refl,
         forms_read later (p + 1) pages (next_dropped p offsets q later e) (omega (arith, count)) read.1,
       )
 

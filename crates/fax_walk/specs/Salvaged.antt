@@ -2,7 +2,7 @@
 -- each row that is found, and each stretch of rows that are lost.
 -- A definition without a citation is this project's profile.
 use Rattle.std.specs.Prelude.{◌≡◌, ℕ, ◌+◌, ◌*◌, ◌<◌, Bool, true, false, List, [], ◌∷◌, ◌++◌, map}
-use Rattle.std.specs.Prelude.{drop, flat_map, Option, Some, None, Result, Ok, Err}
+use Rattle.std.specs.Prelude.{drop, flat_map, Option, Some, None, Result, Ok, Err, MatchResult}
 use Rattle.fax_bits.specs.Bits.{bits}
 use Rattle.fax_rows.specs.Rows.{Colour}
 use Rattle.fax_page.specs.declared.StripFault.TheVariants.{MissingEol}
@@ -11,7 +11,7 @@ use Rattle.fax_page.specs.Salvage.{SalvagedRow, found, lost, unended, AreSalvage
 use Rattle.fax_files.specs.declared.FileFault.{FileFault}
 use Rattle.fax_files.specs.declared.FileFault.TheVariants.{StripOutside}
 use Rattle.fax_files.specs.declared.Endian.{Endian}
-use Rattle.fax_files.specs.Directory.{Header, IsChain, header}
+use Rattle.fax_files.specs.Directory.{header, read_chain}
 use Rattle.fax_files.specs.Page.{bytes_inside, page, strip_bytes, strip_form}
 use Rattle.fax_walk.specs.Pages.{Cause, File, Strip, FilePage, PageForm}
 use Rattle.fax_walk.specs.Items.{Inner, exchanged}
@@ -122,13 +122,9 @@ ArePagesLeft endian file p (q ∷ offsets) items =
     (own others : List LeftItem) × IsPageLeftAs endian file p q (page endian file q) own
     × ArePagesLeft endian file (p + 1) offsets others × (items ≡ own ++ others)
 
--- what is left of a file with this header; of one without a good header nothing
-abbrev pub IsSalvagedUnder : List ℕ → Result Header FileFault → List LeftItem → Type 0
-IsSalvagedUnder file (Err fault) items = items ≡ []
-IsSalvagedUnder file (Ok head) items =
-    (offsets : List ℕ) × (fault : Option FileFault) × IsChain head file offsets fault
-    × ArePagesLeft head.endian file 0 offsets items
-
--- what is left of a file
+-- what is left of a file; of one without a good header nothing
 abbrev pub IsSalvaged : List ℕ → List LeftItem → Type 0
-IsSalvaged file items = IsSalvagedUnder file (header file) items
+IsSalvaged file items =
+    MatchResult (header file)
+    (λ head. ArePagesLeft head.endian file 0 (read_chain head file).offsets items)
+    (λ fault. items ≡ [])

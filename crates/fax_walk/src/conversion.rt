@@ -182,7 +182,6 @@ fn convert_file(alloc: Global, file: &[u8], options: &Options) -> Result<Parts, 
     ensures err { IfErr result (λ fault. fault ≢ ConvertFault.Memory
         → Spec.IsNotConverted file.now options.now fault) }
 {
-    fax_files::laws::files_have_one_chain();
     crate::laws::files_are_paged();
     crate::laws::form_tails_are_one();
     crate::laws::tails_go_on();

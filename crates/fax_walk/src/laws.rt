@@ -73,7 +73,6 @@ pub fn answers_are_one()
 {
     fax_page::laws::strips_are_read_in_one_way();
     fax_page::laws::strips_are_noted_in_one_way();
-    fax_files::laws::files_have_one_chain();
     fax_files::laws::images_are_read_in_one_way();
     form_tails_are_one();
     tails_go_on();
@@ -108,9 +107,7 @@ pub fn beginnings_have_one_tail()
 pub fn cursors_name_one_page()
     ensures pages { PageLaws.CursorsNameOnePage }
     ensures forms { PageLaws.ItemsKnowTheirForm }
-{
-    fax_files::laws::files_have_one_chain();
-}
+{}
 
 /// Each file and each cursor has forms and an end, and one list of them only. From a page's first
 /// row it is the forms from that page on. What follows a form is the tail from the cursor after it.
@@ -172,7 +169,6 @@ pub fn walks_hand_out_the_rest()
     ensures place { PrintedLaws.PlacesArePrinted }
     ensures read { PrintedLaws.RowsAreReadOnce }
 {
-    fax_files::laws::files_have_one_chain();
     beginnings_have_one_tail();
     tails_go_on();
 }
@@ -210,7 +206,6 @@ pub fn files_are_salvaged_in_one_way()
     ensures { (file : List ℕ) → IsSalvagedOneWay file }
 {
     fax_page::laws::strips_are_salvaged_in_one_way();
-    fax_files::laws::files_have_one_chain();
 }
 
 /// What is left of a page, or of a strip with no file around it, is one list of rows, found or lost;
@@ -223,5 +218,4 @@ pub fn rows_are_left_in_one_way()
 {
     fax_page::laws::strips_are_salvaged_in_one_way();
     fax_page::laws::uncounted_rows_are_left_in_one_way();
-    fax_files::laws::files_have_one_chain();
 }

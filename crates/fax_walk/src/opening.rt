@@ -86,7 +86,6 @@ pub(crate) fn chain_before<'a>(file: &'a [u8], page: u32) -> Result<Chain<'a>, E
         Ok(tiff) => tiff,
         Err(fault) => return Err(End::of_file(0, 0, fault)),
     };
-    fax_files::laws::files_have_one_chain();
     let mut chain = Chain::new(tiff);
     for number in 0..page {
         match chain.next() {
@@ -105,7 +104,6 @@ impl<'a> DuePage<'a> {
         requires { Spec.IsFileChain chain }
         ensures { Spec.IsPageAnswer chain.entry result }
     {
-        fax_files::laws::files_have_one_chain();
         let page = chain.given();
         let directory = match chain.next() {
             Ok(Some(directory)) => directory,
@@ -130,7 +128,6 @@ impl<'a> DuePage<'a> {
         ensures err { IfErr result (Spec.EndsAt file.now cursor) }
     {
         let chain = chain_before(file, cursor.page)?;
-        fax_files::laws::files_have_one_chain();
         let Some(page) = DuePage::after(chain)? else {
             return if cursor.row == 0 {
                 Ok(None)

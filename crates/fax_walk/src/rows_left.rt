@@ -1,7 +1,7 @@
 //! The rows that are left of a page, or of a strip with no file around it, one after another.
 ghost use Rattle.std.specs.Prelude.{◌≡◌, ◌<◌, ◌≤◌, IfErr, IfOk, Err, Ok, length};
 ghost use Rattle.fax_files.specs.views.Page.{IsPageForm};
-ghost use Rattle.fax_walk.specs.Pages.{IsPageAt};
+ghost use Rattle.fax_walk.specs.Pages.{read_page};
 ghost use Rattle.fax_walk.specs.code.RowsLeft as Spec;
 
 use crate::opening::DuePage;
@@ -81,7 +81,7 @@ impl<'a> PageLeft<'a> {
     /// How the rows end there, where the file has no such page, or it is refused.
     pub fn at(file: &'a [u8], page: u32) -> Result<Self, End>
         ensures ok { IfOk result (IsFoundPage file.now page) }
-        ensures err { IfErr result (λ end. IsPageAt file.now (record { page = page; row = 0 }) (Err end)) }
+        ensures err { IfErr result (λ end. (read_page file.now (record { page = page; row = 0 }) ≡ Err end)) }
     {
         match DuePage::at(file, Cursor { page, row: 0 })? {
             Some(due) => Ok(PageLeft { due }),

@@ -62,7 +62,6 @@ fn next_page<'a>(alloc: Global, chain: &Chain<'a>) -> Result<NextPage<'a>, Memor
     requires { IsFileChain chain.now }
     ensures { IfOk result (Spec.IsNextPage chain.now) }
 {
-    fax_files::laws::files_have_one_chain();
     let number = chain.given();
     let mut chain = chain.again();
     let directory = match chain.next() {
@@ -149,7 +148,6 @@ impl<'a> Salvage<'a> {
     pub fn begin(alloc: Global, file: &'a [u8]) -> Self
         ensures { IsSalvageStart file.now result }
     {
-        fax_files::laws::files_have_one_chain();
         match Tiff::read_header(file) {
             Ok(tiff) => Salvage {
                 alloc,
@@ -182,7 +180,6 @@ impl<'a> Salvage<'a> {
         fax_bits::laws::bits_stand_by_place();
         fax_page::laws::lines_are_read_in_one_way();
         fax_page::laws::strips_are_salvaged_in_one_way();
-        fax_files::laws::files_have_one_chain();
         crate::laws::files_are_salvaged_in_one_way();
         'pages: loop {
             if let Some(item) = item_of_page(&mut self.page) {
@@ -190,7 +187,7 @@ impl<'a> Salvage<'a> {
                 return Ok(Some(item));
             }
             let clean = leave(&mut self.page);
-            self.whole = self.whole && clean;
+            self.whole &= clean;
             let Some(chain) = &self.chain else {
                 return Ok(None);
             };

@@ -6,7 +6,7 @@ use Rattle.fax_walk.specs.declared.begun.Begun.{Begun}
 use Rattle.fax_walk.specs.declared.cursor.Cursor.{Cursor}
 use Rattle.fax_walk.specs.declared.end.End.{End}
 use Rattle.fax_files.specs.declared.PageForm.{PageForm}
-use Rattle.fax_walk.specs.Pages.{FormItem, IsFormTail, IsPageAt, LongPlace}
+use Rattle.fax_walk.specs.Pages.{FormItem, IsFormTail, read_page, LongPlace}
 use Rattle.fax_walk.specs.declared.end.End.TheVariants.{Fault, Outside, Proper}
 use Rattle.fax_walk.specs.declared.end.WalkFault.{WalkFault}
 use Rattle.fax_walk.specs.declared.end.WalkFault.TheVariants.{AtRow, CursorOutside}
@@ -108,5 +108,5 @@ end_at_row end row = end
 abbrev pub IsRefusedAt : List ℕ → Cursor → ℕ → Stop → Type 0
 IsRefusedAt file at asked Done = asked ≡ 0
 IsRefusedAt file at asked Memory = (0 < asked) × HasPage file at.page
-IsRefusedAt file at asked (Ended end) = (0 < asked) × IsPageAt file at (Err end)
+IsRefusedAt file at asked (Ended end) = (0 < asked) × (read_page file at ≡ Err end)
 IsRefusedAt file at asked NoRoom = ⊥

@@ -7,7 +7,7 @@ use Rattle.fax_page.specs.declared.StripForm.{StripForm}
 use Rattle.fax_page.specs.declared.RowsEnd.{RowsEnd}
 use Rattle.fax_page.specs.Uncounted.{uncounted}
 use Rattle.fax_walk.specs.declared.end.End.{End}
-use Rattle.fax_walk.specs.Pages.{FilePage, IsPageAt}
+use Rattle.fax_walk.specs.Pages.{FilePage, read_page}
 use Rattle.fax_walk.specs.declared.cursor.Cursor.{Cursor}
 use Rattle.fax_walk.specs.Salvaged.{PageRow}
 use Rattle.fax_walk.specs.views.RowsLeft.{LeftOf, of_page, of_strip, AreRowsOf, AreRowsUncounted}
@@ -71,11 +71,11 @@ abbrev pub TellsSalvaged : List ℕ → ℕ → ℕ → FaxForm → FaxForm → 
     → List FaxLost → FaxTold → ℕ → Type 0
 TellsSalvaged file page stride old_form form old new old_lost lost told status =
     (filled : Filled) × IsTold filled told status
-    × (((here : FilePage) × IsPageAt file (record { page = page; row = 0 }) (Ok here)
+    × (((here : FilePage) × (read_page file (record { page = page; row = 0 }) ≡ Ok here)
     × (form ≡ form_numbers here.form)
     × WritesLeft (of_page file here) page here.form.width here.form.rows stride old old_lost filled
     new lost)
-    ⊎ ((end : End) × IsPageAt file (record { page = page; row = 0 }) (Err end)
+    ⊎ ((end : End) × (read_page file (record { page = page; row = 0 }) ≡ Err end)
     × (filled ≡ none_filled page (Ended end)) × (form ≡ old_form) × (new ≡ old)
     × (lost ≡ old_lost)))
 

@@ -8,7 +8,7 @@ use Rattle.fax_walk.specs.declared.cursor.Cursor.{Cursor}
 use Rattle.fax_walk.specs.declared.end.End.{End}
 use Rattle.fax_walk.specs.declared.end.End.TheVariants.{Proper, Outside}
 use Rattle.fax_walk.specs.Items.{Inner}
-use Rattle.fax_walk.specs.Pages.{FilePage, IsPageAt}
+use Rattle.fax_walk.specs.Pages.{FilePage, read_page}
 use Rattle.fax_walk.specs.Salvaged.{PageRow, AreRowsFrom, IsRowOfStrip, strip_left}
 use Rattle.fax_c.specs.declared.filled.Filled.{Filled}
 use Rattle.fax_c.specs.declared.filled.Stop.{Stop}
@@ -134,9 +134,9 @@ TellsSalvagedFrom file stride old_place old_runs old old_lost place runs new los
     status =
     ((length file ≤ most_bytes) × (most_runs ≤ length old_runs)
     × (filled : Filled) × IsTold filled told status
-    × (((here : FilePage) × IsPageAt file (record { page = old_place.page; row = 0 }) (Ok here)
+    × (((here : FilePage) × (read_page file (record { page = old_place.page; row = 0 }) ≡ Ok here)
     × WritesFrom file here stride old_place old_runs old old_lost filled place runs new lost)
-    ⊎ ((end : End) × IsPageAt file (record { page = old_place.page; row = 0 }) (Err end)
+    ⊎ ((end : End) × (read_page file (record { page = old_place.page; row = 0 }) ≡ Err end)
     × (filled ≡ none_filled_at (cursor_of old_place) (Ended end))
     × (place ≡ old_place) × (runs ≡ old_runs) × (new ≡ old) × (lost ≡ old_lost))))
     ⊎ ((status ≡ 7) × (length file ≤ most_bytes → most_runs ≤ length old_runs → ⊥)

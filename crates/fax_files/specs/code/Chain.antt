@@ -7,7 +7,8 @@ use Rattle.fax_files.specs.declared.FileFault.{FileFault}
 use Rattle.fax_files.specs.declared.FileFault.TheVariants.{DirectoryLoop}
 use Rattle.fax_files.specs.declared.chain.Search.{Search}
 use Rattle.fax_files.specs.declared.chain.Search.TheVariants.{Running, Known}
-use Rattle.fax_files.specs.Directory.{is_directory, next_offset, IsChain}
+use Rattle.fax_files.specs.Directory.{is_directory, next_offset}
+use Rattle.fax_files.specs.views.Chain.{chain_of}
 use Rattle.fax_files.specs.views.Tiff.{TiffFile}
 
 -- the offset that stands i places after this one, directory by directory
@@ -31,9 +32,7 @@ LeadsOn tiff i = onward tiff.head.endian tiff.file (place tiff i) ≡ Some (plac
 
 -- a file's chain has fewer than 2^32 directories
 abbrev pub HasFewPages : TiffFile → Type 0
-HasFewPages tiff =
-    (offsets : List ℕ) (end : Option FileFault) → IsChain tiff.head tiff.file offsets end
-    → length offsets < 2 ^ 32
+HasFewPages tiff = length (chain_of tiff).offsets < 2 ^ 32
 
 -- From this place on, the offsets of the chain come again after so many, and not before. Nowhere
 -- before does the chain end
@@ -52,9 +51,7 @@ pub record IsTurn (tiff : TiffFile) (len page : ℕ) : Type 0 where
 
 -- the chain of a file turns nowhere back
 abbrev pub HasNoLoop : TiffFile → Type 0
-HasNoLoop tiff =
-    (offsets : List ℕ) (end : Option FileFault) → IsChain tiff.head tiff.file offsets end
-    → end ≢ Some DirectoryLoop
+HasNoLoop tiff = (chain_of tiff).end ≢ Some DirectoryLoop
 
 -- the page at which a chain of so many turns back, if that is its end
 abbrev pub turning_page : Option FileFault → ℕ → Option ℕ
@@ -62,18 +59,14 @@ turning_page (Some DirectoryLoop) pages = Some pages
 turning_page _ pages = None
 
 -- the page at which a file's chain turns back, if it does
-abbrev pub IsTurningPage : TiffFile → Option ℕ → Type 0
-IsTurningPage tiff page =
-    (offsets : List ℕ) (end : Option FileFault) → IsChain tiff.head tiff.file offsets end
-    → page ≡ turning_page end (length offsets)
+abbrev pub turn_of : TiffFile → Option ℕ
+turn_of tiff = turning_page (chain_of tiff).end (length (chain_of tiff).offsets)
 
 -- a reader's fields: the offset that is due stands after the directories handed out, which are the
--- first of the chain, and it is known at which page the chain turns back
-pub record IsChainPlace (tiff : TiffFile) (due given : ℕ) (turn : Option ℕ) : Type 0 where
+-- first of the chain
+pub record IsChainPlace (tiff : TiffFile) (due given : ℕ) : Type 0 where
   pub due_is : due ≡ place tiff given
-  pub within : (offsets : List ℕ) (end : Option FileFault) → IsChain tiff.head tiff.file offsets end
-      → given ≤ length offsets
-  pub turn_is : IsTurningPage tiff turn
+  pub within : given ≤ length (chain_of tiff).offsets
   pub few : HasFewPages tiff
 
 -- A search runs at twice the reader's place, and did not meet it yet, or it is known at which page
@@ -82,15 +75,12 @@ abbrev pub IsSearch : TiffFile → ℕ → Search → Type 0
 IsSearch tiff given (Running fast) =
     (fast ≡ place tiff (given + given)) × ((i : ℕ) → i < given + given → LeadsOn tiff i)
     × ((k : ℕ) → 0 < k → k ≤ given → place tiff k ≢ place tiff (k + k))
-IsSearch tiff given (Known turn) = IsTurningPage tiff turn
+IsSearch tiff given (Known turn) = turn ≡ turn_of tiff
 
 -- a reader's fields
 pub record IsSearchPlace (tiff : TiffFile) (due given : ℕ) (search : Search) : Type 0 where
-  pub due_is : due ≡ place tiff given
-  pub within : (offsets : List ℕ) (end : Option FileFault) → IsChain tiff.head tiff.file offsets end
-      → given ≤ length offsets
+  pub place : IsChainPlace tiff due given
   pub search_is : IsSearch tiff given search
-  pub few : HasFewPages tiff
 
 -- it is known that the chain turns back after so many directories
 abbrev pub turns_at : Search → ℕ → Bool

@@ -1,6 +1,6 @@
 -- The laws of TIFF files: their chain, their forms, and what is written and read back.
 -- A definition without a citation is this project's profile.
-use Rattle.std.specs.Prelude.{◌≡◌, ℕ, ◌+◌, ◌*◌, ◌<◌, ◌⊎◌, if◌then◌else◌, List, [], ◌∷◌}
+use Rattle.std.specs.Prelude.{◌≡◌, ◌≢◌, ℕ, ◌+◌, ◌*◌, ◌<◌, ◌⊎◌, if◌then◌else◌, List, [], ◌∷◌}
 use Rattle.std.specs.Prelude.{map, flat_map, Option, Some, None}
 use Rattle.fax_bits.specs.declared.Colour.{Colour}
 use Rattle.fax_bits.specs.Bits.{bits}
@@ -18,8 +18,8 @@ use Rattle.std.specs.Prelude.{drop, slice_index_or, Option, Some, None, Ok, IsTr
 use Rattle.std.specs.List.{AllZip}
 use Rattle.fax_files.specs.declared.FileFault.{FileFault}
 use Rattle.fax_files.specs.declared.Endian.TheVariants.{Little}
-use Rattle.fax_files.specs.Directory.{Header, number_at, is_directory, next_offset, header, IsChain}
-use Rattle.fax_files.specs.Directory.{max_file}
+use Rattle.fax_files.specs.Directory.{ChainRead, Header, header, is_directory, max_file}
+use Rattle.fax_files.specs.Directory.{next_offset, number_at, offset_fault, read_chain}
 use Rattle.fax_files.specs.views.Page.{IsPageForm}
 use Rattle.fax_files.specs.Layout.{four, directory_place, Written, with_page, WrittenPage, file_of}
 use Rattle.fax_files.specs.Layout.{with_pages}
@@ -126,7 +126,7 @@ pub record IsReadAs (file : List ℕ) (pages : List WrittenPage) : Type 0 where
   pub offsets : List ℕ
   pub head_is : header file ≡ Ok head
   pub little : head.endian ≡ Little
-  pub chain : IsChain head file offsets None
+  pub chain : read_chain head file ≡ record { offsets = offsets; end = None }
   pub read : AllZip (IsReadAt file) offsets pages
 
 -- the file of some pages, at most 65,535, is read as these pages where it has at most 268,435,456
@@ -136,15 +136,25 @@ WrittenFilesAreRead =
     (pages : List WrittenPage) → 1 ≤ length pages → length pages ≤ 65535 → AreWritable pages
     → length (file_of pages) ≤ max_file → IsReadAs (file_of pages) pages
 
--- a file has one chain of directories, at most as many as its bytes, which has one end
--- (TIFF 6.0, section 2)
+-- from the offset that is due on, after these directories, the last one first, the chain goes over
+-- these offsets to this end: at an offset of 0, or at one with a fault (TIFF 6.0, section 2)
+abbrev pub IsChainFrom : Endian → List ℕ → List ℕ → ℕ → List ℕ → Option FileFault → Type 0
+IsChainFrom endian file before due [] None = due ≡ 0
+IsChainFrom endian file before due [] (Some fault) =
+    (due ≢ 0) × (offset_fault endian file before due ≡ Some fault)
+IsChainFrom endian file before due (q ∷ offsets) end =
+    (q ≡ due) × (due ≢ 0) × (offset_fault endian file before due ≡ None)
+    × IsChainFrom endian file (due ∷ before) (next_offset endian file due) offsets end
+
+-- the offsets of a file's directories, and the fault that ends them, if any
+abbrev pub IsChain : Header → List ℕ → ChainRead → Type 0
+IsChain head file chain = IsChainFrom head.endian file [] head.first chain.offsets chain.end
+
+-- a file has one chain of directories, which is the one that is read, at most as many as its bytes
 pub record HasOneChain (head : Header) (file : List ℕ) : Type 0 where
-  pub offsets : List ℕ
-  pub end : Option FileFault
-  pub is : IsChain head file offsets end
-  pub few : length offsets ≤ length file
-  pub one : (others : List ℕ) (other : Option FileFault) → IsChain head file others other
-      → (others ≡ offsets) × (other ≡ end)
+  pub is : IsChain head file (read_chain head file)
+  pub one : (other : ChainRead) → IsChain head file other → read_chain head file ≡ other
+  pub few : length (read_chain head file).offsets ≤ length file
 
 -- each file has (TIFF 6.0, section 2)
 abbrev pub FilesHaveOneChain : Type 0

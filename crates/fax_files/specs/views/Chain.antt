@@ -1,8 +1,8 @@
 -- A reader of a file's chain of directories.
 use Rattle.std.specs.Prelude.{◌≡◌, ◌+◌, ℕ}
-use Rattle.std.specs.Prelude.{List, Option, Some, None, Result, Ok, Err, slice_get}
+use Rattle.std.specs.Prelude.{Option, Some, None, Result, Ok, Err, slice_get}
 use Rattle.fax_files.specs.declared.FileFault.{FileFault}
-use Rattle.fax_files.specs.Directory.{IsChain}
+use Rattle.fax_files.specs.Directory.{ChainRead, read_chain}
 use Rattle.fax_files.specs.views.Tiff.{TiffFile, TiffDirectory, directory_of}
 
 -- a reader of a file's chain: the file, and how many directories were handed out
@@ -21,13 +21,16 @@ answer_at tiff (Some q) end = Ok (Some (directory_of tiff q))
 answer_at tiff None None = Ok None
 answer_at tiff None (Some fault) = Err fault
 
--- the answer of a reader is the directory of the chain that stands after those handed out, or else
+-- a file's chain of directories
+abbrev pub chain_of : TiffFile → ChainRead
+chain_of tiff = read_chain tiff.head tiff.file
+
+-- the answer of a reader: the directory of the chain that stands after those handed out, or else
 -- the end of the chain
-abbrev pub IsDueAnswer : ChainState → Result (Option TiffDirectory) FileFault → Type 0
-IsDueAnswer chain answer =
-    (offsets : List ℕ) (end : Option FileFault)
-    → IsChain chain.tiff.head chain.tiff.file offsets end
-    → answer ≡ answer_at chain.tiff (slice_get offsets chain.given) end
+abbrev pub due_answer : ChainState → Result (Option TiffDirectory) FileFault
+due_answer chain =
+    let whole = chain_of chain.tiff in
+    answer_at chain.tiff (slice_get whole.offsets chain.given) whole.end
 
 -- a reader after its answer: one directory on, or as it was
 abbrev pub after_answer : ChainState → Result (Option TiffDirectory) FileFault → ChainState

@@ -1,25 +1,16 @@
 -- Files are read as the relations define, and the relations hold of what is read. Functions of the
 -- module `laws` prove it.
-use Rattle.std.specs.Prelude.{◌≡◌, ◌↔◌, ℕ, List, Option, Result}
-use Rattle.fax_files.specs.declared.FileFault.{FileFault}
-use Rattle.fax_files.specs.Directory.{Header, IsChain}
+use Rattle.std.specs.Prelude.{◌≡◌, ◌↔◌, ℕ, List}
 use Rattle.fax_walk.specs.declared.begun.Begun.{Begun}
 use Rattle.fax_walk.specs.declared.cursor.Cursor.{Cursor}
 use Rattle.fax_walk.specs.declared.end.End.{End}
-use Rattle.fax_walk.specs.Pages.{AreForms, FilePage, FormItem, IsForm, IsFormTail}
-use Rattle.fax_walk.specs.Pages.{IsPageAt, NextItem}
+use Rattle.fax_walk.specs.Pages.{AreForms, FormItem, IsForm, IsFormTail, NextItem}
 use Rattle.fax_walk.specs.Items.{AreItems, IsRow, IsTailFrom, RowItem, RowPlace}
-use Rattle.fax_reads.specs.Files.{read_chain, read_page, read_row, read_form, read_rows, read_forms}
+use Rattle.fax_reads.specs.Files.{read_row, read_form, read_rows, read_forms}
 use Rattle.fax_reads.specs.Tails.{read_tail, read_form_tail}
 
--- the chain of directories, the page that a cursor names, the row at a place, the form of a page,
--- and all rows and all forms with their end
+-- the row at a place, the form of a page, and all rows and all forms with their end
 pub record FilesAreReadByFunctions : Type 0 where
-  pub chain : (head : Header) (file offsets : List ℕ) (end : Option FileFault)
-      → IsChain head file offsets end
-      ↔ (read_chain head file ≡ record { offsets = offsets; end = end })
-  pub page : (file : List ℕ) (at : Cursor) (found : Result FilePage End)
-      → IsPageAt file at found ↔ (read_page file at ≡ found)
   pub row : (file : List ℕ) (at : RowPlace) (step : NextItem RowItem RowPlace)
       → IsRow file at step ↔ (read_row file at ≡ step)
   pub form : (file : List ℕ) (p : ℕ) (step : NextItem FormItem ℕ)

@@ -11,8 +11,7 @@ use Rattle.fax_walk.specs.declared.checking.Note.{Note}
 use Rattle.fax_walk.specs.declared.checking.PageRead.{PageRead}
 use Rattle.fax_walk.specs.declared.end.End.{End}
 use Rattle.fax_walk.specs.declared.end.End.TheVariants.{Fault}
-use Rattle.fax_walk.specs.Pages.{IsPageAt, ends_as}
-use Rattle.fax_walk.specs.code.Opening.{page_or_end}
+use Rattle.fax_walk.specs.Pages.{read_page, page_with_form, ends_as}
 use Rattle.fax_walk.specs.code.Places.{first_on}
 use Rattle.fax_walk.specs.laws.InOrder.{LeadTo}
 use Rattle.fax_walk.specs.Items.{RowItem, RowPlace, first_at, IsRow}
@@ -52,8 +51,8 @@ EndsThere file at end = IsNoted file at.next (ends_as end) × IsRow file at.row 
 -- a directory is that of page p of its file
 abbrev pub IsDirectoryOfPage : TiffDirectory → ℕ → Type 0
 IsDirectoryOfPage directory p =
-    (r : ℕ) → IsPageAt directory.file (record { page = p; row = r })
-    (page_or_end directory.endian directory.offset p (form_of directory))
+    (r : ℕ) → read_page directory.file (record { page = p; row = r })
+    ≡ page_with_form directory.endian directory.offset p (form_of directory)
 
 -- the first strips of a page are whole: these notes were added, and so many rows are theirs
 pub record AreStripsChecked (directory : TiffDirectory) (form : PageForm) (p s : ℕ)

@@ -5,19 +5,19 @@ use Rattle.std.specs.Prelude.{None, Ok, Err, option_map, slice_get, ⊤}
 use Rattle.std.specs.Prelude.{Bool, true}
 use Rattle.fax_rows.specs.Rows.{Colour}
 use Rattle.fax_files.specs.declared.FileFault.{FileFault}
-use Rattle.fax_files.specs.Directory.{IsChain, header}
+use Rattle.fax_files.specs.Directory.{header, read_chain}
+use Rattle.fax_files.specs.views.Chain.{chain_of}
 use Rattle.fax_files.specs.Page.{most_rows, page}
 use Rattle.fax_files.specs.views.Chain.{ChainState}
 use Rattle.fax_files.specs.views.Page.{IsPageForm}
 use Rattle.fax_files.specs.views.Tiff.{TiffDirectory, directory_of}
 use Rattle.fax_walk.specs.declared.salvage.NextPage.{NextPage}
 use Rattle.fax_walk.specs.declared.salvage.NextPage.TheVariants.{Broken, Ends, Refused, Entered}
-use Rattle.fax_walk.specs.Pages.{IsPageAt, PageForm, Proper}
+use Rattle.fax_walk.specs.Pages.{read_page, PageForm, Proper}
 use Rattle.fax_walk.specs.Items.{IsRow, RowItem, first_at}
 use Rattle.fax_walk.specs.laws.InOrder.{LeadTo}
-use Rattle.fax_walk.specs.code.Opening.{page_with}
 use Rattle.fax_walk.specs.Salvaged.{LeftItem, ArePagesLeft, IsSalvaged}
-use Rattle.fax_walk.specs.code.Opening.{IsChainBefore}
+use Rattle.fax_walk.specs.code.Opening.{IsChainBefore, IsPageOf, page_with}
 use Rattle.fax_walk.specs.code.SalvagePage.{SalvagePageState, EndsOnPage, GivesOfPage}
 use Rattle.fax_walk.specs.code.SalvagePage.{IsLeftOnPage, IsPageBegun, handed_of}
 use Rattle.fax_walk.specs.declared.salvage.SalvageItem.{SalvageItem}
@@ -29,28 +29,19 @@ shown_last page = option_map (λ p. p.shown) page
 -- the directory after those that a chain has handed out stands at offset q, and the chain after it
 -- has handed out one more
 pub record IsDirectoryNext (chain : ChainState) (q : ℕ) (after : ChainState) : Type 0 where
-  pub offset : (offsets : List ℕ) (fault : Option FileFault)
-      → IsChain chain.tiff.head chain.tiff.file offsets fault
-      → slice_get offsets chain.given ≡ Some q
+  pub offset : slice_get (chain_of chain.tiff).offsets chain.given ≡ Some q
   pub before : IsChainBefore chain.tiff.file (chain.given + 1) after
   pub tiff_is : after.tiff ≡ chain.tiff
 
 -- a chain has no directory after those that it has handed out
 abbrev pub IsLastPassed : ChainState → Type 0
-IsLastPassed chain =
-    (offsets : List ℕ) (fault : Option FileFault)
-    → IsChain chain.tiff.head chain.tiff.file offsets fault → length offsets ≡ chain.given
-
--- page p of a file is the one with this directory and form
-abbrev pub IsPageOf : List ℕ → ℕ → TiffDirectory → PageForm → Type 0
-IsPageOf file p directory form =
-    (r : ℕ) → IsPageAt file (record { page = p; row = r }) (Ok (page_with directory form))
+IsLastPassed chain = length (chain_of chain.tiff).offsets ≡ chain.given
 
 -- what a chain has next
 abbrev pub IsNextPage : ChainState → NextPage → Type 0
 IsNextPage chain Ends =
     IsLastPassed chain
-    × IsPageAt chain.tiff.file (record { page = chain.given; row = 0 }) (Err Proper)
+    × (read_page chain.tiff.file (record { page = chain.given; row = 0 }) ≡ Err Proper)
 IsNextPage chain Broken = IsLastPassed chain
 IsNextPage chain (Refused fault after) =
     (q : ℕ) × IsDirectoryNext chain q after
@@ -59,7 +50,7 @@ IsNextPage chain (Entered its after) =
     (q : ℕ) × (form : PageForm) × IsDirectoryNext chain q after
     × (page chain.tiff.head.endian chain.tiff.file q ≡ Ok form) × IsPageForm form
     × IsPageBegun (directory_of chain.tiff q) form chain.given its
-    × IsPageOf chain.tiff.file chain.given (directory_of chain.tiff q) form
+    × IsPageOf chain.tiff.file chain.given (page_with (directory_of chain.tiff q) form)
 
 -- what is left of the page that is gone through
 abbrev pub AreLeftOnPage : Option SalvagePageState → List LeftItem → Type 0
@@ -71,10 +62,9 @@ abbrev pub AreLeftInFile : List ℕ → Option ChainState → Option SalvagePage
     → Type 0
 AreLeftInFile file None page items = items ≡ []
 AreLeftInFile file (Some chain) page items =
-    (offsets : List ℕ) × (fault : Option FileFault)
-    × IsChain chain.tiff.head file offsets fault
-    × (own others : List LeftItem) × AreLeftOnPage page own
-    × ArePagesLeft chain.tiff.head.endian file chain.given (drop chain.given offsets) others
+    (own others : List LeftItem) × AreLeftOnPage page own
+    × ArePagesLeft chain.tiff.head.endian file chain.given
+    (drop chain.given (read_chain chain.tiff.head file).offsets) others
     × (items ≡ own ++ others)
 
 -- what is handed out of the page that is gone through, if one is
@@ -117,7 +107,7 @@ IsWhollyRead file (Some chain) None = LeadToPage file chain.given
 IsWhollyRead file (Some chain) (Some page) =
     LeadToPage file page.page × (chain.given ≡ page.page + 1)
     × (page.rows.directory.file ≡ file) × IsPageForm page.rows.form
-    × IsPageOf file page.page page.rows.directory page.rows.form
+    × IsPageOf file page.page (page_with page.rows.directory page.rows.form)
 
 -- what is left of a file follows what was handed out of it
 pub record IsHandedOut (file : List ℕ) (chain : Option ChainState)

@@ -20,7 +20,7 @@ use Rattle.fax_walk.specs.declared.opening.OpenFault.{OpenFault}
 use Rattle.fax_walk.specs.declared.opening.OpenFault.TheVariants.{Memory, Ended}
 use Rattle.fax_walk.specs.Pages.{LongPlace}
 use Rattle.fax_walk.specs.laws.InOrder.{LeadTo}
-use Rattle.fax_walk.specs.Pages.{IsPageAt}
+use Rattle.fax_walk.specs.Pages.{read_page}
 use Rattle.fax_walk.specs.Items.{RowItem, RowPlace, IsInnerOn, IsRow, first_at, place_after}
 use Rattle.fax_walk.specs.code.Places.{IsInner}
 use Rattle.fax_walk.specs.Items.{inner_at}
@@ -222,8 +222,8 @@ pub record GivesRow (old new : PageState) : Type 0 where
   pub items_are : items ≡ front ++ item ∷ []
   pub count : length front ≡ skipped old
   pub item_is : item ≡ item_of old (row_of old + skipped old) new
-  pub here : IsPageAt old.directory.file (record { page = item.page; row = item.row })
-      (Ok (page_with old.directory old.form))
+  pub here : read_page old.directory.file (record { page = item.page; row = item.row })
+      ≡ Ok (page_with old.directory old.form)
   pub within : item.row < old.form.rows
   pub after : place_of new ≡ place_after item
   pub next_row : row_of new ≡ row_of old + skipped old + 1

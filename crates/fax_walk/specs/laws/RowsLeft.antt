@@ -3,7 +3,7 @@
 use Rattle.std.specs.Prelude.{◌≡◌, ℕ, ◌<◌, ◌≤◌, List, ◌++◌, None, Ok}
 use Rattle.fax_files.specs.Page.{strip_form}
 use Rattle.fax_walk.specs.Items.{Inner, before}
-use Rattle.fax_walk.specs.Pages.{FilePage, IsPageAt}
+use Rattle.fax_walk.specs.Pages.{FilePage, read_page}
 use Rattle.fax_walk.specs.Salvaged.{AreRowsFrom, AreRowsOfPage, IsSalvaged, LeftItem, PageRow}
 use Rattle.fax_walk.specs.Salvaged.{page_items}
 use Rattle.fax_walk.specs.views.RowsLeft.{LeftOf, AreRowsOf}
@@ -18,7 +18,7 @@ pub record AreLeftOneWay (its : LeftOf) : Type 0 where
 abbrev pub PagesAreLeft : Type 0
 PagesAreLeft =
     (file : List ℕ) (p : ℕ) (here : FilePage) (rows : List PageRow) (items : List LeftItem)
-    → IsPageAt file (record { page = p; row = 0 }) (Ok here) → AreRowsOfPage file here rows
+    → read_page file (record { page = p; row = 0 }) ≡ Ok here → AreRowsOfPage file here rows
     → IsSalvaged file items
     → (before later : List LeftItem) × (items ≡ before ++ page_items p 0 rows ++ later)
 

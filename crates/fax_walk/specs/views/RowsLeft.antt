@@ -10,7 +10,7 @@ use Rattle.fax_page.specs.declared.RowsEnd.{RowsEnd}
 use Rattle.fax_page.specs.Uncounted.{uncounted}
 use Rattle.fax_walk.specs.declared.salvage_rows.PagePart.{PagePart}
 use Rattle.fax_walk.specs.declared.salvage_rows.PagePart.TheVariants.{Found, Lost}
-use Rattle.fax_walk.specs.Pages.{FilePage, IsPageAt}
+use Rattle.fax_walk.specs.Pages.{FilePage, read_page}
 use Rattle.fax_walk.specs.Salvaged.{PageRow, AreRowsOfPage, AreRowsOfStrip, strip_row}
 
 -- what rows are left of: a page of a file, or a strip of these bits with no file around it, whose
@@ -39,7 +39,7 @@ pub record FoundPage : Type 0 where
 -- page p of a file
 pub record IsFoundPage (file : List ℕ) (p : ℕ) (found : FoundPage) : Type 0 where
   pub file_is : found.file ≡ file
-  pub there : IsPageAt file (record { page = p; row = 0 }) (Ok found.here)
+  pub there : read_page file (record { page = p; row = 0 }) ≡ Ok found.here
 
 -- how far they are gone through: what they are left of, how many rows of it were passed, of how
 -- many, how many pels each has, and the row that was found last

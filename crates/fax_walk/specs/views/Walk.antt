@@ -1,6 +1,6 @@
 -- A walk, as contracts see it.
 use Rattle.std.specs.Prelude.{◌≡◌, ℕ, ◌+◌, ◌^◌, ◌<◌, ◌≤◌, ◌⊎◌, List, Option, Some, None, Result, Ok}
-use Rattle.std.specs.Prelude.{Err, ⊤}
+use Rattle.std.specs.Prelude.{Err, ⊤, MatchResult}
 use Rattle.std.specs.Borrow.{Bor}
 use Rattle.fax_bits.specs.declared.Colour.{Colour}
 use Rattle.fax_walk.specs.declared.begun.Begun.{Begun}
@@ -16,8 +16,8 @@ use Rattle.fax_rows.specs.Rows.{runs_of}
 use Rattle.fax_walk.specs.Pages.{start, LongPlace}
 use Rattle.fax_walk.specs.views.InOrder.{Reading, reading_from, HandsOut, HasEndedAs, IsAfterLast}
 use Rattle.fax_walk.specs.views.InOrder.{IsNumber}
-use Rattle.fax_walk.specs.Pages.{IsOnPage}
-use Rattle.fax_walk.specs.Items.{RowItem, RowPlace, IsBegunOn, IsTailFrom, begun_cursor}
+use Rattle.fax_walk.specs.Pages.{read_page}
+use Rattle.fax_walk.specs.Items.{RowItem, RowPlace, IsBegunBy, IsTailFrom, begun_cursor}
 use Rattle.fax_walk.specs.Items.{cursor_after, long_after}
 
 -- a walk: its file, what it began with, how many rows it handed out, and how the rows ended, once
@@ -39,14 +39,14 @@ IsItemNumber file begun n item = IsNumber (IsTailFrom file begun) n item
 
 -- a file has a page of this number, whose fields have no fault
 abbrev pub HasPage : List ℕ → ℕ → Type 0
-HasPage file p = IsOnPage file (record { page = p; row = 0 }) (λ here. ⊤) (λ end. ⊥)
+HasPage file p = MatchResult (read_page file (record { page = p; row = 0 })) (λ here. ⊤) (λ end. ⊥)
 
 -- a page is entered with what a walk begins with: that of its cursor, which the file has; or the
 -- one after that, which the file has too, where it is a cursor alone, after its page's last row
 abbrev pub EntersFirst : List ℕ → Begun → Type 0
 EntersFirst file begun =
     let at = begun_cursor begun in
-    IsOnPage file at
+    MatchResult (read_page file at)
     (λ here. (at.row < here.form.rows)
     ⊎ ((begun ≡ At at) × (at.row ≡ here.form.rows) × HasPage file (at.page + 1))) (λ end. ⊥)
 
@@ -101,9 +101,7 @@ place_inside (Some lent) =
 
 -- where a walk begins in its file, and how many rows it reads there that it does not hand out
 abbrev pub Begins : List ℕ → Begun → Result (RowPlace × ℕ) End → Type 0
-Begins file begun begin =
-    IsOnPage file (begun_cursor begun) (λ here. IsBegunOn file begun here begin)
-    (λ none. begin ≡ Err none)
+Begins file begun begin = IsBegunBy file begun begin (read_page file (begun_cursor begun))
 
 -- their number, which is 0 where there is nothing but an end
 abbrev pub dropped : Result (RowPlace × ℕ) End → ℕ

@@ -8,14 +8,14 @@ pub check_page-requires : goal.check_page-requires
 check_page-requires c =
     let at = c.loop-directory in
     rw c.given-page.ensures
-    (found _ _ at.chain c.next.result at.invariant.before c.files_have_one_chain.ensures c.next.ensures.answer _
+    (found _ _ at.chain c.next.result at.invariant.before c.next.ensures.answer _
     (c.in-Ok-Some.is ∙ ap Ok c.in-Ok-Some.field-0-is))
 
 pub returns-in-Ok-None : goal.returns-in-Ok-None
 returns-in-Ok-None c =
     let at = c.loop-directory in
     let proper =
-    proper_end_at _ _ at.chain c.next.result at.invariant.before c.files_have_one_chain.ensures c.next.ensures.answer
+    proper_end_at _ _ at.chain c.next.result at.invariant.before c.next.ensures.answer
     (c.in-Ok-None.is ∙ ap Ok c.in-Ok-None.field-0-is) in
     last_report _ _ _ _ at.invariant.read proper (rw (c.from.ensures, c.given-page.ensures) (proper, at.invariant.none))
 
@@ -23,8 +23,7 @@ pub returns-in-Err : goal.returns-in-Err
 returns-in-Err c =
     let at = c.loop-directory in
     let stops =
-    fault_before_page _ _ at.chain c.next.result at.invariant.before c.files_have_one_chain.ensures
-    c.next.ensures.answer
+    fault_before_page _ _ at.chain c.next.result at.invariant.before c.next.ensures.answer
     (record { page = at.chain.given; row = 0 }) c.in-Err.fault c.in-Err.is (omega arith) in
     last_report _ _ _ _ at.invariant.read stops (rw (c.from.ensures, c.given-page.ensures) (refl, refl))
 
@@ -33,7 +32,7 @@ returns-in-Some c =
     let at = c.loop-directory in
     let before = at.invariant.before in
     let is = c.in-Ok-Some.is ∙ ap Ok c.in-Ok-Some.field-0-is in
-    let file_is = same_file _ _ at.chain c.next.result before c.files_have_one_chain.ensures c.next.ensures.answer _ is
+    let file_is = same_file _ _ at.chain c.next.result before c.next.ensures.answer _ is
     ∙ before.file_is in
     let read : IsRestChecked c.args.tiff.file (before_page at.chain.given) at.chain.given at.report.notes.items
     c.check_page.new.notes.items
@@ -48,7 +47,7 @@ loop-directory-preserved c =
     let at = c.loop-directory in
     let before = at.invariant.before in
     let is = c.in-Ok-Some.is ∙ ap Ok c.in-Ok-Some.field-0-is in
-    let file_is = same_file _ _ at.chain c.next.result before c.files_have_one_chain.ensures c.next.ensures.answer _ is
+    let file_is = same_file _ _ at.chain c.next.result before c.next.ensures.answer _ is
     ∙ before.file_is in
     let read : IsRestChecked c.args.tiff.file (before_page at.chain.given) at.chain.given at.report.notes.items
     c.check_page.new.notes.items
@@ -72,8 +71,7 @@ loop-directory-init c = record {
     head = c.requires;
     file_is = refl;
     given = refl;
-    within =
-        λ offsets fault chained. omega arith;
+    within = omega arith;
   });
   read = rw c.new-chain.ensures (none_checked c.args.tiff.file c.new.result.items c.new.ensures.items);
   none = refl;

@@ -7,7 +7,7 @@ pub loop-walk-init : goal.loop-walk-init
 loop-walk-init c =
     let forms = c.form_tails_are_one.ensures.all in
     let its : IsFile c.args.file.now =
-    its_file c.files_have_one_chain.ensures forms c.tails_go_on.ensures.files c.tails_go_on.ensures.start
+    its_file forms c.tails_go_on.ensures.files c.tails_go_on.ensures.start
     c.args.file.now in
     record {
       its = its;

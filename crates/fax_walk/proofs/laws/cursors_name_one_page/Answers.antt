@@ -3,4 +3,4 @@ use Rattle.fax_walk.proofs.RowLawLemmas.{same_page}
 use Rattle.fax_walk.proofs.laws.cursors_name_one_page.Goals as goal
 
 pub returns : goal.returns
-returns c = record { pages = λ file. same_page file c.files_have_one_chain.ensures; forms = items_know_their_form }
+returns c = record { pages = same_page; forms = items_know_their_form }

@@ -2,4 +2,4 @@ use Rattle.fax_walk.proofs.SalvageLawLemmas.{salvaged_one_way}
 use Rattle.fax_walk.proofs.laws.files_are_salvaged_in_one_way.Goals as goal
 
 pub returns : goal.returns
-returns c = salvaged_one_way c.strips_are_salvaged_in_one_way.ensures c.files_have_one_chain.ensures
+returns c = salvaged_one_way c.strips_are_salvaged_in_one_way.ensures

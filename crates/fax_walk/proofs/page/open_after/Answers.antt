@@ -8,7 +8,7 @@ pub returns-in_err-due-clause-refused : goal.returns-in_err-due-clause-refused
 returns-in_err-due-clause-refused c =
     let p = err_from_is_err_and c.from_residual.result c.from_residual.ensures.1 in
     let answers = rw c.again.ensures at c.in_err-due.ensures in
-    rw (p.1, p.2) (Err (c.in_err-due.field-0.0), answers 0, refl)
+    rw (p.1, p.2, answers 0) refl
 
 pub returns-in-Some-clause-refused : goal.returns-in-Some-clause-refused
 returns-in-Some-clause-refused c =
@@ -18,4 +18,4 @@ returns-in-Some-clause-refused c =
 pub returns-in-None-clause-refused : goal.returns-in-None-clause-refused
 returns-in-None-clause-refused c =
     let answers = rw (c.in-None.is, c.again.ensures) at c.in_ok-due.ensures in
-    (Err Proper, answers.0, refl)
+    rw (answers.0) refl

@@ -1,28 +1,24 @@
 use Rattle.std.proofs.Common.{◌∙◌, sym}
 use Rattle.std.proofs.lemmas.Result.{err_from_is_err_and}
 use Rattle.fax_files.proofs.ChainReadingLemmas.{none_left, turned, outside, found}
-use Rattle.fax_files.proofs.ChainSearchLemmas.{place_of, turned_here, not_here}
+use Rattle.fax_files.proofs.ChainSearchLemmas.{turned_here, not_here}
 use Rattle.fax_files.proofs.chain.Chain.due.Goals as goal
 
 pub returns-then-self-eq0-clause-answer : goal.returns-then-self-eq0-clause-answer
-returns-then-self-eq0-clause-answer c = rw (← c.self.view_is) (λ offsets end is.
-    none_left _ _ _ _ (place_of _ _ _ _ c.self.invariant) offsets end is c.if-self-eq0.true)
+returns-then-self-eq0-clause-answer c =
+    rw (← c.self.view_is) (none_left _ _ _ c.self.invariant.place c.if-self-eq0.true)
 
 pub returns-then-turns_at-clause-answer : goal.returns-then-turns_at-clause-answer
-returns-then-turns_at-clause-answer c = rw (← c.self.view_is) (λ offsets end is.
-    turned _ _ _ _ (place_of _ _ _ _ c.self.invariant) offsets end is
-    (turned_here c.self.inside.tiff _ _ (sym c.turns_at.ensures ∙ c.if-turns_at.true)))
+returns-then-turns_at-clause-answer c = rw (← c.self.view_is) (turned _ _ _ c.self.invariant.place
+    (turned_here c.self.inside.tiff _ _ c.self.invariant.search_is (sym c.turns_at.ensures ∙ c.if-turns_at.true)))
 
 pub returns-in_err-directory-clause-answer : goal.returns-in_err-directory-clause-answer
 returns-in_err-directory-clause-answer c =
     let p = err_from_is_err_and c.from_residual.result c.from_residual.ensures.1 in
-    rw (p.1, p.2, c.in_err-directory.ensures.fault, ← c.self.view_is) (λ offsets end is.
-    outside _ _ _ _ (place_of _ _ _ _ c.self.invariant) offsets end is c.if-self-eq0.false
-    c.in_err-directory.ensures.outside)
+    rw (p.1, p.2, c.in_err-directory.ensures.fault, ← c.self.view_is) (outside _ _ _ c.self.invariant.place
+    c.if-self-eq0.false c.in_err-directory.ensures.outside)
 
 pub returns-clause-answer : goal.returns-clause-answer
-returns-clause-answer c = rw (← c.self.view_is) (λ offsets end is.
-    found _ _ _ _ (place_of _ _ _ _ c.self.invariant) offsets end is _ c.in_ok-directory.ensures.directory
-    c.if-self-eq0.false
-    c.in_ok-directory.ensures.whole
+returns-clause-answer c = rw (← c.self.view_is) (found _ _ _ c.self.invariant.place _
+    c.in_ok-directory.ensures.directory c.if-self-eq0.false c.in_ok-directory.ensures.whole
     (not_here c.self.inside.tiff _ _ c.self.invariant.search_is (sym c.turns_at.ensures ∙ c.if-turns_at.false)))

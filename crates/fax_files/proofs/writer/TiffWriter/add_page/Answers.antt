@@ -4,7 +4,7 @@ use Rattle.std.specs.Prelude.{Result, OnOk, false}
 use Rattle.std.specs.Result.{is_err}
 use Rattle.fax_files.specs.code.Parts.{joined_strips}
 use Rattle.fax_files.specs.views.Writing.{contents}
-use Rattle.fax_files.proofs.WriterLemmas.{too_long, size, added_bytes, new_link, still_writing}
+use Rattle.fax_files.proofs.WriterLemmas.{too_long, size, added_bytes, is_short, new_link, not_too_large, still_writing}
 use Rattle.fax_files.proofs.writer.TiffWriter.add_page.Goals as goal
 
 OnOk-at_not_err : {A E : Type 0} {P : Type 0} (r : Result A E) → is_err r ≡ false → OnOk r P → P
@@ -41,77 +41,37 @@ pub returns-in_default-page_tail-clause-too_large : goal.returns-in_default-page
 returns-in_default-page_tail-clause-too_large c =
     let start : c.len-start.result ≡ length c.self.inside.bytes.items = omega (arith, c.len-start.ensures) in
     let end = rw start at c.in-Some.ensures.found in
-    let size = size c.self.inside.bytes.items c.self.inside.link c.self.inside.total c.self.inside.added c.in-Some.end
-    c.args.form.now
-    c.args.strips.now c.self.invariant.link_inside c.requires.limits c.requires.exchanged c.requires.strips end in
-    rw (← c.self.view_is) (
-      λ e. absurd (cc),
-      λ long. absurd (omega (
-        arith,
-        long,
-        size,
-        c.page_end-page_end.ensures,
-        c.from.ensures,
-        c.if-page_end-from.false,
-      )),
-    )
+    rw (← c.self.view_is) (not_too_large _ _ (λ e. absurd cc) (is_short c.self.inside.bytes.items
+    c.self.inside.link c.self.inside.total c.self.inside.added c.in-Some.end c.args.form.now c.args.strips.now
+    c.self.invariant.link_inside c.requires.limits c.requires.exchanged c.requires.strips end _
+    c.page_end-page_end.ensures (omega (arith, c.from.ensures, c.if-page_end-from.false))))
 
 pub returns-then-is_err-clause-too_large : goal.returns-then-is_err-clause-too_large
 returns-then-is_err-clause-too_large c =
     let start : c.len-start.result ≡ length c.self.inside.bytes.items = omega (arith, c.len-start.ensures) in
     let end = rw start at c.in-Some.ensures.found in
-    let size = size c.self.inside.bytes.items c.self.inside.link c.self.inside.total c.self.inside.added c.in-Some.end
-    c.args.form.now
-    c.args.strips.now c.self.invariant.link_inside c.requires.limits c.requires.exchanged c.requires.strips end in
-    rw (← c.self.view_is) (
-      λ e. absurd (cc),
-      λ long. absurd (omega (
-        arith,
-        long,
-        size,
-        c.page_end-page_end.ensures,
-        c.from.ensures,
-        c.if-page_end-from.false,
-      )),
-    )
+    rw (← c.self.view_is) (not_too_large _ _ (λ e. absurd cc) (is_short c.self.inside.bytes.items
+    c.self.inside.link c.self.inside.total c.self.inside.added c.in-Some.end c.args.form.now c.args.strips.now
+    c.self.invariant.link_inside c.requires.limits c.requires.exchanged c.requires.strips end _
+    c.page_end-page_end.ensures (omega (arith, c.from.ensures, c.if-page_end-from.false))))
 
 pub returns-then-is_err-2-clause-too_large : goal.returns-then-is_err-2-clause-too_large
 returns-then-is_err-2-clause-too_large c =
     let start : c.len-start.result ≡ length c.self.inside.bytes.items = omega (arith, c.len-start.ensures) in
     let end = rw start at c.in-Some.ensures.found in
-    let size = size c.self.inside.bytes.items c.self.inside.link c.self.inside.total c.self.inside.added c.in-Some.end
-    c.args.form.now
-    c.args.strips.now c.self.invariant.link_inside c.requires.limits c.requires.exchanged c.requires.strips end in
-    rw (← c.self.view_is) (
-      λ e. absurd (cc),
-      λ long. absurd (omega (
-        arith,
-        long,
-        size,
-        c.page_end-page_end.ensures,
-        c.from.ensures,
-        c.if-page_end-from.false,
-      )),
-    )
+    rw (← c.self.view_is) (not_too_large _ _ (λ e. absurd cc) (is_short c.self.inside.bytes.items
+    c.self.inside.link c.self.inside.total c.self.inside.added c.in-Some.end c.args.form.now c.args.strips.now
+    c.self.invariant.link_inside c.requires.limits c.requires.exchanged c.requires.strips end _
+    c.page_end-page_end.ensures (omega (arith, c.from.ensures, c.if-page_end-from.false))))
 
 pub returns-clause-too_large : goal.returns-clause-too_large
 returns-clause-too_large c =
     let start : c.len-start.result ≡ length c.self.inside.bytes.items = omega (arith, c.len-start.ensures) in
     let end = rw start at c.in-Some.ensures.found in
-    let size = size c.self.inside.bytes.items c.self.inside.link c.self.inside.total c.self.inside.added c.in-Some.end
-    c.args.form.now
-    c.args.strips.now c.self.invariant.link_inside c.requires.limits c.requires.exchanged c.requires.strips end in
-    rw (← c.self.view_is) (
-      λ e. absurd (cc),
-      λ long. absurd (omega (
-        arith,
-        long,
-        size,
-        c.page_end-page_end.ensures,
-        c.from.ensures,
-        c.if-page_end-from.false,
-      )),
-    )
+    rw (← c.self.view_is) (not_too_large _ _ (λ e. absurd cc) (is_short c.self.inside.bytes.items
+    c.self.inside.link c.self.inside.total c.self.inside.added c.in-Some.end c.args.form.now c.args.strips.now
+    c.self.invariant.link_inside c.requires.limits c.requires.exchanged c.requires.strips end _
+    c.page_end-page_end.ensures (omega (arith, c.from.ensures, c.if-page_end-from.false))))
 
 pub set_link-requires : goal.set_link-requires
 set_link-requires c =

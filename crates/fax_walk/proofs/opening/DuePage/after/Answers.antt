@@ -7,7 +7,7 @@ pub invariant_of-result : goal.invariant_of-result
 invariant_of-result c = record {
   its =
       rw (c.given-page.ensures, c.in-Ok.ensures.directory)
-      (page_due _ _ c.args.chain c.next.result c.requires c.files_have_one_chain.ensures c.next.ensures.answer _
+      (page_due _ _ c.args.chain c.next.result c.requires c.next.ensures.answer _
       (c.in-Ok-Some.is ∙ ap Ok c.in-Ok-Some.field-0-is) _ c.in-Ok.form c.next.ensures.counted c.in-Ok.ensures.form);
   form_is = rw c.in-Ok.ensures.directory c.in-Ok.ensures.form;
   limits = c.in-Ok.ensures.limits;
@@ -17,15 +17,15 @@ invariant_of-result c = record {
 pub returns-in-Ok-None : goal.returns-in-Ok-None
 returns-in-Ok-None c =
     let is = c.in-Ok-None.is ∙ ap Ok c.in-Ok-None.field-0-is in (
-      proper_end_at _ _ c.args.chain c.next.result c.requires c.files_have_one_chain.ensures c.next.ensures.answer is,
-      λ r some. row_past _ _ c.args.chain c.next.result c.requires c.files_have_one_chain.ensures c.next.ensures.answer
+      proper_end_at _ _ c.args.chain c.next.result c.requires c.next.ensures.answer is,
+      λ r some. row_past _ _ c.args.chain c.next.result c.requires c.next.ensures.answer
           r is some,
     )
 
 pub returns-in-Err : goal.returns-in-Err
 returns-in-Err c r =
     rw (c.of_file.ensures, c.given-page.ensures)
-    (fault_before_page _ _ c.args.chain c.next.result c.requires c.files_have_one_chain.ensures c.next.ensures.answer _
+    (fault_before_page _ _ c.args.chain c.next.result c.requires c.next.ensures.answer _
     _ c.in-Err.is
     (omega arith))
 
@@ -33,7 +33,7 @@ pub returns-in-Err-page_and_strips : goal.returns-in-Err-page_and_strips
 returns-in-Err-page_and_strips c =
     let is = c.in-Ok-Some.is ∙ ap Ok c.in-Ok-Some.field-0-is in
     let file : c.in-Ok-Some.directory.file ≡ c.args.chain.tiff.file =
-    same_file _ _ c.args.chain c.next.result c.requires c.files_have_one_chain.ensures c.next.ensures.answer _ is in
+    same_file _ _ c.args.chain c.next.result c.requires c.next.ensures.answer _ is in
     rw (c.of_file-in-Err-page_and_strips.ensures, c.given-page.ensures, ← file)
-    (fields_refused _ _ c.args.chain c.next.result c.requires c.files_have_one_chain.ensures c.next.ensures.answer _ is
+    (fields_refused _ _ c.args.chain c.next.result c.requires c.next.ensures.answer _ is
     _ c.in-Err-page_and_strips.ensures.fault)

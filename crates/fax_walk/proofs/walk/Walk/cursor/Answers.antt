@@ -1,7 +1,9 @@
+use Rattle.fax_walk.specs.views.Walk.{WalkView}
 use Rattle.fax_walk.proofs.WalkLemmas.{cursor_is}
 use Rattle.fax_walk.proofs.walk.Walk.cursor.Goals as goal
 
 pub returns : goal.returns
 returns c =
     let w = c.self.inside in
-    rw (← c.self.view_is) (cursor_is _ w.cursor w.page c.self.invariant)
+    let walk : WalkView = record { file = w.file.now; begun = w.begun; given = w.given; told = w.told } in
+    rw (← c.self.view_is) (cursor_is walk w.cursor w.page c.self.invariant)

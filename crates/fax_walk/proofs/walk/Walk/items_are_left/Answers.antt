@@ -1,8 +1,10 @@
+use Rattle.fax_walk.specs.views.Walk.{WalkView}
 use Rattle.fax_walk.proofs.WalkLemmas.{is_left}
 use Rattle.fax_walk.proofs.walk.Walk.items_are_left.Goals as goal
 
 pub returns : goal.returns
 returns c =
     let w = c.self.inside in
+    let walk : WalkView = record { file = w.file.now; begun = w.begun; given = w.given; told = w.told } in
     rw (← c.self.view_is)
-    (is_left _ w.cursor w.page c.beginnings_have_one_tail.ensures c.self.invariant)
+    (is_left walk w.cursor w.page c.beginnings_have_one_tail.ensures c.self.invariant)
