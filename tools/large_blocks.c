@@ -6,7 +6,7 @@
  *
  * A large block is a mapping of its own, of whole huge pages, and no other address space is taken. It is put far away
  * from all others, so that it can grow in its place; where it cannot, the system moves it without a copy. On a system
- * without huge pages it has small ones. Threads may call these functions side by side. */
+ * without huge pages it has small ones. The program has no threads, and these functions are for one alone. */
 #define _GNU_SOURCE
 #include <malloc.h>
 #include <stddef.h>
@@ -29,26 +29,24 @@ static struct slot {
     char *begin;
     size_t size;
 } slots[SLOTS];
-/* What begin is while a block is mapped. */
-static char mapping[1];
 
-static struct slot *slot_of(const void *block) {
-    for (struct slot *slot = slots; block && slot < slots + SLOTS; slot++)
-        if (__atomic_load_n(&slot->begin, __ATOMIC_RELAXED) == block) return slot;
+static struct slot *slot_that_begins(const void *begin) {
+    for (struct slot *slot = slots; slot < slots + SLOTS; slot++)
+        if (slot->begin == begin) return slot;
     return NULL;
 }
 
-static struct slot *take_slot(void) {
-    for (struct slot *slot = slots; slot < slots + SLOTS; slot++) {
-        char *none = NULL;
-        if (__atomic_compare_exchange_n(&slot->begin, &none, mapping, 0, __ATOMIC_ACQUIRE, __ATOMIC_RELAXED)) return slot;
-    }
-    return NULL;
+static struct slot *slot_of(const void *block) {
+    return block ? slot_that_begins(block) : NULL;
+}
+
+static struct slot *free_slot(void) {
+    return slot_that_begins(NULL);
 }
 
 static void *keep(struct slot *slot, char *begin, size_t size) {
+    slot->begin = begin;
     slot->size = size;
-    __atomic_store_n(&slot->begin, begin, __ATOMIC_RELEASE);
     return begin;
 }
 
@@ -60,11 +58,11 @@ static size_t in_huge_pages(size_t size) {
 /* Maps a large block, or answers NULL. */
 static void *map(size_t size) {
     struct slot *slot;
-    if (size < LARGE || !(slot = take_slot())) return NULL;
+    if (size < LARGE || !(slot = free_slot())) return NULL;
     uintptr_t place = ((uintptr_t)slots & ~(HUGE_PAGE - 1)) - APART * (size_t)(slot - slots + 1);
     size = in_huge_pages(size);
     char *begin = mmap((void *)place, size, PROT_READ | PROT_WRITE, MAP_PRIVATE | MAP_ANONYMOUS, -1, 0);
-    if (begin == MAP_FAILED) return keep(slot, NULL, 0);
+    if (begin == MAP_FAILED) return NULL;
     madvise(begin, size, MADV_HUGEPAGE);
     return keep(slot, begin, size);
 }
