@@ -11,9 +11,9 @@ use Rattle.fax_page.specs.declared.StripFault.TheVariants.{DataEnds, EndMarker}
 use Rattle.fax_page.specs.Lines.{Coding, Mh, Mr, Mmr, StripFault, StripForm, IsCause}
 use Rattle.fax_page.specs.Strip.{AreReturnEols, HasEndMark, IsReturnEol, end_bits, end_of_line}
 use Rattle.fax_page.specs.Uncounted.{EndsSo, Fault}
-use Rattle.fax_page.specs.laws.Following.{EndsStayWhateverFollows}
+use Rattle.fax_page.specs.laws.Following.{EndsStayWhateverFollows, StaysWhateverFollows}
 use Rattle.fax_page.specs.laws.Strips.{ReadsLinesOneWay}
-use Rattle.fax_page.proofs.FollowingLaws.{cause_stays, eol_stays}
+use Rattle.fax_page.proofs.FollowingLaws.{eol_stays}
 use Rattle.fax_page.proofs.StartLemmas.{eleven_ahead, eleven_alone}
 
 -- an end mark stays
@@ -81,14 +81,15 @@ front_zeros (true ∷ b) more (suc n) is = absurd (cc is)
 front_zeros (false ∷ b) more (suc n) is =
     let all = front_zeros b more n cc in (suc all.0, ap (λ c. false ∷ c) all.1)
 
-module _ (reads : (form : StripForm) (i : ℕ) (reference : List Colour) → ReadsLinesOneWay form i reference) where
+module _ (reads : (form : StripForm) (i : ℕ) (reference : List Colour) → ReadsLinesOneWay form i reference)
+    (stays : (form : StripForm) (i : ℕ) (reference : List Colour) → StaysWhateverFollows form i reference) where
   fault_stays : (form : StripForm) (i row : ℕ) (reference : List Colour) (left more : List Bool) (fault : StripFault)
       → fault ≢ DataEnds
       → fault ≢ EndMarker → IsCause form i reference left fault
       → EndsSo form.coding row (left ++ more) (Some fault) (Fault fault)
   fault_stays form i row reference left more fault no_end no_marker cause =
       let b = left ++ more in
-      let now = cause_stays more form i reference left fault no_end cause in
+      let now = (stays form i reference).fault left more fault no_end cause in
       let one = (reads form i reference).line.one_fault b fault in (
         λ mark. no_marker (one EndMarker now (mark_is_cause form i reference b form.coding refl mark)),
         λ ends.

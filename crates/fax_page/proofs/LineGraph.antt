@@ -32,7 +32,7 @@ zeros_is (true ∷ b) = refl
 zeros_is (false ∷ b) = grind (arith, zeros_is b)
 
 -- how many zeros stand before the first 1, and what follows it
-zeros_before_one : (n : ℕ) (after : List Bool) → (zeros (replicate n false ++ true ∷ after) ≡ n)
+pub zeros_before_one : (n : ℕ) (after : List Bool) → (zeros (replicate n false ++ true ∷ after) ≡ n)
     × (after_one (replicate n false ++ true ∷ after) ≡ Some after)
 zeros_before_one zero after = (refl, refl)
 zeros_before_one (suc n) after = grind (arith, zeros_before_one n after)

@@ -15,6 +15,8 @@ pub fn ends_are_told_by_a_function() {}
 pub fn lines_are_read_in_one_way() {
     strips_are_read_by_functions();
     fax_rows::laws::rows_have_their_width();
+    fax_bits::laws::run_codes_are_read_in_one_way();
+    fax_bits::laws::codes_are_read_in_one_way::<fax_bits::Modes>();
 }
 
 /// Bits are read in one way as a strip, in any coding: they have one list of rows and one end.
@@ -84,16 +86,23 @@ pub fn coded_strips_are_read_uncounted() {
 
 /// A row of a strip is the same row, whatever bits follow those that it is read from, and so is a
 /// fault in its way, but where it is that the data end.
-pub fn rows_stay_whatever_follows() {}
+pub fn rows_stay_whatever_follows() {
+    strips_are_read_by_functions();
+    fax_bits::laws::run_codes_are_read_in_one_way();
+    fax_bits::laws::codes_are_read_in_one_way::<fax_bits::Modes>();
+}
 
 /// A strip is read in pieces: the rows of its first bits, and then those of what is left of them and
 /// of the bits that follow, are the rows of all of them.
-pub fn strips_are_read_in_pieces() {}
+pub fn strips_are_read_in_pieces() {
+    rows_stay_whatever_follows();
+}
 
 /// How rows end that nobody counted stays, whatever bits follow: with an end mark, or with a fault
 /// that is neither the end of the data nor an end marker.
 pub fn ends_stay_whatever_follows() {
     lines_are_read_in_one_way();
+    rows_stay_whatever_follows();
 }
 
 /// What is left of a damaged strip is found and lost in one way, from any row on, in any coding:

@@ -150,6 +150,7 @@ impl<'a> StripReader<'a> {
         // It stands beside `next_row`, which lends the row: the checker proves a lent row through
         // one layer of crates and not through two, and the walk lends it on.
         bits_stand_by_place();
+        crate::laws::lines_are_read_in_one_way();
         if let Some(fault) = self.fault {
             return Err(fault);
         }
