@@ -36,7 +36,7 @@ mark_stays Mmr b more mark =
     (mark.0 ++ more, ap (λ c. c ++ more) mark.1 ∙ append_assoc (end_bits Mmr) mark.0 more)
 
 -- it is in the way of the next row
-mark_is_cause : (form : StripForm) (i : ℕ) (reference : List Colour) (b : List Bool) (coding : Coding)
+pub mark_is_cause : (form : StripForm) (i : ℕ) (reference : List Colour) (b : List Bool) (coding : Coding)
     → form.coding ≡ coding
     → HasEndMark coding b → IsCause form i reference b EndMarker
 mark_is_cause form i reference b Mh is mark =
@@ -59,7 +59,7 @@ mark_is_cause form i reference b Mmr is mark =
     inr (TwoDimensional, b, rw is refl, inl (true ∷ end_of_line ++ mark.0, mark.1, refl))
 
 -- and zeros alone are, or are where the data end
-zeros_are_cause : (form : StripForm) (i : ℕ) (reference : List Colour) (b : List Bool) (coding : Coding)
+pub zeros_are_cause : (form : StripForm) (i : ℕ) (reference : List Colour) (b : List Bool) (coding : Coding)
     → form.coding ≡ coding → IsAllZeros b
     → IsCause form i reference b DataEnds ⊎ IsCause form i reference b EndMarker
 zeros_are_cause form i reference b Mh is all = inl (inl (rw is (inl (all, refl))))

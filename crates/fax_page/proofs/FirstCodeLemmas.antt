@@ -1,7 +1,7 @@
 -- The codes of a row begin with fewer than eleven zeros and a 1.
 use Rattle.std.proofs.Common.{◌≡◌, ℕ, zero, suc, ◌<◌, List, [], ◌∷◌, ◌++◌, length, get_or, map, Bool, true, false, refl}
 use Rattle.std.proofs.Common.{ap, sym, subst}
-use Rattle.std.proofs.Common.{arith, Some}
+use Rattle.std.proofs.Common.{arith, Some, Ok}
 use Rattle.std.specs.Prelude.{◌&&◌}
 use Rattle.fax_bits.specs.declared.codes.CodeEntry.{CodeEntry}
 use Rattle.fax_bits.specs.declared.Colour.{Colour}
@@ -13,9 +13,7 @@ use Rattle.fax_bits.specs.Codes.{bits_of, Takes, Spells}
 use Rattle.fax_bits.specs.Tables.{run_table, modes, white_runs, white_terminating, white_make_up, common_make_up}
 use Rattle.fax_rows.specs.Rows.{AreRuns, Position, beginning, AreSteps}
 use Rattle.fax_page.specs.declared.Dimension.{Dimension}
-use Rattle.fax_page.specs.Lines.{StripForm, BeginsBelowEleven, IsRowIn, IsLine}
-use Rattle.fax_page.specs.code.Starts.{IsStarted}
-use Rattle.fax_page.proofs.BegunLemmas.{start_is}
+use Rattle.fax_page.specs.Lines.{StripForm, BeginsBelowEleven, IsRowIn, IsLine, IsStart}
 
 -- a 1 is among the first n bits
 abbrev has_one : ℕ → List Bool → Bool
@@ -94,12 +92,12 @@ row_begins dimension width reference b row rest some is = grind (arith, runs_beg
 -- a row whose codes are read after what stands before them
 unfoldable pub line_begun : (form : StripForm) (i : ℕ) (reference row : List Colour) (b codes rest : List Bool)
     (dimension : Dimension)
-    → 0 < form.width → IsStarted form.coding i b dimension codes → IsRowIn dimension form.width reference codes row rest
+    → 0 < form.width → IsStart form.coding i b (Ok (dimension, codes)) → IsRowIn dimension form.width reference codes row rest
     → IsLine form i reference b row rest
 line_begun form i reference row b codes rest dimension some start read = record {
   dimension = dimension;
   codes = codes;
-  start = start_is form.coding i b dimension codes start;
+  start = start;
   first_code = row_begins dimension form.width reference codes row rest some read;
   coded = read;
 }

@@ -1,5 +1,5 @@
 -- A strip that is read for its notes, row by row.
-use Rattle.std.proofs.Common.{◌≡◌, ℕ, ◌+◌, ◌<◌, ◌↔◌, List, [], ◌∷◌, ◌++◌, length, Bool, true, false, IsTrue, refl, ap}
+use Rattle.std.proofs.Common.{◌≡◌, ℕ, ◌+◌, ◌<◌, ◌↔◌, List, [], ◌∷◌, ◌++◌, length, Bool, true, false, IsTrue, refl, ap, Ok}
 use Rattle.std.proofs.Common.{sym, ◌∙◌, subst}
 use Rattle.std.proofs.Common.{arith, append_assoc, append-nil, length-append, inl, inr, Option, Some, None}
 use Rattle.fax_bits.specs.declared.Colour.{Colour}
@@ -11,7 +11,7 @@ use Rattle.fax_page.specs.declared.StripFault.{StripFault}
 use Rattle.fax_page.specs.declared.notes.NotesFault.{NotesFault}
 use Rattle.fax_page.specs.declared.notes.NotesFault.TheVariants.{Memory, Strip}
 use Rattle.fax_page.specs.declared.notes.StripNotes.{StripNotes}
-use Rattle.fax_page.specs.Lines.{IsCause, IsLine, IsRowIn, white_row}
+use Rattle.fax_page.specs.Lines.{IsCause, IsLine, IsStart, IsRowIn, white_row}
 use Rattle.fax_page.specs.Strip.{AreLines, row_bits, HasOtherChoice, IsNotedAs, most_rows}
 use Rattle.fax_page.specs.views.Strip.{IsStrip, IsNotedUncounted, IsNotesFault}
 use Rattle.fax_page.proofs.StripLaws.{EndsAt, no_rows}
@@ -23,10 +23,9 @@ use Rattle.fax_page.specs.code.Notes.{IsChosen}
 use Rattle.fax_page.specs.code.Notes.{AreCodesRead, IsChoiceNoted, AreCodesNoted, IsCodesFault, IsLineNoted}
 use Rattle.fax_page.specs.code.Notes.{IsLineFault, AreRowsRead, AreNotesAfter}
 use Rattle.fax_page.specs.code.Notes.{AreFoundAfter}
-use Rattle.fax_page.specs.code.Starts.{IsStarted}
-use Rattle.fax_page.proofs.BegunLemmas.{started, cause_in_codes}
+use Rattle.fax_page.proofs.BegunLemmas.{cause_in_codes}
 use Rattle.fax_page.proofs.FirstCodeLemmas.{line_begun}
-use Rattle.fax_page.proofs.BegunLemmas.{one_start}
+use Rattle.fax_page.proofs.BegunLemmas.{one_begun}
 
 -- what follows the codes that T.4 chooses is what follows the row
 module _ (one : OneDimensionalBitsAreOneRow) (two : TwoDimensionalBitsAreOneRow) where
@@ -53,9 +52,7 @@ module _ (reads : (form : StripForm) (i : ℕ) (reference : List Colour) → Rea
       (line : IsLine form i reference b row rest)
       (other : IsLine form i reference b row remaining) → IsSameLine form i reference row b rest remaining line other
   same_line form i reference row b rest remaining line other =
-      let start = one_start form.coding i b line.dimension other.dimension line.codes other.codes
-      (started form.coding i b line.dimension line.codes line.start)
-      (started form.coding i b other.dimension other.codes other.start) in
+      let start = one_begun form.coding i b _ _ _ _ line.start other.start in
       let after = ((reads form i reference).line.one_answer b row row rest remaining line other).1 in
       record {
         same_after = after;
@@ -123,7 +120,7 @@ codes_seen chosen other is = record { kept = λ h. h; found = λ h. inl h; none 
 -- a row whose codes were read after what stands before them
 pub line_noted : (form : StripForm) (i : ℕ) (reference row : List Colour) (b codes rest : List Bool)
     (dimension : Dimension)
-    (other now : Bool) → 0 < form.width → IsStarted form.coding i b dimension codes
+    (other now : Bool) → 0 < form.width → IsStart form.coding i b (Ok (dimension, codes))
     → AreCodesNoted form dimension reference codes row rest other now
     → IsLineNoted form i reference b row rest other now
 unfolding line_begun
@@ -135,7 +132,7 @@ line_noted form i reference row b codes rest dimension other now some start read
 -- and one whose codes cannot be read
 pub codes_fault : (form : StripForm) (i : ℕ) (reference : List Colour) (b codes : List Bool) (dimension : Dimension)
     (fault : NotesFault)
-    → IsStarted form.coding i b dimension codes → IsCodesFault form i dimension reference codes fault
+    → IsStart form.coding i b (Ok (dimension, codes)) → IsCodesFault form i dimension reference codes fault
     → IsLineFault form i reference b fault
 codes_fault form i reference b codes dimension fault start is = grind (arith, cause_in_codes)
 

@@ -9,20 +9,18 @@ use Rattle.fax_page.specs.declared.Dimension.{Dimension}
 use Rattle.fax_page.specs.declared.Coding.{Coding}
 use Rattle.fax_page.specs.declared.StripForm.{StripForm}
 use Rattle.fax_page.specs.declared.StripFault.{StripFault}
-use Rattle.fax_page.specs.Lines.{IsLine, IsCause}
-use Rattle.fax_page.specs.code.Starts.{IsStarted}
+use Rattle.fax_page.specs.Lines.{IsLine, IsCause, IsStart}
 use Rattle.fax_page.specs.laws.Strips.{ReadsLinesOneWay}
-use Rattle.fax_page.proofs.BegunLemmas.{start_is}
 use Rattle.fax_page.proofs.FollowingLaws.{start_front}
 use Rattle.fax_page.proofs.FrontLemmas.{EndsWith, among, answer_of, onwards}
 use Rattle.fax_page.proofs.LineGraph.{start_of}
 
 -- so many bits stand before the codes of a row that begins
 pub start_among : (coding : Coding) (i : ℕ) (b : List Bool) (dimension : Dimension) (codes : List Bool)
-    → IsStarted coding i b dimension codes → (n : ℕ) × (n ≤ length b) × (drop n b ≡ codes)
+    → IsStart coding i b (Ok (dimension, codes)) → (n : ℕ) × (n ≤ length b) × (drop n b ≡ codes)
 start_among coding i b dimension codes begun =
-    let at = start_of coding i b (Ok (dimension, codes)) (start_is coding i b dimension codes begun) in
-    among b codes (answer_of dimension codes at (start_front [] coding i b)).0
+    among b codes
+    (answer_of dimension codes (start_of coding i b (Ok (dimension, codes)) begun) (start_front [] coding i b)).0
 
 -- so many bits stand before the rest of a row that begins among them
 pub rest_among : (form : StripForm) (i : ℕ) (reference : List Colour)

@@ -1,52 +1,37 @@
 -- The rows that are read before a fault are found, all but the last where an EOL is missing after it.
 use Rattle.std.proofs.Common.{arith, ◌≡◌, ℕ, ◌+◌, ◌-◌, List, [], ◌∷◌, ◌++◌, map, Bool, Some, None, refl}
-use Rattle.std.proofs.Common.{ap, inl, inr, replicate, suc, true, false, ◌≤◌, ◌∙◌}
+use Rattle.std.proofs.Common.{ap, inl, inr, Err, replicate, suc, true, false, ◌≤◌, ◌∙◌}
 use Rattle.std.proofs.lemmas.Bool.Decides.{nat_tests}
 use Rattle.std.specs.Prelude.{◌≢◌, ◌<◌, Option, option_map, MatchOption}
 use Rattle.fax_bits.specs.declared.Colour.{Colour}
 use Rattle.fax_rows.specs.declared.RowFault.{RowFault}
 use Rattle.fax_page.specs.declared.StripFault.TheVariants.{MissingEol}
-use Rattle.fax_page.specs.Lines.{BeginsBelowEleven, Coding, Dimension, IsCause, IsLine, IsStopInCodes, Mh, Mmr, Mr}
+use Rattle.fax_page.specs.Lines.{BeginsBelowEleven, Coding, Dimension, IsCause, IsLine, IsStart, IsStopInCodes, Mh, Mmr, Mr}
 use Rattle.fax_page.specs.Lines.{StripFault, StripForm, strip_fault, white_row}
 use Rattle.fax_page.specs.Salvage.{AreSalvaged, GoesOnAfter, IsEolDue, IsReadOver, SalvagedRow, after_eol, found}
 use Rattle.fax_page.specs.Salvage.{lost, next_due, unended}
 use Rattle.fax_page.specs.Strip.{AreLines, end_of_line}
-use Rattle.fax_page.specs.code.Starts.{IsStartFault}
 use Rattle.fax_page.specs.laws.Salvage.{FindsRowsBeforeFaults, LostBitsDoNotMatter, SalvagesStripsOneWay}
 use Rattle.fax_page.specs.reads.Lines.{read_start}
 use Rattle.fax_page.specs.reads.Salvage.{sought_from}
-use Rattle.fax_page.proofs.BegunLemmas.{start_fault}
+use Rattle.fax_page.proofs.BegunLemmas.{one_start}
 use Rattle.fax_page.proofs.SalvageGraph.{sought_is}
-use Rattle.fax_page.proofs.SalvageLaws.{begins_with_eol}
+use Rattle.fax_page.proofs.SalvageLaws.{begins_with_eol, eol_is_missing}
 use Rattle.fax_page.proofs.SalvageLemmas.{at_one}
-use Rattle.fax_page.proofs.StartLaws.{below_is_not_zeros, eol_is_not_below}
 
 -- another fault than a missing EOL, where an EOL is due, is none of bits below eleven zeros
-no_code_there : (coding : Coding) (i : ℕ) (rest : List Bool) (fault : StripFault) → fault ≢ MissingEol
-    → IsStartFault coding i rest fault → BeginsBelowEleven rest → ⊥
-no_code_there Mh i rest fault other (inl all) below = below_is_not_zeros rest below all.0
-no_code_there Mh i rest fault other (inr missing) below = other missing.2
-no_code_there Mr i rest fault other (inl all) below = below_is_not_zeros rest below all.0
-no_code_there Mr i rest fault other (inr (inl cut)) below = eol_is_not_below rest [] cut.0 below
-no_code_there Mr i rest fault other (inr (inr missing)) below = other missing.1
-no_code_there Mmr i rest fault other none below = none
-
 none_missing : (form : StripForm) (i : ℕ) (row : List Colour) (rest : List Bool) (fault : StripFault)
     → fault ≢ MissingEol → IsCause form (i + 1) row rest fault → IsEolDue form i → BeginsBelowEleven rest → ⊥
 none_missing form i row rest fault other (inl stop) due below =
-    no_code_there form.coding (i + 1) rest fault other (start_fault form.coding (i + 1) rest fault stop) below
+    let same = one_start form.coding (i + 1) rest _ _ stop (eol_is_missing form.coding i rest due.0 below) in
+    other cc
 none_missing form i row rest fault other (inr (dimension, codes, begun, stop)) due below =
     begins_with_eol form.coding i rest codes dimension due.0 begun below
 
 -- an EOL is missing where one is due
-eol_missing : (coding : Coding) (i : ℕ) (rest : List Bool) → IsStartFault coding i rest MissingEol
+eol_missing : (coding : Coding) (i : ℕ) (rest : List Bool) → IsStart coding i rest (Err MissingEol)
     → (coding ≢ Mmr) × BeginsBelowEleven rest
-eol_missing Mh i rest (inl all) = absurd (let ends = all.1 in cc)
-eol_missing Mh i rest (inr missing) = (λ mmr. cc, missing.1)
-eol_missing Mr i rest (inl all) = absurd (let ends = all.1 in cc)
-eol_missing Mr i rest (inr (inl cut)) = absurd (let ends = cut.1 in cc)
-eol_missing Mr i rest (inr (inr missing)) = (λ mmr. cc, missing.0)
-eol_missing Mmr i rest none = absurd none
+eol_missing coding i rest stop = grind arith
 
 no_fault_of_codes : (cause : RowFault) → MissingEol ≡ strip_fault cause → ⊥
 no_fault_of_codes cause is = grind arith
@@ -61,7 +46,7 @@ none_in_codes dimension width reference codes (inr (inr (below, cause, in_codes,
 lacks_eol : (form : StripForm) (i : ℕ) (row : List Colour) (rest : List Bool) → IsCause form i row rest MissingEol
     → (form.coding ≢ Mmr) × BeginsBelowEleven rest
 lacks_eol form i row rest (inl stop) =
-    eol_missing form.coding i rest (start_fault form.coding i rest MissingEol stop)
+    eol_missing form.coding i rest stop
 lacks_eol form i row rest (inr (dimension, codes, begun, stop)) =
     absurd (none_in_codes dimension form.width row codes stop)
 

@@ -1,5 +1,5 @@
 -- What is left of a strip is found and lost in one way, and a strip that is read wholly loses nothing.
-use Rattle.std.proofs.Common.{◌≡◌, ℕ, ◌+◌, ◌-◌, ◌<◌, List, [], ◌∷◌, length, map, replicate, Bool}
+use Rattle.std.proofs.Common.{◌≡◌, ℕ, ◌+◌, ◌-◌, ◌<◌, List, [], ◌∷◌, length, map, replicate, Bool, Err, Ok}
 use Rattle.std.proofs.Common.{Option, Some, None, Ok, refl, ap, sym, ◌∙◌, arith, inl, inr}
 use Rattle.std.specs.Prelude.{◌≢◌, MatchOption}
 use Rattle.std.proofs.lemmas.List.{length-replicate}
@@ -10,13 +10,11 @@ use Rattle.fax_page.specs.Lines.{StripFault, StripForm, white_row}
 use Rattle.fax_page.specs.Salvage.{AreSalvaged, GoesOnAfter, IsEolDue}
 use Rattle.fax_page.specs.Salvage.{SalvagedRow, found, lost, next_due, unended}
 use Rattle.fax_page.specs.Strip.{AreLines}
-use Rattle.fax_page.specs.code.Starts.{IsStarted}
 use Rattle.fax_page.specs.laws.Salvage.{FindsWholeStrips, SalvagesStripsOneWay}
 use Rattle.fax_page.specs.laws.Graphs.{StripsAreReadByFunctions}
 use Rattle.fax_page.specs.reads.Salvage.{salvage_rows}
-use Rattle.fax_page.proofs.BegunLemmas.{started}
+use Rattle.fax_page.proofs.BegunLemmas.{one_start}
 use Rattle.fax_page.proofs.SalvageGraph.{rows_are, rows_of}
-use Rattle.fax_page.proofs.StartLaws.{eol_is_not_below}
 
 -- ---- as many rows as the strip has
 
@@ -75,17 +73,18 @@ all_found_are_lines form i reference b [] are = (b, (refl, are))
 all_found_are_lines form i reference b (row ∷ rows) (rest, low, over, ended, are) =
     let more = all_found_are_lines form (i + 1) row rest rows are in (more.0, (rest, low, over.line, more.1))
 
--- before a row that is read stands no code where an EOL is due
+-- a code where an EOL is due
+pub eol_is_missing : (coding : Coding) (i : ℕ) (b : List Bool) → coding ≢ Mmr → BeginsBelowEleven b
+    → IsStart coding (i + 1) b (Err MissingEol)
+eol_is_missing Mh i b other below = inr (inr (inl (below, (λ first. omega (arith, first)), refl)))
+eol_is_missing Mr i b other below = inr (inl (below, refl))
+eol_is_missing Mmr i b other below = absurd (other refl)
+
+-- stands before no row that is read
 pub begins_with_eol : (coding : Coding) (i : ℕ) (b codes : List Bool) (dimension : Dimension) → coding ≢ Mmr
     → IsStart coding (i + 1) b (Ok (dimension, codes)) → BeginsBelowEleven b → ⊥
 begins_with_eol coding i b codes dimension other begun below =
-    go coding other (started coding (i + 1) b dimension codes begun)
-  where
-    go : (coding : Coding) → coding ≢ Mmr → IsStarted coding (i + 1) b dimension codes → ⊥
-    go Mh other (one, inl eol) = eol_is_not_below b codes eol below
-    go Mh other (one, inr none) = omega (arith, none.0)
-    go Mr other eol = eol_is_not_below b _ eol below
-    go Mmr other begun = other refl
+    let same = one_start coding (i + 1) b _ _ begun (eol_is_missing coding i b other below) in cc
 
 no_eol_lacks : (form : StripForm) (i : ℕ) (row : List Colour) (rest : List Bool) (rows : List (List Colour))
     (left : List Bool) → AreLines form (i + 1) row rest rows None left → IsEolDue form i → BeginsBelowEleven rest → ⊥

@@ -1,6 +1,6 @@
 -- The next EOL after a row that is lost.
 use Rattle.std.proofs.Common.{◌≡◌, ℕ, zero, suc, ◌+◌, ◌-◌, ◌<◌, ◌≤◌, List, [], ◌∷◌, ◌++◌, length, drop, replicate}
-use Rattle.std.proofs.Common.{Bool, true, false, Option, Some, None, Err, refl, ap, sym, ◌∙◌, arith, inl, inr}
+use Rattle.std.proofs.Common.{Bool, true, false, Option, Some, None, Ok, Err, refl, ap, sym, ◌∙◌, arith, inl, inr}
 use Rattle.std.proofs.lemmas.List.{length-drop, drop-drop}
 use Rattle.std.specs.Prelude.{nat_lt, nat_le, if◌then◌else◌, option_map, ◌≢◌}
 use Rattle.std.proofs.lemmas.Bool.Decides.{nat_tests}
@@ -10,10 +10,9 @@ use Rattle.fax_page.specs.Lines.{Coding, Mh, Mr, Mmr, Dimension, IsStart, OneDim
 use Rattle.fax_page.specs.Lines.{BeginsBelowEleven}
 use Rattle.fax_page.specs.Strip.{end_of_line}
 use Rattle.fax_page.specs.Salvage.{BeginsTwoDimensional, IsSoughtFrom, after_eol, next_due}
-use Rattle.fax_page.specs.code.Starts.{IsStarted, IsStartFault}
 use Rattle.fax_page.specs.declared.StripFault.TheVariants.{DataEnds, MissingEol}
 use Rattle.fax_page.specs.code.Salvage.{IsAmong, IsFirstEol, IsNextEol, IsPassedBy}
-use Rattle.fax_page.proofs.BegunLemmas.{fault_is, one_start, start_has_no_fault, start_is, started}
+use Rattle.fax_page.proofs.BegunLemmas.{one_begun, one_start}
 use Rattle.fax_page.proofs.RestLemmas.{start_among}
 use Rattle.fax_page.proofs.StartLaws.{eol_is_not_below, below_is_not_zeros}
 
@@ -26,16 +25,13 @@ pub not_below_zeros : (b : List Bool) → IsAllZeros b → BeginsBelowEleven b �
 not_below_zeros b all below = below_is_not_zeros b below all
 
 -- a row is coded in one dimension or in two
-pub not_two : (coding : Coding) (i : ℕ) (b codes : List Bool) → IsStarted coding i b OneDimensional codes
+pub not_two : (coding : Coding) (i : ℕ) (b codes : List Bool) → IsStart coding i b (Ok (OneDimensional, codes))
     → BeginsTwoDimensional coding i b → ⊥
-not_two coding i b codes one two =
-    let same = one_start coding i b OneDimensional TwoDimensional codes two.0 one
-    (started coding i b TwoDimensional two.0 two.1) in cc
+not_two coding i b codes one two = let same = one_begun coding i b _ _ _ _ one two.1 in cc
 
-pub not_begun : (coding : Coding) (i : ℕ) (b : List Bool) (fault : StripFault) → IsStartFault coding i b fault
+pub not_begun : (coding : Coding) (i : ℕ) (b : List Bool) (fault : StripFault) → IsStart coding i b (Err fault)
     → BeginsTwoDimensional coding i b → ⊥
-not_begun coding i b fault stop two =
-    start_has_no_fault coding i b TwoDimensional two.0 fault (started coding i b TwoDimensional two.0 two.1) stop
+not_begun coding i b fault stop two = let same = one_start coding i b _ _ stop two.1 in cc
 
 -- zeros alone have no EOL among them
 pub no_eol : (n zeros : ℕ) → after_eol n (replicate zeros false) ≡ None
@@ -165,25 +161,25 @@ module _ (coding : Coding) (i : ℕ) (start from : Source) (n : ℕ) (other : co
 
 -- the EOL after a lost row's own EOL and tag bit
 pub after_own : (coding : Coding) (i : ℕ) (start from : Source) (dimension : Dimension) (found : Option ℕ)
-    → coding ≢ Mmr → IsStarted coding i start.left dimension from.left → KeepsEnd start from
+    → coding ≢ Mmr → IsStart coding i start.left (Ok (dimension, from.left)) → KeepsEnd start from
     → IsFirstEol from found → IsNextEol coding i start found
 after_own coding i start from dimension found other begun same_end first =
     let n = start_among coding i start.left dimension from.left begun in
     let count : length from.left ≡ length start.left - n.0 =
     ap length (sym n.2) ∙ length-drop n.0 start.left in
     found_from coding i start from n.0 other n.1 n.2 (omega (arith, count, same_end, n.1))
-    (inl (dimension, start_is coding i start.left dimension from.left begun)) found first
+    (inl (dimension, begun)) found first
 
 -- the EOL after the place of a lost row that has none
 pub after_place : (coding : Coding) (i : ℕ) (start : Source) (found : Option ℕ) → coding ≢ Mmr
-    → IsStartFault coding i start.left MissingEol → IsFirstEol start found → IsNextEol coding i start found
+    → IsStart coding i start.left (Err MissingEol) → IsFirstEol start found → IsNextEol coding i start found
 after_place coding i start found other missing first =
     found_from coding i start start 0 other (omega arith) refl (omega arith)
-    (inr (inl (fault_is coding i start.left MissingEol missing, refl))) found first
+    (inr (inl (missing, refl))) found first
 
 -- the data end before a row's codes, and nothing is left
 pub after_end : (coding : Coding) (i : ℕ) (start : Source) (fault : StripFault) → fault ≢ MissingEol
-    → IsStartFault coding i start.left fault → IsNextEol coding i start None
+    → IsStart coding i start.left (Err fault) → IsNextEol coding i start None
 after_end coding i start fault other stop = ([], inr (inr (ends coding fault other stop, refl)), nothing coding)
   where
     nothing : (coding : Coding) → next_due coding [] ≡ None
@@ -191,9 +187,9 @@ after_end coding i start fault other stop = ([], inr (inr (ends coding fault oth
     nothing Mr = refl
     nothing Mmr = refl
 
-    ends : (coding : Coding) (fault : StripFault) → fault ≢ MissingEol → IsStartFault coding i start.left fault
+    ends : (coding : Coding) (fault : StripFault) → fault ≢ MissingEol → IsStart coding i start.left (Err fault)
         → IsStart coding i start.left (Err DataEnds)
-    ends coding fault other stop = grind (arith, fault_is)
+    ends coding fault other stop = grind arith
 
 -- no row of MMR has an EOL
 pub none_in_mmr : (coding : Coding) (i : ℕ) (start : Source) → coding ≡ Mmr → IsNextEol coding i start None

@@ -13,7 +13,6 @@ use Rattle.fax_page.specs.Salvage.{IsSoughtFrom, after_eol, next_due}
 use Rattle.fax_page.specs.laws.Salvage.{DueRowsStandInStrips, IsRestOf}
 use Rattle.fax_page.specs.laws.Strips.{ReadsLinesOneWay}
 use Rattle.fax_page.specs.views.Salvage.{IsAfterLost, SalvageState}
-use Rattle.fax_page.proofs.BegunLemmas.{started}
 use Rattle.fax_page.proofs.RestLemmas.{start_among}
 use Rattle.fax_page.proofs.SalvageLemmas.{drop_zeros}
 
@@ -90,7 +89,7 @@ due_among Mmr from due some = cc
 -- an EOL is looked for among the bits of a lost row
 sought_among : (coding : Coding) (i : ℕ) (b from : List Bool) → IsSoughtFrom coding i b from → IsRestOf b from
 sought_among coding i b from (inl (dimension, start)) =
-    start_among coding i b dimension from (started coding i b dimension from start)
+    start_among coding i b dimension from start
 sought_among coding i b from (inr (inl (missing, same))) = subst (IsRestOf b) (sym same) (all_of b)
 sought_among coding i b from (inr (inr (ends, none))) =
     let nothing : drop (length b) b ≡ from = all_dropped b ∙ sym none in

@@ -1,6 +1,6 @@
 -- A written strip is read back, where its rows are.
 use Rattle.std.proofs.Common.{◌≡◌, ℕ, zero, suc, ◌+◌, List, [], ◌∷◌, ◌++◌, length, Bool, refl, sym, subst, arith}
-use Rattle.std.proofs.Common.{append_assoc, inl, None}
+use Rattle.std.proofs.Common.{append_assoc, inr, None, Ok}
 use Rattle.std.specs.Prelude.{All}
 use Rattle.std.proofs.lemmas.List.{length-replicate}
 use Rattle.fax_bits.specs.declared.Colour.{Colour}
@@ -11,9 +11,7 @@ use Rattle.fax_page.specs.declared.Dimension.{Dimension}
 use Rattle.fax_page.specs.declared.Coding.{Coding}
 use Rattle.fax_page.specs.declared.Coding.TheVariants.{Mh, Mr, Mmr}
 use Rattle.fax_page.specs.declared.StripForm.{StripForm}
-use Rattle.fax_page.specs.Lines.{tag_bit, IsRowIn, IsLine, white_row}
-use Rattle.fax_page.specs.code.Starts.{IsStarted}
-use Rattle.fax_page.proofs.BegunLemmas.{start_is}
+use Rattle.fax_page.specs.Lines.{tag_bit, IsRowIn, IsLine, IsStart, white_row}
 use Rattle.fax_page.specs.views.Strip.{IsStripForm}
 use Rattle.fax_page.specs.Strip.{AreLines}
 use Rattle.fax_page.specs.Strip.{written_dimension, row_bits, fill_zeros, start_bits, coded_line, coded_lines}
@@ -25,15 +23,16 @@ use Rattle.fax_page.proofs.FirstCodeLemmas.{row_begins}
 -- a written row begins as it is to
 start_back : (coding : Coding) (aligned : Bool) (before k i : ℕ) (reference row : List Colour) (more : List Bool)
     → let dimension = written_dimension coding k i in
-    IsStarted coding i ((start_bits coding aligned before dimension ++ row_bits dimension reference row) ++ more)
-    dimension
-    (row_bits dimension reference row ++ more)
+    IsStart coding i ((start_bits coding aligned before dimension ++ row_bits dimension reference row) ++ more)
+    (Ok (dimension, row_bits dimension reference row ++ more))
 start_back Mh aligned before k i reference row more =
-    (refl, inl (end_of_line_back (fill_zeros aligned before) [] (one_dimensional_bits row) more))
+    inr (inr (inr (_, end_of_line_back (fill_zeros aligned before) [] (one_dimensional_bits row) more, refl)))
 start_back Mr aligned before k i reference row more =
     let dimension = written_dimension Mr k i in
-    end_of_line_back (fill_zeros aligned before) (tag_bit dimension ∷ []) (row_bits dimension reference row) more
-start_back Mmr aligned before k i reference row more = (refl, refl)
+    let eol = end_of_line_back (fill_zeros aligned before) (tag_bit dimension ∷ []) (row_bits dimension reference row)
+    more in
+    inr (inr (inr (dimension, _, eol, refl)))
+start_back Mmr aligned before k i reference row more = refl
 
 module _ (one_read : OneDimensionalBitsAreRead) (two_read : TwoDimensionalBitsAreRead) (form : StripForm)
     (limits : IsStripForm form)
@@ -54,8 +53,7 @@ module _ (one_read : OneDimensionalBitsAreRead) (two_read : TwoDimensionalBitsAr
       record {
         dimension = dimension;
         codes = codes;
-        start = start_is form.coding i _ dimension codes (start_back form.coding form.aligned before k i reference row
-            more);
+        start = start_back form.coding form.aligned before k i reference row more;
         first_code = row_begins dimension form.width reference codes row more limits.some_pels coded;
         coded = coded;
       }

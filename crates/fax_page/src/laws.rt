@@ -195,6 +195,7 @@ pub fn uncounted_rows_are_left_in_one_way()
     ensures { LeavesUncounted }
 {
     strips_are_read_by_functions();
+    lines_are_read_in_one_way();
     strips_are_salvaged_in_one_way();
 }
 

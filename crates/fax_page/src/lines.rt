@@ -1,10 +1,9 @@
 //! A row of a strip: what stands before its codes, and its codes.
-ghost use Rattle.std.specs.Prelude.{◌≡◌, ◌<◌, ◌∷◌, [], List, false, length, OnOk, IfOk, IfErr, IsTrue};
+ghost use Rattle.std.specs.Prelude.{◌≡◌, ◌<◌, ◌∷◌, [], List, false, length, Ok, Err, OnOk, IfOk, IfErr, IsTrue};
 ghost use Rattle.fax_bits.specs.declared.Colour.{Colour};
 ghost use Rattle.fax_bits.specs.views.Source.{KeepsEnd};
 ghost use Rattle.fax_page.specs.Lines as Lines;
 ghost use Rattle.fax_page.specs.code.Starts.{HasEol, HasNoEol, IsFirstCodeFault, IsStop};
-ghost use Rattle.fax_page.specs.code.Starts.{IsStarted, IsStartFault};
 ghost use Rattle.fax_page.specs.code.LineStops.{IsLineStop};
 ghost use Rattle.fax_page.specs.code.Notes.{IsChosen};
 ghost use Rattle.fax_page.specs.code.Salvage.{IsFirstEol, IsNextEol};
@@ -68,8 +67,8 @@ pub(crate) fn read_start(
     i: u32,
 ) -> Result<Dimension, StripFault>
     ensures ok { IfOk result (λ dimension.
-        IsStarted coding i source.old.left dimension source.new.left) }
-    ensures err { IfErr result (λ fault. IsStartFault coding i source.old.left fault) }
+        Lines.IsStart coding i source.old.left (Ok (dimension, source.new.left))) }
+    ensures err { IfErr result (λ fault. Lines.IsStart coding i source.old.left (Err fault)) }
     ensures same_end { KeepsEnd source.old source.new }
 {
     match coding {

@@ -134,6 +134,7 @@ pub fn whole_strips_are_found() {}
 /// may be, and where the rows are read to an end mark, or to the end of the data, all are found.
 pub fn uncounted_rows_are_left_in_one_way() {
     strips_are_read_by_functions();
+    lines_are_read_in_one_way();
     strips_are_salvaged_in_one_way();
 }
 

@@ -1,12 +1,10 @@
 -- What stands before a row's codes, and its codes, as they are read.
-use Rattle.std.specs.Prelude.{◌≡◌, ◌≢◌, ◌⊎◌, ◌<◌, ◌++◌, ℕ, Bool, true, false, List, [], ◌∷◌}
-use Rattle.std.specs.Prelude.{replicate}
+use Rattle.std.specs.Prelude.{◌≡◌, ◌⊎◌, ◌<◌, ◌++◌, ℕ, Bool, true, false, List, replicate}
 use Rattle.fax_bits.specs.Bits.{IsAllZeros}
 use Rattle.fax_rows.specs.declared.RowFault.{RowFault}
 use Rattle.fax_page.specs.declared.StripFault.{StripFault}
 use Rattle.fax_page.specs.declared.StripFault.TheVariants.{DataEnds, EndMarker, MissingEol}
-use Rattle.fax_page.specs.Lines.{Dimension, OneDimensional, TwoDimensional, Coding, Mh, Mr, Mmr}
-use Rattle.fax_page.specs.Lines.{IsEndOfLine, BeginsBelowEleven, tag_bit, strip_fault}
+use Rattle.fax_page.specs.Lines.{IsEndOfLine, BeginsBelowEleven, strip_fault}
 
 -- fill and an EOL were read, or there is none, where a row may lack it
 abbrev pub HasEol : Bool → List Bool → List Bool → Type 0
@@ -17,25 +15,6 @@ abbrev pub HasNoEol : Bool → List Bool → StripFault → Type 0
 HasNoEol may_lack b fault =
     (IsAllZeros b × (fault ≡ DataEnds))
     ⊎ ((may_lack ≡ false) × BeginsBelowEleven b × (fault ≡ MissingEol))
-
--- what stands before the first code of row i of a strip was read, and the row is coded so
--- (T.4, sections 4.1.2 and 4.2.2; T.6, section 2.2.1)
-abbrev pub IsStarted : Coding → ℕ → List Bool → Dimension → List Bool → Type 0
-IsStarted Mh i b dimension rest =
-    (dimension ≡ OneDimensional)
-    × (IsEndOfLine b rest ⊎ ((i ≡ 0) × BeginsBelowEleven b × (b ≡ rest)))
-IsStarted Mr i b dimension rest = IsEndOfLine b (tag_bit dimension ∷ rest)
-IsStarted Mmr i b dimension rest = (dimension ≡ TwoDimensional) × (b ≡ rest)
-
--- no 1 is left where an EOL is due, or another row than an MH strip's first begins with none, or in
--- MR the tag bit is missing
-abbrev pub IsStartFault : Coding → ℕ → List Bool → StripFault → Type 0
-IsStartFault Mh i b fault =
-    (IsAllZeros b × (fault ≡ DataEnds)) ⊎ ((i ≢ 0) × BeginsBelowEleven b × (fault ≡ MissingEol))
-IsStartFault Mr i b fault =
-    (IsAllZeros b × (fault ≡ DataEnds)) ⊎ (IsEndOfLine b [] × (fault ≡ DataEnds))
-    ⊎ (BeginsBelowEleven b × (fault ≡ MissingEol))
-IsStartFault Mmr i b fault = ⊥
 
 -- eleven zeros stand where a row's first code is due, or fewer zeros and nothing after them
 abbrev pub IsFirstCodeFault : List Bool → StripFault → Type 0

@@ -6,5 +6,5 @@ pub returns : goal.returns
 returns c = record {
   one = left_one_way c.strips_are_read_by_functions.ensures;
   first = first_rows c.strips_are_salvaged_in_one_way.ensures;
-  whole = whole_uncounted;
+  whole = whole_uncounted c.lines_are_read_in_one_way.ensures;
 }

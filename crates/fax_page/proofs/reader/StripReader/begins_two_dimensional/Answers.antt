@@ -1,4 +1,3 @@
-use Rattle.fax_page.proofs.BegunLemmas.{start_is}
 use Rattle.fax_page.proofs.SalvageLemmas.{not_two, not_begun}
 use Rattle.fax_page.proofs.reader.StripReader.begins_two_dimensional.Goals as goal
 
@@ -7,7 +6,7 @@ returns-in-Ok-TwoDimensional c =
     let here = c.self.invariant.at_row (rw (← c.self.view_is) at c.requires) in
     let begun = rw (c.again-ahead.ensures, here, c.in-Ok-TwoDimensional.field-0-is)
     at c.in-Ok-TwoDimensional.ensures.ok in
-    rw (← c.self.view_is) (c.if-self.false, (_, start_is _ _ _ _ _ begun))
+    rw (← c.self.view_is) (c.if-self.false, (_, begun))
 
 pub returns-in-Ok-OneDimensional : goal.returns-in-Ok-OneDimensional
 returns-in-Ok-OneDimensional c =
