@@ -92,7 +92,8 @@ row_begins dimension width reference b row rest some is = grind (arith, runs_beg
 -- a row whose codes are read after what stands before them
 unfoldable pub line_begun : (form : StripForm) (i : ℕ) (reference row : List Colour) (b codes rest : List Bool)
     (dimension : Dimension)
-    → 0 < form.width → IsStart form.coding i b (Ok (dimension, codes)) → IsRowIn dimension form.width reference codes row rest
+    → 0 < form.width → IsStart form.coding i b (Ok (dimension, codes))
+    → IsRowIn dimension form.width reference codes row rest
     → IsLine form i reference b row rest
 line_begun form i reference row b codes rest dimension some start read = record {
   dimension = dimension;

@@ -6,7 +6,8 @@ use Rattle.std.specs.Prelude.{◌≢◌, ◌<◌, Option, option_map, MatchOptio
 use Rattle.fax_bits.specs.declared.Colour.{Colour}
 use Rattle.fax_rows.specs.declared.RowFault.{RowFault}
 use Rattle.fax_page.specs.declared.StripFault.TheVariants.{MissingEol}
-use Rattle.fax_page.specs.Lines.{BeginsBelowEleven, Coding, Dimension, IsCause, IsLine, IsStart, IsStopInCodes, Mh, Mmr, Mr}
+use Rattle.fax_page.specs.Lines.{BeginsBelowEleven, Coding, Dimension, IsCause, IsLine}
+use Rattle.fax_page.specs.Lines.{IsStart, IsStopInCodes, Mh, Mmr, Mr}
 use Rattle.fax_page.specs.Lines.{StripFault, StripForm, strip_fault, white_row}
 use Rattle.fax_page.specs.Salvage.{AreSalvaged, GoesOnAfter, IsEolDue, IsReadOver, SalvagedRow, after_eol, found}
 use Rattle.fax_page.specs.Salvage.{lost, next_due, unended}
