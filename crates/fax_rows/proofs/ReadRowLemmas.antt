@@ -1,40 +1,55 @@
--- A row in two-dimensional coding that is read to its end.
-use Rattle.std.proofs.Common.{◌≡◌, ℕ, List, take, Bool, refl, ap, sym, ◌∙◌, arith}
-use Rattle.std.specs.Prelude.{IsTrue}
+-- A row in two-dimensional coding that is read from its beginning to its end.
+use Rattle.std.proofs.Common.{◌≡◌, ℕ, List, take, Bool, None, refl, ap, sym, ◌∙◌, arith}
+use Rattle.fax_bits.specs.declared.Colour.TheVariants.{White}
 use Rattle.fax_rows.specs.declared.rows.PlacedRow.{PlacedRow}
 use Rattle.fax_rows.specs.declared.two_dimensional.steps.PlacedReached.{PlacedReached}
 use Rattle.fax_rows.specs.Rows.{beginning}
-use Rattle.fax_rows.specs.code.Chosen.{GoesOn, GoesOnAsChosen}
-use Rattle.fax_rows.specs.code.PlacedReached.{placed_position, IsReadTo}
+use Rattle.fax_rows.specs.code.PlacedReached.{placed_position, IsReadOn, IsReadSoFar}
 use Rattle.fax_rows.specs.code.PlacedRow.{placed_pels}
 use Rattle.fax_rows.specs.code.Reached.{reached_pel}
+use Rattle.fax_rows.specs.code.Put.{HasRoom}
 use Rattle.fax_rows.specs.code.ReadRow.{IsReadRow}
 use Rattle.fax_rows.specs.code.Turns.{pels_by}
 use Rattle.fax_rows.proofs.ChangeLemmas.{first_of}
 use Rattle.fax_rows.proofs.ChosenRowLemmas.{chosen_ends}
-use Rattle.fax_rows.proofs.GoesOnLemmas.{chosen_so_far}
+use Rattle.fax_rows.proofs.GoesOnLemmas.{chosen_further, chosen_so_far, goes_further, no_chosen_step, no_step}
 use Rattle.fax_rows.proofs.PlacedB1Lemmas.{length-placed_pels}
-use Rattle.fax_rows.proofs.PlacedStepLemmas.{steps_done}
+use Rattle.fax_rows.proofs.PlacedStepLemmas.{nothing_read, steps_done}
 use Rattle.fax_rows.proofs.TurnLemmas.{length-pels_by}
 
-pub row_done : {choice : Bool} (reference : PlacedRow) (b : List Bool) (places : List ℕ) (at : PlacedReached)
-    (rest : List Bool)
-    → GoesOn (placed_pels reference) beginning b (placed_position reference.width places at) rest
-    → (IsTrue choice → GoesOnAsChosen (placed_pels reference) beginning b (placed_position reference.width places at)
-    rest)
-    → IsReadTo reference places at → reached_pel at.reached ≡ reference.width
+pub nothing_so_far : {choice : Bool} {reference : PlacedRow} {places : List ℕ} (b : List Bool)
+    → HasRoom reference.width places
+    → IsReadSoFar choice reference places (record { reached = record { a0 = None; colour = White }; end = 1; b1 = 1 })
+    b b
+nothing_so_far b room = record {
+  steps = no_step _ beginning b;
+  chosen = λ asked. no_chosen_step _ beginning b;
+  so_far = nothing_read room;
+}
+
+pub read_further : {choice : Bool} {reference : PlacedRow} {old new : List ℕ} {at next : PlacedReached}
+    {b mid rest : List Bool} → IsReadSoFar choice reference old at b mid
+    → IsReadOn choice reference old new at next mid rest → IsReadSoFar choice reference new next b rest
+read_further so_far read = record {
+  steps = goes_further so_far.steps read.steps;
+  chosen = λ asked. chosen_further (so_far.chosen asked) (read.chosen asked);
+  so_far = read.so_far;
+}
+
+pub row_done : {choice : Bool} {reference : PlacedRow} {b : List Bool} {places : List ℕ} {at : PlacedReached}
+    {rest : List Bool} → IsReadSoFar choice reference places at b rest → reached_pel at.reached ≡ reference.width
     → IsReadRow choice reference b places at.end rest
-row_done reference b places at rest steps chosen so_far done =
+row_done {reference = reference} {b = b} {places = places} {at = at} {rest = rest} read done =
     let len = length-placed_pels reference in
     let row = pels_by reference.width (take at.end places) in
     let row_len = length-pels_by reference.width (take at.end places) in
     let last = placed_position reference.width places at in
     record {
-      row = steps_done (placed_pels reference) b at.reached row rest reference.width steps reference.placed.some done
+      row = steps_done (placed_pels reference) b at.reached row rest reference.width read.steps reference.placed.some done
           row_len len;
       chosen = λ asked.
           chosen_ends (placed_pels reference) row b last rest (chosen_so_far (placed_pels reference) b last rest
-          (chosen asked))
+          (read.chosen asked))
           (row_len ∙ sym len)
           (record {
             read = refl;
@@ -42,9 +57,9 @@ row_done reference b places at rest steps chosen so_far done =
           })
           (omega (arith, row_len));
       put = record {
-        room = so_far.room;
-        ascending = so_far.ascending;
-        last = omega (arith, so_far.last, done);
+        room = read.so_far.room;
+        ascending = read.so_far.ascending;
+        last = omega (arith, read.so_far.last, done);
         within =
             omega arith;
       };

@@ -1,6 +1,6 @@
 -- How far a row is written after a step: the indexes of a1 and b1 after each mode.
 use Rattle.std.proofs.lemmas.Grind.{common_steps}
-use Rattle.std.proofs.Common.{◌≡◌, ℕ, ◌+◌, ◌-◌, ◌<◌, ◌≤◌, ◌++◌, length, true, sym, ◌∙◌, subst, arith}
+use Rattle.std.proofs.Common.{◌≡◌, ℕ, ◌+◌, ◌<◌, ◌≤◌, ◌++◌, length, true, sym, ◌∙◌, subst, arith}
 use Rattle.std.specs.Prelude.{Option, Some, unwrap_or, pos}
 use Rattle.std.proofs.lemmas.Int.{ints}
 use Rattle.fax_bits.specs.declared.modes.ModeCode.{ModeCode}

@@ -1,14 +1,12 @@
 -- Where a row in two-dimensional coding is to be read on.
-use Rattle.std.specs.Prelude.{◌≡◌, ℕ, ◌+◌, ◌++◌, Bool, List, [], IsTrue, length}
+use Rattle.std.specs.Prelude.{◌≡◌, ℕ, ◌+◌, ◌++◌, Bool, List, [], length}
 use Rattle.fax_bits.specs.views.Source.{Source}
 use Rattle.fax_rows.specs.declared.rows.PlacedRow.{PlacedRow}
 use Rattle.fax_rows.specs.declared.two_dimensional.due.Pause.{Pause}
 use Rattle.fax_rows.specs.declared.two_dimensional.steps.PlacedReached.{PlacedReached}
-use Rattle.fax_rows.specs.Rows.{beginning, a0_number}
-use Rattle.fax_rows.specs.code.Chosen.{GoesOn, GoesOnAsChosen}
+use Rattle.fax_rows.specs.Rows.{a0_number}
 use Rattle.fax_rows.specs.code.Due.{IsDueAt}
-use Rattle.fax_rows.specs.code.PlacedReached.{placed_position}
-use Rattle.fax_rows.specs.code.PlacedRow.{placed_pels}
+use Rattle.fax_rows.specs.code.PlacedReached.{IsReadSoFar}
 use Rattle.fax_rows.specs.code.Reached.{position_of}
 
 -- the bits of the source begin with steps from the row's beginning on, and then this is due
@@ -19,10 +17,7 @@ pub record IsPause (choice : Bool) (reference : PlacedRow) (source : Source) (pl
   pub end : pause.end ≡ at.end
   pub b1 : pause.b1 ≡ at.b1
   pub middle : List Bool
-  pub steps : GoesOn (placed_pels reference) beginning source.left
-      (placed_position reference.width places at) middle
-  pub chosen : IsTrue choice → GoesOnAsChosen (placed_pels reference) beginning source.left
-      (placed_position reference.width places at) middle
+  pub read : IsReadSoFar choice reference places at source.left middle
   pub front : List Bool
   pub rest : List Bool
   pub bits : source.left ≡ front ++ rest

@@ -3,7 +3,7 @@ use Rattle.std.specs.Prelude.{◌≡◌, ℕ, ◌+◌, ◌-◌, ◌≤◌, ◌<�
 use Rattle.std.specs.Prelude.{slice_index}
 use Rattle.fax_bits.specs.declared.Colour.TheVariants.{Black}
 use Rattle.fax_rows.specs.declared.two_dimensional.steps.PlacedReached.{PlacedReached}
-use Rattle.fax_rows.specs.Rows.{Position, IsHorizontalStep}
+use Rattle.fax_rows.specs.Rows.{Position, IsHorizontalStep, beginning}
 use Rattle.fax_rows.specs.code.Reached.{reached_pel, position_of}
 use Rattle.fax_rows.specs.declared.rows.PlacedRow.{PlacedRow}
 use Rattle.fax_rows.specs.code.Chosen.{GoesOn, GoesOnAsChosen, IsChosenPair}
@@ -41,6 +41,15 @@ pub record IsReadOn (choice : Bool) (reference : PlacedRow) (old new : List ℕ)
   pub chosen : IsTrue choice → GoesOnAsChosen (placed_pels reference)
       (placed_position reference.width old at) b (placed_position reference.width new next) rest
   pub so_far : IsReadTo reference new next
+
+-- and from the row's beginning on
+pub record IsReadSoFar (choice : Bool) (reference : PlacedRow) (places : List ℕ)
+    (at : PlacedReached) (b rest : List Bool) : Type 0 where
+  pub steps : GoesOn (placed_pels reference) beginning b
+      (placed_position reference.width places at) rest
+  pub chosen : IsTrue choice → GoesOnAsChosen (placed_pels reference) beginning b
+      (placed_position reference.width places at) rest
+  pub so_far : IsReadTo reference places at
 
 -- the bits begin with the two runs of a step in horizontal mode, where it is asked for as T.4
 -- chooses it

@@ -6,8 +6,8 @@ use Rattle.fax_rows.specs.code.Due.{IsDue}
 use Rattle.fax_rows.specs.code.PlacedRow.{placed_pels}
 use Rattle.fax_rows.specs.code.Turns.{pels_by}
 use Rattle.fax_rows.proofs.PlacedB1Lemmas.{length-placed_pels}
-use Rattle.fax_rows.proofs.GoesOnLemmas.{goes_further, chosen_further, rest_there}
-use Rattle.fax_rows.proofs.ReadRowLemmas.{row_done}
+use Rattle.fax_rows.proofs.GoesOnLemmas.{rest_there}
+use Rattle.fax_rows.proofs.ReadRowLemmas.{read_further, row_done}
 use Rattle.fax_rows.proofs.PlacedStepLemmas.{fault_here}
 use Rattle.fax_rows.proofs.StopLemmas.{stop_as}
 use Rattle.fax_rows.proofs.two_dimensional.due.read_on.Goals as goal
@@ -29,9 +29,7 @@ loop-ahead-init g c =
     rw (same, there) pause.due.read in
     let read = rw same at (c.in_ok-at.ensures.read pause.middle due) in
     record {
-      steps = goes_further pause.steps read.steps;
-      chosen = λ h. chosen_further (pause.chosen h) (read.chosen h);
-      so_far = read.so_far;
+      read = read_further pause.read read;
       same_end = omega (
         arith,
         c.in_ok-at.ensures.same_end,
@@ -45,11 +43,8 @@ loop-ahead-init g c =
 
 pub loop-ahead-preserved : goal.loop-ahead-preserved
 loop-ahead-preserved g c =
-    let read = c.in_ok-at-2.ensures.read c.loop-ahead.ahead.left refl in
     record {
-      steps = goes_further c.loop-ahead.invariant.steps read.steps;
-      chosen = λ h. chosen_further (c.loop-ahead.invariant.chosen h) (read.chosen h);
-      so_far = read.so_far;
+      read = read_further c.loop-ahead.invariant.read (c.in_ok-at-2.ensures.read c.loop-ahead.ahead.left refl);
       same_end = omega (arith, c.in_ok-at-2.ensures.same_end, c.loop-ahead.invariant.same_end);
     }
 
@@ -57,13 +52,12 @@ pub returns-in_err-at-2-clause-stop : goal.returns-in_err-at-2-clause-stop
 returns-in_err-at-2-clause-stop g c =
     let here = fault_here (placed_pels c.args.reference) c.args.source.now.left c.loop-ahead.at.reached
     (pels_by c.args.reference.width (take c.loop-ahead.at.end c.loop-ahead.places)) c.loop-ahead.ahead.left
-    c.loop-ahead.invariant.steps (omega (arith, length-placed_pels c.args.reference)) in
+    c.loop-ahead.invariant.read.steps (omega (arith, length-placed_pels c.args.reference)) in
     let p = err_from_is_err_and c.from_residual-in_err-at-2.result c.from_residual-in_err-at-2.ensures.1 in
     rw (p.1, p.2) (stop_as _ c.in_err-at-2.field-0.0 (c.in_err-at-2.ensures.stop c.loop-ahead.ahead.left refl) here
     (λ more h. h))
 
 pub returns-clause-read : goal.returns-clause-read
 returns-clause-read g c =
-    rw c.go_to.ensures (row_done c.args.reference c.args.source.now.left c.loop-ahead.places c.loop-ahead.at
-    c.loop-ahead.ahead.left
-    c.loop-ahead.invariant.steps c.loop-ahead.invariant.chosen c.loop-ahead.invariant.so_far (omega arith))
+    let read = c.loop-ahead.invariant.read in
+    let within = read.so_far.within in rw c.go_to.ensures (row_done read (omega arith))

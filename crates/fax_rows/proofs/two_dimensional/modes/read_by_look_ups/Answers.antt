@@ -1,35 +1,26 @@
 use Rattle.std.proofs.Common.{length, length-append, refl, ap, arith}
 use Rattle.std.proofs.lemmas.Int.{ints}
-use Rattle.fax_rows.specs.Rows.{beginning}
-use Rattle.fax_rows.specs.code.PlacedRow.{placed_pels}
 use Rattle.fax_rows.proofs.PlacedB1Lemmas.{length-placed_pels}
-use Rattle.fax_rows.proofs.GoesOnLemmas.{no_step, no_chosen_step, goes_further, chosen_further, goes_on_leaves}
-use Rattle.fax_rows.proofs.GoesOnLemmas.{due_leaves, leaves_more}
-use Rattle.fax_rows.proofs.ReadRowLemmas.{row_done}
-use Rattle.fax_rows.proofs.PlacedStepLemmas.{nothing_read}
+use Rattle.fax_rows.proofs.GoesOnLemmas.{due_leaves, goes_on_leaves, leaves_more}
+use Rattle.fax_rows.proofs.ReadRowLemmas.{nothing_so_far, read_further, row_done}
 use Rattle.fax_rows.proofs.two_dimensional.modes.read_by_look_ups.Goals as goal
 
 pub loop-ahead-init : goal.loop-ahead-init
 loop-ahead-init g c = rw c.again-ahead.ensures (record {
-  chosen = λ h. no_chosen_step (placed_pels c.args.reference) beginning c.args.source.now.left;
-  steps = no_step (placed_pels c.args.reference) beginning c.args.source.now.left;
-  so_far = nothing_read c.requires.room;
+  read = nothing_so_far c.args.source.now.left c.requires.room;
   same_end = refl;
 })
 
 pub loop-ahead-preserved : goal.loop-ahead-preserved
 loop-ahead-preserved g c = record {
-  steps = goes_further c.loop-ahead.invariant.steps c.in-Ok.ensures.read.steps;
-  chosen = λ h. chosen_further (c.loop-ahead.invariant.chosen h) (c.in-Ok.ensures.read.chosen h);
-  so_far = c.in-Ok.ensures.read.so_far;
+  read = read_further c.loop-ahead.invariant.read c.in-Ok.ensures.read;
   same_end = omega (arith, c.in-Ok.ensures.same_end, c.loop-ahead.invariant.same_end);
 }
 
 pub returns-clause-read : goal.returns-clause-read
 returns-clause-read g c =
-    rw c.go_to.ensures (row_done c.args.reference c.args.source.now.left c.loop-ahead.places c.loop-ahead.at
-    c.loop-ahead.ahead.left
-    c.loop-ahead.invariant.steps c.loop-ahead.invariant.chosen c.loop-ahead.invariant.so_far (omega arith))
+    let read = c.loop-ahead.invariant.read in
+    let within = read.so_far.within in rw c.go_to.ensures (row_done read (omega arith))
 
 pub returns-in-Err-Fault-clause-stop : goal.returns-in-Err-Fault-clause-stop
 returns-in-Err-Fault-clause-stop g c = grind (arith, length-placed_pels)
@@ -38,7 +29,7 @@ pub returns-in-Err-Due-clause-stop : goal.returns-in-Err-Due-clause-stop
 returns-in-Err-Due-clause-stop g c =
     let due = rw c.in-Err-Due.field-0-is at c.in-Err-Due.ensures.stop in
     let rest = c.next_steps.new.source.left in
-    let left = leaves_more (goes_on_leaves c.loop-ahead.invariant.steps)
+    let left = leaves_more (goes_on_leaves c.loop-ahead.invariant.read.steps)
     (due_leaves c.loop-ahead.at.reached.colour c.loop-ahead.ahead.left c.in-Err-Due.due rest due.1.read) in
     rw due.0 (record {
       at = c.loop-ahead.at;
@@ -46,8 +37,7 @@ returns-in-Err-Due-clause-stop g c =
       end = refl;
       b1 = refl;
       middle = c.loop-ahead.ahead.left;
-      steps = c.loop-ahead.invariant.steps;
-      chosen = c.loop-ahead.invariant.chosen;
+      read = c.loop-ahead.invariant.read;
       front = left.0;
       rest = rest;
       bits = left.1;
