@@ -45,8 +45,8 @@ row_done {reference = reference} {b = b} {places = places} {at = at} {rest = res
     let row_len = length-pels_by reference.width (take at.end places) in
     let last = placed_position reference.width places at in
     record {
-      row = steps_done (placed_pels reference) b at.reached row rest reference.width read.steps reference.placed.some done
-          row_len len;
+      row = steps_done (placed_pels reference) b at.reached row rest reference.width read.steps reference.placed.some
+          done row_len len;
       chosen = λ asked.
           chosen_ends (placed_pels reference) row b last rest (chosen_so_far (placed_pels reference) b last rest
           (read.chosen asked))

@@ -4,20 +4,16 @@ use Rattle.fax_bits.proofs.LookUpLemmas.{horizontal_pair_taken}
 use Rattle.fax_bits.proofs.source.BitSource.horizontal_pair_within.Goals as goal
 
 pub after-self-inside-requires : goal.after-self-inside-requires
-after-self-inside-requires c =
-    let short = begun_short 16 c.number.result c.in_ok-len.ensures in
-    record { loaded = omega (arith, short, c.in_ok-self-inside.ensures.many); short = omega (arith, short) }
+after-self-inside-requires c = grind (arith, begun_short)
 
 pub returns : goal.returns
 returns c =
-    let order = c.self.inside.order in
-    let bytes = c.self.inside.bytes.now in
     let w = c.in_ok-self-inside in
+    let after = c.after-self-inside in
     let is =
-    looked_up order bytes c.self.inside.window w.field-0 c.args.self.now c.self.invariant c.self.view_is w.ensures.ahead
-    w.ensures.place w.ensures.within 16 (omega arith) w.ensures.many c.number.result
-    (c.number.ensures.number order bytes (inl (omega (arith, w.ensures.many))))
-    c.in_ok-len.ensures c.after-self-inside.result c.after-self-inside.ensures.count c.after-self-inside.ensures.at in
+    looked_up _ _ _ w.field-0 _ c.self.invariant c.self.view_is w.ensures.ahead w.ensures.place w.ensures.within 16
+    (omega arith) w.ensures.many _ (c.number.ensures.number _ _ (inl w.ensures.many)) c.in_ok-len.ensures after.result
+    after.ensures.count after.ensures.at in
     record {
       read = horizontal_pair_taken is.front c.args.self.now.left c.in_ok-len.pair _ is.meaning is.taken;
       within = c.if-end-width.false;

@@ -8,14 +8,12 @@ after-self-inside-requires c = grind (arith, begun_short)
 
 pub returns : goal.returns
 returns c =
-    let order = c.self.inside.order in
-    let bytes = c.self.inside.bytes.now in
     let w = c.in_ok-self-inside in
+    let after = c.after-self-inside in
     let is =
-    looked_up order bytes c.self.inside.window w.field-0 c.args.self.now c.self.invariant c.self.view_is w.ensures.ahead
-    w.ensures.place w.ensures.within 32 (omega arith) w.ensures.many c.number.result
-    (c.number.ensures.number order bytes (inl (omega (arith, w.ensures.many))))
-    c.in_ok-len.ensures c.after-self-inside.result c.after-self-inside.ensures.count c.after-self-inside.ensures.at in
+    looked_up _ _ _ w.field-0 _ c.self.invariant c.self.view_is w.ensures.ahead w.ensures.place w.ensures.within 32
+    (omega arith) w.ensures.many _ (c.number.ensures.number _ _ (inl w.ensures.many)) c.in_ok-len.ensures after.result
+    after.ensures.count after.ensures.at in
     record {
       run = run_taken c.args.colour is.front c.args.self.now.left c.in_ok-len.pels _ is.meaning is.taken;
       written = run_written c.args.colour is.front c.args.self.now.left c.in_ok-len.pels _ is.meaning is.taken;

@@ -12,15 +12,13 @@ after-self-inside-requires c =
 
 pub returns : goal.returns
 returns c =
-    let order = c.self.inside.order in
-    let bytes = c.self.inside.bytes.now in
     let w = c.in_ok-self-inside in
+    let after = c.after-self-inside in
     let begun = begins_more _ c.number.result c.in_ok-len.len c.in_ok-len.found c.in_ok-len.ensures in
     let is =
-    looked_up order bytes c.self.inside.window w.field-0 c.args.self.now c.self.invariant c.self.view_is w.ensures.ahead
-    w.ensures.place w.ensures.within 32 (omega arith) w.ensures.many c.number.result
-    (c.number.ensures.number order bytes (inl (omega (arith, w.ensures.many))))
-    begun c.after-self-inside.result c.after-self-inside.ensures.count c.after-self-inside.ensures.at in
+    looked_up _ _ _ w.field-0 _ c.self.invariant c.self.view_is w.ensures.ahead w.ensures.place w.ensures.within 32
+    (omega arith) w.ensures.many _ (c.number.ensures.number _ _ (inl w.ensures.many)) begun after.result
+    after.ensures.count after.ensures.at in
     record {
       read = verticals_taken is.front c.args.self.now.left c.in_ok-len.found _ is.meaning is.taken;
       unchanged = λ none. cc;
