@@ -27,6 +27,7 @@ pub(crate) fn read_eol(source: &mut BitSource, may_lack: bool) -> Result<(), Str
     match source.zeros() {
         None => Err(StripFault::DataEnds),
         Some(zeros) if zeros >= EOL_ZEROS => {
+            // For the proof: the 1 after the zeros is one of the bits that are left.
             let left = source.remaining();
             prove!(zeros < left);
             source.skip(zeros + 1);
@@ -196,6 +197,7 @@ fn first_eol(source: &mut BitSource) -> Option<u64>
     ensures { IsFirstEol source.old result }
 {
     while let Some(zeros) = source.zeros() {
+        // For the proof, as in `read_eol`.
         let left = source.remaining();
         prove!(zeros < left);
         source.skip(zeros + 1);

@@ -109,13 +109,15 @@ impl<'a> StripReader<'a> {
         ensures { IsBegunInside form bytes.now row bits before.entry result }
     {
         bits_stand_by_place();
+        // The runs are looked at before memory is taken: a place that is none is told so, however
+        // little memory there is.
         let place = u64::from(bits);
         if place > 8 * bytes.len() as u64 || !is_row(before, form.width) {
             return Err(PlaceFault::Outside);
         }
         let mut rows = RowsInTurn::new(alloc, form.width)?;
         if !rows.begin_after(before) {
-            unreachable!();
+            return Err(PlaceFault::Outside);
         }
         let mut source = BitSource::new(bytes, form.order);
         source.skip(place);
@@ -331,7 +333,7 @@ impl<'a> StripReader<'a> {
     /// How rows that nobody counted end before the row that is due, whose form has the most rows that
     /// a strip has, `MOST_ROWS`: after a fault with that one, if not well.
     #[cold]
-    pub fn uncounted_end(&self) -> RowsEnd
+    pub(crate) fn uncounted_end(&self) -> RowsEnd
         ensures { EndsSo self.now.form.coding self.now.row (bits_left self.now) self.now.fault
             result }
     {

@@ -17,6 +17,7 @@ pub(crate) fn read_eol(source: &mut BitSource, may_lack: bool) -> Result<(), Str
     match source.zeros() {
         None => Err(StripFault::DataEnds),
         Some(zeros) if zeros >= EOL_ZEROS => {
+            // For the proof: the 1 after the zeros is one of the bits that are left.
             let left = source.remaining();
             prove!(zeros < left);
             source.skip(zeros + 1);
@@ -149,6 +150,7 @@ pub(crate) fn begins_below_eleven(source: &BitSource) -> bool {
 /// Where the first EOL begins: its eleven zeros and its 1 (T.4, section 4.1.2).
 fn first_eol(source: &mut BitSource) -> Option<u64> {
     while let Some(zeros) = source.zeros() {
+        // For the proof, as in `read_eol`.
         let left = source.remaining();
         prove!(zeros < left);
         source.skip(zeros + 1);

@@ -74,13 +74,15 @@ impl<'a> StripReader<'a> {
         before: RowBefore,
     ) -> Result<Self, PlaceFault> {
         bits_stand_by_place();
+        // The runs are looked at before memory is taken: a place that is none is told so, however
+        // little memory there is.
         let place = u64::from(bits);
         if place > 8 * bytes.len() as u64 || !is_row(before, form.width) {
             return Err(PlaceFault::Outside);
         }
         let mut rows = RowsInTurn::new(alloc, form.width)?;
         if !rows.begin_after(before) {
-            unreachable!();
+            return Err(PlaceFault::Outside);
         }
         let mut source = BitSource::new(bytes, form.order);
         source.skip(place);
@@ -272,7 +274,7 @@ impl<'a> StripReader<'a> {
     /// How rows that nobody counted end before the row that is due, whose form has the most rows that
     /// a strip has, `MOST_ROWS`: after a fault with that one, if not well.
     #[cold]
-    pub fn uncounted_end(&self) -> RowsEnd {
+    pub(crate) fn uncounted_end(&self) -> RowsEnd {
         bits_stand_by_place();
         let mut source = BitSource::new(self.bytes, self.form.order);
         source.skip(self.place);
