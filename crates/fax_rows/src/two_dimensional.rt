@@ -16,7 +16,7 @@ use crate::RowFault;
 use crate::pels::Row;
 use crate::rows::PlacedRow;
 use crate::turns::close;
-use codes::{Due, Stop};
+use codes::{Stop, Unread};
 use due::read_on;
 use fax_bits::BitSource;
 use modes::read_by_look_ups;
@@ -52,12 +52,12 @@ fn read_modes<const CHOICE: bool>(
     source: &mut BitSource,
     reference: PlacedRow,
     places: &mut [u32],
-) -> Result<usize, Stop<Due>>
+) -> Result<usize, Stop>
     requires room { HasRoom reference.width places.old }
     ensures read { IfOk result (λ end. IsReadRow CHOICE reference.entry source.old.left places.new
         end source.new.left) }
-    ensures stop { IfErr result (λ stop. IsRowStop CHOICE reference.entry source.old.left
-        (λ due. ⊥) stop) }
+    ensures stop { IfErr result
+        (λ stop. IsRowStop CHOICE reference.entry source.old.left stop) }
     ensures unchanged { OnErr result (source.new ≡ source.old) }
     ensures room { HasRoom reference.entry.width places.new }
     ensures same_end { KeepsEnd source.old source.new }
@@ -75,9 +75,8 @@ fn read_modes<const CHOICE: bool>(
     };
     match read {
         Ok(end) => Ok(end),
-        Err(Stop::Due(pause)) => read_on::<CHOICE>(source, reference, places, pause),
-        Err(Stop::Other) => Err(Stop::Other),
-        Err(Stop::Fault(fault)) => Err(Stop::Fault(fault)),
+        Err(Unread::Due(pause)) => read_on::<CHOICE>(source, reference, places, pause),
+        Err(Unread::Stop(stop)) => Err(stop),
     }
 }
 
@@ -106,7 +105,6 @@ fn read_places<const CHOICE: bool>(
         }),
         Err(Stop::Fault(fault)) => return Err(fault),
         Err(Stop::Other) => {}
-        Err(Stop::Due(_)) => unreachable!(),
     }
     match read_modes::<false>(source, reference, places) {
         Ok(end) => Ok(ReadRow {
@@ -114,7 +112,8 @@ fn read_places<const CHOICE: bool>(
             is_chosen: false,
         }),
         Err(Stop::Fault(fault)) => Err(fault),
-        Err(Stop::Other | Stop::Due(_)) => unreachable!(),
+        // No choice was asked for.
+        Err(Stop::Other) => unreachable!(),
     }
 }
 

@@ -5,7 +5,7 @@ use crate::RowFault;
 use crate::pels::Row;
 use crate::rows::PlacedRow;
 use crate::turns::close;
-use codes::{Due, Stop};
+use codes::{Stop, Unread};
 use due::read_on;
 use fax_bits::BitSource;
 use modes::read_by_look_ups;
@@ -42,7 +42,7 @@ fn read_modes<const CHOICE: bool>(
     source: &mut BitSource,
     reference: PlacedRow,
     places: &mut [u32],
-) -> Result<usize, Stop<Due>> {
+) -> Result<usize, Stop> {
     // Each reader by look-ups hands out what is due where none finds the next code, with its place
     // and how far the row is read, and leaves the source as it was. `read_on` goes on from there to
     // the row's end by the tables, which know every fault. So no row is read twice but for its
@@ -56,9 +56,8 @@ fn read_modes<const CHOICE: bool>(
     };
     match read {
         Ok(end) => Ok(end),
-        Err(Stop::Due(pause)) => read_on::<CHOICE>(source, reference, places, pause),
-        Err(Stop::Other) => Err(Stop::Other),
-        Err(Stop::Fault(fault)) => Err(Stop::Fault(fault)),
+        Err(Unread::Due(pause)) => read_on::<CHOICE>(source, reference, places, pause),
+        Err(Unread::Stop(stop)) => Err(stop),
     }
 }
 
@@ -80,7 +79,6 @@ fn read_places<const CHOICE: bool>(
         }),
         Err(Stop::Fault(fault)) => return Err(fault),
         Err(Stop::Other) => {}
-        Err(Stop::Due(_)) => unreachable!(),
     }
     match read_modes::<false>(source, reference, places) {
         Ok(end) => Ok(ReadRow {
@@ -88,7 +86,8 @@ fn read_places<const CHOICE: bool>(
             is_chosen: false,
         }),
         Err(Stop::Fault(fault)) => Err(fault),
-        Err(Stop::Other | Stop::Due(_)) => unreachable!(),
+        // No choice was asked for.
+        Err(Stop::Other) => unreachable!(),
     }
 }
 

@@ -23,23 +23,41 @@ pub(super) enum Due {
 
 /// Why a row is not read on.
 #[derive(Clone, Copy)]
-pub(super) enum Stop<D> {
-    /// No look-up finds what is due.
-    Due(D),
+pub(super) enum Stop {
     /// A step is not seen to be T.4's choice.
     Other,
     /// The fault of the first mode or run that is no part of the row.
     Fault(RowFault),
 }
 
-impl<D> From<RowFault> for Stop<D> {
+impl From<RowFault> for Stop {
     ghost use Rattle.std.specs.Prelude.{◌≡◌};
     ghost use Rattle.fax_rows.specs.declared.two_dimensional.codes.Stop.TheVariants.{Fault};
 
     ghost from_gives = { λ fault stop. stop ≡ Fault fault };
 
-    fn from(fault: RowFault) -> Stop<D> {
+    fn from(fault: RowFault) -> Stop {
         Stop::Fault(fault)
+    }
+}
+
+/// Why look-ups do not read a row on.
+#[derive(Clone, Copy)]
+pub(super) enum Unread<D> {
+    /// None of them finds what is due.
+    Due(D),
+    /// It is not read on by tables either.
+    Stop(Stop),
+}
+
+impl<D> From<Stop> for Unread<D> {
+    ghost use Rattle.std.specs.Prelude.{◌≡◌};
+    ghost use Rattle.fax_rows.specs.declared.two_dimensional.codes.Unread.TheVariants as Unreads;
+
+    ghost from_gives = { λ stop unread. unread ≡ Unreads.Stop stop };
+
+    fn from(stop: Stop) -> Unread<D> {
+        Unread::Stop(stop)
     }
 }
 
@@ -117,7 +135,7 @@ pub(super) fn last_two_runs<const CHOICE: bool>(
     width: u32,
     from: u32,
     first: Option<u32>,
-) -> Result<TwoRuns, Stop<Due>>
+) -> Result<TwoRuns, Stop>
     requires width { width < 2 ^ 16 }
     requires from { from ≤ width }
     requires fits { IfSome first (λ n. from + n ≤ width) }
@@ -125,8 +143,8 @@ pub(super) fn last_two_runs<const CHOICE: bool>(
         → IfOk result (λ runs. AreReadRuns CHOICE colour width from b runs source.new.left) }
     ensures within { IfOk result (λ runs. from + runs.first + runs.second ≤ width) }
     ensures stop { (b : List Bool) → AreRunsDue colour b first source.old.left
-        → IfErr result (λ stop. IsStopOf CHOICE (λ fault. IsPairFault colour width from b fault)
-        (λ due. ⊥) stop) }
+        → IfErr result
+        (λ stop. IsStopOf CHOICE (λ fault. IsPairFault colour width from b fault) stop) }
     ensures same_end { KeepsEnd source.old source.new }
     ensures shorter { OnOk result (length source.new.left < length source.old.left) }
 {

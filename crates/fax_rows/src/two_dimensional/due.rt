@@ -85,7 +85,7 @@ fn last_horizontal<const CHOICE: bool>(
     places: &mut [u32],
     at: PlacedReached,
     first: Option<u32>,
-) -> Result<PlacedReached, Stop<Due>>
+) -> Result<PlacedReached, Stop>
     requires inside { IsReadInside reference places.old at }
     requires fits { IfSome first (λ n. reached_pel at.reached + n ≤ reference.width) }
     ensures read { (b : List Bool) → AreRunsDue at.reached.colour b first source.old.left
@@ -93,8 +93,7 @@ fn last_horizontal<const CHOICE: bool>(
         b source.new.left) }
     ensures err { (b : List Bool) → AreRunsDue at.reached.colour b first source.old.left
         → IfErr result (λ stop. IsStopOf CHOICE (λ fault. IsHorizontalFault
-        (placed_pels reference.entry) (placed_position reference.entry.width places.old at) b fault)
-        (λ due. ⊥) stop) }
+        (placed_pels reference.entry) (placed_position reference.entry.width places.old at) b fault) stop) }
     ensures room { HasRoom reference.entry.width places.new }
     ensures same_end { KeepsEnd source.old source.new }
     ensures shorter { OnOk result (length source.new.left < length source.old.left) }
@@ -112,14 +111,13 @@ fn last_step<const CHOICE: bool>(
     places: &mut [u32],
     at: PlacedReached,
     mode: ModeCode,
-) -> Result<PlacedReached, Stop<Due>>
+) -> Result<PlacedReached, Stop>
     requires inside { IsReadInside reference places.old at }
     ensures read { (b : List Bool) → Takes modes b mode source.old.left
         → IfOk result (λ next. IsReadOn CHOICE reference.entry places.old places.new at next
         b source.new.left) }
     ensures stop { (b : List Bool) → Takes modes b mode source.old.left
-        → IfErr result (λ stop. IsStepStop CHOICE reference.entry places.old at b (λ more. ⊥)
-        stop) }
+        → IfErr result (λ stop. IsStepStop CHOICE reference.entry places.old at b stop) }
     ensures room { HasRoom reference.entry.width places.new }
     ensures same_end { KeepsEnd source.old source.new }
     ensures no_longer { OnOk result (length source.new.left ≤ length source.old.left) }
@@ -139,15 +137,14 @@ fn read_due<const CHOICE: bool>(
     places: &mut [u32],
     at: PlacedReached,
     due: Due,
-) -> Result<PlacedReached, Stop<Due>>
+) -> Result<PlacedReached, Stop>
     requires inside { IsReadInside reference places.old at }
     requires within { IsDueWithin reference.width (reached_pel at.reached) due }
     ensures read { (b : List Bool) → IsDue at.reached.colour b due source.old.left
         → IfOk result (λ next. IsReadOn CHOICE reference.entry places.old places.new at next
         b source.new.left) }
     ensures stop { (b : List Bool) → IsDue at.reached.colour b due source.old.left
-        → IfErr result (λ stop. IsStepStop CHOICE reference.entry places.old at b (λ more. ⊥)
-        stop) }
+        → IfErr result (λ stop. IsStepStop CHOICE reference.entry places.old at b stop) }
     ensures room { HasRoom reference.entry.width places.new }
     ensures same_end { KeepsEnd source.old source.new }
     ensures shorter { OnOk result (length source.new.left < length source.old.left) }
@@ -170,12 +167,12 @@ pub(super) fn read_on<const CHOICE: bool>(
     reference: PlacedRow,
     places: &mut [u32],
     pause: Pause,
-) -> Result<usize, Stop<Due>>
+) -> Result<usize, Stop>
     requires pause { IsPause CHOICE reference source.old places.old pause }
     ensures read { IfOk result (λ end. IsReadRow CHOICE reference.entry source.old.left places.new
         end source.new.left) }
-    ensures stop { IfErr result (λ stop. IsRowStop CHOICE reference.entry source.old.left
-        (λ more. ⊥) stop) }
+    ensures stop { IfErr result
+        (λ stop. IsRowStop CHOICE reference.entry source.old.left stop) }
     ensures unchanged { OnErr result (source.new ≡ source.old) }
     ensures room { HasRoom reference.entry.width places.new }
     ensures same_end { KeepsEnd source.old source.new }

@@ -13,14 +13,14 @@ ghost use Rattle.fax_rows.specs.code.Due.{AreReadRuns, IsDueAt, IsHorizontalDue}
 ghost use Rattle.fax_rows.specs.code.Pause.{IsPause};
 ghost use Rattle.fax_rows.specs.code.Seen.{b2_from};
 ghost use Rattle.fax_rows.specs.code.PlacedRow.{placed_pels};
-ghost use Rattle.fax_rows.specs.code.Stop.{IsStopOf, IsStepStop, IsRowStop};
+ghost use Rattle.fax_rows.specs.code.Stop.{IsStopOf, IsStepStop, IsRowStop, IsUnreadFor};
 ghost use Rattle.fax_rows.specs.code.ReadRow.{IsReadRow};
 ghost use Rattle.fax_rows.specs.code.Put.{HasRoom};
 ghost use Rattle.fax_rows.specs.code.Reached.{reached_pel};
 ghost use Rattle.fax_rows.specs.code.PlacedReached.{placed_position, IsReadTo, IsReadInside, IsReadOn, IsPairReadOn};
 
 use super::choices::{chooses_a1, chooses_b2, chooses_runs, is_taken};
-use super::codes::{Due, Stop, TwoRuns, two_runs};
+use super::codes::{Due, Stop, TwoRuns, Unread, two_runs};
 use super::copied::under_several;
 use super::due::Pause;
 use super::several::several;
@@ -38,14 +38,14 @@ pub(super) fn past_runs<const CHOICE: bool>(
     places: &mut [u32],
     at: PlacedReached,
     runs: TwoRuns,
-) -> Result<PlacedReached, Stop<Due>>
+) -> Result<PlacedReached, Stop>
     requires inside { IsReadInside reference places.old at }
     requires within { reached_pel at.reached + runs.first + runs.second ≤ reference.width }
     ensures read { (b rest : List Bool)
         → AreReadRuns CHOICE at.reached.colour reference.entry.width (reached_pel at.reached) b runs rest
         → IfOk result (λ next. IsPairReadOn CHOICE reference.entry places.old places.new at next
         b rest) }
-    ensures err { IfErr result (λ stop. IsStopOf CHOICE (λ fault. ⊥) (λ due. ⊥) stop) }
+    ensures err { IfErr result (λ stop. IsStopOf CHOICE (λ fault. ⊥) stop) }
     ensures room { HasRoom reference.entry.width places.new }
 {
     let chosen = chooses_runs::<CHOICE>(reference, at, runs);
@@ -63,13 +63,13 @@ fn horizontal<const CHOICE: bool, const SEVERAL: bool>(
     reference: PlacedRow,
     places: &mut [u32],
     at: PlacedReached,
-) -> Result<PlacedReached, Stop<Due>>
+) -> Result<PlacedReached, Unread<Due>>
     requires inside { IsReadInside reference places.old at }
     ensures read { IfOk result (λ next. IsPairReadOn CHOICE reference.entry places.old places.new
         at next source.old.left source.new.left) }
-    ensures err { IfErr result (λ stop. IsStopOf CHOICE (λ fault. ⊥)
+    ensures err { IfErr result (λ unread. IsUnreadFor (IsStopOf CHOICE (λ fault. ⊥))
         (λ due. IsHorizontalDue reference.entry places.old places.new at source.old.left due
-        source.new.left) stop) }
+        source.new.left) unread) }
     ensures room { HasRoom reference.entry.width places.new }
     ensures same_end { KeepsEnd source.old source.new }
     ensures no_longer { OnOk result (length source.new.left ≤ length source.old.left) }
@@ -78,8 +78,8 @@ fn horizontal<const CHOICE: bool, const SEVERAL: bool>(
     let from = at.reached.first_pel();
     let colour = colour_after(at.b1);
     match two_runs::<CHOICE, SEVERAL>(source, colour, reference.width, from) {
-        Ok(runs) => past_runs::<CHOICE>(reference, places, at, runs),
-        Err(first) => Err(Stop::Due(Due::Runs(first))),
+        Ok(runs) => Ok(past_runs::<CHOICE>(reference, places, at, runs)?),
+        Err(first) => Err(Unread::Due(Due::Runs(first))),
     }
 }
 
@@ -92,7 +92,7 @@ pub(super) fn vertical<const CHOICE: bool>(
     places: &mut [u32],
     at: PlacedReached,
     d: i8,
-) -> Result<PlacedReached, Stop<Due>>
+) -> Result<PlacedReached, Stop>
     requires inside { IsReadInside reference places.old at }
     ensures ok { IfOk result (λ next. Spec.IsVerticalStep (placed_pels reference.entry)
         (placed_position reference.entry.width places.old at) d
@@ -102,7 +102,7 @@ pub(super) fn vertical<const CHOICE: bool>(
         ≤ b2 (placed_pels reference.entry) at.reached.a0 at.reached.colour) }
     ensures err { IfErr result (λ stop. IsStopOf CHOICE
         (λ fault. (Spec.IsInRow (placed_pels reference.entry)
-        (placed_position reference.entry.width places.old at) d → ⊥) × (fault ≡ OutOfRow)) (λ due. ⊥) stop) }
+        (placed_position reference.entry.width places.old at) d → ⊥) × (fault ≡ OutOfRow)) stop) }
     ensures room { HasRoom reference.entry.width places.new }
 {
     let out = Stop::Fault(RowFault::OutOfRow);
@@ -127,7 +127,7 @@ pub(super) fn pass<const CHOICE: bool>(
     reference: PlacedRow,
     places: &[u32],
     at: PlacedReached,
-) -> Result<PlacedReached, Stop<Due>>
+) -> Result<PlacedReached, Stop>
     requires inside { IsReadInside reference places.now at }
     ensures ok { let from = placed_position reference.entry.width places.now at in
         IfOk result (λ next. placed_position reference.entry.width places.now next
@@ -135,7 +135,7 @@ pub(super) fn pass<const CHOICE: bool>(
     ensures so_far { IfOk result (λ next. IsReadTo reference.entry places.now next) }
     ensures inside { IfOk result (λ next. IsTrue CHOICE
         → reached_pel next.reached < reference.entry.width) }
-    ensures err { IfErr result (λ stop. IsStopOf CHOICE (λ fault. ⊥) (λ due. ⊥) stop) }
+    ensures err { IfErr result (λ stop. IsStopOf CHOICE (λ fault. ⊥) stop) }
 {
     let next = under_b2(reference, places, at);
     let chosen = chooses_b2::<CHOICE>(reference, next);
@@ -155,25 +155,25 @@ fn by_mode<const CHOICE: bool, const SEVERAL: bool>(
     places: &mut [u32],
     at: PlacedReached,
     mode: ModeCode,
-) -> Result<PlacedReached, Stop<Due>>
+) -> Result<PlacedReached, Unread<Due>>
     requires inside { IsReadInside reference places.old at }
     ensures read { (b : List Bool) → Takes modes b mode source.old.left
         → IfOk result (λ next. IsReadOn CHOICE reference.entry places.old places.new at next
         b source.new.left) }
     ensures stop { (b : List Bool) → Takes modes b mode source.old.left
-        → IfErr result (λ stop. IsStepStop CHOICE reference.entry places.old at b
+        → IfErr result (λ unread. IsUnreadFor (IsStepStop CHOICE reference.entry places.old at b)
         (λ due. (places.new ≡ places.old)
-        × IsDueAt reference.entry places.old at b due source.new.left) stop) }
+        × IsDueAt reference.entry places.old at b due source.new.left) unread) }
     ensures room { OnErr result (HasRoom reference.entry.width places.new) }
     ensures same_end { KeepsEnd source.old source.new }
     ensures no_longer { OnOk result (length source.new.left ≤ length source.old.left) }
 {
     match mode {
         ModeCode::Vertical(0) => Ok(under_several(source, reference, places, at)),
-        ModeCode::Vertical(d) => vertical::<CHOICE>(reference, places, at, d),
-        ModeCode::Pass => pass::<CHOICE>(reference, places, at),
+        ModeCode::Vertical(d) => Ok(vertical::<CHOICE>(reference, places, at, d)?),
+        ModeCode::Pass => Ok(pass::<CHOICE>(reference, places, at)?),
         ModeCode::Horizontal => horizontal::<CHOICE, SEVERAL>(source, reference, places, at),
-        ModeCode::Extension => Err(Stop::Fault(RowFault::Extension)),
+        ModeCode::Extension => Err(Unread::Stop(Stop::Fault(RowFault::Extension))),
     }
 }
 
@@ -186,13 +186,14 @@ fn next_steps<const CHOICE: bool, const SEVERAL: bool>(
     reference: PlacedRow,
     places: &mut [u32],
     at: PlacedReached,
-) -> Result<PlacedReached, Stop<Due>>
+) -> Result<PlacedReached, Unread<Due>>
     requires inside { IsReadInside reference places.old at }
     ensures read { IfOk result (λ next. IsReadOn CHOICE reference.entry places.old places.new
         at next source.old.left source.new.left) }
-    ensures stop { IfErr result (λ stop. IsStepStop CHOICE reference.entry places.old at
-        source.old.left (λ due. (places.new ≡ places.old)
-        × IsDueAt reference.entry places.old at source.old.left due source.new.left) stop) }
+    ensures stop { IfErr result (λ unread. IsUnreadFor
+        (IsStepStop CHOICE reference.entry places.old at source.old.left)
+        (λ due. (places.new ≡ places.old)
+        × IsDueAt reference.entry places.old at source.old.left due source.new.left) unread) }
     ensures room { HasRoom reference.entry.width places.new }
     ensures same_end { KeepsEnd source.old source.new }
     ensures shorter { OnOk result (length source.new.left < length source.old.left) }
@@ -201,7 +202,7 @@ fn next_steps<const CHOICE: bool, const SEVERAL: bool>(
         return Ok(next);
     }
     let Some(mode) = source.mode() else {
-        return Err(Stop::Due(Due::Mode));
+        return Err(Unread::Due(Due::Mode));
     };
     by_mode::<CHOICE, SEVERAL>(source, reference, places, at, mode)
 }
@@ -214,12 +215,13 @@ pub(super) fn read_by_look_ups<const CHOICE: bool, const SEVERAL: bool>(
     source: &mut BitSource,
     reference: PlacedRow,
     places: &mut [u32],
-) -> Result<usize, Stop<Pause>>
+) -> Result<usize, Unread<Pause>>
     requires room { HasRoom reference.width places.old }
     ensures read { IfOk result (λ end. IsReadRow CHOICE reference.entry source.old.left places.new
         end source.new.left) }
-    ensures stop { IfErr result (λ stop. IsRowStop CHOICE reference.entry source.old.left
-        (λ pause. IsPause CHOICE reference.entry source.old places.new pause) stop) }
+    ensures stop { IfErr result (λ unread. IsUnreadFor
+        (IsRowStop CHOICE reference.entry source.old.left)
+        (λ pause. IsPause CHOICE reference.entry source.old places.new pause) unread) }
     ensures unchanged { OnErr result (source.new ≡ source.old) }
     ensures room { HasRoom reference.entry.width places.new }
     ensures same_end { KeepsEnd source.old source.new }
@@ -233,8 +235,8 @@ pub(super) fn read_by_look_ups<const CHOICE: bool, const SEVERAL: bool>(
     while at.reached.first_pel() < reference.width {
         match next_steps::<CHOICE, SEVERAL>(&mut ahead, reference, places, at) {
             Ok(next) => at = next,
-            Err(Stop::Due(due)) => {
-                return Err(Stop::Due(Pause {
+            Err(Unread::Due(due)) => {
+                return Err(Unread::Due(Pause {
                     due,
                     place: ahead.place(),
                     a0: at.reached.number(),
@@ -242,8 +244,7 @@ pub(super) fn read_by_look_ups<const CHOICE: bool, const SEVERAL: bool>(
                     b1: at.b1,
                 }));
             }
-            Err(Stop::Other) => return Err(Stop::Other),
-            Err(Stop::Fault(fault)) => return Err(Stop::Fault(fault)),
+            Err(Unread::Stop(stop)) => return Err(Unread::Stop(stop)),
         }
     }
     source.go_to(&ahead);

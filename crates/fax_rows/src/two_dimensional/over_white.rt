@@ -13,10 +13,10 @@ ghost use Rattle.fax_rows.specs.code.Pause.{IsPause};
 ghost use Rattle.fax_rows.specs.code.PlacedReached.{IsReadInside, IsPairReadOn};
 ghost use Rattle.fax_rows.specs.code.Put.{HasRoom};
 ghost use Rattle.fax_rows.specs.code.ReadRow.{IsReadRow};
-ghost use Rattle.fax_rows.specs.code.Stop.{IsStopOf, IsRowStop};
+ghost use Rattle.fax_rows.specs.code.Stop.{IsRowStop, IsUnreadFor};
 
 use super::choices::is_taken;
-use super::codes::{Due, Stop, TwoRuns, run_by_run};
+use super::codes::{Due, Stop, TwoRuns, Unread, run_by_run};
 use super::due::Pause;
 use super::steps::{PlacedReached, Reached, under_b1};
 use crate::rows::PlacedRow;
@@ -185,13 +185,14 @@ pub(super) fn read_over_white<const CHOICE: bool>(
     source: &mut BitSource,
     reference: PlacedRow,
     places: &mut [u32],
-) -> Result<usize, Stop<Pause>>
+) -> Result<usize, Unread<Pause>>
     requires room { HasRoom reference.width places.old }
     requires white { reference.end ≡ 1 }
     ensures read { IfOk result (λ end. IsReadRow CHOICE reference.entry source.old.left places.new
         end source.new.left) }
-    ensures stop { IfErr result (λ stop. IsRowStop CHOICE reference.entry source.old.left
-        (λ pause. IsPause CHOICE reference.entry source.old places.new pause) stop) }
+    ensures stop { IfErr result (λ unread. IsUnreadFor
+        (IsRowStop CHOICE reference.entry source.old.left)
+        (λ pause. IsPause CHOICE reference.entry source.old places.new pause) unread) }
     ensures unchanged { OnErr result (source.new ≡ source.old) }
     ensures room { HasRoom reference.entry.width places.new }
     ensures same_end { KeepsEnd source.old source.new }
@@ -207,7 +208,7 @@ pub(super) fn read_over_white<const CHOICE: bool>(
         match next_step::<CHOICE>(&mut ahead, at.first_pel, reference.width) {
             Some(StepOverWhite::Runs(runs)) => {
                 let Some(next) = past_two_runs::<CHOICE>(reference, places, at, runs) else {
-                    return Err(Stop::Other);
+                    return Err(Unread::Stop(Stop::Other));
                 };
                 at = next;
             }
@@ -215,7 +216,7 @@ pub(super) fn read_over_white<const CHOICE: bool>(
                 source.go_to(&ahead);
                 return Ok(under_b1(reference, places, at.placed()).end);
             }
-            None => return Err(Stop::Due(at.pause(ahead.place()))),
+            None => return Err(Unread::Due(at.pause(ahead.place()))),
         }
     }
     source.go_to(&ahead);

@@ -17,18 +17,31 @@ pub(super) enum Due {
 
 /// Why a row is not read on.
 #[derive(Clone, Copy)]
-pub(super) enum Stop<D> {
-    /// No look-up finds what is due.
-    Due(D),
+pub(super) enum Stop {
     /// A step is not seen to be T.4's choice.
     Other,
     /// The fault of the first mode or run that is no part of the row.
     Fault(RowFault),
 }
 
-impl<D> From<RowFault> for Stop<D> {
-    fn from(fault: RowFault) -> Stop<D> {
+impl From<RowFault> for Stop {
+    fn from(fault: RowFault) -> Stop {
         Stop::Fault(fault)
+    }
+}
+
+/// Why look-ups do not read a row on.
+#[derive(Clone, Copy)]
+pub(super) enum Unread<D> {
+    /// None of them finds what is due.
+    Due(D),
+    /// It is not read on by tables either.
+    Stop(Stop),
+}
+
+impl<D> From<Stop> for Unread<D> {
+    fn from(stop: Stop) -> Unread<D> {
+        Unread::Stop(stop)
     }
 }
 
@@ -93,7 +106,7 @@ pub(super) fn last_two_runs<const CHOICE: bool>(
     width: u32,
     from: u32,
     first: Option<u32>,
-) -> Result<TwoRuns, Stop<Due>> {
+) -> Result<TwoRuns, Stop> {
     let mut is_chosen = true;
     let first = match first {
         Some(first) => first,

@@ -60,7 +60,7 @@ fn last_horizontal<const CHOICE: bool>(
     places: &mut [u32],
     at: PlacedReached,
     first: Option<u32>,
-) -> Result<PlacedReached, Stop<Due>> {
+) -> Result<PlacedReached, Stop> {
     let from = at.reached.first_pel();
     let colour = colour_after(at.b1);
     let runs = last_two_runs::<CHOICE>(source, colour, reference.width, from, first)?;
@@ -75,7 +75,7 @@ fn last_step<const CHOICE: bool>(
     places: &mut [u32],
     at: PlacedReached,
     mode: ModeCode,
-) -> Result<PlacedReached, Stop<Due>> {
+) -> Result<PlacedReached, Stop> {
     match mode {
         ModeCode::Vertical(d) => vertical::<CHOICE>(reference, places, at, d),
         ModeCode::Pass => pass::<CHOICE>(reference, places, at),
@@ -93,7 +93,7 @@ fn read_due<const CHOICE: bool>(
     places: &mut [u32],
     at: PlacedReached,
     due: Due,
-) -> Result<PlacedReached, Stop<Due>> {
+) -> Result<PlacedReached, Stop> {
     match due {
         Due::Mode => match last_mode(source) {
             Ok(mode) => last_step::<CHOICE>(source, reference, places, at, mode),
@@ -113,7 +113,7 @@ pub(super) fn read_on<const CHOICE: bool>(
     reference: PlacedRow,
     places: &mut [u32],
     pause: Pause,
-) -> Result<usize, Stop<Due>> {
+) -> Result<usize, Stop> {
     let mut ahead = source.again();
     ahead.skip_to(pause.place);
     let mut at = read_due::<CHOICE>(&mut ahead, reference, places, pause.reached(), pause.due)?;

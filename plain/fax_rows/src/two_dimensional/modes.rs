@@ -2,7 +2,7 @@
 //! 4.2.1.3.3). The bits ahead stand in a value.
 
 use super::choices::{chooses_a1, chooses_b2, chooses_runs, is_taken};
-use super::codes::{Due, Stop, TwoRuns, two_runs};
+use super::codes::{Due, Stop, TwoRuns, Unread, two_runs};
 use super::copied::under_several;
 use super::due::Pause;
 use super::several::several;
@@ -22,7 +22,7 @@ pub(super) fn past_runs<const CHOICE: bool>(
     places: &mut [u32],
     at: PlacedReached,
     runs: TwoRuns,
-) -> Result<PlacedReached, Stop<Due>> {
+) -> Result<PlacedReached, Stop> {
     let chosen = chooses_runs::<CHOICE>(reference, at, runs);
     if !is_taken::<CHOICE>(chosen) {
         return Err(Stop::Other);
@@ -39,13 +39,13 @@ fn horizontal<const CHOICE: bool, const SEVERAL: bool>(
     reference: PlacedRow,
     places: &mut [u32],
     at: PlacedReached,
-) -> Result<PlacedReached, Stop<Due>> {
+) -> Result<PlacedReached, Unread<Due>> {
     // The parity of b1's index tells a0's colour, so that no step needs to keep it.
     let from = at.reached.first_pel();
     let colour = colour_after(at.b1);
     match two_runs::<CHOICE, SEVERAL>(source, colour, reference.width, from) {
-        Ok(runs) => past_runs::<CHOICE>(reference, places, at, runs),
-        Err(first) => Err(Stop::Due(Due::Runs(first))),
+        Ok(runs) => Ok(past_runs::<CHOICE>(reference, places, at, runs)?),
+        Err(first) => Err(Unread::Due(Due::Runs(first))),
     }
 }
 
@@ -59,7 +59,7 @@ pub(super) fn vertical<const CHOICE: bool>(
     places: &mut [u32],
     at: PlacedReached,
     d: i8,
-) -> Result<PlacedReached, Stop<Due>> {
+) -> Result<PlacedReached, Stop> {
     let out = Stop::Fault(RowFault::OutOfRow);
     if d < 0 {
         return left_of_b1(reference, places, at, d).ok_or(out);
@@ -83,7 +83,7 @@ pub(super) fn pass<const CHOICE: bool>(
     reference: PlacedRow,
     places: &[u32],
     at: PlacedReached,
-) -> Result<PlacedReached, Stop<Due>> {
+) -> Result<PlacedReached, Stop> {
     let next = under_b2(reference, places, at);
     let chosen = chooses_b2::<CHOICE>(reference, next);
     if is_taken::<CHOICE>(chosen) {
@@ -103,13 +103,13 @@ fn by_mode<const CHOICE: bool, const SEVERAL: bool>(
     places: &mut [u32],
     at: PlacedReached,
     mode: ModeCode,
-) -> Result<PlacedReached, Stop<Due>> {
+) -> Result<PlacedReached, Unread<Due>> {
     match mode {
         ModeCode::Vertical(0) => Ok(under_several(source, reference, places, at)),
-        ModeCode::Vertical(d) => vertical::<CHOICE>(reference, places, at, d),
-        ModeCode::Pass => pass::<CHOICE>(reference, places, at),
+        ModeCode::Vertical(d) => Ok(vertical::<CHOICE>(reference, places, at, d)?),
+        ModeCode::Pass => Ok(pass::<CHOICE>(reference, places, at)?),
         ModeCode::Horizontal => horizontal::<CHOICE, SEVERAL>(source, reference, places, at),
-        ModeCode::Extension => Err(Stop::Fault(RowFault::Extension)),
+        ModeCode::Extension => Err(Unread::Stop(Stop::Fault(RowFault::Extension))),
     }
 }
 
@@ -123,12 +123,12 @@ fn next_steps<const CHOICE: bool, const SEVERAL: bool>(
     reference: PlacedRow,
     places: &mut [u32],
     at: PlacedReached,
-) -> Result<PlacedReached, Stop<Due>> {
+) -> Result<PlacedReached, Unread<Due>> {
     if let Some(next) = several::<SEVERAL>(source, reference, places, at) {
         return Ok(next);
     }
     let Some(mode) = source.mode() else {
-        return Err(Stop::Due(Due::Mode));
+        return Err(Unread::Due(Due::Mode));
     };
     by_mode::<CHOICE, SEVERAL>(source, reference, places, at, mode)
 }
@@ -142,7 +142,7 @@ pub(super) fn read_by_look_ups<const CHOICE: bool, const SEVERAL: bool>(
     source: &mut BitSource,
     reference: PlacedRow,
     places: &mut [u32],
-) -> Result<usize, Stop<Pause>> {
+) -> Result<usize, Unread<Pause>> {
     // Nothing returns into this loop: whatever stops it leaves it for good, so that the row's
     // width, its places and the bits ahead stay in registers. What it hands out are the numbers
     // that it keeps anyway: a0 with -1 for none, the index after the last place, and that of b1, by
@@ -152,8 +152,8 @@ pub(super) fn read_by_look_ups<const CHOICE: bool, const SEVERAL: bool>(
     while at.reached.first_pel() < reference.width {
         match next_steps::<CHOICE, SEVERAL>(&mut ahead, reference, places, at) {
             Ok(next) => at = next,
-            Err(Stop::Due(due)) => {
-                return Err(Stop::Due(Pause {
+            Err(Unread::Due(due)) => {
+                return Err(Unread::Due(Pause {
                     due,
                     place: ahead.place(),
                     a0: at.reached.number(),
@@ -161,8 +161,7 @@ pub(super) fn read_by_look_ups<const CHOICE: bool, const SEVERAL: bool>(
                     b1: at.b1,
                 }));
             }
-            Err(Stop::Other) => return Err(Stop::Other),
-            Err(Stop::Fault(fault)) => return Err(Stop::Fault(fault)),
+            Err(Unread::Stop(stop)) => return Err(Unread::Stop(stop)),
         }
     }
     source.go_to(&ahead);

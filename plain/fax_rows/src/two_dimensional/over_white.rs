@@ -2,7 +2,7 @@
 //! on, and a1 under the row's end (ITU-T T.4, section 4.2.1.3.3).
 
 use super::choices::is_taken;
-use super::codes::{Due, Stop, TwoRuns, run_by_run};
+use super::codes::{Due, Stop, TwoRuns, Unread, run_by_run};
 use super::due::Pause;
 use super::steps::{PlacedReached, Reached, under_b1};
 use crate::rows::PlacedRow;
@@ -146,7 +146,7 @@ pub(super) fn read_over_white<const CHOICE: bool>(
     source: &mut BitSource,
     reference: PlacedRow,
     places: &mut [u32],
-) -> Result<usize, Stop<Pause>> {
+) -> Result<usize, Unread<Pause>> {
     // For the first row of each strip, and rows below white ones: nearly each pair of runs is in
     // horizontal mode there, and b1 and b2 are at the row's end. Two numbers stand for a0, its
     // colour and b1. Runs without pels, but the first of a row, are left to the tables, where a
@@ -158,7 +158,7 @@ pub(super) fn read_over_white<const CHOICE: bool>(
         match next_step::<CHOICE>(&mut ahead, at.first_pel, reference.width) {
             Some(StepOverWhite::Runs(runs)) => {
                 let Some(next) = past_two_runs::<CHOICE>(reference, places, at, runs) else {
-                    return Err(Stop::Other);
+                    return Err(Unread::Stop(Stop::Other));
                 };
                 at = next;
             }
@@ -166,7 +166,7 @@ pub(super) fn read_over_white<const CHOICE: bool>(
                 source.go_to(&ahead);
                 return Ok(under_b1(reference, places, at.placed()).end);
             }
-            None => return Err(Stop::Due(at.pause(ahead.place()))),
+            None => return Err(Unread::Due(at.pause(ahead.place()))),
         }
     }
     source.go_to(&ahead);

@@ -28,4 +28,4 @@ pub returns-in-Horizontal-clause-stop : goal.returns-in-Horizontal-clause-stop
 returns-in-Horizontal-clause-stop g c b taken =
     let takes = rw c.in-Horizontal.is at taken in
     stops_as _ c.last_horizontal.result (c.last_horizontal.ensures.err c.args.source.now.left refl)
-    (λ fault is. inr (Horizontal, c.args.source.now.left, takes, is)) (λ due none. absurd none)
+    (λ fault is. inr (Horizontal, c.args.source.now.left, takes, is))

@@ -1,15 +1,12 @@
-use Rattle.std.proofs.Common.{refl, length, length-append, take, ap, ◌∙◌, arith}
+use Rattle.std.proofs.Common.{refl, length, length-append, ap, ◌∙◌, arith}
 use Rattle.std.proofs.lemmas.Grind.{common_steps}
 use Rattle.std.proofs.lemmas.Result.{err_from_is_err_and}
 use Rattle.fax_bits.specs.views.Source.{Source}
 use Rattle.fax_rows.specs.code.Due.{IsDue}
-use Rattle.fax_rows.specs.code.PlacedRow.{placed_pels}
-use Rattle.fax_rows.specs.code.Turns.{pels_by}
 use Rattle.fax_rows.proofs.PlacedB1Lemmas.{length-placed_pels}
 use Rattle.fax_rows.proofs.GoesOnLemmas.{rest_there}
 use Rattle.fax_rows.proofs.ReadRowLemmas.{read_further, row_done}
-use Rattle.fax_rows.proofs.PlacedStepLemmas.{fault_here}
-use Rattle.fax_rows.proofs.StopLemmas.{stop_as}
+use Rattle.fax_rows.proofs.StopLemmas.{row_stop}
 use Rattle.fax_rows.proofs.two_dimensional.due.read_on.Goals as goal
 
 pub returns-in_err-at-clause-stop : goal.returns-in_err-at-clause-stop
@@ -50,12 +47,9 @@ loop-ahead-preserved g c =
 
 pub returns-in_err-at-2-clause-stop : goal.returns-in_err-at-2-clause-stop
 returns-in_err-at-2-clause-stop g c =
-    let here = fault_here (placed_pels c.args.reference) c.args.source.now.left c.loop-ahead.at.reached
-    (pels_by c.args.reference.width (take c.loop-ahead.at.end c.loop-ahead.places)) c.loop-ahead.ahead.left
-    c.loop-ahead.invariant.read.steps (omega (arith, length-placed_pels c.args.reference)) in
     let p = err_from_is_err_and c.from_residual-in_err-at-2.result c.from_residual-in_err-at-2.ensures.1 in
-    rw (p.1, p.2) (stop_as _ c.in_err-at-2.field-0.0 (c.in_err-at-2.ensures.stop c.loop-ahead.ahead.left refl) here
-    (λ more h. h))
+    rw (p.1, p.2) (row_stop c.loop-ahead.invariant.read (omega arith) _
+    (c.in_err-at-2.ensures.stop c.loop-ahead.ahead.left refl))
 
 pub returns-clause-read : goal.returns-clause-read
 returns-clause-read g c =

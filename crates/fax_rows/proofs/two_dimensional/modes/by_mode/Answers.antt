@@ -1,6 +1,6 @@
 use Rattle.std.proofs.Common.{◌≡◌, pos, rules}
 use Prim.{search}
-use Rattle.fax_rows.proofs.ChosenStepLemmas.{map_ok, map_three}
+use Rattle.fax_rows.proofs.ChosenStepLemmas.{map_ok}
 use Rattle.fax_rows.proofs.ReadOnLemmas.{asked_or_not, vertical_read, pass_read, pair_read}
 use Rattle.fax_rows.proofs.two_dimensional.modes.by_mode.Goals as goal
 
@@ -9,17 +9,15 @@ returns-in-Vertical-eq0-clause-read g c b taken =
     let zero : c.in-Vertical-eq0.field-0 ≡ pos 0 = search rules in
     asked_or_not (c.under_several.ensures.read b (rw (c.in-Vertical-eq0.is, zero) at taken))
 
-pub returns-in-Vertical-clause-read : goal.returns-in-Vertical-clause-read
-returns-in-Vertical-clause-read g c b taken =
-    let takes = rw c.in-Vertical.is at taken in
-    map_three c.vertical.result c.vertical.ensures.ok c.vertical.ensures.so_far c.vertical.ensures.left
-    (λ next step so_far left. vertical_read c.requires.inside takes (search rules) step so_far left)
+pub returns-in_ok-vertical-in-Vertical-clause-read : goal.returns-in_ok-vertical-in-Vertical-clause-read
+returns-in_ok-vertical-in-Vertical-clause-read g c b taken =
+    let next = c.in_ok-vertical-in-Vertical.ensures in
+    vertical_read c.requires.inside (rw c.in-Vertical.is at taken) (search rules) next.ok next.so_far next.left
 
-pub returns-in-Pass-clause-read : goal.returns-in-Pass-clause-read
-returns-in-Pass-clause-read g c b taken =
-    let takes = rw c.in-Pass.is at taken in
-    map_three c.pass.result c.pass.ensures.ok c.pass.ensures.so_far c.pass.ensures.inside
-    (λ next step so_far inside. pass_read c.requires.inside takes step so_far inside)
+pub returns-in_ok-pass-in-Pass-clause-read : goal.returns-in_ok-pass-in-Pass-clause-read
+returns-in_ok-pass-in-Pass-clause-read g c b taken =
+    let next = c.in_ok-pass-in-Pass.ensures in
+    pass_read c.requires.inside (rw c.in-Pass.is at taken) next.ok next.so_far next.inside
 
 pub returns-in-Horizontal-clause-read : goal.returns-in-Horizontal-clause-read
 returns-in-Horizontal-clause-read g c b taken =

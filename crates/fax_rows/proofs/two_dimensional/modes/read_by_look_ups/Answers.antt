@@ -1,6 +1,6 @@
 use Rattle.std.proofs.Common.{length, length-append, refl, ap, arith}
 use Rattle.std.proofs.lemmas.Int.{ints}
-use Rattle.fax_rows.proofs.PlacedB1Lemmas.{length-placed_pels}
+use Rattle.fax_rows.proofs.StopLemmas.{row_stop}
 use Rattle.fax_rows.proofs.GoesOnLemmas.{due_leaves, goes_on_leaves, leaves_more}
 use Rattle.fax_rows.proofs.ReadRowLemmas.{nothing_so_far, read_further, row_done}
 use Rattle.fax_rows.proofs.two_dimensional.modes.read_by_look_ups.Goals as goal
@@ -22,8 +22,9 @@ returns-clause-read g c =
     let read = c.loop-ahead.invariant.read in
     let within = read.so_far.within in rw c.go_to.ensures (row_done read (omega arith))
 
-pub returns-in-Err-Fault-clause-stop : goal.returns-in-Err-Fault-clause-stop
-returns-in-Err-Fault-clause-stop g c = grind (arith, length-placed_pels)
+pub returns-in-Err-Stop-clause-stop : goal.returns-in-Err-Stop-clause-stop
+returns-in-Err-Stop-clause-stop g c =
+    row_stop c.loop-ahead.invariant.read (omega arith) _ (rw c.in-Err-Stop.field-0-is at c.in-Err-Stop.ensures.stop)
 
 pub returns-in-Err-Due-clause-stop : goal.returns-in-Err-Due-clause-stop
 returns-in-Err-Due-clause-stop g c =
