@@ -28,10 +28,6 @@ pub map_ok : {A E : Type 0} {P Q : A → Type 0} (found : Result A E) → IfOk f
     → IfOk found Q
 map_ok found p f = grind arith
 
-pub map_three : {A E : Type 0} {P Q R S : A → Type 0} (found : Result A E) → IfOk found P → IfOk found Q → IfOk found R
-    → ((x : A) → P x → Q x → R x → S x) → IfOk found S
-map_three found p q r f = grind arith
-
 module _ {reference : PlacedRow} {places : List ℕ} {at : PlacedReached} (here : IsReadInside reference places at) where
   -- a0's colour just before the first pel
   start : at.reached.a0 ≡ None → White ≡ at.reached.colour

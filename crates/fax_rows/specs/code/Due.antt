@@ -50,10 +50,8 @@ pub record IsDueAt (reference : PlacedRow) (places : List ℕ) (at : PlacedReach
   pub no_longer : length left ≤ length b
 
 -- runs of horizontal mode are due, after its code, and no place was put
-pub record IsHorizontalDue (reference : PlacedRow) (old new : List ℕ) (at : PlacedReached)
-    (b : List Bool) (due : Due) (left : List Bool) : Type 0 where
-  pub first : Option ℕ
-  pub due_is : due ≡ Runs first
+pub record AreRunsDueAt (reference : PlacedRow) (old new : List ℕ) (at : PlacedReached)
+    (b : List Bool) (first : Option ℕ) (left : List Bool) : Type 0 where
   pub same : new ≡ old
   pub fits : IfSome first (λ n. reached_pel at.reached + n ≤ reference.width)
   pub read : AreRunsDue at.reached.colour b first left

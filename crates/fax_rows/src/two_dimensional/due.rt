@@ -19,8 +19,8 @@ ghost use Rattle.fax_rows.specs.code.Stop.{IsStopOf, IsStepStop, IsRowStop};
 ghost use Rattle.fax_rows.specs.code.ReadRow.{IsReadRow};
 ghost use Rattle.fax_rows.specs.code.Turns.{alternate};
 
-use super::codes::{Due, Stop, last_two_runs};
-use super::modes::{pass, past_runs, vertical};
+use super::codes::{Due, Stop, Unread, last_two_runs};
+use super::modes::{by_mode, past_runs};
 use super::steps::{PlacedReached, Reached};
 use crate::RowFault;
 use crate::rows::PlacedRow;
@@ -104,32 +104,6 @@ fn last_horizontal<const CHOICE: bool>(
     past_runs::<CHOICE>(reference, places, at, runs)
 }
 
-/// Goes on by a mode, after its code, with runs by their tables.
-fn last_step<const CHOICE: bool>(
-    source: &mut BitSource,
-    reference: PlacedRow,
-    places: &mut [u32],
-    at: PlacedReached,
-    mode: ModeCode,
-) -> Result<PlacedReached, Stop>
-    requires inside { IsReadInside reference places.old at }
-    ensures read { (b : List Bool) → Takes modes b mode source.old.left
-        → IfOk result (λ next. IsReadOn CHOICE reference.entry places.old places.new at next
-        b source.new.left) }
-    ensures stop { (b : List Bool) → Takes modes b mode source.old.left
-        → IfErr result (λ stop. IsStepStop CHOICE reference.entry places.old at b stop) }
-    ensures room { HasRoom reference.entry.width places.new }
-    ensures same_end { KeepsEnd source.old source.new }
-    ensures no_longer { OnOk result (length source.new.left ≤ length source.old.left) }
-{
-    match mode {
-        ModeCode::Vertical(d) => vertical::<CHOICE>(reference, places, at, d),
-        ModeCode::Pass => pass::<CHOICE>(reference, places, at),
-        ModeCode::Horizontal => last_horizontal::<CHOICE>(source, reference, places, at, None),
-        ModeCode::Extension => Err(Stop::Fault(RowFault::Extension)),
-    }
-}
-
 /// Reads what is due, and goes on by it.
 fn read_due<const CHOICE: bool>(
     source: &mut BitSource,
@@ -151,7 +125,13 @@ fn read_due<const CHOICE: bool>(
 {
     match due {
         Due::Mode => match last_mode(source) {
-            Ok(mode) => last_step::<CHOICE>(source, reference, places, at, mode),
+            Ok(mode) => match by_mode::<CHOICE, false>(source, reference, places, at, mode) {
+                Ok(next) => Ok(next),
+                Err(Unread::Due(first)) => {
+                    last_horizontal::<CHOICE>(source, reference, places, at, first)
+                }
+                Err(Unread::Stop(stop)) => Err(stop),
+            },
             Err(fault) => Err(Stop::Fault(RowFault::from(fault))),
         },
         Due::Runs(first) => last_horizontal::<CHOICE>(source, reference, places, at, first),

@@ -9,7 +9,8 @@ ghost use Rattle.fax_rows.specs.Rows.{b2};
 ghost use Rattle.fax_rows.specs.Rows as Spec;
 ghost use Rattle.fax_rows.specs.Faults as Fault;
 ghost use Rattle.fax_rows.specs.declared.RowFault.TheVariants.{OutOfRow};
-ghost use Rattle.fax_rows.specs.code.Due.{AreReadRuns, IsDueAt, IsHorizontalDue};
+ghost use Rattle.fax_rows.specs.declared.two_dimensional.codes.Due.TheVariants.{Runs};
+ghost use Rattle.fax_rows.specs.code.Due.{AreReadRuns, AreRunsDueAt, IsDueAt};
 ghost use Rattle.fax_rows.specs.code.Pause.{IsPause};
 ghost use Rattle.fax_rows.specs.code.Seen.{b2_from};
 ghost use Rattle.fax_rows.specs.code.PlacedRow.{placed_pels};
@@ -63,12 +64,12 @@ fn horizontal<const CHOICE: bool, const SEVERAL: bool>(
     reference: PlacedRow,
     places: &mut [u32],
     at: PlacedReached,
-) -> Result<PlacedReached, Unread<Due>>
+) -> Result<PlacedReached, Unread<Option<u32>>>
     requires inside { IsReadInside reference places.old at }
     ensures read { IfOk result (λ next. IsPairReadOn CHOICE reference.entry places.old places.new
         at next source.old.left source.new.left) }
     ensures err { IfErr result (λ unread. IsUnreadFor (IsStopOf CHOICE (λ fault. ⊥))
-        (λ due. IsHorizontalDue reference.entry places.old places.new at source.old.left due
+        (λ first. AreRunsDueAt reference.entry places.old places.new at source.old.left first
         source.new.left) unread) }
     ensures room { HasRoom reference.entry.width places.new }
     ensures same_end { KeepsEnd source.old source.new }
@@ -79,7 +80,7 @@ fn horizontal<const CHOICE: bool, const SEVERAL: bool>(
     let colour = colour_after(at.b1);
     match two_runs::<CHOICE, SEVERAL>(source, colour, reference.width, from) {
         Ok(runs) => Ok(past_runs::<CHOICE>(reference, places, at, runs)?),
-        Err(first) => Err(Unread::Due(Due::Runs(first))),
+        Err(first) => Err(Unread::Due(first)),
     }
 }
 
@@ -147,23 +148,23 @@ pub(super) fn pass<const CHOICE: bool>(
 }
 
 /// Goes on by a mode, after its code; where a1 is under b1 it reads more such modes too (T.4,
-/// section 4.2.1.3.3).
+/// section 4.2.1.3.3). Runs that no look-up finds are due.
 #[inline(always)]
-fn by_mode<const CHOICE: bool, const SEVERAL: bool>(
+pub(super) fn by_mode<const CHOICE: bool, const SEVERAL: bool>(
     source: &mut BitSource,
     reference: PlacedRow,
     places: &mut [u32],
     at: PlacedReached,
     mode: ModeCode,
-) -> Result<PlacedReached, Unread<Due>>
+) -> Result<PlacedReached, Unread<Option<u32>>>
     requires inside { IsReadInside reference places.old at }
     ensures read { (b : List Bool) → Takes modes b mode source.old.left
         → IfOk result (λ next. IsReadOn CHOICE reference.entry places.old places.new at next
         b source.new.left) }
     ensures stop { (b : List Bool) → Takes modes b mode source.old.left
         → IfErr result (λ unread. IsUnreadFor (IsStepStop CHOICE reference.entry places.old at b)
-        (λ due. (places.new ≡ places.old)
-        × IsDueAt reference.entry places.old at b due source.new.left) unread) }
+        (λ first. (places.new ≡ places.old)
+        × IsDueAt reference.entry places.old at b (Runs first) source.new.left) unread) }
     ensures room { OnErr result (HasRoom reference.entry.width places.new) }
     ensures same_end { KeepsEnd source.old source.new }
     ensures no_longer { OnOk result (length source.new.left ≤ length source.old.left) }
@@ -204,7 +205,11 @@ fn next_steps<const CHOICE: bool, const SEVERAL: bool>(
     let Some(mode) = source.mode() else {
         return Err(Unread::Due(Due::Mode));
     };
-    by_mode::<CHOICE, SEVERAL>(source, reference, places, at, mode)
+    match by_mode::<CHOICE, SEVERAL>(source, reference, places, at, mode) {
+        Ok(next) => Ok(next),
+        Err(Unread::Due(first)) => Err(Unread::Due(Due::Runs(first))),
+        Err(Unread::Stop(stop)) => Err(Unread::Stop(stop)),
+    }
 }
 
 /// Reads the modes of a row over the reference row by look-ups, and answers where its places end.

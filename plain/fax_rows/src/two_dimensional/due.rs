@@ -1,8 +1,8 @@
 //! A row in two-dimensional coding, read on from where no look-up finds the next code (ITU-T T.4,
 //! section 4.2.1.3.2).
 
-use super::codes::{Due, Stop, last_two_runs};
-use super::modes::{pass, past_runs, vertical};
+use super::codes::{Due, Stop, Unread, last_two_runs};
+use super::modes::{by_mode, past_runs};
 use super::steps::{PlacedReached, Reached};
 use crate::RowFault;
 use crate::rows::PlacedRow;
@@ -67,23 +67,6 @@ fn last_horizontal<const CHOICE: bool>(
     past_runs::<CHOICE>(reference, places, at, runs)
 }
 
-/// Goes on by a mode, after its code, with runs by their tables.
-// requires inside { IsReadInside reference places.old at }
-fn last_step<const CHOICE: bool>(
-    source: &mut BitSource,
-    reference: PlacedRow,
-    places: &mut [u32],
-    at: PlacedReached,
-    mode: ModeCode,
-) -> Result<PlacedReached, Stop> {
-    match mode {
-        ModeCode::Vertical(d) => vertical::<CHOICE>(reference, places, at, d),
-        ModeCode::Pass => pass::<CHOICE>(reference, places, at),
-        ModeCode::Horizontal => last_horizontal::<CHOICE>(source, reference, places, at, None),
-        ModeCode::Extension => Err(Stop::Fault(RowFault::Extension)),
-    }
-}
-
 /// Reads what is due, and goes on by it.
 // requires inside { IsReadInside reference places.old at }
 // requires within { IsDueWithin reference.width (reached_pel at.reached) due }
@@ -96,7 +79,13 @@ fn read_due<const CHOICE: bool>(
 ) -> Result<PlacedReached, Stop> {
     match due {
         Due::Mode => match last_mode(source) {
-            Ok(mode) => last_step::<CHOICE>(source, reference, places, at, mode),
+            Ok(mode) => match by_mode::<CHOICE, false>(source, reference, places, at, mode) {
+                Ok(next) => Ok(next),
+                Err(Unread::Due(first)) => {
+                    last_horizontal::<CHOICE>(source, reference, places, at, first)
+                }
+                Err(Unread::Stop(stop)) => Err(stop),
+            },
             Err(fault) => Err(Stop::Fault(RowFault::from(fault))),
         },
         Due::Runs(first) => last_horizontal::<CHOICE>(source, reference, places, at, first),

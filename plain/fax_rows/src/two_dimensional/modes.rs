@@ -39,13 +39,13 @@ fn horizontal<const CHOICE: bool, const SEVERAL: bool>(
     reference: PlacedRow,
     places: &mut [u32],
     at: PlacedReached,
-) -> Result<PlacedReached, Unread<Due>> {
+) -> Result<PlacedReached, Unread<Option<u32>>> {
     // The parity of b1's index tells a0's colour, so that no step needs to keep it.
     let from = at.reached.first_pel();
     let colour = colour_after(at.b1);
     match two_runs::<CHOICE, SEVERAL>(source, colour, reference.width, from) {
         Ok(runs) => Ok(past_runs::<CHOICE>(reference, places, at, runs)?),
-        Err(first) => Err(Unread::Due(Due::Runs(first))),
+        Err(first) => Err(Unread::Due(first)),
     }
 }
 
@@ -94,16 +94,16 @@ pub(super) fn pass<const CHOICE: bool>(
 }
 
 /// Goes on by a mode, after its code; where a1 is under b1 it reads more such modes too (T.4,
-/// section 4.2.1.3.3).
+/// section 4.2.1.3.3). Runs that no look-up finds are due.
 #[inline(always)]
 // requires inside { IsReadInside reference places.old at }
-fn by_mode<const CHOICE: bool, const SEVERAL: bool>(
+pub(super) fn by_mode<const CHOICE: bool, const SEVERAL: bool>(
     source: &mut BitSource,
     reference: PlacedRow,
     places: &mut [u32],
     at: PlacedReached,
     mode: ModeCode,
-) -> Result<PlacedReached, Unread<Due>> {
+) -> Result<PlacedReached, Unread<Option<u32>>> {
     match mode {
         ModeCode::Vertical(0) => Ok(under_several(source, reference, places, at)),
         ModeCode::Vertical(d) => Ok(vertical::<CHOICE>(reference, places, at, d)?),
@@ -130,7 +130,11 @@ fn next_steps<const CHOICE: bool, const SEVERAL: bool>(
     let Some(mode) = source.mode() else {
         return Err(Unread::Due(Due::Mode));
     };
-    by_mode::<CHOICE, SEVERAL>(source, reference, places, at, mode)
+    match by_mode::<CHOICE, SEVERAL>(source, reference, places, at, mode) {
+        Ok(next) => Ok(next),
+        Err(Unread::Due(first)) => Err(Unread::Due(Due::Runs(first))),
+        Err(Unread::Stop(stop)) => Err(Unread::Stop(stop)),
+    }
 }
 
 /// Reads the modes of a row over the reference row by look-ups, and answers where its places end.
