@@ -1,6 +1,6 @@
 -- What is told of the first bytes of a strip holds of all bytes, whatever follows.
-use Rattle.std.proofs.Common.{◌≡◌, ℕ, zero, suc, ◌+◌, ◌-◌, ◌*◌, ◌<◌, ◌≤◌, List, [], ◌∷◌, ◌++◌, length, drop, replicate}
-use Rattle.std.proofs.Common.{Bool, true, false, refl, ap, sym, ◌∙◌}
+use Rattle.std.proofs.Common.{◌≡◌, ℕ, ◌+◌, ◌-◌, ◌*◌, ◌<◌, ◌≤◌, List, [], ◌∷◌, ◌++◌, length, drop}
+use Rattle.std.proofs.Common.{Bool, refl, ap, sym, ◌∙◌}
 use Rattle.std.proofs.Common.{subst, arith, inl, inr, Option, Some, None, length-append}
 use Rattle.std.specs.Prelude.{◌⊎◌, flat_map}
 use Rattle.std.proofs.lemmas.List.{drop-append-le}
@@ -49,13 +49,9 @@ unfolding bits
 bits_follow order strip more = flat_map-append (byte_bits order) strip more
 
 -- no end mark stands after all bits
-no_one : (n : ℕ) (after : List Bool) → [] ≡ replicate n false ++ true ∷ after → ⊥
-no_one zero after is = cc
-no_one (suc n) after is = cc
-
 no_mark_after : (coding : Coding) → HasEndMark coding [] → ⊥
-no_mark_after Mh mark = no_one mark.1.1.0 mark.1.0 mark.1.1.2
-no_mark_after Mr mark = no_one mark.1.1.0 (true ∷ mark.1.0) mark.1.1.2
+no_mark_after Mh mark = let eol = mark.1.1 in cc
+no_mark_after Mr mark = let eol = mark.1.1 in cc
 no_mark_after Mmr mark = let is = mark.1 in cc
 
 mark_within : (coding : Coding) (n : ℕ) (b : List Bool) → HasEndMark coding (drop n b) → n ≤ length b

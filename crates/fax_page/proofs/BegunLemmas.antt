@@ -1,4 +1,5 @@
 -- How a row begins, as it is read and as it is defined.
+use Rattle.fax_page.proofs.StartLaws.{IsStart}
 use Rattle.std.proofs.Common.{arith, ◌≡◌, ℕ, List, Bool, ap, sym, ◌∙◌, inr, Result, Ok}
 use Rattle.fax_rows.specs.declared.RowFault.{RowFault}
 use Rattle.fax_bits.specs.declared.Colour.{Colour}
@@ -6,15 +7,13 @@ use Rattle.fax_page.specs.declared.Dimension.{Dimension}
 use Rattle.fax_page.specs.declared.Coding.{Coding}
 use Rattle.fax_page.specs.declared.StripForm.{StripForm}
 use Rattle.fax_page.specs.declared.StripFault.{StripFault}
-use Rattle.fax_page.specs.Lines.{IsStart, IsRowFaultIn, IsStopInCodes, IsCause}
+use Rattle.fax_page.specs.Lines.{IsRowFaultIn, IsStopInCodes, IsCause}
 use Rattle.fax_page.specs.code.Starts.{IsStop}
-use Rattle.fax_page.proofs.LineGraph.{start_of}
 
 -- a row begins in one way
 pub one_start : (coding : Coding) (i : ℕ) (b : List Bool) (start another : Result (Dimension × List Bool) StripFault)
     → IsStart coding i b start → IsStart coding i b another → start ≡ another
-one_start coding i b start another first second =
-    sym (start_of coding i b start first) ∙ start_of coding i b another second
+one_start coding i b start another first second = sym first ∙ second
 
 pub one_begun : (coding : Coding) (i : ℕ) (b : List Bool) (dimension another : Dimension) (codes others : List Bool)
     → IsStart coding i b (Ok (dimension, codes)) → IsStart coding i b (Ok (another, others))

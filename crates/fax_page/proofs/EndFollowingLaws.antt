@@ -8,7 +8,8 @@ use Rattle.fax_bits.specs.declared.Colour.{Colour}
 use Rattle.fax_bits.specs.Bits.{IsAllZeros}
 use Rattle.fax_page.specs.declared.Dimension.TheVariants.{OneDimensional, TwoDimensional}
 use Rattle.fax_page.specs.declared.StripFault.TheVariants.{DataEnds, EndMarker}
-use Rattle.fax_page.specs.Lines.{Coding, Mh, Mr, Mmr, StripFault, StripForm, IsCause}
+use Rattle.fax_page.specs.Lines.{Coding, Mh, Mr, Mmr, StripFault, StripForm, IsCause, start_by}
+use Rattle.fax_page.proofs.StartLaws.{eol_is, none_at}
 use Rattle.fax_page.specs.Strip.{AreReturnEols, HasEndMark, IsReturnEol, end_bits, end_of_line}
 use Rattle.fax_page.specs.Uncounted.{EndsSo, Fault}
 use Rattle.fax_page.specs.laws.Following.{EndsStayWhateverFollows, StaysWhateverFollows}
@@ -40,21 +41,13 @@ pub mark_is_cause : (form : StripForm) (i : ℕ) (reference : List Colour) (b : 
     → form.coding ≡ coding
     → HasEndMark coding b → IsCause form i reference b EndMarker
 mark_is_cause form i reference b Mh is mark =
-    let first = mark.1.0 in
-    let next = mark.1.2.1 in
-    let marker = eleven_ahead first next.0 next.1 (mark.1.2.0, next.2) in
-    inr (OneDimensional, first, rw is (inr (inr (inr (first, mark.1.1, refl)))), inl (marker.0, marker.1, refl))
+    let next = eol_is mark.1.0 mark.1.2.0 mark.1.2.1 in
+    let marker = eleven_ahead mark.1.0 next.0 next.1 (mark.1.2.0, next.2) in
+    inr (OneDimensional, mark.1.0, rw is (ap (start_by Mh i b) mark.1.1), inl (marker.0, marker.1, refl))
 mark_is_cause form i reference b Mr is mark =
-    let first = mark.1.0 in
-    let next = mark.1.2.1 in
-    let marker = eleven_ahead first next.0 next.1 (true ∷ mark.1.2.0, next.2) in
-    inr (
-      OneDimensional,
-      first,
-      rw is (inr (inr (inr (OneDimensional, first, mark.1.1, refl)))),
-      inl
-          (marker.0, marker.1, refl),
-    )
+    let next = eol_is mark.1.0 (true ∷ mark.1.2.0) mark.1.2.1 in
+    let marker = eleven_ahead mark.1.0 next.0 next.1 (true ∷ mark.1.2.0, next.2) in
+    inr (OneDimensional, mark.1.0, rw is (ap (start_by Mr i b) mark.1.1), inl (marker.0, marker.1, refl))
 mark_is_cause form i reference b Mmr is mark =
     inr (TwoDimensional, b, rw is refl, inl (true ∷ end_of_line ++ mark.0, mark.1, refl))
 
@@ -62,8 +55,8 @@ mark_is_cause form i reference b Mmr is mark =
 pub zeros_are_cause : (form : StripForm) (i : ℕ) (reference : List Colour) (b : List Bool) (coding : Coding)
     → form.coding ≡ coding → IsAllZeros b
     → IsCause form i reference b DataEnds ⊎ IsCause form i reference b EndMarker
-zeros_are_cause form i reference b Mh is all = inl (inl (rw is (inl (all, refl))))
-zeros_are_cause form i reference b Mr is all = inl (inl (rw is (inl (all, refl))))
+zeros_are_cause form i reference b Mh is all = inl (inl (rw is (ap (start_by Mh i b) (none_at b all))))
+zeros_are_cause form i reference b Mr is all = inl (inl (rw is (ap (start_by Mr i b) (none_at b all))))
 zeros_are_cause form i reference b Mmr is all =
     elim (cases_lt all.0 11) [
       | inl few ↦ inl (inr (TwoDimensional, b, rw is refl, inr (inl (all.0, few, all.1, refl))))

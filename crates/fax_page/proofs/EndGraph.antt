@@ -1,39 +1,35 @@
 -- How rows end, as a function says it, is how it is defined by relations.
 use Rattle.std.proofs.Common.{arith, ◌≡◌, ℕ, zero, suc, List, ◌∷◌, ◌++◌, Bool, true, false, true≢false, refl, ap, sym}
 use Rattle.std.proofs.Common.{◌∙◌, ◌↔◌, IsTrue, subst, Option, Some, None}
-use Rattle.std.specs.Prelude.{MatchOption, is_some, is_none}
+use Rattle.std.specs.Prelude.{MatchOption, is_some}
 use Rattle.fax_bits.specs.Bits.{IsAllZeros}
 use Rattle.fax_page.specs.declared.Coding.{Coding}
 use Rattle.fax_page.specs.declared.Coding.TheVariants.{Mh, Mr, Mmr}
 use Rattle.fax_page.specs.declared.RowsEnd.{RowsEnd}
 use Rattle.fax_page.specs.declared.RowsEnd.TheVariants.{Marked, DataEnd, Fault, TooMany}
 use Rattle.fax_page.specs.declared.StripFault.{StripFault}
-use Rattle.fax_page.specs.Lines.{IsEndOfLine}
+use Rattle.fax_page.specs.Lines.{NextOne, ends_line, in_code, next_one, not_there}
 use Rattle.fax_page.specs.Strip.{AreReturnEols, HasEndMark, IsEndMark, IsReturnEol, end_bits, end_of_line}
 use Rattle.fax_page.specs.Uncounted.{EndsSo, HasDataEnd}
-use Rattle.fax_page.specs.reads.Lines.{after_one, has_few, zeros}
 use Rattle.fax_page.specs.laws.Graphs.{EndsAreToldByAFunction}
-use Rattle.fax_page.specs.reads.Uncounted.{after_mark, after_return, after_returns, has_data_end, has_end_mark}
+use Rattle.fax_page.specs.reads.Uncounted.{ends, after_mark, after_return, after_returns, has_data_end, has_end_mark}
 use Rattle.fax_page.specs.reads.Uncounted.{end_by_stop, rows_end}
 use Rattle.fax_rows.proofs.CodeGraph.{front_is}
 use Rattle.fax_rows.proofs.StepGraph.{is_false}
-use Rattle.fax_page.proofs.LineGraph.{IsOne, all_zeros, end_of_line as eol_is, many_end, zeros_is}
+use Rattle.fax_page.proofs.StartLaws.{by_next, eol_is_not_zeros, none_at}
 
 -- an EOL of a return to control
 return_of : (coding : Coding) (b rest : List Bool) → IsReturnEol coding b rest
-    → after_return coding (after_one b) (has_few b) ≡ Some rest
-return_of Mh b rest eol = let at = eol_is b rest eol in cc (at.0, at.1)
-return_of Mr b rest eol = let at = eol_is b (true ∷ rest) eol in cc (at.0, at.1)
+    → after_return coding (next_one 0 b) ≡ Some rest
+return_of Mh b rest eol = ap (after_return Mh) eol
+return_of Mr b rest eol = ap (after_return Mr) eol
 return_of Mmr b rest eol = absurd eol
 
-is_return : (coding : Coding) (b rest : List Bool) (r : Option (List Bool)) (few : Bool) → IsOne b r
-    → has_few b ≡ few
-    → after_return coding r few ≡ Some rest → IsReturnEol coding b rest
-is_return Mh b rest (Some after) false is at found =
-    let same : after ≡ rest = cc (found) in subst (IsEndOfLine b) same (many_end b after is at)
-is_return Mr b rest (Some (true ∷ after)) false is at found =
-    let same : true ∷ after ≡ true ∷ rest = cc (found) in subst (IsEndOfLine b) same (many_end b (true ∷ after) is at)
-is_return coding b rest r few is at found = absurd (cc (found))
+is_return : (coding : Coding) (b rest : List Bool) (one : NextOne) → next_one 0 b ≡ one
+    → after_return coding one ≡ Some rest → IsReturnEol coding b rest
+is_return Mh b rest (ends_line after) at found = cc (at, found)
+is_return Mr b rest (ends_line (true ∷ after)) at found = cc (at, found)
+is_return coding b rest one at found = absurd (cc (found))
 
 -- the bits after EOLs of a return to control
 abbrev AreAfter : Coding → ℕ → List Bool → Option (List Bool) → Type 0
@@ -41,10 +37,10 @@ AreAfter coding n b r =
     MatchOption r ((rest : List Bool) × AreReturnEols coding n b rest → ⊥) (AreReturnEols coding n b)
 
 one_more : (coding : Coding) (n : ℕ) (b middle : List Bool) (r : Option (List Bool))
-    → after_return coding (after_one b) (has_few b) ≡ Some middle → AreAfter coding n middle r
+    → after_return coding (next_one 0 b) ≡ Some middle → AreAfter coding n middle r
     → AreAfter coding (suc n) b r
 one_more coding n b middle (Some rest) at more =
-    (middle, is_return coding b middle (after_one b) (has_few b) (zeros_is b) refl at, more)
+    (middle, is_return coding b middle (next_one 0 b) refl at, more)
 one_more coding n b middle None at more = λ are.
     let (rest, (other, eol, others)) = are in
     let same : Some other ≡ Some middle = sym (return_of coding b other eol) ∙ at in
@@ -52,7 +48,7 @@ one_more coding n b middle None at more = λ are.
     more (rest, subst (λ c. AreReturnEols coding n c rest) is others)
 
 by_return : (coding : Coding) (n : ℕ) (b : List Bool) (r : Option (List Bool))
-    → after_return coding (after_one b) (has_few b) ≡ r
+    → after_return coding (next_one 0 b) ≡ r
     → ((c : List Bool) → AreAfter coding n c (after_returns coding n c))
     → AreAfter coding (suc n) b (elim r [ None ↦ None | Some rest ↦ after_returns coding n rest ])
 by_return coding n b None at more = λ are.
@@ -63,7 +59,7 @@ by_return coding n b (Some middle) at more = one_more coding n b middle (after_r
 returns_are : (coding : Coding) (n : ℕ) (b : List Bool) → AreAfter coding n b (after_returns coding n b)
 returns_are coding zero b = refl
 returns_are coding (suc n) b =
-    by_return coding n b (after_return coding (after_one b) (has_few b)) refl (returns_are coding n)
+    by_return coding n b (after_return coding (next_one 0 b)) refl (returns_are coding n)
 
 abbrev pub IsAfterMark : Coding → List Bool → Option (List Bool) → Type 0
 IsAfterMark coding b r = MatchOption r (HasEndMark coding b → ⊥) (IsEndMark coding b)
@@ -85,25 +81,24 @@ is_mark : (coding : Coding) (b : List Bool) → has_end_mark coding b ≡ true �
 is_mark coding b is = (has_mark coding b (after_mark coding b) (mark_is coding b)).0 is
 
 -- the data ends
-zeros_of : (b : List Bool) (r : Option (List Bool)) → IsOne b r → is_none r ≡ true → IsAllZeros b
-zeros_of b None is none = (zeros b, is)
-zeros_of b (Some after) is none = absurd (true≢false (sym none))
-
 data_end_of : (row : ℕ) (b : List Bool) → HasDataEnd row b → has_data_end row b ≡ true
 data_end_of zero b has = absurd (omega (arith, has.0))
-data_end_of (suc row) b has = ap is_none (all_zeros b has.1)
+data_end_of (suc row) b has = ap ends (none_at b has.1)
 
 is_data_end : (row : ℕ) (b : List Bool) → has_data_end row b ≡ true → HasDataEnd row b
 is_data_end zero b is = absurd (true≢false (sym is))
-is_data_end (suc row) b is = (omega arith, zeros_of b (after_one b) (zeros_is b) is)
+is_data_end (suc row) b is = (omega arith, by (next_one 0 b) refl is)
+  where
+    by : (one : NextOne) → next_one 0 b ≡ one → ends one ≡ true → IsAllZeros b
+    by not_there at is = by_next b not_there at
+    by in_code at is = absurd (true≢false (sym is))
+    by (ends_line rest) at is = absurd (true≢false (sym is))
 
 -- a 1 is in each end mark
 mark_is_not_zeros : (coding : Coding) (b : List Bool) → HasEndMark coding b → IsAllZeros b → ⊥
-mark_is_not_zeros Mh b mark all = let one = all_zeros b all in let at = eol_is b mark.1.0 mark.1.1 in cc (one, at.0)
-mark_is_not_zeros Mr b mark all =
-    let one = all_zeros b all in let at = eol_is b (true ∷ mark.1.0) mark.1.1 in cc (one, at.0)
-mark_is_not_zeros Mmr b mark all =
-    let one = all_zeros b all in let at = eol_is b (end_of_line ++ mark.0) (11, omega arith, mark.1) in cc (one, at.0)
+mark_is_not_zeros Mh b mark all = eol_is_not_zeros b mark.1.0 mark.1.1 all
+mark_is_not_zeros Mr b mark all = eol_is_not_zeros b (true ∷ mark.1.0) mark.1.1 all
+mark_is_not_zeros Mmr b mark all = eol_is_not_zeros b (end_of_line ++ mark.0) (ap (next_one 0) mark.1) all
 
 -- how rows end is defined so
 by_data : (coding : Coding) (row : ℕ) (left : List Bool) (stop : Option StripFault) (test : Bool)

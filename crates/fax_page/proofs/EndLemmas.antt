@@ -1,4 +1,5 @@
 -- What stands after the last row of a strip.
+use Rattle.fax_page.specs.code.Starts.{IsEndOfLine}
 use Rattle.std.proofs.Common.{◌≡◌, ◌≢◌, ℕ, zero, suc, ◌+◌, ◌<◌, ◌⊎◌, ◌↔◌, List, [], ◌∷◌, ◌++◌, length, replicate}
 use Rattle.std.proofs.Common.{get_or, Bool, true, false, ◌-◌}
 use Rattle.std.proofs.Common.{IsTrue, Option, Some, None, MatchOption, not, is_some, refl, ap, sym, ◌∙◌, subst, arith}
@@ -10,11 +11,10 @@ use Rattle.fax_bits.specs.views.Source.{HasZerosAhead, Source, IsTaken}
 use Rattle.fax_page.specs.declared.Coding.{Coding}
 use Rattle.fax_page.specs.declared.Coding.TheVariants.{Mh, Mr, Mmr}
 use Rattle.fax_page.specs.declared.StripFault.{StripFault}
-use Rattle.fax_page.specs.Lines.{IsEndOfLine}
 use Rattle.fax_page.specs.Strip.{end_bits, IsReturnEol, AreReturnEols, IsEndMark, HasEndMark}
 use Rattle.fax_page.specs.code.Notes.{IsAfterEnd, AreEolsTaken, IsAfterMark, TakesReturnEol, AreNotesAfter}
 use Rattle.fax_page.specs.code.Starts.{HasEol, HasNoEol}
-use Rattle.fax_page.proofs.StartLaws.{same_eol, eol_is_not_zeros, eol_is_not_below}
+use Rattle.fax_page.proofs.StartLaws.{same_eol, eol_is_not_below}
 
 -- a 1 after zeros is among the bits
 pub contains_one : (b : List Bool) (zeros : ℕ) → HasZerosAhead b zeros → Contains b true
@@ -33,7 +33,7 @@ contains_none b all has = grind (arith, none_at)
 
 -- where an EOL is not there, no EOL of a return to control is
 pub no_eol : (b rest : List Bool) (fault : StripFault) → HasNoEol false b fault → IsEndOfLine b rest → ⊥
-no_eol b rest fault (inl all) eol = eol_is_not_zeros b rest eol all.0
+no_eol b rest fault (inl none) eol = absurd (cc (none.0, eol))
 no_eol b rest fault (inr below) eol = eol_is_not_below b rest eol below.1
 
 pub eol_taken : (b rest : List Bool) → HasEol false b rest → IsEndOfLine b rest

@@ -1,4 +1,5 @@
 -- Fill before an EOL.
+use Rattle.fax_page.specs.code.Starts.{IsEndOfLine}
 use Rattle.std.proofs.Common.{◌≡◌, ℕ, zero, suc, ◌+◌, ◌<◌, ◌^◌, List, ◌∷◌, ◌++◌, length, replicate, Bool, true, false}
 use Rattle.std.proofs.Common.{nat_eq, sym, ap}
 use Rattle.std.proofs.Common.{◌∙◌, arith, append_assoc}
@@ -7,8 +8,8 @@ use Rattle.std.proofs.lemmas.Nat.Bits.{bit_at_above}
 use Rattle.std.proofs.lemmas.List.{replicate-append-replicate}
 use Rattle.fax_bits.specs.Bits.{code_bits}
 use Rattle.fax_bits.specs.views.Sink.{Sink, Appends}
-use Rattle.fax_page.specs.Lines.{IsEndOfLine}
 use Rattle.fax_page.specs.Strip.{end_of_line, fill_zeros}
+use Rattle.fax_page.proofs.StartLaws.{eol_at}
 
 -- a number that fits fits more bits too
 pub fits_more : (n len number : ℕ) → number < 2 ^ len → number < 2 ^ (len + n)
@@ -34,7 +35,7 @@ end_of_line_back n tail codes more =
     ∙ append_assoc (replicate n false) (end_of_line ++ tail) (codes ++ more) in
     let zeros = sym (append_assoc (replicate n false) (replicate 11 false) (true ∷ rest))
     ∙ ap (λ (b : List Bool). b ++ true ∷ rest) (replicate-append-replicate n 11 false) in
-    (n + 11, omega arith, parts ∙ zeros)
+    eol_at _ rest (n + 11) (omega arith) (parts ∙ zeros)
 
 -- bits that a number spells are put after fill
 pub put_after_fill : (old new : Sink) (aligned : Bool) (place fill len number : ℕ) (start : List Bool)

@@ -1,6 +1,9 @@
 -- The codes of a row begin with fewer than eleven zeros and a 1.
+use Rattle.fax_page.specs.code.Starts.{BeginsBelowEleven}
+use Rattle.fax_page.proofs.StartLaws.{IsStart}
+use Rattle.std.proofs.Common.{◌∙◌}
 use Rattle.std.proofs.Common.{◌≡◌, ℕ, zero, suc, ◌<◌, List, [], ◌∷◌, ◌++◌, length, get_or, map, Bool, true, false, refl}
-use Rattle.std.proofs.Common.{ap, sym, subst}
+use Rattle.std.proofs.Common.{ap}
 use Rattle.std.proofs.Common.{arith, Some, Ok}
 use Rattle.std.specs.Prelude.{◌&&◌}
 use Rattle.fax_bits.specs.declared.codes.CodeEntry.{CodeEntry}
@@ -13,7 +16,8 @@ use Rattle.fax_bits.specs.Codes.{bits_of, Takes, Spells}
 use Rattle.fax_bits.specs.Tables.{run_table, modes, white_runs, white_terminating, white_make_up, common_make_up}
 use Rattle.fax_rows.specs.Rows.{AreRuns, Position, beginning, AreSteps}
 use Rattle.fax_page.specs.declared.Dimension.{Dimension}
-use Rattle.fax_page.specs.Lines.{StripForm, BeginsBelowEleven, IsRowIn, IsLine, IsStart}
+use Rattle.fax_page.proofs.StartLaws.{code_at}
+use Rattle.fax_page.specs.Lines.{StripForm, IsRowIn, IsLine}
 
 -- a 1 is among the first n bits
 abbrev has_one : ℕ → List Bool → Bool
@@ -60,8 +64,9 @@ taken_begins : {M : Type 0} (table : List (CodeEntry M)) (b : List Bool) (meanin
     → all_have_one table ≡ true
     → Takes table b meaning rest → BeginsBelowEleven b
 taken_begins table b meaning rest all taken =
-    subst BeginsBelowEleven (sym taken.spelled)
-    (ahead_of 11 (bits_of taken.entry) rest (one_at table taken.listed.0 taken.entry all taken.listed.1 taken.listed.2))
+    let ahead = ahead_of 11 (bits_of taken.entry) rest
+    (one_at table taken.listed.0 taken.entry all taken.listed.1 taken.listed.2) in
+    code_at b ahead.2.0 ahead.0 ahead.1 (taken.spelled ∙ ahead.2.1)
 
 run_begins : (make_up : List ℕ) (last : ℕ) (b rest : List Bool)
     → Spells (run_table White) b (map MakeUp make_up ++ Terminating last ∷ []) rest

@@ -1,4 +1,5 @@
 -- Eleven zeros where a row's first code is due, as the program takes them.
+use Rattle.fax_page.specs.code.Starts.{BeginsBelowEleven}
 use Rattle.std.proofs.Common.{◌≡◌, ℕ, List, ◌++◌, replicate, Bool, false, refl, ap, sym, ◌∙◌, inl, inr, arith}
 use Rattle.std.proofs.Common.{length}
 use Rattle.std.proofs.lemmas.Bool.{cases_lt}
@@ -6,8 +7,8 @@ use Rattle.std.proofs.lemmas.List.{length-replicate}
 use Rattle.fax_bits.specs.Bits.{BeginsWith, IsAllZeros, code_bits}
 use Rattle.fax_bits.specs.views.Source.{HasZerosAhead}
 use Rattle.fax_page.specs.declared.StripFault.TheVariants.{DataEnds, EndMarker}
-use Rattle.fax_page.specs.Lines.{BeginsBelowEleven}
 use Rattle.fax_page.specs.code.Starts.{IsFirstCodeFault}
+use Rattle.fax_page.proofs.StartLaws.{code_at}
 use Rattle.fax_page.proofs.StartLemmas.{eleven_ahead, eleven_alone}
 
 eleven : code_bits 11 0 ≡ replicate 11 false
@@ -26,7 +27,7 @@ pub few_ahead : (b : List Bool) (zeros : ℕ) → (BeginsWith b (code_bits 11 0)
     → BeginsBelowEleven b
 few_ahead b zeros none ahead =
     elim (cases_lt zeros 11) [
-      | inl few ↦ (zeros, few, ahead)
+      | inl few ↦ code_at b ahead.0 zeros few ahead.1
       | inr enough ↦ absurd (none (begins b (eleven_ahead b zeros enough ahead)))
     ]
 

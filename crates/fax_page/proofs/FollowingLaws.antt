@@ -1,103 +1,83 @@
 -- What is read of bits stays, whatever follows them.
-use Rattle.std.proofs.Common.{◌≡◌, ℕ, zero, suc, ◌+◌, ◌≤◌, List, [], ◌∷◌, ◌++◌, replicate, Bool, true}
+use Rattle.fax_page.specs.code.Starts.{BeginsBelowEleven, IsEndOfLine}
+use Rattle.fax_page.specs.Lines.{NextOne, ends_line, in_code, next_one, not_there, read_start, start_by}
+use Rattle.std.proofs.Common.{◌≡◌, ℕ, zero, suc, ◌+◌, List, [], ◌∷◌, ◌++◌, replicate, Bool, true}
 use Rattle.std.proofs.Common.{false, refl, ap, sym, ◌∙◌, subst, arith}
 use Rattle.std.proofs.Common.{append_assoc, Option, Some, None, Result, Ok, Err}
-use Rattle.std.specs.Prelude.{nat_lt}
-use Rattle.std.proofs.lemmas.Bool.Decides.{nat_tests}
+use Rattle.fax_bits.specs.Bits.{BeginsWith}
+use Rattle.std.specs.Prelude.{nat_le, if◌then◌else◌, MatchOption}
 use Rattle.fax_bits.specs.Tables.{modes}
 use Rattle.fax_bits.specs.laws.Codes.{ReadsOneWay, ReadsRunsOneWay}
 use Rattle.fax_bits.specs.declared.Colour.{Colour}
 use Rattle.fax_rows.specs.declared.RowFault.{RowFault}
 use Rattle.fax_rows.specs.declared.RowFault.TheVariants as in_row
-use Rattle.fax_rows.specs.reads.Codes.{◌>>=◌, named}
+use Rattle.fax_rows.specs.reads.Codes.{◌>>=◌, after_front, named}
 use Rattle.fax_page.specs.declared.Dimension.{Dimension}
 use Rattle.fax_page.specs.declared.Dimension.TheVariants.{OneDimensional, TwoDimensional}
 use Rattle.fax_page.specs.declared.Coding.{Coding}
 use Rattle.fax_page.specs.declared.Coding.TheVariants.{Mh, Mr, Mmr}
 use Rattle.fax_page.specs.declared.StripForm.{StripForm}
 use Rattle.fax_page.specs.declared.StripFault.TheVariants.{DataEnds, EndMarker}
-use Rattle.fax_page.specs.Lines.{BeginsBelowEleven, IsEndOfLine, IsLine, strip_fault}
+use Rattle.fax_page.specs.Lines.{IsLine, strip_fault}
 use Rattle.fax_page.specs.Strip.{AreLines}
 use Rattle.fax_page.specs.laws.Following.{ReadsInPieces, StaysWhateverFollows}
 use Rattle.fax_page.specs.laws.Graphs.{StripsAreReadByFunctions}
 use Rattle.fax_page.specs.laws.Writer.{last_of}
-use Rattle.fax_page.specs.reads.Lines.{after_one, first_bits, has_few, read_line, read_row, read_start, start_in_mh}
-use Rattle.fax_page.specs.reads.Lines.{start_in_mr, zeros}
+use Rattle.fax_page.specs.reads.Lines.{check_first, first_bits, read_line, read_row}
+use Rattle.fax_rows.proofs.CodeGraph.{front_is}
+use Rattle.fax_page.proofs.LineGraph.{begins_of, marker_of}
+use Rattle.fax_page.proofs.StartLaws.{eol_is}
+use Rattle.fax_page.proofs.StartLemmas.{eleven_ahead}
 use Rattle.fax_page.proofs.FrontLemmas.{EndsWith, IsFront, answer_stays, at_end, done, ends_with, fault_stays, joined}
 use Rattle.fax_page.proofs.FrontLemmas.{one_front, onwards, same, stops, two_front}
-use Rattle.fax_page.proofs.LineGraph.{IsOne, zeros_before_one, zeros_is}
 
 module _ (more : List Bool) where
+  -- the next 1, and where more bits follow
+  abbrev Stays : List Bool → NextOne → NextOne → Type 0
+  Stays b (ends_line rest) one = EndsWith b rest × (one ≡ ends_line (rest ++ more))
+  Stays b in_code one = one ≡ in_code
+  Stays b not_there one = Unit {0}
+
+  after_zero : (b : List Bool) (one now : NextOne) → Stays b one now → Stays (false ∷ b) one now
+  after_zero b (ends_line rest) now (ends, is) =
+      (record { front = false ∷ ends.front; parts = ap (λ c. false ∷ c) ends.parts }, is)
+  after_zero b in_code now is = is
+  after_zero b not_there now is = tt
+
+  one_stays : (n : ℕ) (b : List Bool) → Stays b (next_one n b) (next_one n (b ++ more))
+  one_stays n [] = tt
+  one_stays n (false ∷ b) = after_zero b (next_one (suc n) b) (next_one (suc n) (b ++ more)) (one_stays (suc n) b)
+  one_stays n (true ∷ b) = at_test (nat_le 11 n)
+    where
+      at_test : (many : Bool) → Stays (true ∷ b) (if many then (ends_line b) else in_code)
+          (if many then (ends_line (b ++ more)) else in_code)
+      at_test true = (record { front = true ∷ []; parts = refl }, refl)
+      at_test false = refl
+
   pub below_stays : (b : List Bool) → BeginsBelowEleven b → BeginsBelowEleven (b ++ more)
-  below_stays b below = (
-    below.0,
-    below.1,
-    (
-      below.2.0 ++ more,
-      ap (λ c. c ++ more) below.2.1 ∙ append_assoc (replicate below.0 false) (true ∷ below.2.0) more,
-    ),
-  )
+  below_stays b below = subst (λ one. Stays b one (next_one 0 (b ++ more))) below (one_stays 0 b)
 
   pub eol_stays : (b rest : List Bool) → IsEndOfLine b rest → IsEndOfLine (b ++ more) (rest ++ more)
-  eol_stays b rest eol =
-      (eol.0, eol.1, ap (λ c. c ++ more) eol.2 ∙ append_assoc (replicate eol.0 false) (true ∷ rest) more)
-
-  -- the zeros before the first 1, and the bits after it
-  abbrev HasOne : List Bool → List Bool → Bool → Type 0
-  HasOne b after few =
-      EndsWith b after × (after_one (b ++ more) ≡ Some (after ++ more)) × (has_few (b ++ more) ≡ few)
-
-  has_one : (b after : List Bool) (few : Bool) → IsOne b (Some after) → has_few b ≡ few → HasOne b after few
-  has_one b after few is at =
-      let now : b ++ more ≡ replicate (zeros b) false ++ true ∷ (after ++ more) =
-      ap (λ c. c ++ more) is ∙ append_assoc (replicate (zeros b) false) (true ∷ after) more in
-      let one = zeros_before_one (zeros b) (after ++ more) in (
-        record {
-          front = replicate (zeros b) false ++ true ∷ [];
-          parts = is ∙ sym (append_assoc (replicate (zeros b) false) (true ∷ []) after);
-        },
-        ap after_one now ∙ one.1,
-        ap (λ n. nat_lt n 11) (ap zeros now ∙ one.0) ∙ at,
-      )
+  eol_stays b rest eol = (subst (λ one. Stays b one (next_one 0 (b ++ more))) eol (one_stays 0 b)).1
 
   -- what stands before a row's codes
-  in_mh : (i : ℕ) (b : List Bool) (r : Option (List Bool)) (few : Bool) → IsOne b r → has_few b ≡ few
-      → IsFront DataEnds more b (start_in_mh i b r few) (read_start Mh i (b ++ more))
-  in_mh i b None few is at = at_end b _
-  in_mh i b (Some codes) false is at =
-      let has = has_one b codes false is at in record { is = (has.0, cc (has.1, has.2)) }
-  in_mh zero b (Some codes) true is at =
-      let has = has_one b codes true is at in record { is = (same b b refl, cc (has.1, has.2)) }
-  in_mh (suc i) b (Some codes) true is at =
-      let has = has_one b codes true is at in stops b _ _ (cc (has.1, has.2))
-
-  in_mr : (i : ℕ) (b : List Bool) (r : Option (List Bool)) (few : Bool) → IsOne b r → has_few b ≡ few
-      → IsFront DataEnds more b (start_in_mr r few) (read_start Mr i (b ++ more))
-  in_mr i b None few is at = at_end b _
-  in_mr i b (Some codes) true is at =
-      let has = has_one b codes true is at in stops b _ _ (cc (has.1, has.2))
-  in_mr i b (Some []) false is at = at_end b _
-  in_mr i b (Some (true ∷ codes)) false is at =
-      let has = has_one b (true ∷ codes) false is at in
-      record { is = (onwards b _ codes has.0 (record { front = true ∷ []; parts = refl }), cc (has.1, has.2)) }
-  in_mr i b (Some (false ∷ codes)) false is at =
-      let has = has_one b (false ∷ codes) false is at in
-      record { is = (onwards b _ codes has.0 (record { front = false ∷ []; parts = refl }), cc (has.1, has.2)) }
+  start_on : (coding : Coding) (i : ℕ) (b : List Bool) (one now : NextOne) → Stays b one now
+      → IsFront DataEnds more b (start_by coding i b one) (start_by coding i (b ++ more) now)
+  start_on Mmr i b one now stays = done TwoDimensional b
+  start_on Mh i b (ends_line codes) now (ends, is) = record { is = (ends, ap (start_by Mh i (b ++ more)) is) }
+  start_on Mh zero b in_code now is = record { is = (same b b refl, ap (start_by Mh 0 (b ++ more)) is) }
+  start_on Mh (suc i) b in_code now is = stops b _ _ (ap (start_by Mh (suc i) (b ++ more)) is)
+  start_on Mh i b not_there now is = at_end b _
+  start_on Mr i b (ends_line []) now stays = at_end b _
+  start_on Mr i b (ends_line (tag ∷ codes)) now (ends, is) =
+      let tagged = onwards b _ codes ends (record { front = tag ∷ []; parts = refl }) in
+      record { is = (tagged, ap (start_by Mr i (b ++ more)) is) }
+  start_on Mr i b in_code now is = stops b _ _ (ap (start_by Mr i (b ++ more)) is)
+  start_on Mr i b not_there now is = at_end b _
 
   pub start_front : (coding : Coding) (i : ℕ) (b : List Bool)
       → IsFront DataEnds more b (read_start coding i b) (read_start coding i (b ++ more))
-  start_front Mh i b = in_mh i b (after_one b) (has_few b) (zeros_is b) refl
-  start_front Mr i b = in_mr i b (after_one b) (has_few b) (zeros_is b) refl
-  start_front Mmr i b = done TwoDimensional b
-
-  -- zeros do not become fewer
-  zeros_on : (b : List Bool) → zeros b ≤ zeros (b ++ more)
-  zeros_on [] = omega arith
-  zeros_on (true ∷ b) = omega arith
-  zeros_on (false ∷ b) = omega (arith, zeros_on b)
-
-  many_on : (b : List Bool) → has_few b ≡ false → has_few (b ++ more) ≡ false
-  many_on b many = grind (arith, nat_tests, many, zeros_on b)
+  start_front coding i b = start_on coding i b (next_one 0 b) (next_one 0 (b ++ more)) (one_stays 0 b)
 
   named_front : (b : List Bool) (r now : Result (List Colour × List Bool) RowFault)
       → IsFront in_row.DataEnds more b r now
@@ -114,22 +94,31 @@ module _ (more : List Bool) where
     row_front TwoDimensional width reference b = two_front runs_read modes_read more reference b
 
     codes_front : (dimension : Dimension) (width : ℕ) (reference : List Colour) (b : List Bool)
-        (r : Option (List Bool)) (few : Bool) → IsOne b r → has_few b ≡ few
-        → IsFront DataEnds more b (first_bits r few >>= λ _. named strip_fault (read_row dimension width reference b))
-        (first_bits (after_one (b ++ more)) (has_few (b ++ more)) >>= λ _. named strip_fault
-        (read_row dimension width reference (b ++ more)))
-    codes_front dimension width reference b r false is at =
-        stops b EndMarker _ (rw (many_on b at) refl)
-    codes_front dimension width reference b None true is at = at_end b _
-    codes_front dimension width reference b (Some after) true is at =
-        let has = has_one b after true is at in
-        rw (has.1, has.2) (named_front b _ _ (row_front dimension width reference b))
+        → IsFront DataEnds more b (check_first b >>= λ _. named strip_fault (read_row dimension width reference b))
+        (check_first (b ++ more) >>= λ _. named strip_fault (read_row dimension width reference (b ++ more)))
+    codes_front dimension width reference b =
+        by (after_front (replicate 11 false) b) (next_one 0 b) (front_is (replicate 11 false) b) refl
+      where
+        by : (r : Option (List Bool)) (one : NextOne)
+            → MatchOption r (BeginsWith b (replicate 11 false) → ⊥) (λ rest. b ≡ replicate 11 false ++ rest)
+            → next_one 0 b ≡ one → IsFront DataEnds more b
+            (first_bits r one >>= λ _. named strip_fault (read_row dimension width reference b))
+            (check_first (b ++ more) >>= λ _. named strip_fault (read_row dimension width reference (b ++ more)))
+        by (Some after) one is at =
+            stops b EndMarker _ (ap (λ checked. checked >>= λ _. named strip_fault
+            (read_row dimension width reference (b ++ more))) (marker_of (b ++ more) (after ++ more)
+            (ap (λ c. c ++ more) is ∙ append_assoc (replicate 11 false) after more)))
+        by None not_there none at = at_end b _
+        by None in_code none at =
+            rw (begins_of (b ++ more) (below_stays b at)) (named_front b _ _ (row_front dimension width reference b))
+        by None (ends_line rest) none at =
+            let eol = eol_is b rest at in absurd (none (eleven_ahead b eol.0 eol.1 (rest, eol.2)))
 
     pub line_front : (form : StripForm) (i : ℕ) (reference : List Colour) (b : List Bool)
         → IsFront DataEnds more b (read_line form i reference b) (read_line form i reference (b ++ more))
     line_front form i reference b =
         joined b _ _ _ _ (start_front form.coding i b) (λ dimension codes.
-        codes_front dimension form.width reference codes (after_one codes) (has_few codes) (zeros_is codes) refl)
+        codes_front dimension form.width reference codes)
 
 module _ (strips : StripsAreReadByFunctions) (runs_read : (colour : Colour) → ReadsRunsOneWay colour)
     (modes_read : ReadsOneWay modes) where

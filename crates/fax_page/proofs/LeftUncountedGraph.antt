@@ -11,16 +11,16 @@ use Rattle.fax_page.specs.declared.StripFault.TheVariants.{MissingEol}
 use Rattle.fax_page.specs.declared.StripForm.{StripForm}
 use Rattle.fax_page.specs.Lines.{white_row}
 use Rattle.fax_page.specs.Uncounted.{EndsSo}
-use Rattle.fax_page.specs.Salvage.{IsLostFor, IsReadOver, SalvagedRow, found, lost, next_due, unended}
+use Rattle.fax_page.specs.Salvage.{IsLostFor, IsReadOver, SalvagedRow, found, lost, next_due, sought_from, unended}
 use Rattle.fax_page.specs.LeftUncounted.{AreLeftUncounted, GoesOnUncounted, IsEndBefore, IsRowDue}
-use Rattle.fax_page.specs.reads.Lines.{read_start}
-use Rattle.fax_page.specs.reads.Salvage.{lacks_eol, read_over, sought_from}
+use Rattle.fax_page.specs.Lines.{read_start}
+use Rattle.fax_page.specs.reads.Salvage.{lacks_eol, read_over}
 use Rattle.fax_page.specs.reads.Uncounted.{rows_end}
 use Rattle.fax_page.specs.reads.Salvage.{RowsAndEnd, before_rows, end_or_row, salvage_uncounted}
 use Rattle.fax_page.specs.reads.Salvage.{uncounted_after_lost, uncounted_from_eol, uncounted_row}
 use Rattle.fax_page.specs.laws.Graphs.{StripsAreReadByFunctions}
 use Rattle.fax_page.proofs.EndGraph.{end_is, end_of}
-use Rattle.fax_page.proofs.SalvageGraph.{Line, lacks, lacks_where, lost_of, over_is, over_of, sought_is, sought_of}
+use Rattle.fax_page.proofs.SalvageGraph.{Line, lacks, lacks_where, lost_of, over_is, over_of}
 
 abbrev More : Type 0
 More = Option StripFault → List Colour → List Bool → RowsAndEnd
@@ -49,13 +49,13 @@ module _ (n : ℕ) (form : StripForm) (i : ℕ) (b : List Bool) (more : More) (d
           → 0 < m → Are form (i + 1) before row rest (more before row rest))
           → (o : Option (List Bool)) → next_due form.coding from ≡ o
           → GoesOn form i b fault (uncounted_from_eol m form more fault o)
-      at_due zero count are None is = (from, sought_is form.coding i b, inl (inl is, refl, refl))
+      at_due zero count are None is = (from, refl, inl (inl is, refl, refl))
       at_due zero count are (Some at) is =
-          (from, sought_is form.coding i b, inl (inr (omega (arith, count)), refl, refl))
-      at_due (suc m) count are None is = (from, sought_is form.coding i b, inl (inl is, refl, refl))
+          (from, refl, inl (inr (omega (arith, count)), refl, refl))
+      at_due (suc m) count are None is = (from, refl, inl (inl is, refl, refl))
       at_due (suc m) count are (Some at) is = (
         from,
-        sought_is form.coding i b,
+        refl,
         inr (at, is, omega (arith, count), are (Some fault) (white_row form.width) at (omega arith)),
       )
 
@@ -129,7 +129,7 @@ module _ (strips : StripsAreReadByFunctions) where
       ≡ (rows, end)
   after_of n form i b fault rows end count later (from, sought, after) =
       ap (λ (f : List Bool). uncounted_from_eol n form (more n) fault (next_due form.coding f))
-      (sought_of form.coding i b from sought) ∙ by n count later (next_due form.coding from) refl after
+      sought ∙ by n count later (next_due form.coding from) refl after
     where
       more : ℕ → More
       more m before row rest = salvage_uncounted m form (i + 1) before row rest

@@ -1,11 +1,12 @@
 -- The fault of a row that could not be read, where its start is read once more.
+use Rattle.fax_page.proofs.StartLaws.{IsStart}
 use Rattle.std.proofs.Common.{arith, ◌≡◌, ℕ, ◌+◌, List, Bool, drop, Ok}
 use Rattle.fax_bits.specs.declared.Colour.{Colour}
 use Rattle.fax_bits.specs.declared.FillOrder.{FillOrder}
 use Rattle.fax_bits.specs.views.Source.{Source, source_of}
 use Rattle.fax_rows.specs.declared.RowFault.{RowFault}
 use Rattle.fax_page.specs.declared.lines.LineStop.TheVariants.{Codes}
-use Rattle.fax_page.specs.Lines.{Dimension, StripFault, StripForm, IsCause, IsStart}
+use Rattle.fax_page.specs.Lines.{Dimension, StripFault, StripForm, IsCause}
 use Rattle.fax_page.specs.code.Starts.{IsStop}
 use Rattle.fax_page.specs.code.LineStops.{IsLineStop}
 use Rattle.fax_page.proofs.BegunLemmas.{cause_in_codes}

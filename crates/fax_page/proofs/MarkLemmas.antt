@@ -1,4 +1,5 @@
 -- What may be an end mark where more bits follow.
+use Rattle.fax_page.specs.code.Starts.{IsEndOfLine}
 use Rattle.std.proofs.Common.{arith, ◌≡◌, ◌≢◌, ℕ, zero, suc, ◌+◌, ◌-◌, ◌<◌, ◌≤◌, List, [], ◌∷◌, ◌++◌, length, take}
 use Rattle.std.proofs.Common.{drop}
 use Rattle.std.proofs.Common.{Bool, true, false, replicate, refl, ap, sym, ◌∙◌, subst, append-nil, append_assoc}
@@ -17,7 +18,7 @@ use Rattle.fax_page.specs.declared.Coding.TheVariants.{Mh, Mr, Mmr}
 use Rattle.fax_page.specs.declared.StripFault.{StripFault}
 use Rattle.fax_page.specs.declared.StripFault.TheVariants.{DataEnds}
 use Rattle.fax_page.specs.declared.uncounted.MarkEol.TheVariants.{Cut, Other, Whole}
-use Rattle.fax_page.specs.Lines.{IsEndOfLine}
+use Rattle.fax_page.specs.Lines.{not_there}
 use Rattle.fax_page.specs.Strip.{AreReturnEols, IsReturnEol, end_bits, end_of_line}
 use Rattle.fax_page.specs.Uncounted.{MayHaveEndMark}
 use Rattle.fax_page.specs.code.Notes.{AreEolsTaken, IsMarkEol, MayHaveReturn}
@@ -25,24 +26,22 @@ use Rattle.fax_page.specs.code.Starts.{HasEol, HasNoEol}
 use Rattle.fax_page.proofs.EndFollowingLaws.{eols_stay, return_eol_stays}
 use Rattle.fax_page.proofs.EndLemmas.{block_bits, eol_taken, same_return_eol}
 use Rattle.fax_page.proofs.FollowingLaws.{below_stays, eol_stays}
-use Rattle.fax_page.proofs.StartLaws.{eol_is_not_below, same_eol}
+use Rattle.fax_page.proofs.StartLaws.{by_next, eol_at, eol_is_not_below, same_eol}
 
 -- zeros and an EOL are one
 zeros_and_eol : (b rest : List Bool) → IsAllZeros b → IsEndOfLine (b ++ (end_of_line ++ rest)) rest
-zeros_and_eol b rest all = (
-  all.0 + 11,
-  omega arith,
-  ap (λ c. c ++ (end_of_line ++ rest)) all.1
-      ∙ sym (append_assoc (replicate all.0 false) (replicate 11 false) (true ∷ rest))
-      ∙ ap (λ c. c ++ true ∷ rest) (replicate-append-replicate all.0 11 false),
-)
+zeros_and_eol b rest all =
+    eol_at _ rest (all.0 + 11) (omega arith) (ap (λ c. c ++ (end_of_line ++ rest)) all.1
+    ∙ sym (append_assoc (replicate all.0 false) (replicate 11 false) (true ∷ rest))
+    ∙ ap (λ c. c ++ true ∷ rest) (replicate-append-replicate all.0 11 false))
 
 -- where the data end before an EOL, one may follow
 pub cut_before : (coding : Coding) (b rest : List Bool) (fault : StripFault) → coding ≢ Mmr → HasNoEol false b fault
     → fault ≡ DataEnds → IsMarkEol coding b Cut rest
-cut_before Mh b rest fault other (inl (all, ends)) is = (end_of_line, zeros_and_eol b [] all)
-cut_before Mr b rest fault other (inl (all, ends)) is =
-    (end_of_line ++ true ∷ [], zeros_and_eol b (true ∷ []) all)
+cut_before Mh b rest fault other (inl (none, ends)) is =
+    (end_of_line, zeros_and_eol b [] (by_next b not_there none))
+cut_before Mr b rest fault other (inl (none, ends)) is =
+    (end_of_line ++ true ∷ [], zeros_and_eol b (true ∷ []) (by_next b not_there none))
 cut_before Mmr b rest fault other none is = absurd (other refl)
 cut_before coding b rest fault other (inr (lacks, below, missing)) is = absurd (cc (missing, is))
 
@@ -120,8 +119,8 @@ mark_eols coding (suc n) = end_of_line ++ mark_eols coding n
 
 eols_are : (coding : Coding) (n : ℕ) → coding ≢ Mmr → AreReturnEols coding n (mark_eols coding n) []
 eols_are coding zero other = refl
-eols_are Mh (suc n) other = (mark_eols Mh n, (11, omega arith, refl), eols_are Mh n other)
-eols_are Mr (suc n) other = (mark_eols Mr n, (11, omega arith, refl), eols_are Mr n other)
+eols_are Mh (suc n) other = (mark_eols Mh n, refl, eols_are Mh n other)
+eols_are Mr (suc n) other = (mark_eols Mr n, refl, eols_are Mr n other)
 eols_are Mmr (suc n) other = absurd (other refl)
 
 module _ (coding : Coding) (other : coding ≢ Mmr) (b ahead : List Bool) (i : ℕ)

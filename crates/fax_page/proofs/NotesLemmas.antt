@@ -1,4 +1,5 @@
 -- A strip that is read for its notes, row by row.
+use Rattle.fax_page.proofs.StartLaws.{IsStart}
 use Rattle.std.proofs.Common.{◌≡◌, ℕ, ◌+◌, ◌<◌, ◌↔◌, List, [], ◌∷◌}
 use Rattle.std.proofs.Common.{◌++◌, length, Bool, true, false, IsTrue, refl, ap, Ok}
 use Rattle.std.proofs.Common.{sym, ◌∙◌, subst}
@@ -12,7 +13,7 @@ use Rattle.fax_page.specs.declared.StripFault.{StripFault}
 use Rattle.fax_page.specs.declared.notes.NotesFault.{NotesFault}
 use Rattle.fax_page.specs.declared.notes.NotesFault.TheVariants.{Memory, Strip}
 use Rattle.fax_page.specs.declared.notes.StripNotes.{StripNotes}
-use Rattle.fax_page.specs.Lines.{IsCause, IsLine, IsStart, IsRowIn, white_row}
+use Rattle.fax_page.specs.Lines.{IsCause, IsLine, IsRowIn, white_row}
 use Rattle.fax_page.specs.Strip.{AreLines, row_bits, HasOtherChoice, IsNotedAs, most_rows}
 use Rattle.fax_page.specs.views.Strip.{IsStrip, IsNotedUncounted, IsNotesFault}
 use Rattle.fax_page.proofs.StripLaws.{EndsAt, no_rows}

@@ -1,4 +1,5 @@
 -- After a row of a strip stands a rest of the bits that it began in.
+use Rattle.fax_page.proofs.StartLaws.{IsStart}
 use Rattle.std.proofs.Common.{arith, ◌≡◌, ℕ, ◌+◌, ◌*◌, ◌≤◌, List, [], length, take, drop, Bool, sym, Ok}
 use Rattle.std.proofs.Common.{length-drop}
 use Rattle.std.proofs.lemmas.List.{take-append-drop}
@@ -9,18 +10,16 @@ use Rattle.fax_page.specs.declared.Dimension.{Dimension}
 use Rattle.fax_page.specs.declared.Coding.{Coding}
 use Rattle.fax_page.specs.declared.StripForm.{StripForm}
 use Rattle.fax_page.specs.declared.StripFault.{StripFault}
-use Rattle.fax_page.specs.Lines.{IsLine, IsCause, IsStart}
+use Rattle.fax_page.specs.Lines.{IsLine, IsCause}
 use Rattle.fax_page.specs.laws.Strips.{ReadsLinesOneWay}
 use Rattle.fax_page.proofs.FollowingLaws.{start_front}
 use Rattle.fax_page.proofs.FrontLemmas.{EndsWith, among, answer_of, onwards}
-use Rattle.fax_page.proofs.LineGraph.{start_of}
 
 -- so many bits stand before the codes of a row that begins
 pub start_among : (coding : Coding) (i : ℕ) (b : List Bool) (dimension : Dimension) (codes : List Bool)
     → IsStart coding i b (Ok (dimension, codes)) → (n : ℕ) × (n ≤ length b) × (drop n b ≡ codes)
 start_among coding i b dimension codes begun =
-    among b codes
-    (answer_of dimension codes (start_of coding i b (Ok (dimension, codes)) begun) (start_front [] coding i b)).0
+    among b codes (answer_of dimension codes begun (start_front [] coding i b)).0
 
 -- so many bits stand before the rest of a row that begins among them
 pub rest_among : (form : StripForm) (i : ℕ) (reference : List Colour)

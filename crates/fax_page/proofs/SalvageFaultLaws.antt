@@ -1,4 +1,6 @@
 -- The rows that are read before a fault are found, all but the last where an EOL is missing after it.
+use Rattle.fax_page.specs.code.Starts.{BeginsBelowEleven}
+use Rattle.fax_page.proofs.StartLaws.{IsStart}
 use Rattle.std.proofs.Common.{arith, ◌≡◌, ℕ, ◌+◌, ◌-◌, List, [], ◌∷◌, ◌++◌, map, Bool, Some, None, refl}
 use Rattle.std.proofs.Common.{ap, inl, inr, Err, replicate, suc, true, false, ◌≤◌, ◌∙◌}
 use Rattle.std.proofs.lemmas.Bool.Decides.{nat_tests}
@@ -6,17 +8,16 @@ use Rattle.std.specs.Prelude.{◌≢◌, ◌<◌, Option, option_map, MatchOptio
 use Rattle.fax_bits.specs.declared.Colour.{Colour}
 use Rattle.fax_rows.specs.declared.RowFault.{RowFault}
 use Rattle.fax_page.specs.declared.StripFault.TheVariants.{MissingEol}
-use Rattle.fax_page.specs.Lines.{BeginsBelowEleven, Coding, Dimension, IsCause, IsLine}
-use Rattle.fax_page.specs.Lines.{IsStart, IsStopInCodes, Mh, Mmr, Mr}
+use Rattle.fax_page.specs.Lines.{Coding, Dimension, IsCause, IsLine}
+use Rattle.fax_page.specs.Lines.{IsStopInCodes, Mh, Mmr, Mr}
 use Rattle.fax_page.specs.Lines.{StripFault, StripForm, strip_fault, white_row}
 use Rattle.fax_page.specs.Salvage.{AreSalvaged, GoesOnAfter, IsEolDue, IsReadOver, SalvagedRow, after_eol, found}
 use Rattle.fax_page.specs.Salvage.{lost, next_due, unended}
 use Rattle.fax_page.specs.Strip.{AreLines, end_of_line}
 use Rattle.fax_page.specs.laws.Salvage.{FindsRowsBeforeFaults, LostBitsDoNotMatter, SalvagesStripsOneWay}
-use Rattle.fax_page.specs.reads.Lines.{read_start}
-use Rattle.fax_page.specs.reads.Salvage.{sought_from}
+use Rattle.fax_page.specs.Lines.{read_start}
+use Rattle.fax_page.specs.Salvage.{sought_from}
 use Rattle.fax_page.proofs.BegunLemmas.{one_start}
-use Rattle.fax_page.proofs.SalvageGraph.{sought_is}
 use Rattle.fax_page.proofs.SalvageLaws.{begins_with_eol, eol_is_missing}
 use Rattle.fax_page.proofs.SalvageLemmas.{at_one}
 
@@ -98,7 +99,7 @@ module _ (salvages : SalvagesStripsOneWay) where
   goes_on form i b fault low =
       let from = sought_from b (read_start form.coding i b) in
       let rows = at_due (next_due form.coding from) in
-      (rows.0, (from, sought_is form.coding i b, rows.1))
+      (rows.0, (from, refl, rows.1))
     where
       at_due : (o : Option (List Bool)) → (rows : List SalvagedRow) × MatchOption o
           (rows ≡ replicate (form.rows - (i + 1)) (lost fault))

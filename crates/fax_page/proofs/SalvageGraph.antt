@@ -1,4 +1,6 @@
 -- What functions read of damaged strips is what is defined.
+use Rattle.fax_page.specs.code.Starts.{BeginsBelowEleven}
+use Rattle.fax_page.proofs.StartLaws.{IsStart}
 use Rattle.std.proofs.Common.{arith, ◌≡◌, ◌≢◌, ℕ, zero, suc, ◌+◌, ◌-◌, ◌<◌, List, [], ◌∷◌, Bool, true, false, refl}
 use Rattle.std.proofs.Common.{sym, ap, ◌∙◌, inl, inr, Option, Some, None, Result, Ok, Err, replicate}
 use Rattle.std.specs.Prelude.{MatchOption, MatchResult, nat_lt, if◌then◌else◌, ◌&&◌}
@@ -11,16 +13,17 @@ use Rattle.fax_page.specs.declared.Coding.TheVariants.{Mh, Mr, Mmr}
 use Rattle.fax_page.specs.declared.Dimension.{Dimension}
 use Rattle.fax_page.specs.declared.Dimension.TheVariants.{OneDimensional, TwoDimensional}
 use Rattle.fax_page.specs.declared.StripFault.{StripFault}
-use Rattle.fax_page.specs.declared.StripFault.TheVariants.{DataEnds, MissingEol}
+use Rattle.fax_page.specs.declared.StripFault.TheVariants.{MissingEol}
 use Rattle.fax_page.specs.declared.StripForm.{StripForm}
-use Rattle.fax_page.specs.Lines.{BeginsBelowEleven, IsCause, IsLine, IsStart, white_row}
+use Rattle.fax_page.specs.Lines.{IsCause, IsLine, NextOne}
+use Rattle.fax_page.specs.Lines.{ends_line, in_code, next_one, not_there, read_start}
+use Rattle.fax_page.specs.Lines.{white_row}
 use Rattle.fax_page.specs.Salvage.{AreSalvaged, BeginsTwoDimensional, GoesOnAfter, IsEolDue, IsLostFor, IsReadOver}
-use Rattle.fax_page.specs.Salvage.{IsSoughtFrom, SalvagedRow, found, lost, next_due, unended}
-use Rattle.fax_page.specs.reads.Lines.{after_one, has_few, read_line, read_start, start_in_mh, start_in_mr}
-use Rattle.fax_page.specs.reads.Salvage.{after_lost, begins_below_eleven, cause_over, from_eol, has_eols, lacks_eol}
-use Rattle.fax_page.specs.reads.Salvage.{read_over, row_and_more, salvage_rows, sought_from, unless}
+use Rattle.fax_page.specs.Salvage.{sought_from, SalvagedRow, found, lost, next_due, unended}
+use Rattle.fax_page.specs.reads.Lines.{read_line}
+use Rattle.fax_page.specs.reads.Salvage.{after_lost, is_in_code, cause_over, from_eol, has_eols, lacks_eol}
+use Rattle.fax_page.specs.reads.Salvage.{read_over, row_and_more, salvage_rows, unless}
 use Rattle.fax_page.specs.laws.Graphs.{StripsAreReadByFunctions}
-use Rattle.fax_page.proofs.LineGraph.{IsOne, below_eleven, few_below, start_is, start_of, zeros_is}
 
 abbrev pub Start : Type 0
 Start = Result (Dimension × List Bool) StripFault
@@ -28,46 +31,11 @@ Start = Result (Dimension × List Bool) StripFault
 abbrev pub Line : Type 0
 Line = Result (List Colour × List Bool) StripFault
 
--- where the next EOL is looked for
-sought_in_mh : (i : ℕ) (b : List Bool) (after : Option (List Bool)) (few : Bool)
-    → IsStart Mh i b (start_in_mh i b after few) → IsSoughtFrom Mh i b (sought_from b (start_in_mh i b after few))
-sought_in_mh i b None few is = inr (inr (is, refl))
-sought_in_mh i b (Some codes) false is = inl (OneDimensional, is)
-sought_in_mh zero b (Some codes) true is = inl (OneDimensional, is)
-sought_in_mh (suc i) b (Some codes) true is = inr (inl (is, refl))
-
-sought_in_mr : (i : ℕ) (b : List Bool) (after : Option (List Bool)) (few : Bool)
-    → IsStart Mr i b (start_in_mr after few) → IsSoughtFrom Mr i b (sought_from b (start_in_mr after few))
-sought_in_mr i b None few is = inr (inr (is, refl))
-sought_in_mr i b (Some codes) true is = inr (inl (is, refl))
-sought_in_mr i b (Some []) false is = inr (inr (is, refl))
-sought_in_mr i b (Some (true ∷ codes)) false is = inl (OneDimensional, is)
-sought_in_mr i b (Some (false ∷ codes)) false is = inl (TwoDimensional, is)
-
-pub sought_is : (coding : Coding) (i : ℕ) (b : List Bool)
-    → IsSoughtFrom coding i b (sought_from b (read_start coding i b))
-sought_is Mh i b = sought_in_mh i b (after_one b) (has_few b) (start_is Mh i b)
-sought_is Mr i b = sought_in_mr i b (after_one b) (has_few b) (start_is Mr i b)
-sought_is Mmr i b = inl (TwoDimensional, start_is Mmr i b)
-
-pub sought_of : (coding : Coding) (i : ℕ) (b from : List Bool) → IsSoughtFrom coding i b from
-    → sought_from b (read_start coding i b) ≡ from
-sought_of coding i b from (inl (dimension, begun)) =
-    ap (sought_from b) (start_of coding i b (Ok (dimension, from)) begun)
-sought_of coding i b from (inr (inl (missing, same))) =
-    ap (sought_from b) (start_of coding i b (Err MissingEol) missing) ∙ sym same
-sought_of coding i b from (inr (inr (ends, same))) =
-    ap (sought_from b) (start_of coding i b (Err DataEnds) ends) ∙ sym same
-
 -- whether an EOL is missing after a row
-begins : (b : List Bool) → BeginsBelowEleven b → begins_below_eleven (after_one b) (has_few b) ≡ true
-begins b below = let at = below_eleven b below in rw (at.1, at.2) refl
-
-begins_where : (b : List Bool) (after : Option (List Bool)) (few : Bool) → IsOne b after → has_few b ≡ few
-    → begins_below_eleven after few ≡ true → BeginsBelowEleven b
-begins_where b None few one at is = absurd (cc is)
-begins_where b (Some after) false one at is = absurd (cc is)
-begins_where b (Some after) true one at is = few_below b after one at
+begins_where : (b : List Bool) (one : NextOne) → next_one 0 b ≡ one → is_in_code one ≡ true → BeginsBelowEleven b
+begins_where b in_code at is = at
+begins_where b (ends_line rest) at is = absurd (cc is)
+begins_where b not_there at is = absurd (cc is)
 
 eols : (coding : Coding) → coding ≢ Mmr → has_eols coding ≡ true
 eols Mh other = refl
@@ -93,17 +61,17 @@ pub lacks : (form : StripForm) (i : ℕ) (rest : List Bool) → IsEolDue form i 
     → lacks_eol form i rest ≡ true
 lacks form i rest due below =
     let more : nat_lt (i + 1) form.rows ≡ true = grind (arith, nat_tests, due.1) in
-    all_three (has_eols form.coding) (nat_lt (i + 1) form.rows) (begins_below_eleven (after_one rest) (has_few rest))
-    (eols form.coding due.0) more (begins rest below)
+    all_three (has_eols form.coding) (nat_lt (i + 1) form.rows) (is_in_code (next_one 0 rest))
+    (eols form.coding due.0) more (ap is_in_code below)
 
 pub lacks_where : (form : StripForm) (i : ℕ) (rest : List Bool) → lacks_eol form i rest ≡ true
     → IsEolDue form i × BeginsBelowEleven rest
 lacks_where form i rest is =
     let each = each_of (has_eols form.coding) (nat_lt (i + 1) form.rows)
-    (begins_below_eleven (after_one rest) (has_few rest)) is in
+    (is_in_code (next_one 0 rest)) is in
     let more : i + 1 < form.rows = grind (arith, nat_tests, each.1) in (
       (eols_where form.coding each.0, more),
-      begins_where rest (after_one rest) (has_few rest) (zeros_is rest) refl each.2,
+      begins_where rest (next_one 0 rest) refl each.2,
     )
 
 abbrev dimension_of : Start → Dimension
@@ -112,27 +80,24 @@ dimension_of (Err fault) = OneDimensional
 
 -- a row that is read, or lost, by how it begins
 pub by_start : (form : StripForm) (i : ℕ) (before : Option StripFault) (reference : List Colour) (b : List Bool)
-    (start : Start) → read_start form.coding i b ≡ start → IsStart form.coding i b start → (r : Line)
+    (start : Start) → IsStart form.coding i b start → (r : Line)
     → MatchResult r (λ line. IsLine form i reference b line.0 line.1) (IsCause form i reference b)
     → MatchResult (unless (cause_over before start) r) (λ line. IsReadOver form i before reference b line.0 line.1)
     (IsLostFor form i before reference b)
-by_start form i None reference b start same is (Ok line) read =
+by_start form i None reference b start same (Ok line) read =
     record { line = read; alone = λ some. absurd (some refl) }
-by_start form i None reference b start same is (Err fault) cause = inr (inl refl, cause)
-by_start form i (Some before) reference b (Ok (TwoDimensional, codes)) same is r read = inl (refl, (codes, is))
-by_start form i (Some before) reference b (Ok (OneDimensional, codes)) same is (Ok line) read =
-    let begun = start_of form.coding i b (Ok (read.dimension, read.codes)) read.start in
-    record { line = read; alone = λ some. ap dimension_of (sym begun ∙ same) }
-by_start form i (Some before) reference b (Ok (OneDimensional, codes)) same is (Err fault) cause =
+by_start form i None reference b start same (Err fault) cause = inr (inl refl, cause)
+by_start form i (Some before) reference b (Ok (TwoDimensional, codes)) same r read = inl (refl, (codes, same))
+by_start form i (Some before) reference b (Ok (OneDimensional, codes)) same (Ok line) read =
+    record { line = read; alone = λ some. ap dimension_of (sym read.start ∙ same) }
+by_start form i (Some before) reference b (Ok (OneDimensional, codes)) same (Err fault) cause =
     let no_two : BeginsTwoDimensional form.coding i b → ⊥ = λ two.
-    let begun = start_of form.coding i b (Ok (TwoDimensional, two.0)) two.1 in
-    let differ : TwoDimensional ≡ OneDimensional = ap dimension_of (sym begun ∙ same) in absurd (cc differ) in
+    let differ : TwoDimensional ≡ OneDimensional = ap dimension_of (sym two.1 ∙ same) in absurd (cc differ) in
     inr (inr no_two, cause)
-by_start form i (Some before) reference b (Err stop) same is (Ok line) read =
-    let begun = start_of form.coding i b (Ok (read.dimension, read.codes)) read.start in absurd (cc (same, begun))
-by_start form i (Some before) reference b (Err stop) same is (Err fault) cause =
-    let no_two : BeginsTwoDimensional form.coding i b → ⊥ = λ two.
-    let begun = start_of form.coding i b (Ok (TwoDimensional, two.0)) two.1 in absurd (cc (same, begun)) in
+by_start form i (Some before) reference b (Err stop) same (Ok line) read =
+    let begun = read.start in absurd (cc (same, begun))
+by_start form i (Some before) reference b (Err stop) same (Err fault) cause =
+    let no_two : BeginsTwoDimensional form.coding i b → ⊥ = λ two. let begun = two.1 in absurd (cc (same, begun)) in
     inr (inr no_two, cause)
 
 abbrev More : Type 0
@@ -157,7 +122,7 @@ goes_on : (n : ℕ) (form : StripForm) (i : ℕ) (b : List Bool) (more : More) (
     (after_lost n form i b more fault)
 goes_on n form i b more fault count are = (
   sought_from b (read_start form.coding i b),
-  sought_is form.coding i b,
+  refl,
   by_due n form i more fault (next_due form.coding (sought_from b (read_start form.coding i b))) count are,
 )
 
@@ -203,7 +168,7 @@ module _ (strips : StripsAreReadByFunctions) where
       → MatchResult (read_over form i before reference b)
       (λ line. IsReadOver form i before reference b line.0 line.1) (IsLostFor form i before reference b)
   over_is form i before reference b =
-      by_start form i before reference b (read_start form.coding i b) refl (start_is form.coding i b)
+      by_start form i before reference b (read_start form.coding i b) refl
       (read_line form i reference b) (read_is (strips.line form i reference) b)
 
   -- and what is defined is read
@@ -213,7 +178,7 @@ module _ (strips : StripsAreReadByFunctions) where
   over_of form i None reference b row rest over = ((strips.line form i reference).answer b row rest).0 over.line
   over_of form i (Some before) reference b row rest over =
       ap (λ start. unless (cause_over (Some before) start) (read_line form i reference b))
-      (start_of form.coding i b (Ok (over.line.dimension, over.line.codes)) over.line.start)
+      over.line.start
       ∙ ap (λ dimension. unless (cause_over (Some before) (Ok (dimension, over.line.codes)))
       (read_line form i reference b))
       (over.alone (λ none. cc))
@@ -232,12 +197,12 @@ module _ (strips : StripsAreReadByFunctions) where
   lost_of form i before reference b fault (inl (is, (codes, two))) =
       ap (λ cause. unless (cause_over cause (read_start form.coding i b)) (read_line form i reference b)) is
       ∙ ap (λ start. unless (cause_over (Some fault) start) (read_line form i reference b))
-      (start_of form.coding i b (Ok (TwoDimensional, codes)) two)
+      two
   lost_of form i None reference b fault (inr (_, cause)) = ((strips.line form i reference).fault b fault).0 cause
   lost_of form i (Some before) reference b fault (inr (inl none, cause)) = absurd (cc none)
   lost_of form i (Some before) reference b fault (inr (inr not_two, cause)) =
       ap (λ over. unless over (read_line form i reference b))
-      (no_cause form i before b (read_start form.coding i b) (start_is form.coding i b) not_two)
+      (no_cause form i before b (read_start form.coding i b) refl not_two)
       ∙ ((strips.line form i reference).fault b fault).0 cause
 
   pub rows_are : (n : ℕ) (form : StripForm) (i : ℕ) (before : Option StripFault) (reference : List Colour)
@@ -257,7 +222,7 @@ module _ (strips : StripsAreReadByFunctions) where
       → GoesOnAfter form i b fault (λ due. AreSalvaged form (i + 1) (Some fault) (white_row form.width) due rows) rows
       → after_lost n form i b (λ before row rest. salvage_rows n form (i + 1) before row rest) fault ≡ rows
   after_of n form i b fault rows count later (from, sought, after) =
-      ap (λ f. from_eol n form more fault (next_due form.coding f)) (sought_of form.coding i b from sought)
+      ap (λ f. from_eol n form more fault (next_due form.coding f)) sought
       ∙ at_due (next_due form.coding from) after
     where
       more : More

@@ -1,11 +1,13 @@
 -- What is left of a strip is found and lost in one way, and a strip that is read wholly loses nothing.
-use Rattle.std.proofs.Common.{◌≡◌, ℕ, ◌+◌, ◌-◌, ◌<◌, List, [], ◌∷◌, length, map, replicate, Bool, Err, Ok}
-use Rattle.std.proofs.Common.{Option, Some, None, Ok, refl, ap, sym, ◌∙◌, arith, inl, inr}
+use Rattle.fax_page.specs.code.Starts.{BeginsBelowEleven}
+use Rattle.fax_page.proofs.StartLaws.{IsStart}
+use Rattle.std.proofs.Common.{◌≡◌, ℕ, ◌+◌, ◌-◌, ◌<◌, List, [], ◌∷◌, length, map, replicate, Bool, Err, Ok, suc}
+use Rattle.std.proofs.Common.{Option, Some, None, Ok, refl, ap, sym, ◌∙◌, arith}
 use Rattle.std.specs.Prelude.{◌≢◌, MatchOption}
 use Rattle.std.proofs.lemmas.List.{length-replicate}
 use Rattle.fax_bits.specs.declared.Colour.{Colour}
 use Rattle.fax_page.specs.declared.StripFault.TheVariants.{MissingEol}
-use Rattle.fax_page.specs.Lines.{BeginsBelowEleven, Coding, Dimension, IsStart, Mh, Mmr, Mr}
+use Rattle.fax_page.specs.Lines.{Coding, Dimension, Mh, Mmr, Mr, start_by}
 use Rattle.fax_page.specs.Lines.{StripFault, StripForm, white_row}
 use Rattle.fax_page.specs.Salvage.{AreSalvaged, GoesOnAfter, IsEolDue}
 use Rattle.fax_page.specs.Salvage.{SalvagedRow, found, lost, next_due, unended}
@@ -76,8 +78,9 @@ all_found_are_lines form i reference b (row ∷ rows) (rest, low, over, ended, a
 -- a code where an EOL is due
 pub eol_is_missing : (coding : Coding) (i : ℕ) (b : List Bool) → coding ≢ Mmr → BeginsBelowEleven b
     → IsStart coding (i + 1) b (Err MissingEol)
-eol_is_missing Mh i b other below = inr (inr (inl (below, (λ first. omega (arith, first)), refl)))
-eol_is_missing Mr i b other below = inr (inl (below, refl))
+eol_is_missing Mh i b other below =
+    let next : i + 1 ≡ suc i = omega arith in rw next (ap (start_by Mh (suc i) b) below)
+eol_is_missing Mr i b other below = ap (start_by Mr (i + 1) b) below
 eol_is_missing Mmr i b other below = absurd (other refl)
 
 -- stands before no row that is read

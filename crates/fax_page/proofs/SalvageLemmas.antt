@@ -1,25 +1,28 @@
 -- The next EOL after a row that is lost.
+use Rattle.fax_page.specs.code.Salvage.{IsSoughtFrom}
+use Rattle.fax_page.specs.code.Starts.{BeginsBelowEleven}
+use Rattle.fax_page.proofs.StartLaws.{IsStart}
 use Rattle.std.proofs.Common.{◌≡◌, ℕ, zero, suc, ◌+◌, ◌-◌, ◌<◌, ◌≤◌, List, [], ◌∷◌, ◌++◌, length, drop, replicate}
-use Rattle.std.proofs.Common.{Bool, true, false, Option, Some, None, Ok, Err, refl, ap, sym, ◌∙◌, arith, inl, inr}
+use Rattle.std.proofs.Common.{Bool, true, false, Option, Some, None, Ok, Err, refl, ap, sym, ◌∙◌, arith}
 use Rattle.std.proofs.lemmas.List.{length-drop, drop-drop}
 use Rattle.std.specs.Prelude.{nat_lt, nat_le, if◌then◌else◌, option_map, ◌≢◌}
 use Rattle.std.proofs.lemmas.Bool.Decides.{nat_tests}
 use Rattle.fax_bits.specs.Bits.{IsAllZeros}
 use Rattle.fax_bits.specs.views.Source.{Source, HasZerosAhead, KeepsEnd}
-use Rattle.fax_page.specs.Lines.{Coding, Mh, Mr, Mmr, Dimension, IsStart, OneDimensional, TwoDimensional, StripFault}
-use Rattle.fax_page.specs.Lines.{BeginsBelowEleven}
+use Rattle.fax_page.specs.Lines.{Coding, Mh, Mr, Mmr, Dimension, OneDimensional, StripFault}
 use Rattle.fax_page.specs.Strip.{end_of_line}
-use Rattle.fax_page.specs.Salvage.{BeginsTwoDimensional, IsSoughtFrom, after_eol, next_due}
+use Rattle.fax_page.specs.Salvage.{BeginsTwoDimensional, after_eol, next_due, sought_from}
 use Rattle.fax_page.specs.declared.StripFault.TheVariants.{DataEnds, MissingEol}
 use Rattle.fax_page.specs.code.Salvage.{IsAmong, IsFirstEol, IsNextEol, IsPassedBy}
 use Rattle.fax_page.proofs.BegunLemmas.{one_begun, one_start}
 use Rattle.fax_page.proofs.RestLemmas.{start_among}
-use Rattle.fax_page.proofs.StartLaws.{eol_is_not_below, below_is_not_zeros}
+use Rattle.fax_page.specs.Lines.{NextOne, next_one, start_by}
+use Rattle.fax_page.proofs.StartLaws.{eol_at, eol_is_not_below, below_is_not_zeros}
 
 -- eleven zeros or more are not fewer
 pub not_below : (b : List Bool) (zeros : ℕ) → HasZerosAhead b zeros → nat_lt zeros 11 ≡ false → BeginsBelowEleven b → ⊥
 not_below b zeros ahead enough below =
-    eol_is_not_below b ahead.0 (zeros, grind (arith, nat_tests), ahead.1) below
+    eol_is_not_below b ahead.0 (eol_at b ahead.0 zeros (grind (arith, nat_tests)) ahead.1) below
 
 pub not_below_zeros : (b : List Bool) → IsAllZeros b → BeginsBelowEleven b → ⊥
 not_below_zeros b all below = below_is_not_zeros b below all
@@ -168,29 +171,32 @@ after_own coding i start from dimension found other begun same_end first =
     let count : length from.left ≡ length start.left - n.0 =
     ap length (sym n.2) ∙ length-drop n.0 start.left in
     found_from coding i start from n.0 other n.1 n.2 (omega (arith, count, same_end, n.1))
-    (inl (dimension, begun)) found first
+    (ap (sought_from start.left) begun) found first
 
 -- the EOL after the place of a lost row that has none
 pub after_place : (coding : Coding) (i : ℕ) (start : Source) (found : Option ℕ) → coding ≢ Mmr
     → IsStart coding i start.left (Err MissingEol) → IsFirstEol start found → IsNextEol coding i start found
 after_place coding i start found other missing first =
     found_from coding i start start 0 other (omega arith) refl (omega arith)
-    (inr (inl (missing, refl))) found first
+    (ap (sought_from start.left) missing) found first
 
 -- the data end before a row's codes, and nothing is left
 pub after_end : (coding : Coding) (i : ℕ) (start : Source) (fault : StripFault) → fault ≢ MissingEol
     → IsStart coding i start.left (Err fault) → IsNextEol coding i start None
-after_end coding i start fault other stop = ([], inr (inr (ends coding fault other stop, refl)), nothing coding)
+after_end coding i start fault other stop = ([], sought, nothing coding)
   where
     nothing : (coding : Coding) → next_due coding [] ≡ None
     nothing Mh = refl
     nothing Mr = refl
     nothing Mmr = refl
 
-    ends : (coding : Coding) (fault : StripFault) → fault ≢ MissingEol → IsStart coding i start.left (Err fault)
-        → IsStart coding i start.left (Err DataEnds)
-    ends coding fault other stop = grind arith
+    sought : IsSoughtFrom coding i start.left []
+    sought = ap (sought_from start.left) (by coding i (next_one 0 start.left) stop)
+      where
+        by : (coding : Coding) (i : ℕ) (one : NextOne) → start_by coding i start.left one ≡ Err fault
+            → start_by coding i start.left one ≡ Err DataEnds
+        by coding i one is = grind arith
 
 -- no row of MMR has an EOL
 pub none_in_mmr : (coding : Coding) (i : ℕ) (start : Source) → coding ≡ Mmr → IsNextEol coding i start None
-none_in_mmr coding i start mmr = rw mmr (start.left, inl (TwoDimensional, refl), refl)
+none_in_mmr coding i start mmr = rw mmr (start.left, refl, refl)

@@ -1,4 +1,7 @@
 -- A row that is due after others begins among the bits of the strip.
+use Rattle.fax_page.specs.code.Salvage.{IsSoughtFrom}
+use Rattle.fax_page.specs.declared.StripFault.TheVariants.{DataEnds}
+use Rattle.std.proofs.Common.{Result, Ok, Err}
 use Rattle.std.proofs.Common.{◌≡◌, ℕ, zero, suc, ◌+◌, ◌-◌, ◌<◌, ◌≤◌, List, [], ◌∷◌, ◌++◌, length, drop, replicate}
 use Rattle.std.proofs.Common.{Bool, true, false, Option, Some, None, refl, ap, sym, ◌∙◌, arith, inl, inr, subst}
 use Rattle.std.proofs.lemmas.List.{length-drop, drop-drop}
@@ -7,9 +10,9 @@ use Rattle.std.proofs.lemmas.Bool.{cases_lt}
 use Rattle.std.proofs.lemmas.Bool.Decides.{nat_tests}
 use Rattle.fax_bits.specs.declared.Colour.{Colour}
 use Rattle.fax_page.specs.declared.salvage.Salvaged.TheVariants.{Found, Lost, Unended}
-use Rattle.fax_page.specs.Lines.{Coding, Mh, Mr, Mmr, StripFault, StripForm, white_row}
+use Rattle.fax_page.specs.Lines.{Coding, Dimension, Mh, Mr, Mmr, StripFault, StripForm, read_start, white_row}
 use Rattle.fax_page.specs.Strip.{end_of_line}
-use Rattle.fax_page.specs.Salvage.{IsSoughtFrom, after_eol, next_due}
+use Rattle.fax_page.specs.Salvage.{after_eol, next_due, sought_from}
 use Rattle.fax_page.specs.laws.Salvage.{DueRowsStandInStrips, IsRestOf}
 use Rattle.fax_page.specs.laws.Strips.{ReadsLinesOneWay}
 use Rattle.fax_page.specs.views.Salvage.{IsAfterLost, SalvageState}
@@ -88,16 +91,17 @@ due_among Mmr from due some = cc
 
 -- an EOL is looked for among the bits of a lost row
 sought_among : (coding : Coding) (i : ℕ) (b from : List Bool) → IsSoughtFrom coding i b from → IsRestOf b from
-sought_among coding i b from (inl (dimension, start)) =
-    start_among coding i b dimension from start
-sought_among coding i b from (inr (inl (missing, same))) = subst (IsRestOf b) (sym same) (all_of b)
-sought_among coding i b from (inr (inr (ends, none))) =
-    let nothing : drop (length b) b ≡ from = all_dropped b ∙ sym none in
-    (length b, omega arith, nothing)
+sought_among coding i b from sought = subst (IsRestOf b) sought (by (read_start coding i b) refl)
   where
     all_dropped : (b : List Bool) → drop (length b) b ≡ []
     all_dropped [] = refl
     all_dropped (bit ∷ b) = all_dropped b
+
+    by : (start : Result (Dimension × List Bool) StripFault) → read_start coding i b ≡ start
+        → IsRestOf b (sought_from b start)
+    by (Ok (dimension, codes)) at = start_among coding i b dimension codes at
+    by (Err DataEnds) at = (length b, omega arith, all_dropped b)
+    by (Err fault) at = all_of b
 
 -- after a lost row
 lost_among : (old new : SalvageState) (fault : StripFault) (rows : ℕ) → IsAfterLost old fault rows new

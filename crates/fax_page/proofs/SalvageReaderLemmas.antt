@@ -1,10 +1,10 @@
 -- A damaged strip that is gone through row by row.
+use Rattle.fax_page.specs.code.Starts.{BeginsBelowEleven}
 use Rattle.std.proofs.Common.{◌≡◌, ℕ, ◌+◌, ◌<◌, List, Bool, true, false, Option, Some, None, Err, refl, ap}
 use Rattle.std.proofs.Common.{arith, inl, inr}
 use Rattle.std.specs.Prelude.{◌⊎◌, MatchOption}
 use Rattle.fax_bits.specs.declared.Colour.{Colour}
 use Rattle.fax_page.specs.Lines.{StripForm, StripFault, Dimension, OneDimensional, TwoDimensional, IsLine}
-use Rattle.fax_page.specs.Lines.{BeginsBelowEleven}
 use Rattle.fax_page.specs.Lines.{white_row}
 use Rattle.fax_page.specs.Salvage.{BeginsTwoDimensional, IsReadOver, IsEolDue, IsLostFor, next_due}
 use Rattle.fax_page.specs.views.Reader.{StripState, bits_left, ReadsRow, IsAdvance}

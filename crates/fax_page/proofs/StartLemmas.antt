@@ -1,4 +1,5 @@
 -- Zeros before a row.
+use Rattle.fax_page.specs.code.Starts.{IsEndOfLine}
 use Rattle.std.proofs.lemmas.Grind.{common_steps}
 use Rattle.std.proofs.Common.{◌≡◌, ℕ, ◌+◌, ◌-◌, ◌≤◌, List, ◌∷◌, ◌++◌, length, drop, replicate, Bool, true, false, ap}
 use Rattle.std.proofs.Common.{◌∙◌, arith}
@@ -7,7 +8,7 @@ use Rattle.std.proofs.Math.Seq.{drop-append-add}
 use Rattle.std.proofs.lemmas.List.{replicate-append-replicate, length-replicate}
 use Rattle.fax_bits.specs.Bits.{IsAllZeros}
 use Rattle.fax_bits.specs.views.Source.{HasZerosAhead}
-use Rattle.fax_page.specs.Lines.{IsEndOfLine}
+use Rattle.fax_page.proofs.StartLaws.{eol_at}
 
 -- so many zeros begin with fewer
 replicate-split : (n m : ℕ) → n ≤ m → replicate m false ≡ replicate n false ++ replicate (m - n) false
@@ -32,4 +33,5 @@ eleven_alone b enough all =
 -- an EOL, after whose 1 the rest stands
 pub eol_before : (b rest : List Bool) (zeros : ℕ) → 11 ≤ zeros → HasZerosAhead b zeros → rest ≡ drop (zeros + 1) b
     → IsEndOfLine b rest
-eol_before b rest zeros enough ahead rest_is = grind (arith, common_steps, drop-append-add)
+eol_before b rest zeros enough ahead rest_is =
+    eol_at b rest zeros enough (grind (arith, common_steps, drop-append-add))

@@ -1,10 +1,12 @@
 -- Rows that nobody counted, and that are read to a good end, are all found.
+use Rattle.fax_page.specs.code.Starts.{BeginsBelowEleven}
+use Rattle.std.proofs.Common.{ap}
 use Rattle.std.proofs.Common.{◌≡◌, ℕ, ◌+◌, List, [], ◌∷◌, ◌++◌, length, map, Bool, true, refl, sym}
 use Rattle.std.proofs.Common.{subst, arith, inl, inr, Option, Some, None}
 use Rattle.std.specs.Prelude.{◌⊎◌}
 use Rattle.fax_bits.specs.declared.Colour.{Colour}
 use Rattle.fax_page.specs.declared.StripFault.TheVariants.{DataEnds, EndMarker}
-use Rattle.fax_page.specs.Lines.{BeginsBelowEleven, Coding, IsCause, Mh, Mmr, Mr, StripFault}
+use Rattle.fax_page.specs.Lines.{Coding, IsCause, Mh, Mmr, Mr, StripFault, next_one}
 use Rattle.fax_page.specs.Lines.{StripForm, white_row}
 use Rattle.fax_page.specs.Strip.{AreLines, HasEndMark, end_of_line}
 use Rattle.fax_page.specs.Uncounted.{DataEnd, EndsSo, HasDataEnd, IsUncounted, Marked, RowsEnd, uncounted}
@@ -19,7 +21,7 @@ use Rattle.fax_page.proofs.StartLaws.{below_is_not_zeros, eol_is_not_below}
 mark_has_eol : (coding : Coding) (b : List Bool) → HasEndMark coding b → BeginsBelowEleven b → ⊥
 mark_has_eol Mh b mark below = eol_is_not_below b mark.1.0 mark.1.1 below
 mark_has_eol Mr b mark below = eol_is_not_below b (true ∷ mark.1.0) mark.1.1 below
-mark_has_eol Mmr b mark below = eol_is_not_below b (end_of_line ++ mark.0) (11, omega arith, mark.1) below
+mark_has_eol Mmr b mark below = eol_is_not_below b (end_of_line ++ mark.0) (ap (next_one 0) mark.1) below
 
 -- rows end well after so many
 abbrev EndsWell : Coding → ℕ → List Bool → RowsEnd → Type 0

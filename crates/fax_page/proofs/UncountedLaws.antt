@@ -1,4 +1,7 @@
 -- Rows that nobody counted are read in one way, where rows are.
+use Rattle.fax_page.specs.Lines.{start_by}
+use Rattle.fax_page.proofs.StartLaws.{at_zeros}
+use Rattle.std.proofs.Common.{ap}
 use Rattle.std.proofs.Common.{◌≡◌, ℕ, ◌+◌, ◌<◌, ◌≤◌, List, [], ◌∷◌, ◌++◌, length, replicate, Bool, true}
 use Rattle.std.proofs.Common.{false, refl, sym, ◌∙◌}
 use Rattle.std.proofs.Common.{subst, arith, inl, inr, Option, Some, None}
@@ -89,8 +92,10 @@ uncounted_rows_are_a_strip form b rows end is = record {
 written_cause : (form : StripForm) (i : ℕ) (reference : List Colour) (coding : Coding) (zeros : ℕ)
     → form.coding ≡ coding
     → (fault : StripFault) × IsCause form i reference (end_bits coding ++ replicate zeros false) fault
-written_cause form i reference Mh zeros is = (DataEnds, inl (rw is (inl ((zeros, refl), refl))))
-written_cause form i reference Mr zeros is = (DataEnds, inl (rw is (inl ((zeros, refl), refl))))
+written_cause form i reference Mh zeros is =
+    (DataEnds, inl (rw is (ap (start_by Mh i (replicate zeros false)) (at_zeros 0 zeros))))
+written_cause form i reference Mr zeros is =
+    (DataEnds, inl (rw is (ap (start_by Mr i (replicate zeros false)) (at_zeros 0 zeros))))
 written_cause form i reference Mmr zeros is = (
   EndMarker,
   inr (

@@ -1,6 +1,9 @@
 -- A written strip is read back, where its rows are.
+use Rattle.fax_page.specs.code.Starts.{IsEndOfLine}
+use Rattle.fax_page.proofs.StartLaws.{IsStart}
+use Rattle.std.proofs.Common.{ap}
 use Rattle.std.proofs.Common.{◌≡◌, ℕ, zero, suc, ◌+◌, List, [], ◌∷◌, ◌++◌, length, Bool, refl, sym, subst, arith}
-use Rattle.std.proofs.Common.{append_assoc, inr, None, Ok}
+use Rattle.std.proofs.Common.{append_assoc, None, Ok}
 use Rattle.std.specs.Prelude.{All}
 use Rattle.std.proofs.lemmas.List.{length-replicate}
 use Rattle.fax_bits.specs.declared.Colour.{Colour}
@@ -8,10 +11,11 @@ use Rattle.fax_bits.specs.declared.Colour.TheVariants.{White}
 use Rattle.fax_rows.specs.laws.Rows.{OneDimensionalBitsAreRead, TwoDimensionalBitsAreRead}
 use Rattle.fax_rows.specs.Coded.{one_dimensional_bits}
 use Rattle.fax_page.specs.declared.Dimension.{Dimension}
+use Rattle.fax_page.specs.declared.Dimension.TheVariants.{OneDimensional, TwoDimensional}
 use Rattle.fax_page.specs.declared.Coding.{Coding}
 use Rattle.fax_page.specs.declared.Coding.TheVariants.{Mh, Mr, Mmr}
 use Rattle.fax_page.specs.declared.StripForm.{StripForm}
-use Rattle.fax_page.specs.Lines.{tag_bit, IsRowIn, IsLine, IsStart, white_row}
+use Rattle.fax_page.specs.Lines.{tag_bit, IsRowIn, IsLine, start_by, white_row}
 use Rattle.fax_page.specs.views.Strip.{IsStripForm}
 use Rattle.fax_page.specs.Strip.{AreLines}
 use Rattle.fax_page.specs.Strip.{written_dimension, row_bits, fill_zeros, start_bits, coded_line, coded_lines}
@@ -26,12 +30,17 @@ start_back : (coding : Coding) (aligned : Bool) (before k i : ℕ) (reference ro
     IsStart coding i ((start_bits coding aligned before dimension ++ row_bits dimension reference row) ++ more)
     (Ok (dimension, row_bits dimension reference row ++ more))
 start_back Mh aligned before k i reference row more =
-    inr (inr (inr (_, end_of_line_back (fill_zeros aligned before) [] (one_dimensional_bits row) more, refl)))
+    ap (start_by Mh i _) (end_of_line_back (fill_zeros aligned before) [] (one_dimensional_bits row) more)
 start_back Mr aligned before k i reference row more =
     let dimension = written_dimension Mr k i in
-    let eol = end_of_line_back (fill_zeros aligned before) (tag_bit dimension ∷ []) (row_bits dimension reference row)
-    more in
-    inr (inr (inr (dimension, _, eol, refl)))
+    tagged ((start_bits Mr aligned before dimension ++ row_bits dimension reference row) ++ more) _ dimension
+    (end_of_line_back (fill_zeros aligned before) (tag_bit dimension ∷ [])
+    (row_bits dimension reference row) more)
+  where
+    tagged : (b codes : List Bool) (dimension : Dimension) → IsEndOfLine b (tag_bit dimension ∷ codes)
+        → IsStart Mr i b (Ok (dimension, codes))
+    tagged b codes OneDimensional eol = ap (start_by Mr i b) eol
+    tagged b codes TwoDimensional eol = ap (start_by Mr i b) eol
 start_back Mmr aligned before k i reference row more = refl
 
 module _ (one_read : OneDimensionalBitsAreRead) (two_read : TwoDimensionalBitsAreRead) (form : StripForm)

@@ -1,14 +1,14 @@
 -- What is left of rows that nobody counted, where they are damaged: each is found or lost as in a
 -- strip whose rows are counted, up to where they end.
 -- A definition without a citation is this project's profile.
-use Rattle.std.specs.Prelude.{◌≡◌, ℕ, ◌+◌, ◌<◌, ◌⊎◌, Bool, List, [], ◌∷◌, Option, Some, None}
+use Rattle.std.specs.Prelude.{◌≡◌, ◌≢◌, ℕ, ◌+◌, ◌<◌, ◌⊎◌, Bool, List, [], ◌∷◌, Option, Some, None}
 use Rattle.fax_bits.specs.declared.Colour.{Colour}
 use Rattle.fax_page.specs.declared.StripFault.TheVariants.{MissingEol}
-use Rattle.fax_page.specs.Lines.{BeginsBelowEleven, StripFault, StripForm, white_row}
+use Rattle.fax_page.specs.Lines.{StripFault, StripForm, in_code, next_one, read_start, white_row}
 use Rattle.fax_page.specs.Strip.{HasEndMark}
 use Rattle.fax_page.specs.Uncounted.{EndsSo, Fault, HasDataEnd, RowsEnd, TooMany}
 use Rattle.fax_page.specs.Salvage.{SalvagedRow, found, lost, unended}
-use Rattle.fax_page.specs.Salvage.{IsEolDue, IsLostFor, IsReadOver, IsSoughtFrom, next_due}
+use Rattle.fax_page.specs.Salvage.{IsEolDue, IsLostFor, IsReadOver, next_due, sought_from}
 
 -- row i is due: there may be so many rows, and they do not end before it
 abbrev pub IsRowDue : StripForm → ℕ → List Bool → Type 0
@@ -24,7 +24,7 @@ IsEndBefore form i b end = EndsSo form.coding i b None end × (end ≡ TooMany �
 abbrev pub GoesOnUncounted : StripForm → ℕ → List Bool → StripFault → (List Bool → Type 0)
     → List SalvagedRow → RowsEnd → Type 0
 GoesOnUncounted form i b fault at_eol rows end =
-    (from : List Bool) × IsSoughtFrom form.coding i b from
+    (from : List Bool) × (sought_from b (read_start form.coding i b) ≡ from)
     × ((((next_due form.coding from ≡ None) ⊎ (i + 1 ≡ form.rows)) × (rows ≡ [])
     × (end ≡ Fault fault))
     ⊎ ((due : List Bool) × (next_due form.coding from ≡ Some due) × (i + 1 < form.rows)
@@ -37,7 +37,7 @@ abbrev pub AreLeftUncounted : StripForm → ℕ → Option StripFault → List C
 AreLeftUncounted form i before reference b [] end = IsEndBefore form i b end
 AreLeftUncounted form i before reference b (found row ∷ rows) end =
     (rest : List Bool) × IsRowDue form i b × IsReadOver form i before reference b row rest
-    × (IsEolDue form i → BeginsBelowEleven rest → ⊥)
+    × (IsEolDue form i → next_one 0 rest ≢ in_code)
     × AreLeftUncounted form (i + 1) None row rest rows end
 AreLeftUncounted form i before reference b (lost fault ∷ rows) end =
     IsRowDue form i b × IsLostFor form i before reference b fault
@@ -45,7 +45,7 @@ AreLeftUncounted form i before reference b (lost fault ∷ rows) end =
     (λ due. AreLeftUncounted form (i + 1) (Some fault) (white_row form.width) due rows end) rows end
 AreLeftUncounted form i before reference b (unended row ∷ rows) end =
     (rest : List Bool) × IsRowDue form i b × IsReadOver form i before reference b row rest
-    × IsEolDue form i × BeginsBelowEleven rest
+    × IsEolDue form i × (next_one 0 rest ≡ in_code)
     × GoesOnUncounted form i b MissingEol
     (λ due. AreLeftUncounted form (i + 1) (Some MissingEol) (white_row form.width) due rows end)
     rows end

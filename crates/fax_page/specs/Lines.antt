@@ -1,8 +1,7 @@
 -- How a row begins in a strip, and what keeps it from being read.
 -- A definition without a citation is this project's profile.
-use Rattle.std.specs.Prelude.{◌≡◌, ◌≢◌, ℕ, ◌<◌, ◌≤◌, ◌⊎◌, Bool, true, false, List, [], ◌∷◌, ◌++◌}
-use Rattle.std.specs.Prelude.{replicate, Result, Ok, Err}
-use Rattle.fax_bits.specs.Bits.{IsAllZeros}
+use Rattle.std.specs.Prelude.{◌≡◌, ℕ, zero, suc, ◌<◌, ◌⊎◌, nat_le, if◌then◌else◌, Bool, true, false}
+use Rattle.std.specs.Prelude.{List, [], ◌∷◌, ◌++◌, replicate, Result, Ok, Err}
 use Rattle.fax_rows.specs.Rows.{Colour, White, IsOneDimensionalRow, IsTwoDimensionalRow}
 use Rattle.fax_rows.specs.declared.RowFault.{RowFault}
 use Rattle.fax_rows.specs.declared.RowFault.TheVariants as in_row
@@ -26,34 +25,33 @@ abbrev pub tag_bit : Dimension → Bool
 tag_bit OneDimensional = true
 tag_bit TwoDimensional = false
 
--- fill and an EOL: the next 1 stands after eleven zeros or more (T.4, sections 4.1.2, 4.1.3 and
--- 4.2.3)
-abbrev pub IsEndOfLine : List Bool → List Bool → Type 0
-IsEndOfLine b rest = (zeros : ℕ) × (11 ≤ zeros) × (b ≡ replicate zeros false ++ true ∷ rest)
+-- the next 1, after so many zeros: after eleven or more it ends an EOL, which these bits follow
+-- (T.4, sections 4.1.2, 4.1.3 and 4.2.3); after fewer it stands in a code; or none is left
+pub data NextOne : Type 0 where
+  ends_line : List Bool → NextOne
+  in_code : NextOne
+  not_there : NextOne
 
--- it stands after fewer: the bits may begin with a code, and with no EOL (T.4, section 4.1.2)
-abbrev pub BeginsBelowEleven : List Bool → Type 0
-BeginsBelowEleven b =
-    (zeros : ℕ) × (zeros < 11)
-    × ((after : List Bool) × (b ≡ replicate zeros false ++ true ∷ after))
+abbrev pub next_one : ℕ → List Bool → NextOne
+next_one zeros [] = not_there
+next_one zeros (false ∷ b) = next_one (suc zeros) b
+next_one zeros (true ∷ b) = if nat_le 11 zeros then ends_line b else in_code
 
 -- what stands before the codes of row i of a strip: in MH an EOL, in MR an EOL and a tag bit,
--- nothing in MMR. How the row is coded, and its codes, or the fault, by the zeros before the next
--- 1; where no 1 is left the data ends, however many zeros there are (T.4, sections 4.1.2 and 4.2.2;
+-- nothing in MMR. How the row is coded, and its codes, or the fault (T.4, sections 4.1.2 and 4.2.2;
 -- T.6, section 2.2.1; that row 0 of MH may lack its EOL is this project's profile)
-abbrev pub IsStart : Coding → ℕ → List Bool → Result (Dimension × List Bool) StripFault → Type 0
-IsStart Mh i b start =
-    (IsAllZeros b × (start ≡ Err DataEnds))
-    ⊎ (BeginsBelowEleven b × (i ≡ 0) × (start ≡ Ok (OneDimensional, b)))
-    ⊎ (BeginsBelowEleven b × (i ≢ 0) × (start ≡ Err MissingEol))
-    ⊎ ((codes : List Bool) × IsEndOfLine b codes × (start ≡ Ok (OneDimensional, codes)))
-IsStart Mr i b start =
-    (IsAllZeros b × (start ≡ Err DataEnds))
-    ⊎ (BeginsBelowEleven b × (start ≡ Err MissingEol))
-    ⊎ (IsEndOfLine b [] × (start ≡ Err DataEnds))
-    ⊎ ((dimension : Dimension) × (codes : List Bool) × IsEndOfLine b (tag_bit dimension ∷ codes)
-    × (start ≡ Ok (dimension, codes)))
-IsStart Mmr i b start = start ≡ Ok (TwoDimensional, b)
+abbrev pub start_by : Coding → ℕ → List Bool → NextOne → Result (Dimension × List Bool) StripFault
+start_by Mmr i b one = Ok (TwoDimensional, b)
+start_by Mh i b (ends_line codes) = Ok (OneDimensional, codes)
+start_by Mh zero b in_code = Ok (OneDimensional, b)
+start_by Mr i b (ends_line []) = Err DataEnds
+start_by Mr i b (ends_line (tag ∷ codes)) =
+    Ok (if tag then OneDimensional else TwoDimensional, codes)
+start_by _ i b in_code = Err MissingEol
+start_by _ i b not_there = Err DataEnds
+
+abbrev pub read_start : Coding → ℕ → List Bool → Result (Dimension × List Bool) StripFault
+read_start coding i b = start_by coding i b (next_one 0 b)
 
 -- the bits begin with this row, coded so (T.4, sections 4.1.1 and 4.2.1.3.3)
 abbrev pub IsRowIn : Dimension → ℕ → List Colour → List Bool → List Colour → List Bool → Type 0
@@ -65,8 +63,8 @@ pub record IsLine (form : StripForm) (i : ℕ) (reference : List Colour) (b : Li
     (row : List Colour) (rest : List Bool) : Type 0 where
   pub dimension : Dimension
   pub codes : List Bool
-  pub start : IsStart form.coding i b (Ok (dimension, codes))
-  pub first_code : BeginsBelowEleven codes
+  pub start : read_start form.coding i b ≡ Ok (dimension, codes)
+  pub first_code : next_one 0 codes ≡ in_code
   pub coded : IsRowIn dimension form.width reference codes row rest
 
 -- a strip's name for the fault of a row
@@ -88,13 +86,13 @@ abbrev pub IsStopInCodes : Dimension → ℕ → List Colour → List Bool → S
 IsStopInCodes dimension width reference b fault =
     ((after : List Bool) × (b ≡ replicate 11 false ++ after) × (fault ≡ EndMarker))
     ⊎ ((zeros : ℕ) × (zeros < 11) × (b ≡ replicate zeros false) × (fault ≡ DataEnds))
-    ⊎ (BeginsBelowEleven b × (cause : RowFault) × IsRowFaultIn dimension width reference b cause
-    × (fault ≡ strip_fault cause))
+    ⊎ ((next_one 0 b ≡ in_code) × (cause : RowFault)
+    × IsRowFaultIn dimension width reference b cause × (fault ≡ strip_fault cause))
 
 -- row i of a strip is not there, for this cause: before its first code, or from there on
 abbrev pub IsCause : StripForm → ℕ → List Colour → List Bool → StripFault → Type 0
 IsCause form i reference b fault =
-    IsStart form.coding i b (Err fault)
+    (read_start form.coding i b ≡ Err fault)
     ⊎ ((dimension : Dimension) × (codes : List Bool)
-    × IsStart form.coding i b (Ok (dimension, codes))
+    × (read_start form.coding i b ≡ Ok (dimension, codes))
     × IsStopInCodes dimension form.width reference codes fault)

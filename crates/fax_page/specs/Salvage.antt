@@ -3,12 +3,12 @@
 -- A definition without a citation is this project's profile.
 use Rattle.std.specs.Prelude.{◌≡◌, ◌≢◌, ℕ, suc, ◌+◌, ◌-◌, ◌<◌, ◌⊎◌, Bool, true, false}
 use Rattle.std.specs.Prelude.{nat_le, if◌then◌else◌, List, [], ◌∷◌, ◌++◌, replicate, Option, Some}
-use Rattle.std.specs.Prelude.{None, option_map, MatchOption, Ok, Err}
+use Rattle.std.specs.Prelude.{None, option_map, MatchOption, Result, Ok, Err}
 use Rattle.fax_bits.specs.declared.Colour.{Colour}
 use Rattle.fax_page.specs.declared.StripFault.TheVariants.{DataEnds, MissingEol}
 use Rattle.fax_page.specs.Lines.{Coding, Mmr, Dimension, OneDimensional, TwoDimensional}
-use Rattle.fax_page.specs.Lines.{StripForm, StripFault, BeginsBelowEleven, IsCause, IsLine, IsStart}
-use Rattle.fax_page.specs.Lines.{white_row}
+use Rattle.fax_page.specs.Lines.{StripForm, StripFault, IsCause, IsLine, in_code, next_one}
+use Rattle.fax_page.specs.Lines.{read_start, white_row}
 use Rattle.fax_page.specs.Strip.{end_of_line}
 
 -- what becomes of a row: it is found; it is lost, since it cannot be read, for this cause; or it is
@@ -32,16 +32,15 @@ next_due coding from = option_map (λ rest. end_of_line ++ rest) (after_eol 0 fr
 
 -- where the next EOL is looked for after row i, which is lost: after its own EOL and tag bit, or
 -- from its place on where it has none; where the data end before its codes nothing is left
-abbrev pub IsSoughtFrom : Coding → ℕ → List Bool → List Bool → Type 0
-IsSoughtFrom coding i b from =
-    ((dimension : Dimension) × IsStart coding i b (Ok (dimension, from)))
-    ⊎ (IsStart coding i b (Err MissingEol) × (from ≡ b))
-    ⊎ (IsStart coding i b (Err DataEnds) × (from ≡ []))
+abbrev pub sought_from : List Bool → Result (Dimension × List Bool) StripFault → List Bool
+sought_from b (Ok start) = start.1
+sought_from b (Err DataEnds) = []
+sought_from b (Err fault) = b
 
 -- row i is coded over the row before it (T.4, section 4.2.2; T.6, section 2.2.1)
 abbrev pub BeginsTwoDimensional : Coding → ℕ → List Bool → Type 0
 BeginsTwoDimensional coding i b =
-    (codes : List Bool) × IsStart coding i b (Ok (TwoDimensional, codes))
+    (codes : List Bool) × (read_start coding i b ≡ Ok (TwoDimensional, codes))
 
 -- row i is this one over its reference, and the rest follows it. Where the row before it is lost,
 -- for some cause, it is not coded over that one
@@ -68,7 +67,7 @@ IsLostFor form i before reference b fault =
 abbrev pub GoesOnAfter : StripForm → ℕ → List Bool → StripFault → (List Bool → Type 0)
     → List SalvagedRow → Type 0
 GoesOnAfter form i b fault at_eol rows =
-    (from : List Bool) × IsSoughtFrom form.coding i b from
+    (from : List Bool) × (sought_from b (read_start form.coding i b) ≡ from)
     × MatchOption (next_due form.coding from) (rows ≡ replicate (form.rows - (i + 1)) (lost fault))
     at_eol
 
@@ -79,14 +78,14 @@ abbrev pub AreSalvaged : StripForm → ℕ → Option StripFault → List Colour
 AreSalvaged form i before reference b [] = i ≡ form.rows
 AreSalvaged form i before reference b (found row ∷ rows) =
     (rest : List Bool) × (i < form.rows) × IsReadOver form i before reference b row rest
-    × (IsEolDue form i → BeginsBelowEleven rest → ⊥) × AreSalvaged form (i + 1) None row rest rows
+    × (IsEolDue form i → next_one 0 rest ≢ in_code) × AreSalvaged form (i + 1) None row rest rows
 AreSalvaged form i before reference b (lost fault ∷ rows) =
     (i < form.rows) × IsLostFor form i before reference b fault
     × GoesOnAfter form i b fault
     (λ due. AreSalvaged form (i + 1) (Some fault) (white_row form.width) due rows) rows
 AreSalvaged form i before reference b (unended row ∷ rows) =
     (rest : List Bool) × IsReadOver form i before reference b row rest
-    × IsEolDue form i × BeginsBelowEleven rest
+    × IsEolDue form i × (next_one 0 rest ≡ in_code)
     × GoesOnAfter form i b MissingEol
     (λ due. AreSalvaged form (i + 1) (Some MissingEol) (white_row form.width) due rows) rows
 

@@ -8,8 +8,8 @@ use Rattle.fax_bits.specs.Bits.{packed}
 use Rattle.fax_rows.specs.Rows.{Colour}
 use Rattle.fax_rows.specs.Coded.{one_dimensional_bits, two_dimensional_bits}
 use Rattle.fax_page.specs.Lines.{Coding, Mh, Mr, Mmr, Dimension, OneDimensional, TwoDimensional}
-use Rattle.fax_page.specs.Lines.{StripForm, StripFault, IsCause, IsEndOfLine, IsLine, tag_bit}
-use Rattle.fax_page.specs.Lines.{white_row}
+use Rattle.fax_page.specs.Lines.{StripForm, StripFault, IsCause, IsLine, tag_bit}
+use Rattle.fax_page.specs.Lines.{ends_line, next_one, white_row}
 use Rattle.fax_page.specs.declared.notes.StripNotes.{StripNotes}
 
 -- the most rows that a strip has
@@ -89,8 +89,8 @@ coded_strip form k rows = packed form.order (coded_bits form k rows)
 -- one EOL of a return to control: in MR the tag bit of a one-dimensional row follows it
 -- (T.4, sections 4.1.4 and 4.2.4; that any fill may stand before it is the note's own rule)
 abbrev pub IsReturnEol : Coding → List Bool → List Bool → Type 0
-IsReturnEol Mh b rest = IsEndOfLine b rest
-IsReturnEol Mr b rest = IsEndOfLine b (tag_bit OneDimensional ∷ rest)
+IsReturnEol Mh b rest = next_one 0 b ≡ ends_line rest
+IsReturnEol Mr b rest = next_one 0 b ≡ ends_line (tag_bit OneDimensional ∷ rest)
 IsReturnEol Mmr b rest = ⊥
 
 -- so many of them stand one after another (T.4, sections 4.1.4 and 4.2.4)

@@ -3,7 +3,7 @@ ghost use Rattle.std.specs.Prelude.{◌≡◌, ◌<◌, ◌∷◌, [], List, fal
 ghost use Rattle.fax_bits.specs.declared.Colour.{Colour};
 ghost use Rattle.fax_bits.specs.views.Source.{KeepsEnd};
 ghost use Rattle.fax_page.specs.Lines as Lines;
-ghost use Rattle.fax_page.specs.code.Starts.{HasEol, HasNoEol, IsFirstCodeFault, IsStop};
+ghost use Rattle.fax_page.specs.code.Starts.{BeginsBelowEleven, HasEol, HasNoEol, IsFirstCodeFault, IsStop};
 ghost use Rattle.fax_page.specs.code.LineStops.{IsLineStop};
 ghost use Rattle.fax_page.specs.code.Notes.{IsChosen};
 ghost use Rattle.fax_page.specs.code.Salvage.{IsFirstEol, IsNextEol};
@@ -68,8 +68,8 @@ pub(crate) fn read_start(
     i: u32,
 ) -> Result<Dimension, StripFault>
     ensures ok { IfOk result (λ dimension.
-        Lines.IsStart coding i source.old.left (Ok (dimension, source.new.left))) }
-    ensures err { IfErr result (λ fault. Lines.IsStart coding i source.old.left (Err fault)) }
+        Lines.read_start coding i source.old.left ≡ Ok (dimension, source.new.left)) }
+    ensures err { IfErr result (λ fault. Lines.read_start coding i source.old.left ≡ Err fault) }
     ensures same_end { KeepsEnd source.old source.new }
 {
     match coding {
@@ -89,7 +89,7 @@ pub(crate) fn read_start(
 /// Whether a row's first code may be read: an EOL in its place is the end of the page (T.4,
 /// section 4.1.4), or of the facsimile block (T.6).
 fn check_first_code(source: &BitSource) -> Result<(), StripFault>
-    ensures ok { OnOk result (Lines.BeginsBelowEleven source.now.left) }
+    ensures ok { OnOk result (BeginsBelowEleven source.now.left) }
     ensures err { IfErr result (λ fault. IsFirstCodeFault source.now.left fault) }
 {
     // In MH the search for the EOL comes before this: so a strip without a single 1 where a row is
@@ -183,8 +183,8 @@ pub(crate) fn line_fault(mut start: BitSource, form: StripForm, i: u32, why: Lin
 /// Whether fewer than eleven zeros stand before the next 1: no EOL begins there (T.4, section 4.1.2).
 #[inline(always)]
 pub(crate) fn begins_below_eleven(source: &BitSource) -> bool
-    ensures yes { IsTrue result → Lines.BeginsBelowEleven source.now.left }
-    ensures no { result ≡ false → Lines.BeginsBelowEleven source.now.left → ⊥ }
+    ensures yes { IsTrue result → BeginsBelowEleven source.now.left }
+    ensures no { result ≡ false → BeginsBelowEleven source.now.left → ⊥ }
 {
     match source.zeros() {
         Some(zeros) => zeros < EOL_ZEROS,

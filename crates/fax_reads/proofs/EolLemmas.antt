@@ -1,4 +1,5 @@
 -- No EOL stands among the codes of a row: each code begins with at most seven zeros, and ends with at most three.
+use Rattle.fax_page.specs.code.Starts.{BeginsBelowEleven, IsEndOfLine}
 use Rattle.std.proofs.Common.{arith, ◌≡◌, ℕ, zero, suc, ◌+◌, ◌<◌, ◌≤◌, List, [], ◌∷◌, ◌++◌, map, Bool, true, false}
 use Rattle.std.proofs.Common.{refl, append_assoc, append-nil, get_or, length, sym, ap, ◌∙◌, subst, inl, inr, Option}
 use Rattle.std.proofs.Common.{Some, None, replicate}
@@ -19,11 +20,11 @@ use Rattle.fax_rows.specs.Rows.{AreRuns, AreSteps, IsStepBy, Position, other}
 use Rattle.fax_page.specs.declared.Dimension.{Dimension}
 use Rattle.fax_page.specs.declared.Dimension.TheVariants.{OneDimensional, TwoDimensional}
 use Rattle.fax_page.specs.declared.StripForm.{StripForm}
-use Rattle.fax_page.specs.Lines.{BeginsBelowEleven, IsEndOfLine, IsLine, IsRowIn}
+use Rattle.fax_page.specs.Lines.{IsLine, IsRowIn, NextOne, ends_line, in_code, next_one}
+use Rattle.fax_page.specs.Lines.{not_there}
 use Rattle.fax_page.specs.Salvage.{after_eol}
-use Rattle.fax_page.specs.reads.Lines.{after_one, has_few, zeros}
 use Rattle.fax_reads.specs.laws.Eols.{FoundRowsReachToTheNextEol, RowsHoldNoEol}
-use Rattle.fax_page.proofs.LineGraph.{IsOne, few_below, many_end, zeros_is}
+use Rattle.fax_page.proofs.StartLaws.{by_next, eol_is}
 
 -- how many zeros stand at the end of bits, after so many zeros, where no EOL is among them
 abbrev zeros_after : ℕ → List Bool → Option ℕ
@@ -246,8 +247,9 @@ next : (codes rest after : List Bool) → AreCodes codes rest → IsEndOfLine re
     → after_eol 0 codes ≡ Some after
 next codes rest after (own, is, free) eol =
     let end = free 0 (omega arith) in
-    ap (after_eol 0) is ∙ looked_after own rest 0 end.0 end.1 ∙ ap (after_eol end.0) eol.2
-    ∙ eol_there eol.0 end.0 after (omega (arith, eol.1))
+    let ends = eol_is rest after eol in
+    ap (after_eol 0) is ∙ looked_after own rest 0 end.0 end.1 ∙ ap (after_eol end.0) ends.2
+    ∙ eol_there ends.0 end.0 after (omega (arith, ends.1))
 
 pub no_eols : RowsHoldNoEol
 no_eols = record {
@@ -258,11 +260,11 @@ no_eols = record {
 }
 
 -- what follows a row that is found
-follows : (rest : List Bool) (after : Option (List Bool)) (few : Bool) → IsOne rest after → has_few rest ≡ few
-    → (BeginsBelowEleven rest → ⊥) → IsAllZeros rest ⊎ ((after : List Bool) × IsEndOfLine rest after)
-follows rest None few one at not_below = inl (zeros rest, one)
-follows rest (Some after) true one at not_below = absurd (not_below (few_below rest after one at))
-follows rest (Some after) false one at not_below = inr (after, many_end rest after one at)
+follows : (rest : List Bool) (one : NextOne) → next_one 0 rest ≡ one → (BeginsBelowEleven rest → ⊥)
+    → IsAllZeros rest ⊎ ((after : List Bool) × IsEndOfLine rest after)
+follows rest not_there at not_below = inl (by_next rest not_there at)
+follows rest in_code at not_below = absurd (not_below at)
+follows rest (ends_line after) at not_below = inr (after, at)
 
 reaches : (form : StripForm) (i : ℕ) (reference : List Colour) (b : List Bool) (row : List Colour) (rest : List Bool)
     (line : IsLine form i reference b row rest) → IsAllZeros rest ⊎ ((after : List Bool) × IsEndOfLine rest after)
@@ -273,5 +275,5 @@ reaches form i reference b row rest line (inr (after, eol)) =
 
 pub found_reach : FoundRowsReachToTheNextEol
 found_reach form i before reference b row rows (rest, inside, read, ends, more) due =
-    let after = follows rest (after_one rest) (has_few rest) (zeros_is rest) refl (ends due) in
+    let after = follows rest (next_one 0 rest) refl (ends due) in
     (rest, read.line, reaches form i reference b row rest read.line after)

@@ -1,4 +1,5 @@
 -- What is worth a note in a strip, as functions say it, is how it is defined by relations.
+use Rattle.std.specs.List.{list_any}
 use Rattle.std.proofs.Common.{arith, ◌≡◌, ◌≢◌, ℕ, zero, suc, ◌+◌, ◌↔◌, ◌⊎◌, List, [], ◌∷◌, ◌++◌, Bool, true, false}
 use Rattle.std.proofs.Common.{true≢false, refl, ap, sym, ◌∙◌, inl, inr, append-nil, IsTrue}
 use Rattle.std.proofs.Common.{Option, Some, None, Ok}
@@ -14,13 +15,12 @@ use Rattle.fax_page.specs.Lines.{IsLine, white_row}
 use Rattle.fax_page.specs.Strip.{AreLines, HasEndMark, HasOtherChoice, IsEndMark, IsNotedAs}
 use Rattle.fax_page.specs.Strip.{row_bits}
 use Rattle.fax_rows.specs.reads.Codes.{after_front}
-use Rattle.fax_page.specs.reads.Lines.{after_one, read_start}
+use Rattle.fax_page.specs.Lines.{read_start}
 use Rattle.fax_page.specs.reads.Uncounted.{after_mark}
 use Rattle.fax_page.specs.laws.Graphs.{StripsAreReadByFunctions}
 use Rattle.fax_reads.specs.Reports.{has_other_choice, is_all, is_mmr, is_other, strip_notes}
 use Rattle.fax_rows.proofs.CodeGraph.{front_is}
 use Rattle.fax_page.proofs.EndGraph.{IsAfterMark, has_mark, mark_is}
-use Rattle.fax_page.proofs.LineGraph.{start_of}
 
 -- what stands after the end mark
 after_end : (coding : Coding) (b : List Bool) (r : Option (List Bool)) → IsAfterMark coding b r
@@ -42,7 +42,7 @@ is_return_to Mr m P is = (λ e. ((λ same. cc (same)), is.0 e), λ h. is.1 h.1)
 is_return_to Mmr m P is = (λ e. absurd (cc (e)), λ h. absurd (h.0 refl))
 
 -- a 1 is among the bits
-has_one : (b : List Bool) → IsTrue (is_some (after_one b)) ↔ Contains b true
+has_one : (b : List Bool) → IsTrue (list_any (λ bit. bit) b) ↔ Contains b true
 has_one [] = (λ e. absurd (cc (e)), λ has. absurd (omega (arith, has.1)))
 has_one (true ∷ b) = (λ e. (0, omega arith, refl), λ has. refl)
 has_one (false ∷ b) = (
@@ -93,7 +93,7 @@ module _ (strips : StripsAreReadByFunctions) where
       ap (is_other reference row more (read_start form.coding i b))
       (((strips.line form i reference).answer b row rest).0 line)
       ∙ ap (λ start. is_other reference row more start (Ok (row, rest)))
-      (start_of form.coding i b (Ok (line.dimension, line.codes)) line.start)
+      line.start
 
   choice_of : (form : StripForm) (i : ℕ) (reference : List Colour) (b : List Bool) (rows : List (List Colour))
       → HasOtherChoice form i reference b rows → has_other_choice form i reference b rows ≡ true

@@ -1,5 +1,6 @@
 -- What is reported of a file that is checked, by functions (T.4, sections 4.1.1, 4.1.4, 4.2.1.3.3
 -- and 4.2.4; T.6, End-of-facsimile block; TIFF 6.0, section 2; the rest is this project's profile).
+use Rattle.std.specs.List.{list_any}
 use Rattle.std.specs.Prelude.{ℕ, ◌+◌, ◌*◌, ◌==◌, ◌&&◌, ◌||◌, not, if◌then◌else◌, Bool}
 use Rattle.std.specs.Prelude.{true, false, List, [], ◌∷◌, ◌++◌, length, flat_map, Option, Some}
 use Rattle.std.specs.Prelude.{None, is_some, unwrap_or, Result, Ok, Err}
@@ -26,7 +27,8 @@ use Rattle.fax_walk.specs.declared.walk.Place.{Place}
 use Rattle.fax_walk.specs.Pages.{FilePage, NextItem, goes_on, ends_as, File, Strip, read_page}
 use Rattle.fax_walk.specs.Report.{note_if, notes_on_strip}
 use Rattle.fax_rows.specs.reads.Codes.{after_front}
-use Rattle.fax_page.specs.reads.Lines.{after_one, read_line, read_start, read_strip}
+use Rattle.fax_page.specs.Lines.{read_start}
+use Rattle.fax_page.specs.reads.Lines.{read_line, read_strip}
 use Rattle.fax_page.specs.reads.Uncounted.{after_mark}
 use Rattle.fax_reads.specs.Files.{AllRead, read_all, read_rows}
 
@@ -60,7 +62,7 @@ strip_notes form b rows left =
     record {
       no_end_of_block = is_mmr form.coding && not (is_some after);
       return_to_control = not (is_mmr form.coding) && is_some after;
-      data_after_end = is_some (after_one (unwrap_or after left));
+      data_after_end = list_any (λ bit. bit) (unwrap_or after left);
       not_t4_choice = has_other_choice form 0 (white_row form.width) b rows;
     }
 

@@ -4,13 +4,18 @@ use Rattle.std.specs.Prelude.{length}
 use Rattle.std.specs.Prelude.{drop, Option, Some, None, MatchOption}
 use Rattle.fax_bits.specs.Bits.{bits}
 use Rattle.fax_bits.specs.views.Source.{Source}
-use Rattle.fax_page.specs.Lines.{Coding, Mmr, StripForm, BeginsBelowEleven}
+use Rattle.fax_page.specs.Lines.{Coding, Mmr, StripForm, read_start}
+use Rattle.fax_page.specs.code.Starts.{BeginsBelowEleven}
 use Rattle.fax_page.specs.Strip.{end_of_line}
 use Rattle.fax_page.specs.Lines.{white_row}
 use Rattle.fax_page.specs.declared.StripFault.{StripFault}
 use Rattle.fax_page.specs.views.Reader.{StripState, bits_left}
 use Rattle.fax_page.specs.views.Salvage.{SalvageState}
-use Rattle.fax_page.specs.Salvage.{BeginsTwoDimensional, IsSoughtFrom, after_eol, next_due}
+use Rattle.fax_page.specs.Salvage.{BeginsTwoDimensional, sought_from, after_eol, next_due}
+
+-- where the next EOL is looked for after row i, which is lost
+abbrev pub IsSoughtFrom : Coding → ℕ → List Bool → List Bool → Type 0
+IsSoughtFrom coding i b from = sought_from b (read_start coding i b) ≡ from
 
 -- whether row i is one of the strip's, and coded over the row before it
 abbrev pub SaysTwoDimensional : StripForm → ℕ → List Bool → Bool → Type 0

@@ -10,19 +10,12 @@ use Rattle.fax_page.specs.declared.Dimension.TheVariants.{OneDimensional, TwoDim
 use Rattle.fax_page.specs.declared.RowsEnd.{RowsEnd}
 use Rattle.fax_page.specs.declared.RowsEnd.TheVariants.{Fault, TooMany}
 use Rattle.fax_page.specs.declared.StripFault.{StripFault}
-use Rattle.fax_page.specs.declared.StripFault.TheVariants.{DataEnds, MissingEol}
+use Rattle.fax_page.specs.declared.StripFault.TheVariants.{MissingEol}
 use Rattle.fax_page.specs.declared.StripForm.{StripForm}
-use Rattle.fax_page.specs.Lines.{white_row}
-use Rattle.fax_page.specs.Salvage.{SalvagedRow, found, lost, next_due, unended}
-use Rattle.fax_page.specs.reads.Lines.{after_one, has_few, read_line, read_start}
+use Rattle.fax_page.specs.Lines.{NextOne, in_code, next_one, read_start, white_row}
+use Rattle.fax_page.specs.Salvage.{SalvagedRow, found, lost, next_due, sought_from, unended}
+use Rattle.fax_page.specs.reads.Lines.{read_line}
 use Rattle.fax_page.specs.reads.Uncounted.{rows_end}
-
--- where the next EOL is looked for after a row that is lost, by what stands before its codes: after
--- its own EOL and tag bit, or from its place on; where the data end there nothing is left
-abbrev pub sought_from : List Bool → Result (Dimension × List Bool) StripFault → List Bool
-sought_from b (Ok start) = start.1
-sought_from b (Err DataEnds) = []
-sought_from b (Err fault) = b
 
 -- why a row is lost that is coded over one that is: for the cause of that one
 abbrev pub cause_over : Option StripFault → Result (Dimension × List Bool) StripFault
@@ -50,14 +43,14 @@ has_eols Mh = true
 has_eols Mr = true
 has_eols Mmr = false
 
-abbrev pub begins_below_eleven : Option (List Bool) → Bool → Bool
-begins_below_eleven None few = false
-begins_below_eleven (Some after) few = few
+abbrev pub is_in_code : NextOne → Bool
+is_in_code in_code = true
+is_in_code _ = false
 
 abbrev pub lacks_eol : StripForm → ℕ → List Bool → Bool
 lacks_eol form i rest =
     (has_eols form.coding && nat_lt (i + 1) form.rows)
-    && begins_below_eleven (after_one rest) (has_few rest)
+    && is_in_code (next_one 0 rest)
 
 -- what becomes of n rows that follow one that is lost for this cause: the first of them is due at
 -- the next EOL; where none is left all are lost

@@ -1,6 +1,6 @@
 -- A damaged strip of which the rows that are left are read, one after another.
-use Rattle.std.specs.Prelude.{◌≡◌, ℕ, ◌+◌, ◌-◌, ◌*◌, ◌<◌, ◌≤◌, Bool, List, length, drop, Option}
-use Rattle.std.specs.Prelude.{Some, None, MatchOption, Result, Ok, Err}
+use Rattle.std.specs.Prelude.{◌≡◌, ◌≢◌, ℕ, ◌+◌, ◌-◌, ◌*◌, ◌<◌, ◌≤◌, Bool, List, length, drop}
+use Rattle.std.specs.Prelude.{Option, Some, None, MatchOption, Result, Ok, Err}
 use Rattle.fax_bits.specs.Bits.{bits}
 use Rattle.fax_bits.specs.declared.Colour.{Colour}
 use Rattle.fax_page.specs.declared.PlaceFault.{PlaceFault}
@@ -12,8 +12,8 @@ use Rattle.fax_page.specs.declared.StripFault.{StripFault}
 use Rattle.fax_page.specs.declared.StripFault.TheVariants.{MissingEol}
 use Rattle.fax_page.specs.declared.salvage.Salvaged.{Salvaged}
 use Rattle.fax_page.specs.declared.salvage.Salvaged.TheVariants.{Found, Lost, Unended}
-use Rattle.fax_page.specs.Lines.{BeginsBelowEleven, white_row}
-use Rattle.fax_page.specs.Salvage.{IsSoughtFrom, IsReadOver, IsEolDue, IsLostFor, next_due}
+use Rattle.fax_page.specs.Lines.{in_code, next_one, read_start, white_row}
+use Rattle.fax_page.specs.Salvage.{sought_from, IsReadOver, IsEolDue, IsLostFor, next_due}
 
 -- how far a strip is gone through: its form, the row that is due, the bits from there on, the row
 -- before it, and the cause for which that one is lost, if it is
@@ -49,7 +49,7 @@ IsSalvageInside form bytes i place before (Err Memory) =
 -- one is due at the next EOL; or all, where no EOL is left
 abbrev pub IsAfterLost : SalvageState → StripFault → ℕ → SalvageState → Type 0
 IsAfterLost old fault rows new =
-    (from : List Bool) × IsSoughtFrom old.form.coding old.row old.due from
+    (from : List Bool) × (sought_from old.due (read_start old.form.coding old.row old.due) ≡ from)
     × MatchOption (next_due old.form.coding from)
     ((rows ≡ old.form.rows - old.row) × (new.form ≡ old.form) × (new.row ≡ old.form.rows))
     (λ due. (rows ≡ 1) × (new ≡ record {
@@ -64,7 +64,7 @@ IsAfterLost old fault rows new =
 pub record FindsRow (old new : SalvageState) : Type 0 where
   pub due : old.row < old.form.rows
   pub read : IsReadOver old.form old.row old.before old.reference old.due new.reference new.due
-  pub ended : IsEolDue old.form old.row → BeginsBelowEleven new.due → ⊥
+  pub ended : IsEolDue old.form old.row → next_one 0 new.due ≢ in_code
   pub new_is : new ≡ record old {
     row = old.row + 1;
     due = new.due;
@@ -83,4 +83,4 @@ IsSalvageStep old (Some (Lost fault rows)) new =
 IsSalvageStep old (Some (Unended rows)) new =
     (row : List Colour) × (rest : List Bool)
     × IsReadOver old.form old.row old.before old.reference old.due row rest
-    × IsEolDue old.form old.row × BeginsBelowEleven rest × IsAfterLost old MissingEol rows new
+    × IsEolDue old.form old.row × (next_one 0 rest ≡ in_code) × IsAfterLost old MissingEol rows new

@@ -5,7 +5,7 @@ use Rattle.fax_bits.specs.Bits.{IsAllZeros}
 use Rattle.fax_bits.specs.declared.Colour.{Colour}
 use Rattle.fax_page.specs.declared.StripFault.{StripFault}
 use Rattle.fax_page.specs.declared.StripForm.{StripForm}
-use Rattle.fax_page.specs.Lines.{IsEndOfLine, IsLine}
+use Rattle.fax_page.specs.Lines.{IsLine, ends_line, next_one}
 use Rattle.fax_page.specs.Salvage.{AreSalvaged, IsEolDue, SalvagedRow, after_eol, found}
 
 -- the codes of a row hold no EOL, and none begins among them and ends after them where one follows:
@@ -16,7 +16,7 @@ pub record RowsHoldNoEol : Type 0 where
       → (own : List Bool) × (line.codes ≡ own ++ rest) × (after_eol 0 own ≡ None)
   pub next : (form : StripForm) (i : ℕ) (reference : List Colour) (b : List Bool)
       (row : List Colour) (rest : List Bool) (line : IsLine form i reference b row rest)
-      (after : List Bool) → IsEndOfLine rest after → after_eol 0 line.codes ≡ Some after
+      (after : List Bool) → next_one 0 rest ≡ ends_line after → after_eol 0 line.codes ≡ Some after
 
 -- a row that is found, and after which an EOL is due, reaches from its own EOL to the next one, or
 -- nothing but zeros follows it
@@ -27,4 +27,5 @@ FoundRowsReachToTheNextEol =
     → AreSalvaged form i before reference b (found row ∷ rows) → IsEolDue form i
     → (rest : List Bool) × (line : IsLine form i reference b row rest)
     × (IsAllZeros rest
-    ⊎ ((after : List Bool) × IsEndOfLine rest after × (after_eol 0 line.codes ≡ Some after)))
+    ⊎ ((after : List Bool) × (next_one 0 rest ≡ ends_line after)
+    × (after_eol 0 line.codes ≡ Some after)))

@@ -1,3 +1,4 @@
+use Rattle.fax_bits.specs.views.Source.{source_of}
 use Rattle.fax_page.proofs.SalvageLemmas.{not_two, not_begun}
 use Rattle.fax_page.proofs.reader.StripReader.begins_two_dimensional.Goals as goal
 
@@ -13,10 +14,12 @@ returns-in-Ok-OneDimensional c =
     let here = c.self.invariant.at_row (rw (← c.self.view_is) at c.requires) in
     let begun = rw (c.again-ahead.ensures, here, c.in-Ok-OneDimensional.field-0-is)
     at c.in-Ok-OneDimensional.ensures.ok in
-    rw (← c.self.view_is) (λ due two. not_two _ _ _ _ begun two)
+    rw (← c.self.view_is) (λ due two. not_two c.self.inside.form.coding c.self.inside.row
+    (source_of c.self.inside.form.order c.self.inside.bytes.now c.self.inside.place).left _ begun two)
 
 pub returns-in-Err : goal.returns-in-Err
 returns-in-Err c =
     let here = c.self.invariant.at_row (rw (← c.self.view_is) at c.requires) in
     let stop = rw (c.again-ahead.ensures, here) at c.in-Err.ensures.err in
-    rw (← c.self.view_is) (λ due two. not_begun _ _ _ _ stop two)
+    rw (← c.self.view_is) (λ due two. not_begun c.self.inside.form.coding c.self.inside.row
+    (source_of c.self.inside.form.order c.self.inside.bytes.now c.self.inside.place).left _ stop two)
