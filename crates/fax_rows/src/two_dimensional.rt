@@ -76,7 +76,7 @@ fn read_modes<const CHOICE: bool>(
     match read {
         Ok(end) => Ok(end),
         Err(Unread::Due(pause)) => read_on::<CHOICE>(source, reference, places, pause),
-        Err(Unread::Stop(stop)) => Err(stop),
+        Err(Unread::Stopped(stop)) => Err(stop),
     }
 }
 

@@ -19,7 +19,7 @@ IsStopOf choice faults (Stops.Fault fault) = faults fault
 -- something of these that is due, or one of these stops
 abbrev pub IsUnreadFor : {D : Type 0} → (Stop → Type 0) → (D → Type 0) → Unread D → Type 0
 IsUnreadFor stops dues (Unreads.Due due) = dues due
-IsUnreadFor stops dues (Unreads.Stop stop) = stops stop
+IsUnreadFor stops dues (Unreads.Stopped stop) = stops stop
 
 -- a fault of the step that the bits begin with
 abbrev pub IsStepStop : Bool → PlacedRow → List ℕ → PlacedReached → List Bool → Stop → Type 0

@@ -47,17 +47,17 @@ pub(super) enum Unread<D> {
     /// None of them finds what is due.
     Due(D),
     /// It is not read on by tables either.
-    Stop(Stop),
+    Stopped(Stop),
 }
 
 impl<D> From<Stop> for Unread<D> {
     ghost use Rattle.std.specs.Prelude.{◌≡◌};
     ghost use Rattle.fax_rows.specs.declared.two_dimensional.codes.Unread.TheVariants as Unreads;
 
-    ghost from_gives = { λ stop unread. unread ≡ Unreads.Stop stop };
+    ghost from_gives = { λ stop unread. unread ≡ Unreads.Stopped stop };
 
     fn from(stop: Stop) -> Unread<D> {
-        Unread::Stop(stop)
+        Unread::Stopped(stop)
     }
 }
 

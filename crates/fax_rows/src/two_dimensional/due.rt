@@ -130,7 +130,7 @@ fn read_due<const CHOICE: bool>(
                 Err(Unread::Due(first)) => {
                     last_horizontal::<CHOICE>(source, reference, places, at, first)
                 }
-                Err(Unread::Stop(stop)) => Err(stop),
+                Err(Unread::Stopped(stop)) => Err(stop),
             },
             Err(fault) => Err(Stop::Fault(RowFault::from(fault))),
         },

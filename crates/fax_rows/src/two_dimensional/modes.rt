@@ -174,7 +174,7 @@ pub(super) fn by_mode<const CHOICE: bool, const SEVERAL: bool>(
         ModeCode::Vertical(d) => Ok(vertical::<CHOICE>(reference, places, at, d)?),
         ModeCode::Pass => Ok(pass::<CHOICE>(reference, places, at)?),
         ModeCode::Horizontal => horizontal::<CHOICE, SEVERAL>(source, reference, places, at),
-        ModeCode::Extension => Err(Unread::Stop(Stop::Fault(RowFault::Extension))),
+        ModeCode::Extension => Err(Unread::Stopped(Stop::Fault(RowFault::Extension))),
     }
 }
 
@@ -208,7 +208,7 @@ fn next_steps<const CHOICE: bool, const SEVERAL: bool>(
     match by_mode::<CHOICE, SEVERAL>(source, reference, places, at, mode) {
         Ok(next) => Ok(next),
         Err(Unread::Due(first)) => Err(Unread::Due(Due::Runs(first))),
-        Err(Unread::Stop(stop)) => Err(Unread::Stop(stop)),
+        Err(Unread::Stopped(stop)) => Err(Unread::Stopped(stop)),
     }
 }
 
@@ -249,7 +249,7 @@ pub(super) fn read_by_look_ups<const CHOICE: bool, const SEVERAL: bool>(
                     b1: at.b1,
                 }));
             }
-            Err(Unread::Stop(stop)) => return Err(Unread::Stop(stop)),
+            Err(Unread::Stopped(stop)) => return Err(Unread::Stopped(stop)),
         }
     }
     source.go_to(&ahead);

@@ -208,7 +208,7 @@ pub(super) fn read_over_white<const CHOICE: bool>(
         match next_step::<CHOICE>(&mut ahead, at.first_pel, reference.width) {
             Some(StepOverWhite::Runs(runs)) => {
                 let Some(next) = past_two_runs::<CHOICE>(reference, places, at, runs) else {
-                    return Err(Unread::Stop(Stop::Other));
+                    return Err(Unread::Stopped(Stop::Other));
                 };
                 at = next;
             }

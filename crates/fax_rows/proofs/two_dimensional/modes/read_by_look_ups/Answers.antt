@@ -22,9 +22,9 @@ returns-clause-read g c =
     let read = c.loop-ahead.invariant.read in
     let within = read.so_far.within in rw c.go_to.ensures (row_done read (omega arith))
 
-pub returns-in-Err-Stop-clause-stop : goal.returns-in-Err-Stop-clause-stop
-returns-in-Err-Stop-clause-stop g c =
-    row_stop c.loop-ahead.invariant.read (omega arith) _ (rw c.in-Err-Stop.field-0-is at c.in-Err-Stop.ensures.stop)
+pub returns-in-Err-Stopped-clause-stop : goal.returns-in-Err-Stopped-clause-stop
+returns-in-Err-Stopped-clause-stop g c =
+    row_stop c.loop-ahead.invariant.read (omega arith) _ (rw c.in-Err-Stopped.field-0-is at c.in-Err-Stopped.ensures.stop)
 
 pub returns-in-Err-Due-clause-stop : goal.returns-in-Err-Due-clause-stop
 returns-in-Err-Due-clause-stop g c =
