@@ -442,9 +442,6 @@ module _ (by_place : AreBitsByPlace) (lines_read : LinesAreRead) (file : List �
         ended_at (IsRow file) (first_at 0 0) (first_at chain.given 0) whole.0 Proper whole.1 (rw at refl),
       )
 
-both_of : (a b : Bool) → (a && b) ≡ true → (a ≡ true) × (b ≡ true)
-both_of a b e = grind arith
-
 -- a file that is gone through
 module _ (by_place : AreBitsByPlace) (lines_read : LinesAreRead) (salvages : SalvagesStripsOneWay) (file : List ℕ)
     (one : IsSalvagedOneWay file) (given : ℕ) (chain : Option ChainState) (page now : Option SalvagePageState)
@@ -474,7 +471,7 @@ module _ (by_place : AreBitsByPlace) (lines_read : LinesAreRead) (salvages : Sal
       → IsInFile file chain None given (whole && clean)
   left_in_file clean ends is_clean = record {
     handed_out = page_left salvages file one given chain page now sound.handed_out ends;
-    whole_is = λ both. let parts = both_of whole clean both in
+    whole_is = λ both. let parts : (whole ≡ true) × (clean ≡ true) = grind arith in
         whole_left by_place lines_read file chain page now ends (sym is_clean ∙ parts.1) (sound.whole_is parts.0);
   }
 
