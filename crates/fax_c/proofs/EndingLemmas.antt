@@ -1,14 +1,14 @@
 -- Pages that are told how many they are: what is written of a page stands in three parts, what is
--- before its total, the total, and what is after it; and what is written of later pages stays.
+-- before its total, the total, and what is after it; and a file of pages is these parts, page after page.
 use Rattle.std.proofs.Common.{◌≡◌, ℕ, zero, suc, ◌+◌, ◌-◌, ◌*◌, ◌%◌, ◌≤◌, ◌<◌, Bool, false, List, [], ◌∷◌, ◌++◌, length}
 use Rattle.std.proofs.Common.{take, drop}
 use Rattle.std.proofs.Common.{refl, sym, ap, subst, ◌∙◌, arith, append_assoc, inl, inr}
-use Rattle.std.proofs.lemmas.List.{length-append, length-take-le, length-drop, length-replicate, take-append-le}
-use Rattle.std.proofs.lemmas.List.{drop_at, take_at, drop-drop, take-take}
-use Rattle.std.proofs.lemmas.List.{take-append-drop, append-nil}
+use Rattle.std.proofs.lemmas.List.{length-append, length-take-le, length-drop, length-replicate}
+use Rattle.std.proofs.lemmas.List.{drop_at, take_at, drop-drop}
+use Rattle.std.proofs.lemmas.List.{append-nil}
 use Rattle.std.proofs.lemmas.List.Concat.{flat_map-append}
 use Rattle.std.proofs.lemmas.Bool.{ne_eqb}
-use Rattle.std.proofs.Math.Seq.{take-append-add, take-append_seam, drop-append-add}
+use Rattle.std.proofs.Math.Seq.{take-append_seam, drop-append-add}
 use Rattle.std.specs.Prelude.{◌==◌, replicate, map, flat_map}
 use Rattle.fax_files.specs.declared.Endian.TheVariants.{Little}
 use Rattle.fax_files.specs.declared.PageForm.{PageForm}
@@ -22,153 +22,133 @@ use Rattle.fax_files.specs.Layout.{array_bytes, file_of}
 use Rattle.fax_files.specs.views.Writing.{empty_file}
 use Rattle.fax_c.specs.declared.writing.FaxWritten.{FaxWritten}
 use Rattle.fax_c.specs.declared.forms.FaxForm.{FaxForm}
-use Rattle.fax_c.specs.Raster.{page_strips}
+use Rattle.fax_c.specs.Raster.{AskedRaster, page_strips}
 use Rattle.fax_c.specs.views.Written.{TellsPageAdded, file_so_far}
-use Rattle.fax_c.specs.views.Ended.{next_link, IsLinkToPage, ArePagesAfter, with_total, with_totals, IsEndable}
-use Rattle.fax_c.specs.views.Ended.{HasItsPages, TellsPagesEnded}
+use Rattle.fax_c.specs.views.Ended.{next_link, ArePagesAfter, with_total, with_totals, IsEndable}
+use Rattle.fax_c.specs.views.Ended.{TellsPagesEnded}
 use Rattle.fax_c.specs.views.Ended.{IsFileSoFar, AddsToPages, EndsWholeFile}
 use Rattle.fax_files.proofs.PageByPageLemmas.{with_pages-push}
-use Rattle.fax_c.proofs.WritingLemmas.{len_with_page}
 
--- the bytes of a page before the total that it says, and after it: of the fields PageNumber (297, two SHORTs, of type
--- 3) is the last; StripOffsets (273) and StripByteCounts (279) are LONGs, of type 4
-abbrev early_fields : ℕ → ℕ → PageForm → List (List ℕ) → List WrittenField
-early_fields start k form strips =
-    let offsets = offsets_from start strips in
-    let lengths = map length strips in
-    let q = directory_place start strips in
-    let place = q + (to_link + 20) in
-    take 15 (fields_with q 0 k form
-    (field_of 273 4 (length offsets) (four (one_or_place offsets place)))
-    (field_of 279 4 (length lengths) (four (one_or_place lengths (place + 4 * length lengths)))))
+-- where the directory of a page stands, which is added to a file after the rest of the page before, and its link
+abbrev place_of : ℕ → List ℕ → WrittenPage → ℕ
+place_of link rest page = directory_place (link + 4 + length rest) page.strips
 
-abbrev page_head : ℕ → ℕ → PageForm → List (List ℕ) → List ℕ
-page_head start k form strips =
-    let all = flat_map (λ strip. strip) strips in
-    (all ++ replicate ((start + length all) % 2) 0) ++ (two 16
-    ++ (flat_map field_bytes (early_fields start k form strips)
-    ++ (two 297 ++ two 3 ++ four 2 ++ two k)))
+abbrev link_of : ℕ → List ℕ → WrittenPage → ℕ
+link_of link rest page = place_of link rest page + to_link
 
-abbrev page_rest : ℕ → PageForm → List (List ℕ) → List ℕ
-page_rest start form strips =
-    four 0 ++ (four form.x.0 ++ four form.x.1 ++ (four form.y.0 ++ four form.y.1)
-    ++ array_bytes (offsets_from start strips)
-    ++ array_bytes (map length strips))
+-- what is written of a page, with its total last in its directory, and the next offset after that
+record PageParts (link k : ℕ) (rest : List ℕ) (page : WrittenPage) : Type 0 where
+  head : List ℕ
+  tail : List ℕ
+  is : (total : ℕ) → page_bytes (link + 4 + length rest) total k page.form page.strips
+      ≡ head ++ (two total ++ (four 0 ++ tail))
+  len : length (four (place_of link rest page) ++ (rest ++ head)) + link + 2 ≡ link_of link rest page
 
 joined : (A N E M T Z V : List ℕ) → A ++ (N ++ (E ++ (M ++ T))) ++ Z ++ V ≡ (A ++ (N ++ (E ++ M))) ++ (T ++ (Z ++ V))
 joined A N E M T Z V = grind (arith, append_assoc)
-
-page_parts : (start total k : ℕ) (form : PageForm) (strips : List (List ℕ))
-    → page_bytes start total k form strips ≡ page_head start k form strips ++ (two total ++ page_rest start form strips)
-unfolding page_bytes field_bytes
-page_parts start total k form strips =
-    let all = flat_map (λ strip. strip) strips in
-    let A : List ℕ = all ++ replicate ((start + length all) % 2) 0 in
-    let E = early_fields start k form strips in
-    let M : List ℕ = two 297 ++ two 3 ++ four 2 ++ two k in
-    let V : List ℕ = four form.x.0 ++ four form.x.1 ++ (four form.y.0 ++ four form.y.1)
-    ++ array_bytes (offsets_from start strips)
-    ++ array_bytes (map length strips) in
-    let last = field_of 297 3 2 (two k ++ two total) in
-    let split : flat_map field_bytes (E ++ last ∷ []) ≡ flat_map field_bytes E ++ (M ++ two total) =
-    flat_map-append field_bytes E (last ∷ []) ∙ ap (λ l. flat_map field_bytes E ++ l) (append-nil (field_bytes last)) in
-    ap (λ (f : List ℕ). A ++ (two 16 ++ f) ++ four 0 ++ V) split
-    ∙ joined A (two 16) (flat_map field_bytes E) M (two total) (four 0) V
 
 options_len : (coding : Coding) (aligned : Bool) → length (options_field coding aligned).value ≡ 4
 options_len Mh aligned = refl
 options_len Mr aligned = refl
 options_len Mmr aligned = refl
 
-head_len : (start k : ℕ) (form : PageForm) (strips : List (List ℕ))
-    → start + length (page_head start k form strips) + 2 ≡ directory_place start strips + to_link
-unfolding field_bytes
-head_len start k form strips = grind (arith, length-append, length-replicate, options_len)
+-- of the fields PageNumber (297, two SHORTs, of type 3) is the last; StripOffsets (273) and
+-- StripByteCounts (279) are LONGs, of type 4
+page_parts : (link k : ℕ) (rest : List ℕ) (page : WrittenPage) → PageParts link k rest page
+unfolding page_bytes field_bytes
+page_parts link k rest page =
+    let form = page.form in
+    let start = link + 4 + length rest in
+    let all = flat_map (λ strip. strip) page.strips in
+    let offsets = offsets_from start page.strips in
+    let lengths = map length page.strips in
+    let q = directory_place start page.strips in
+    let place = q + (to_link + 20) in
+    let A : List ℕ = all ++ replicate ((start + length all) % 2) 0 in
+    let E : List WrittenField = take 15 (fields_with q 0 k form
+    (field_of 273 4 (length offsets) (four (one_or_place offsets place)))
+    (field_of 279 4 (length lengths) (four (one_or_place lengths (place + 4 * length lengths))))) in
+    let M : List ℕ = two 297 ++ two 3 ++ four 2 ++ two k in
+    let V : List ℕ = four form.x.0 ++ four form.x.1 ++ (four form.y.0 ++ four form.y.1)
+    ++ array_bytes offsets ++ array_bytes lengths in
+    record {
+      head = A ++ (two 16 ++ (flat_map field_bytes E ++ M));
+      tail = V;
+      is = λ total.
+          let last = field_of 297 3 2 (two k ++ two total) in
+          let split : flat_map field_bytes (E ++ last ∷ []) ≡ flat_map field_bytes E ++ (M ++ two total) =
+          flat_map-append field_bytes E (last ∷ [])
+          ∙ ap (λ l. flat_map field_bytes E ++ l) (append-nil (field_bytes last)) in
+          ap (λ (f : List ℕ). A ++ (two 16 ++ f) ++ four 0 ++ V) split
+          ∙ joined A (two 16) (flat_map field_bytes E) M (two total) (four 0) V;
+      len = grind (arith, length-append, length-replicate, options_len);
+    }
+
+-- what stands from a link to the total of the page to which it leads
+abbrev front_of : ℕ → ℕ → List ℕ → WrittenPage → List ℕ
+front_of link k rest page = four (place_of link rest page) ++ (rest ++ (page_parts link k rest page).head)
+
+-- a file that is written
+abbrev file_at : List ℕ → ℕ → Written
+file_at bytes link = record { bytes = bytes; link = link }
+
+-- what stands from a link on, after which this is left of its page: page after page; and the last link
+pages_from : ℕ → ℕ → ℕ → List ℕ → List WrittenPage → Written
+pages_from total k link rest [] = file_at (four 0 ++ rest) link
+pages_from total k link rest (page ∷ pages) =
+    let more = pages_from total (k + 1) (link_of link rest page) (page_parts link k rest page).tail pages in
+    file_at (front_of link k rest page ++ (two total ++ more.bytes)) more.link
+
+some_link : (total k link : ℕ) (rest : List ℕ) (pages : List WrittenPage)
+    → 4 ≤ length (pages_from total k link rest pages).bytes
+unfolding pages_from
+some_link total k link rest [] = omega arith
+some_link total k link rest (page ∷ pages) = omega arith
+
+-- how long a file is up to the total of its last page, and with it
+up_to : (x rest two_bytes : List ℕ) (link k : ℕ) (page : WrittenPage) → length x ≡ link → length two_bytes ≡ 2
+    → (length (x ++ front_of link k rest page) + 2 ≡ link_of link rest page)
+    × (length (x ++ front_of link k rest page ++ two_bytes) ≡ link_of link rest page)
+up_to x rest two_bytes link k page is two_is =
+    let front = front_of link k rest page in
+    let len = (page_parts link k rest page).len in (
+      omega (arith, is, len, length-append x front),
+      omega (arith, is, len, two_is, length-append x front, length-append (x ++ front) two_bytes),
+    )
+
+-- so a file is written
+written_are : (x rest : List ℕ) (link total k : ℕ) (pages : List WrittenPage) → length x ≡ link
+    → let all = pages_from total k link rest pages in
+    with_pages (file_at (x ++ (four 0 ++ rest)) link) total k pages ≡ file_at (x ++ all.bytes) all.link
+unfolding with_pages with_page pages_from
+written_are x rest link total k [] is = refl
+written_are x rest link total k (page ∷ pages) is =
+    let b : List ℕ = x ++ (four 0 ++ rest) in
+    let front = front_of link k rest page in
+    let parts = page_parts link k rest page in
+    let next = link_of link rest page in
+    let more = pages_from total (k + 1) next parts.tail pages in
+    let len : length b ≡ link + 4 + length rest = omega (arith, is, length-append x (four 0 ++ rest)) in
+    let before : take link b ≡ x = take_at x (four 0 ++ rest) link is in
+    let after : drop (link + 4) b ≡ rest =
+    ap (λ n. drop (n + 4) b) (sym is) ∙ drop-append-add x (four 0 ++ rest) 4 in
+    let whole : x ++ four (place_of link rest page) ++ rest ++ (parts.head ++ (two total ++ (four 0 ++ parts.tail)))
+    ≡ (x ++ front ++ two total) ++ (four 0 ++ parts.tail) = grind (arith, append_assoc) in
+    rw (len, before, after, parts.is total) (
+    ap (λ (l : List ℕ). with_pages (file_at l next) total (k + 1) pages) whole
+    ∙ written_are (x ++ front ++ two total) parts.tail next total (k + 1) pages
+    (up_to x rest (two total) link k page is refl).1
+    ∙ ap (λ (l : List ℕ). file_at l more.link)
+    (append_assoc (x ++ front) (two total) more.bytes ∙ append_assoc x front (two total ++ more.bytes)))
 
 -- a file's total is written
 total_of : (x y z : List ℕ) (total link : ℕ) → length x + 2 ≡ link → length y ≡ 2
-    → with_total total link (x ++ (y ++ z)) ≡ x ++ (two total ++ z)
+    → with_total total link (x ++ y ++ z) ≡ x ++ two total ++ z
 total_of x y z total link e f =
-    let front : take (link - 2) (x ++ (y ++ z)) ≡ x = take_at x (y ++ z) (link - 2) (omega (arith, e)) in
-    let back : drop link (x ++ (y ++ z)) ≡ z =
-    ap (drop link) (sym (append_assoc x y z)) ∙ drop_at (x ++ y) z link (omega (arith, e, f, length-append x y)) in
-    rw (front, back) (append_assoc x (two total) z)
-
-pub inside_page : (start total k : ℕ) (form : PageForm) (strips : List (List ℕ))
-    → directory_place start strips + to_link + 4 ≤ start + length (page_bytes start total k form strips)
-inside_page start total k form strips =
-    let parts = ap (λ (l : List ℕ). length l) (page_parts start total k form strips) in
-    let head = head_len start k form strips in
-    let whole = length-append (page_head start k form strips) (two total ++ page_rest start form strips) in
-    let after : 6 ≤ length (two total ++ page_rest start form strips) = grind (arith, length-append) in
-    omega (arith, parts, head, whole, after)
-
--- a file that is written
-abbrev pub file_at : List ℕ → ℕ → Written
-file_at bytes link = record { bytes = bytes; link = link }
-
--- four bytes of it are a number
-abbrev pub patched : List ℕ → ℕ → ℕ → List ℕ
-patched bytes link n = take link bytes ++ four n ++ drop (link + 4) bytes
-
-len_patched : (bytes : List ℕ) (link n : ℕ) → link + 4 ≤ length bytes → length (patched bytes link n) ≡ length bytes
-len_patched bytes link n inside = grind (arith, length-append, length-take-le, length-drop)
-
-inside_with : (old : Written) (total k : ℕ) (form : PageForm) (strips : List (List ℕ)) → old.link + 4 ≤ length old.bytes
-    → (with_page old total k form strips).link + 4 ≤ length (with_page old total k form strips).bytes
-unfolding with_page
-inside_with old total k form strips inside =
-    omega (arith, len_with_page old total k form strips inside, inside_page (length old.bytes) total k form strips)
-
-after_with : (old : Written) (total k : ℕ) (form : PageForm) (strips : List (List ℕ)) → old.link + 4 ≤ length old.bytes
-    → old.link + 4 + to_link ≤ (with_page old total k form strips).link
-unfolding with_page
-after_with old total k form strips inside = grind arith
-
-take-take-le : (n m : ℕ) (l : List ℕ) → n ≤ m → take n (take m l) ≡ take n l
-take-take-le n m l le = grind (arith, take-take)
-
--- what stands before the link stays
-page_stays : (old : Written) (total k : ℕ) (form : PageForm) (strips : List (List ℕ)) (n : ℕ) → n ≤ old.link
-    → old.link + 4 ≤ length old.bytes
-    → take n (with_page old total k form strips).bytes ≡ take n old.bytes
-unfolding with_page
-page_stays old total k form strips n before inside =
-    let b = old.bytes in
-    let len = length-take-le old.link b (omega (arith, inside)) in
-    let q = directory_place (length b) strips in
-    let lens : length (take old.link b ++ four q ++ drop (old.link + 4) b) ≡ length b =
-    len_patched b old.link q inside in
-    take-append-le n (patched b old.link q) (page_bytes (length b) total k form strips)
-    (omega (arith, lens, inside, before))
-    ∙ take-append-le n (take old.link b ++ four q) (drop (old.link + 4) b)
-    (omega (arith, len, before, length-append (take old.link b) (four q)))
-    ∙ take-append-le n (take old.link b) (four q) (omega (arith, len, before))
-    ∙ take-take-le n old.link b before
-
-stays : (old : Written) (total k : ℕ) (pages : List WrittenPage) (n : ℕ) → n ≤ old.link
-    → old.link + 4 ≤ length old.bytes
-    → take n (with_pages old total k pages).bytes ≡ take n old.bytes
-unfolding with_pages
-stays old total k [] n before inside = refl
-stays old total k (page ∷ pages) n before inside =
-    let new = with_page old total k page.form page.strips in
-    stays new total (k + 1) pages n (omega (arith, before, after_with old total k page.form page.strips inside))
-    (inside_with old total k page.form page.strips inside)
-    ∙ page_stays old total k page.form page.strips n before inside
-
-grows : (old : Written) (total k : ℕ) (pages : List WrittenPage) → old.link + 4 ≤ length old.bytes
-    → length old.bytes ≤ length (with_pages old total k pages).bytes
-unfolding with_pages
-grows old total k [] inside = omega arith
-grows old total k (page ∷ pages) inside =
-    let new = with_page old total k page.form page.strips in
-    omega (
-      arith,
-      grows new total (k + 1) pages (inside_with old total k page.form page.strips inside),
-      len_with_page old
-          total k page.form page.strips inside,
-    )
+    let front : take (link - 2) (x ++ y ++ z) ≡ x =
+    ap (take (link - 2)) (append_assoc x y z) ∙ take_at x (y ++ z) (link - 2) (omega (arith, e)) in
+    let back : drop link (x ++ y ++ z) ≡ z = drop_at (x ++ y) z link (omega (arith, e, f, length-append x y)) in
+    rw (front, back) refl
 
 -- the number at the link is the place of the next page's directory
 number_here : (file : List ℕ) (p x : ℕ) (rest : List ℕ) → drop p file ≡ four x ++ rest → x < 4294967296
@@ -176,221 +156,56 @@ number_here : (file : List ℕ) (p x : ℕ) (rest : List ℕ) → drop p file �
 unfolding number_at
 number_here file p x rest is lt = rw is (omega (arith, lt))
 
-front_with : (old : Written) (total k : ℕ) (form : PageForm) (strips : List (List ℕ)) → old.link + 4 ≤ length old.bytes
-    → take (old.link + 4) (with_page old total k form strips).bytes
-    ≡ take old.link old.bytes ++ four (directory_place (length old.bytes) strips)
-unfolding with_page
-front_with old total k form strips inside =
-    let b = old.bytes in
-    let len = length-take-le old.link b (omega (arith, inside)) in
-    let q = directory_place (length b) strips in
-    let x : List ℕ = take old.link b ++ four q in
-    let here : length x ≡ old.link + 4 = omega (arith, len, length-append (take old.link b) (four q)) in
-    ap (take (old.link + 4)) (append_assoc x (drop (old.link + 4) b) (page_bytes (length b) total k form strips))
-    ∙ take_at x (drop (old.link + 4) b ++ page_bytes (length b) total k form strips) (old.link + 4) here
+-- the pages are found from the link on, and what each says becomes another total
+record AreTold (total : ℕ) (old new : List ℕ) (n link last : ℕ) : Type 0 where
+  are : ArePagesAfter old n link last
+  totals : with_totals total n link old ≡ new
 
-link_with : (old : Written) (total k : ℕ) (form : PageForm) (strips : List (List ℕ))
-    → (with_page old total k form strips).link ≡ directory_place (length old.bytes) strips + to_link
-unfolding with_page
-link_with old total k form strips = refl
+pages_told : (x rest : List ℕ) (link T t k : ℕ) (pages : List WrittenPage) → length x ≡ link
+    → let old = pages_from t k link rest pages in
+    length (x ++ old.bytes) < 4294967296
+    → AreTold T (x ++ old.bytes) (x ++ (pages_from T k link rest pages).bytes) (length pages) link old.link
+unfolding pages_from
+pages_told x rest link T t k [] is small = record { are = refl; totals = refl }
+pages_told x rest link T t k (page ∷ pages) is small =
+    let parts = page_parts link k rest page in
+    let front = front_of link k rest page in
+    let next = link_of link rest page in
+    let y : List ℕ = x ++ front in
+    let more = pages_from t (k + 1) next parts.tail pages in
+    let W : List ℕ = x ++ (front ++ (two t ++ more.bytes)) in
+    let whole : (total : ℕ) (z : List ℕ) → x ++ (front ++ (two total ++ z)) ≡ y ++ two total ++ z =
+    λ total z. sym (append_assoc y (two total) z ∙ append_assoc x front (two total ++ z)) in
+    let up = λ (total : ℕ). up_to x rest (two total) link k page is refl in
+    let len : (total : ℕ) → length (y ++ two total ++ more.bytes) ≡ next + length more.bytes =
+    λ total. omega (arith, (up total).1, length-append (y ++ two total) more.bytes) in
+    let W_len : length W ≡ next + length more.bytes = ap (λ (l : List ℕ). length l) (whole t more.bytes) ∙ len t in
+    let here : number_at Little 4 W link ≡ place_of link rest page =
+    number_here W link (place_of link rest page) (rest ++ parts.head ++ (two t ++ more.bytes))
+    (drop_at x (front ++ (two t ++ more.bytes)) link is) (omega (arith, small, W_len)) in
+    let onward : next_link W link ≡ next = ap (λ n. n + to_link) here in
+    let after = λ (total : ℕ). pages_told (y ++ two total) parts.tail next T t (k + 1) pages (up total).1
+    (omega (arith, small, W_len, len total)) in
+    record {
+      are = (
+        (omega (arith, here), omega (arith, onward, W_len, some_link t (k + 1) next parts.tail pages)),
+        subst (λ n. ArePagesAfter W (length pages) n more.link) (sym onward)
+            (subst (λ l. ArePagesAfter l (length pages) next more.link) (sym (whole t more.bytes)) (after t).are),
+      );
+      totals =
+          ap (λ n. with_totals T (length pages) n (with_total T n W)) onward
+          ∙ ap (λ l. with_totals T (length pages) next (with_total T next l)) (whole t more.bytes)
+          ∙ ap (with_totals T (length pages) next) (total_of y (two t) more.bytes T next (up t).0 refl)
+          ∙ (after T).totals
+          ∙ sym (whole T (pages_from T (k + 1) next parts.tail pages).bytes);
+    }
 
-joined_2 : (X Y A F B R : List ℕ) → X ++ Y ++ A ++ F ++ B ++ R ≡ X ++ (Y ++ (A ++ F ++ B ++ R))
-joined_2 X Y A F B R = grind (arith, append_assoc)
+-- one of the pages that are left
+pub one_left : (count i : ℕ) → i < count → count - i ≡ suc (count - (i + 1))
+one_left count i fewer = omega (arith, fewer)
 
-link_here : (old : Written) (total k : ℕ) (page : WrittenPage) (pages : List WrittenPage)
-    → old.link + 4 ≤ length old.bytes
-    → length (with_pages old total k (page ∷ pages)).bytes < 4294967296
-    → number_at Little 4 (with_pages old total k (page ∷ pages)).bytes old.link
-    ≡ directory_place (length old.bytes) page.strips
-unfolding with_pages
-link_here old total k page pages inside small =
-    let b = old.bytes in
-    let new = with_page old total k page.form page.strips in
-    let W = (with_pages new total (k + 1) pages).bytes in
-    let n : ℕ = old.link + 4 in
-    let q = directory_place (length b) page.strips in
-    let after = after_with old total k page.form page.strips inside in
-    let inside' = inside_with old total k page.form page.strips inside in
-    let front : take n W ≡ take old.link b ++ four q =
-    stays new total (k + 1) pages n (omega (arith, after)) inside'
-    ∙ front_with old total k page.form page.strips inside in
-    let all : W ≡ take old.link b ++ (four q ++ drop n W) =
-    sym (take-append-drop n W) ∙ ap (λ (l : List ℕ). l ++ drop n W) front
-    ∙ append_assoc (take old.link b) (four q) (drop n W) in
-    let there : drop old.link W ≡ four q ++ drop n W =
-    ap (drop old.link) all ∙ drop_at (take old.link b) (four q ++ drop n W) old.link
-    (length-take-le old.link b (omega (arith, inside))) in
-    let long = grows new total (k + 1) pages inside' in
-    let place : new.link ≡ q + to_link = link_with old total k page.form page.strips in
-    number_here W old.link q (drop n W) there (omega (arith, long, inside', place, small))
-
--- the total of an earlier page is written before or after a page is added
-split : (x y z R : List ℕ) (link m q : ℕ) → length x + length y + m ≡ link
-    → patched (x ++ (y ++ z)) link q ++ R ≡ x ++ (y ++ (take m z ++ four q ++ drop (m + 4) z ++ R))
-split x y z R link m q is =
-    let xy : List ℕ = x ++ y in
-    let whole = sym (append_assoc x y z) in
-    let len = length-append x y in
-    let front : take link (x ++ (y ++ z)) ≡ xy ++ take m z =
-    ap (take link) whole ∙ ap (λ n. take n (xy ++ z)) (omega (arith, len, is)) ∙ take-append-add xy z m in
-    let back : drop (link + 4) (x ++ (y ++ z)) ≡ drop (m + 4) z =
-    ap (drop (link + 4)) whole ∙ ap (λ n. drop n (xy ++ z)) (omega (arith, len, is)) ∙ drop-append-add xy z (m + 4) in
-    rw (front, back) (joined_2 x y (take m z) (four q) (drop (m + 4) z) R)
-
--- the same of one page
-commute_page : (b : List ℕ) (link T p t k : ℕ) (form : PageForm) (strips : List (List ℕ)) → 2 ≤ p → p ≤ link
-    → link + 4 ≤ length b
-    → with_total T p (with_page (file_at b link) t k form strips).bytes
-    ≡ (with_page (file_at (with_total T p b) link) t k form strips).bytes
-unfolding with_page
-commute_page b link T p t k form strips some before inside =
-    let x : List ℕ = take (p - 2) b in
-    let y : List ℕ = take 2 (drop (p - 2) b) in
-    let z : List ℕ = drop p b in
-    let m : ℕ = link - p in
-    let q = directory_place (length b) strips in
-    let R = page_bytes (length b) t k form strips in
-    let x_len : length x ≡ p - 2 = length-take-le (p - 2) b (omega (arith, before, inside)) in
-    let y_len : length y ≡ 2 = length-take-le 2 (drop (p - 2) b)
-    (omega (arith, length-drop (p - 2) b, some, before, inside)) in
-    let rest : drop 2 (drop (p - 2) b) ≡ z = drop-drop 2 (p - 2) b ∙ ap (λ n. drop n b) (omega (arith, some)) in
-    let whole : b ≡ x ++ (y ++ z) =
-    sym (ap (λ (l : List ℕ). x ++ l) (ap (λ (l : List ℕ). y ++ l) (sym rest) ∙ take-append-drop 2 (drop (p - 2) b))
-    ∙ take-append-drop (p - 2) b) in
-    let new : with_total T p b ≡ x ++ (two T ++ z) = append_assoc x (two T) z in
-    let new_len : length (with_total T p b) ≡ length b =
-    omega (
-      arith,
-      ap (λ (l : List ℕ). length l) new,
-      ap (λ (l : List ℕ). length l) whole,
-      length-append x (y ++ z),
-      length-append y z,
-      length-append x (two T ++ z),
-      length-append (two T) z,
-      y_len,
-    ) in
-    let end : List ℕ = take m z ++ four q ++ drop (m + 4) z ++ R in
-    let before_is : patched b link q ++ R ≡ x ++ (y ++ end) =
-    ap (λ (l : List ℕ). patched l link q ++ R) whole ∙ split x y z R link m q
-    (omega (arith, x_len, y_len, some, before)) in
-    let after_is : patched (with_total T p b) link q ++ R ≡ x ++ (two T ++ end) =
-    ap (λ (l : List ℕ). patched l link q ++ R) new ∙ split x (two T) z R link m q (omega (arith, x_len, some, before))
-    in
-    ap (with_total T p) before_is
-    ∙ total_of x y end T p (omega (arith, x_len, some)) y_len
-    ∙ sym after_is
-    ∙ ap (λ (n : ℕ). patched (with_total T p b) link (directory_place n strips) ++ page_bytes n t k form strips)
-    (sym new_len)
-
-pub total_len : (b : List ℕ) (T p : ℕ) → 2 ≤ p → p ≤ length b → length (with_total T p b) ≡ length b
-total_len b T p some inside = grind (arith, length-append, length-take-le, length-drop)
-
--- the same of pages
-commute : (b : List ℕ) (link T p t k : ℕ) (pages : List WrittenPage) → 2 ≤ p → p ≤ link → link + 4 ≤ length b
-    → with_total T p (with_pages (file_at b link) t k pages).bytes
-    ≡ (with_pages (file_at (with_total T p b) link) t k pages).bytes
-unfolding with_pages
-commute b link T p t k [] some before inside = refl
-commute b link T p t k (page ∷ pages) some before inside =
-    let new = with_page (file_at b link) t k page.form page.strips in
-    let other = with_page (file_at (with_total T p b) link) t k page.form page.strips in
-    let len = total_len b T p some (omega (arith, before, inside)) in
-    let link_is : new.link ≡ other.link =
-    link_with (file_at b link) t k page.form page.strips
-    ∙ ap (λ n. directory_place n page.strips + to_link) (sym len)
-    ∙ sym (link_with (file_at (with_total T p b) link) t k page.form page.strips) in
-    let bytes_are : with_total T p new.bytes ≡ other.bytes = commute_page b link T p t k page.form page.strips some
-    before inside in
-    let after = after_with (file_at b link) t k page.form page.strips inside in
-    commute new.bytes new.link T p t (k + 1) pages some (omega (arith, before, after))
-    (inside_with (file_at b link) t k page.form page.strips inside)
-    ∙ ap (λ (l : List ℕ). (with_pages (file_at l new.link) t (k + 1) pages).bytes) bytes_are
-    ∙ ap (λ n. (with_pages (file_at other.bytes n) t (k + 1) pages).bytes) link_is
-
--- the total of a page is that which it was written with, or another
-retotal : (old : Written) (T t k : ℕ) (form : PageForm) (strips : List (List ℕ)) → old.link + 4 ≤ length old.bytes
-    → with_total T (with_page old t k form strips).link (with_page old t k form strips).bytes
-    ≡ (with_page old T k form strips).bytes
-unfolding with_page
-retotal old T t k form strips inside =
-    let b = old.bytes in
-    let q = directory_place (length b) strips in
-    let front = patched b old.link q in
-    let head = page_head (length b) k form strips in
-    let rest = page_rest (length b) form strips in
-    let is : (total : ℕ) → front ++ page_bytes (length b) total k form strips ≡ (front ++ head) ++ (two total ++ rest) =
-    λ total. ap (λ (l : List ℕ). front ++ l) (page_parts (length b) total k form strips)
-    ∙ sym (append_assoc front head (two total ++ rest)) in
-    let place : length (front ++ head) + 2 ≡ q + to_link =
-    omega (arith, length-append front head, len_patched b old.link q inside, head_len (length b) k form strips) in
-    ap (with_total T (q + to_link)) (is t) ∙ total_of (front ++ head) (two t) rest T (q + to_link) place refl
-    ∙ sym (is T)
-
--- the pages are found from the link on
-pub are_pages : (old : Written) (t k : ℕ) (pages : List WrittenPage) → old.link + 4 ≤ length old.bytes
-    → length (with_pages old t k pages).bytes < 4294967296
-    → ArePagesAfter (with_pages old t k pages).bytes (length pages) old.link (with_pages old t k pages).link
-unfolding with_pages
-are_pages old t k [] inside small = refl
-are_pages old t k (page ∷ pages) inside small =
-    let new = with_page old t k page.form page.strips in
-    let W = (with_pages new t (k + 1) pages).bytes in
-    let here = link_here old t k page pages inside small in
-    let inside' = inside_with old t k page.form page.strips inside in
-    let long = grows new t (k + 1) pages inside' in
-    let place : new.link ≡ directory_place (length old.bytes) page.strips + to_link =
-    link_with old t k page.form page.strips in
-    let next : number_at Little 4 W old.link + to_link ≡ new.link = ap (λ n. n + to_link) here ∙ sym place in
-    let after = after_with old t k page.form page.strips inside in (
-      (omega (arith, here, place, after), omega (arith, next, long, inside')),
-      subst (λ n. ArePagesAfter W (length pages) n (with_pages new t (k + 1) pages).link) (sym next)
-          (are_pages new t (k + 1) pages inside' small),
-    )
-
--- and what each says becomes another total
-pub totals_are : (old : Written) (T t k : ℕ) (pages : List WrittenPage) → old.link + 4 ≤ length old.bytes
-    → length (with_pages old t k pages).bytes < 4294967296
-    → with_totals T (length pages) old.link (with_pages old t k pages).bytes ≡ (with_pages old T k pages).bytes
-unfolding with_pages with_page
-totals_are old T t k [] inside small = refl
-totals_are old T t k (page ∷ pages) inside small =
-    let new = with_page old t k page.form page.strips in
-    let other = with_page old T k page.form page.strips in
-    let W = (with_pages new t (k + 1) pages).bytes in
-    let here = link_here old t k page pages inside small in
-    let inside' = inside_with old t k page.form page.strips inside in
-    let next : number_at Little 4 W old.link + to_link ≡ new.link =
-    ap (λ n. n + to_link) here ∙ sym (link_with old t k page.form page.strips) in
-    let after = after_with old t k page.form page.strips inside in
-    let written : with_total T new.link W ≡ (with_pages other t (k + 1) pages).bytes =
-    commute new.bytes new.link T new.link t (k + 1) pages (omega (arith, after)) (omega arith) inside'
-    ∙ ap (λ (l : List ℕ). (with_pages (file_at l new.link) t (k + 1) pages).bytes)
-    (retotal old T t k page.form page.strips inside) in
-    let len : length (with_pages other t (k + 1) pages).bytes ≡ length W =
-    sym (ap (λ (l : List ℕ). length l) written) ∙ total_len W T new.link (omega (arith, after))
-    (omega (arith, grows new t (k + 1) pages inside', inside')) in
-    ap (λ n. with_totals T (length pages) n (with_total T n W)) next
-    ∙ ap (with_totals T (length pages) new.link) written
-    ∙ totals_are other T t (k + 1) pages (inside_with old T k page.form page.strips inside) (omega (arith, len, small))
-
--- one page of those that are left
-pub next_page : (file : List ℕ) (count i link last : ℕ) → i < count → ArePagesAfter file (count - i) link last
-    → IsLinkToPage file link × ArePagesAfter file (count - (i + 1)) (next_link file link) last
-next_page file count i link last fewer are =
-    let e : count - i ≡ suc (count - (i + 1)) = omega (arith, fewer) in
-    subst (λ n. ArePagesAfter file n link last) e are
-
-pub page_before : (file : List ℕ) (count i link last : ℕ) → i < count → IsLinkToPage file link
-    → ArePagesAfter file (count - (i + 1)) (next_link file link) last → ArePagesAfter file (count - i) link last
-page_before file count i link last fewer is are =
-    let e : suc (count - (i + 1)) ≡ count - i = omega (arith, fewer) in
-    subst (λ n. ArePagesAfter file n link last) e (is, are)
-
-pub one_total : (total count i link : ℕ) (file : List ℕ) → i < count
-    → with_totals total (count - i) link file ≡ with_totals total (count - (i + 1)) (next_link file link)
-    (with_total total (next_link file link) file)
-one_total total count i link file fewer =
-    let e : count - i ≡ suc (count - (i + 1)) = omega (arith, fewer) in ap (λ n. with_totals total n link file) e
+pub total_len : (file : List ℕ) (T p : ℕ) → 2 ≤ p → p ≤ length file → length (with_total T p file) ≡ length file
+total_len file T p some inside = grind (arith, length-append, length-take-le, length-drop)
 
 -- what stands after a total stays
 after_total : (file : List ℕ) (T p n : ℕ) → 2 ≤ p → p ≤ n → p ≤ length file → drop n (with_total T p file) ≡ drop n file
@@ -404,154 +219,86 @@ after_total file T p n some after inside =
     ∙ drop-drop (n - p) p file
     ∙ ap (λ m. drop m file) (omega (arith, after))
 
-same_number : (file : List ℕ) (T p n : ℕ) → 2 ≤ p → p ≤ n → p ≤ length file
-    → number_at Little 4 (with_total T p file) n ≡ number_at Little 4 file n
-unfolding number_at
-same_number file T p n some after inside = rw (after_total file T p n some after inside) refl
-
 -- so the pages after it stand there still
 pub still_pages : (file : List ℕ) (T p n link last : ℕ) → 2 ≤ p → p ≤ link → p ≤ length file
     → ArePagesAfter file n link last
     → ArePagesAfter (with_total T p file) n link last
+unfolding number_at
 still_pages file T p zero link last some after inside are = are
 still_pages file T p (suc n) link last some after inside ((first, whole), rest) =
-    let same = same_number file T p link some after inside in
     let len = total_len file T p some inside in
-    let next : next_link (with_total T p file) link ≡ next_link file link = ap (λ m. m + to_link) same in (
-      (omega (arith, same, first), omega (arith, next, len, whole)),
-      subst (λ m. ArePagesAfter (with_total T p file) n m last) (sym next)
-          (still_pages file T p n (next_link file link) last some
-          (omega (arith, first, after)) inside rest),
-    )
+    rw (after_total file T p link some after inside, len)
+    ((first, whole), still_pages file T p n (next_link file link) last some (omega (arith, first, after)) inside rest)
 
--- a total is put there
-pub total_is : (old new bytes : List ℕ) (T place link : ℕ) → place ≡ link → 2 ≤ link → bytes ≡ two T
-    → new ≡ take (place - 2) old ++ bytes ++ drop (place - 2 + length bytes) old → new ≡ with_total T link old
-total_is old new bytes T place link place_is some bytes_are new_is =
-    new_is
-    ∙ ap (λ (l : List ℕ). take (place - 2) old ++ l ++ drop (place - 2 + length l) old) bytes_are
-    ∙ ap (λ n. take (n - 2) old ++ two T ++ drop (n - 2 + 2) old) place_is
-    ∙ ap (λ n. take (link - 2) old ++ two T ++ drop n old) (omega (arith, some))
+-- a file that is written so far, of some pages
+so_far : (written : FaxWritten) (file : List ℕ) → 1 ≤ written.added
+    → file_so_far written file ≡ file_at (take written.len file) written.link
+so_far written file some =
+    let there : (written.added == 0) ≡ false = ne_eqb _ _ (λ e. absurd (omega (arith, e, some))) in rw there refl
 
--- the file so far has its bytes and its link
-record IsWrittenSo (old : FaxWritten) (file : List ℕ) (so_far : Written) : Type 0 where
-  bytes : take old.len file ≡ so_far.bytes
-  link : old.link ≡ so_far.link
-
-written_so : (old : FaxWritten) (file : List ℕ) (so_far : Written) → 1 ≤ old.added → file_so_far old file ≡ so_far
-    → IsWrittenSo old file so_far
-written_so old file so_far some is =
-    let there : (old.added == 0) ≡ false = ne_eqb _ _ (λ e. absurd (omega (arith, e, some))) in
-    let whole : file_at (take old.len file) old.link ≡ so_far = rw there at is in
-    record { bytes = ap (λ (w : Written). w.bytes) whole; link = ap (λ (w : Written). w.link) whole }
-
--- so it has its pages, and with their number in each it is the file of them
-record IsOfPages (pages : List WrittenPage) (old : FaxWritten) (file : List ℕ) : Type 0 where
-  has : HasItsPages old file
-  whole : with_totals old.added old.added 4 (take old.len file) ≡ file_of pages
-
+-- such a file has its pages, and with their number in each it is the file of them
 of_pages : (total : ℕ) (pages : List WrittenPage) (old : FaxWritten) (file : List ℕ) → IsEndable old
     → IsFileSoFar total pages old file
-    → IsOfPages pages old file
+    → AreTold old.added (take old.len file) (file_of pages) old.added 4 old.link
 of_pages total pages old file e is =
-    let W = with_pages empty_file total 0 pages in
-    let so = written_so old file W e.some is.is in
-    let len : length W.bytes ≡ old.len =
-    sym (ap (λ (l : List ℕ). length l) so.bytes) ∙ length-take-le old.len file is.held in
-    let small : length W.bytes < 4294967296 = omega (arith, len, e.limit) in
-    let inside : empty_file.link + 4 ≤ length empty_file.bytes = omega arith in
-    let pages_are = are_pages empty_file total 0 pages inside small in
-    record {
-      has =
-          subst (λ (l : List ℕ). ArePagesAfter l old.added 4 old.link) (sym so.bytes)
-          (subst (λ n. ArePagesAfter W.bytes n 4 old.link) (sym is.added)
-          (subst (λ n. ArePagesAfter W.bytes (length pages) 4 n) (sym so.link) pages_are));
-      whole =
-          ap (λ (l : List ℕ). with_totals old.added old.added 4 l) so.bytes
-          ∙ ap (λ n. with_totals n n 4 W.bytes) is.added
-          ∙ totals_are empty_file (length pages) total 0 pages inside small;
-    }
-
-ended_by : (old_file file : List ℕ) (old written : FaxWritten) (status total : ℕ) (pages : List WrittenPage)
-    → IsEndable old
-    → IsFileSoFar total pages old old_file → TellsPagesEnded old_file file old written status
-    → (status ≡ 0) × (file ≡ file_of pages ++ drop old.len old_file)
-ended_by old_file file old written status total pages e is (inl (some, held, has, done, file_is, told)) =
-    (done, file_is ∙ ap (λ (l : List ℕ). l ++ drop old.len old_file) (of_pages total pages old old_file e is).whole)
-ended_by old_file file old written status total pages e is (inr (same, told, inl (no_room, some, short))) =
-    absurd (omega (arith, short, is.held))
-ended_by old_file file old written status total pages e is (inr (same, told, inr (none, others))) =
-    absurd ((others e).1 (of_pages total pages old old_file e is).has)
+    let start : List ℕ = take 4 empty_file.bytes in
+    let all = pages_from total 0 4 [] pages in
+    let so : file_at (take old.len file) old.link ≡ file_at (start ++ all.bytes) all.link =
+    sym (so_far old file e.some) ∙ is.is ∙ written_are start [] 4 total 0 pages refl in
+    let len = length-take-le old.len file is.held in
+    let bytes_are = ap (λ (w : Written). w.bytes) so in
+    let told = pages_told start [] 4 (length pages) total 0 pages refl
+    (omega (arith, ap (λ (l : List ℕ). length l) bytes_are, len, e.limit)) in
+    let whole : file_of pages ≡ start ++ (pages_from (length pages) 0 4 [] pages).bytes =
+    ap (λ (w : Written). w.bytes) (written_are start [] 4 (length pages) 0 pages refl) in
+    rw (bytes_are, ap (λ (w : Written). w.link) so, is.added, whole) told
 
 pub ends_whole : (old_file file : List ℕ) (old written : FaxWritten) (status : ℕ)
     → TellsPagesEnded old_file file old written status
     → EndsWholeFile old_file file old status
-ends_whole old_file file old written status told = λ total pages e is. ended_by old_file file old written status total
-    pages e is told
-
--- a file whose bytes and whose link are told is the file so far
-told_so_far : (written : FaxWritten) (file rest : List ℕ) (next : Written) → 1 ≤ written.added
-    → written.len ≡ length next.bytes
-    → written.link ≡ next.link → file ≡ next.bytes ++ rest → file_so_far written file ≡ file_at next.bytes next.link
-told_so_far written file rest next some len link is =
-    let there : (written.added == 0) ≡ false = ne_eqb _ _ (λ e. absurd (omega (arith, e, some))) in
-    let bytes : take written.len file ≡ next.bytes = ap (λ n. take n file) len ∙ ap (take (length next.bytes)) is
-    ∙ take-append_seam next.bytes rest in
-    rw (there, bytes, link) refl
+ends_whole old_file file old written status told = λ total pages e is.
+    let told_are = of_pages total pages old old_file e is in
+    elim told [
+      | inl (some, held, has, done, file_is, same) ↦
+          (done, file_is ∙ ap (λ (l : List ℕ). l ++ drop old.len old_file) told_are.totals)
+      | inr (same, kept, inl (no_room, some, short)) ↦ absurd (omega (arith, short, is.held))
+      | inr (same, kept, inr (none, others)) ↦ absurd ((others e).1 told_are.are)
+    ]
 
 -- a file so far with one more page
 pushed : (old written : FaxWritten) (old_file file rest : List ℕ) (form : PageForm) (strips : List (List ℕ))
     (pages : List WrittenPage)
     → IsFileSoFar old.total pages old old_file
-    → written.len ≡ length (with_page (file_so_far old old_file) old.total old.added form strips).bytes
-    → written.link ≡ (with_page (file_so_far old old_file) old.total old.added form strips).link
-    → written.added ≡ old.added + 1
-    → file ≡ (with_page (file_so_far old old_file) old.total old.added form strips).bytes ++ rest
+    → let next = with_page (file_so_far old old_file) old.total old.added form strips in
+    written ≡ record old { len = length next.bytes; link = next.link; added = old.added + 1 }
+    → file ≡ next.bytes ++ rest
     → IsFileSoFar old.total (pages ++ record { form = form; strips = strips } ∷ []) written file
 unfolding with_page
-pushed old written old_file file rest form strips pages so_far len link added is =
+pushed old written old_file file rest form strips pages before is file_is =
     let next = with_page (file_so_far old old_file) old.total old.added form strips in
-    let number : old.added ≡ 0 + length pages = omega (arith, so_far.added) in
+    let page : WrittenPage = record { form = form; strips = strips } in
+    let number : old.added ≡ 0 + length pages = omega (arith, before.added) in
+    let bytes : take written.len file ≡ next.bytes = rw (is, file_is) (take-append_seam next.bytes rest) in
     record {
-      added = omega (arith, added, so_far.added, length-append pages (record { form = form; strips = strips } ∷ []));
-      held = omega (arith, len, ap (λ (l : List ℕ). length l) is, length-append next.bytes rest);
-      is = told_so_far written file rest next (omega (arith, added)) len link is
-          ∙ ap (λ (w : Written). with_page w old.total old.added form strips) so_far.is
+      added = rw is (omega (arith, before.added, length-append pages (page ∷ [])));
+      held = rw (is, file_is) (omega (arith, length-append next.bytes rest));
+      is = so_far written file (rw is (omega arith))
+          ∙ rw (bytes, ap (λ (w : FaxWritten). w.link) is) (
+          ap (λ (w : Written). with_page w old.total old.added form strips) before.is
           ∙ ap (λ n. with_page (with_pages empty_file old.total 0 pages) old.total n form strips) number
-          ∙ sym (with_pages-push empty_file old.total 0 pages (record { form = form; strips = strips }));
+          ∙ sym (with_pages-push empty_file old.total 0 pages page));
     }
 
-added_by : (given : FaxForm) (k : ℕ) (raster : List ℕ) (stride : ℕ) (old_file file : List ℕ) (old written : FaxWritten)
-    (status : ℕ)
-    → TellsPageAdded given k raster stride old_file file old written status
-    → AddsToPages given k raster stride old_file file old written status
-added_by given k raster stride old_file file old written status
-    (inl (form, addable, inl (held, said, inl (done, limit, room, file_is, written_is)))) pages so_far is = (
-      form,
-      addable.0,
-      pushed old written old_file file _ form (page_strips form k stride raster) pages so_far
-          (ap (λ (w : FaxWritten). w.len) written_is)
-          (ap (λ (w : FaxWritten). w.link) written_is) (ap (λ (w : FaxWritten). w.added) written_is) file_is,
-    )
-added_by given k raster stride old_file file old written status
-    (inl (form, addable, inl (held, said, inr (same, told, inl (no_room, limit, more))))) pages so_far is =
-    absurd (omega (arith, is, no_room))
-added_by given k raster stride old_file file old written status
-    (inl (form, addable, inl (held, said, inr (same, told, inr (inl (too_large, more)))))) pages so_far is =
-    absurd (omega (arith, is, too_large))
-added_by given k raster stride old_file file old written status
-    (inl (form, addable, inl (held, said, inr (same, told, inr (inr memory))))) pages so_far is =
-    absurd (omega (arith, is, memory))
-added_by given k raster stride old_file file old written status
-    (inl (form, addable, inr (inl (held, no_room, same, told)))) pages so_far is = absurd (omega (arith, is, no_room))
-added_by given k raster stride old_file file old written status
-    (inl (form, addable, inr (inr (held, said, no_options, same, told)))) pages so_far is =
-    absurd (omega (arith, is, no_options))
-added_by given k raster stride old_file file old written status (inr (no_options, same, told, none)) pages so_far is =
-    absurd (omega (arith, is, no_options))
-
-pub adds_to_pages : (given : FaxForm) (k : ℕ) (raster : List ℕ) (stride : ℕ) (old_file file : List ℕ)
-    (old written : FaxWritten) (status : ℕ)
-    → TellsPageAdded given k raster stride old_file file old written status
-    → AddsToPages given k raster stride old_file file old written status
-adds_to_pages = added_by
+pub adds_to_pages : (asked : AskedRaster FaxForm) (old_file file : List ℕ) (old written : FaxWritten) (status : ℕ)
+    → TellsPageAdded asked old_file file old written status → AddsToPages asked old_file file old written status
+adds_to_pages asked old_file file old written status told = λ pages before is. elim told [
+  | inl (form, addable, inl (held, said, inl (done, limit, room, file_is, written_is))) ↦ (
+    form,
+    addable.0,
+    pushed old written old_file file _ form (page_strips form asked.k asked.stride asked.raster) pages before
+        written_is file_is,
+  )
+  | inl (form, addable, inl (held, said, inr others)) ↦ absurd (grind (arith, is, others))
+  | inl (form, addable, inr others) ↦ absurd (grind (arith, is, others))
+  | inr (other, same, kept, none) ↦ absurd (omega (arith, is, other))
+]

@@ -23,25 +23,20 @@ use Rattle.fax_page.specs.declared.StripFault.TheVariants.{BadCode, DataEnds, En
 use Rattle.fax_page.specs.declared.StripFault.TheVariants.{OutOfRow, RunTooLong}
 use Rattle.fax_page.proofs.MarkLemmas.{mark_may_follow}
 use Rattle.fax_page.specs.laws.Following.{EndsStayWhateverFollows, StaysWhateverFollows}
-use Rattle.fax_files.specs.declared.Cause.TheVariants.{File, Strip}
-use Rattle.fax_walk.specs.declared.end.End.TheVariants.{Proper, Fault, Outside}
 use Rattle.fax_walk.specs.declared.cursor.Cursor.{Cursor}
 use Rattle.fax_c.specs.declared.filled.Filled.{Filled}
 use Rattle.fax_c.specs.Raster.{padded_row}
 use Rattle.fax_c.specs.declared.filled.Stop.{Stop}
-use Rattle.fax_c.specs.declared.filled.Stop.TheVariants.{Done, Ended, Memory, NoRoom}
 use Rattle.fax_c.specs.declared.places.FaxPlace.{FaxPlace}
 use Rattle.fax_c.specs.declared.strip_form.FaxStrip.{FaxStrip}
 use Rattle.fax_c.specs.declared.told.FaxTold.{FaxTold}
-use Rattle.fax_c.specs.Told.{IsTold, fault_of}
 use Rattle.fax_c.specs.views.Places.{most_runs}
-use Rattle.fax_c.specs.views.Strips.{HasRoom, IsPlace, IsPlaceAfter, IsReadable, IsReadableUncounted}
-use Rattle.fax_c.specs.views.Strips.{IsStopTold, IsUncountedTold, ReadsNone, ReadsOn, ReadsTo, StopsAt, StripPlace}
+use Rattle.fax_c.specs.views.Strips.{AskedStrip, HasRoom, IsEndAt, IsPlace, IsPlaceAfter, IsReadableIn, IsReadTold}
+use Rattle.fax_c.specs.views.Strips.{ReadsNone, ReadsOn, ReadsTo, StopsAt, StripMemory, StripPlace}
+use Rattle.fax_c.specs.views.Strips.{met_in_strip, stop_in_strip}
 use Rattle.fax_c.specs.views.StripParts.{ArePartRead, AwaitsMore, IsNothingRead, IsUnsettled, IsUnsettledAt, MayChange}
 use Rattle.fax_c.specs.views.StripParts.{TellsStripPart}
-use Rattle.fax_c.specs.code.StripParts.{IsAhead, IsMoreTold, StopMayChange}
-use Rattle.fax_c.specs.code.Strips.{IsMetBy, IsMetInStrip}
-use Rattle.fax_c.specs.views.Strips.{IsRowsEndTold}
+use Rattle.fax_c.specs.code.StripParts.{EndMayChange, IsAhead, IsMoreTold, MayGoOn, StopMayChange}
 
 -- the bits of bytes and of those that follow
 bits_follow : (order : _) (strip more : List ℕ) → bits order (strip ++ more) ≡ bits order strip ++ bits order more
@@ -62,28 +57,6 @@ mark_within coding n b mark =
       | inr within ↦ within
     ]
 
--- rows that are read begin and end inside the bits
-ends_within : (form : StripForm) (all : List Bool) (from : StripPlace) (rows : List (List Colour)) (to : StripPlace)
-    → from.bits ≤ length all
-    → ReadsTo form all from rows to → to.bits ≤ length all
-ends_within form all from [] to within reads = subst (λ (p : StripPlace). p.bits ≤ length all) reads within
-ends_within form all from (row ∷ rows) to within (after, inside, due, line, reads) =
-    ends_within form all (record { row = from.row + 1; bits = after; reference = row }) rows to inside reads
-
--- the place in memory of the caller is the one up to which rows are read
-place_is_to : (form : StripForm) (all : List Bool) (from : StripPlace) (rows : List (List Colour)) (to : StripPlace)
-    (count : ℕ)
-    (old place : FaxPlace) (old_runs runs : List ℕ) → ReadsTo form all from rows to → count ≡ length rows
-    → IsPlace form.width old old_runs from → IsPlaceAfter form.width count old old_runs place runs to
-    → (to.row ≡ place.row) × (to.bits ≡ place.bits)
-place_is_to form all from [] to count old place old_runs runs reads count_is at (inl none) = (
-  sym (ap (λ (p : StripPlace). p.row) reads) ∙ at.row ∙ sym (ap (λ (p : FaxPlace). p.row) none.1),
-  sym (ap (λ (p : StripPlace). p.bits) reads) ∙ at.bits ∙ sym (ap (λ (p : FaxPlace). p.bits) none.1),
-)
-place_is_to form all from (row ∷ rows) to count old place old_runs runs reads count_is at (inl none) =
-    absurd (omega (arith, count_is, none.0))
-place_is_to form all from rows to count old place old_runs runs reads count_is at (inr some) = (some.2.row, some.2.bits)
-
 -- a fault is an end marker or another
 marker_or_not : (fault : StripFault) → (fault ≡ EndMarker) ⊎ (fault ≡ EndMarker → ⊥)
 marker_or_not EndMarker = inl refl
@@ -94,73 +67,74 @@ marker_or_not RunTooLong = inr (λ is. cc)
 marker_or_not OutOfRow = inr (λ is. cc)
 marker_or_not MissingEol = inr (λ is. cc)
 
--- why the row at a place is not settled, by the stop
-unsettled_by : (given : FaxStrip) (form : StripForm) (strip : List ℕ) (place : FaxPlace) (to : StripPlace)
-    (page stride left : ℕ) (stop : Stop)
-    → StopMayChange form strip place stop → StopsAt form (bits form.order strip) to page stride left stop
-    → (stride ≤ left) × IsUnsettled given form strip to
-unsettled_by given form strip place to page stride left Done changes stops = absurd changes
-unsettled_by given form strip place to page stride left (Ended Proper) changes stops = absurd changes
-unsettled_by given form strip place to page stride left (Ended (Fault p r (File fault))) changes stops = absurd changes
-unsettled_by given form strip place to page stride left (Ended (Fault p r (Strip fault))) changes stops =
-    let left = drop to.bits (bits form.order strip) in
-    (stops.0, inl (stops.3, subst (λ f. IsCause form to.row to.reference left f) changes stops.4))
-unsettled_by given form strip place to page stride left (Ended Outside) changes stops = absurd stops
-unsettled_by given form strip place to page stride left Memory changes stops = absurd changes
-unsettled_by given form strip place to page stride left NoRoom changes stops = absurd changes
+-- what of the strip stopped its rows
+met_is : (page row : ℕ) (stop : Stop) (met other : Option StripFault) → stop ≡ stop_in_strip page row met
+    → met_in_strip stop ≡ Some other → met ≡ other
+met_is page row stop None other is by = let same = ap met_in_strip (sym is) ∙ by in cc
+met_is page row stop (Some fault) other is by = let same = ap met_in_strip (sym is) ∙ by in cc
 
--- and the row that is due there has room
-room_by : (form : StripForm) (all : List Bool) (to : StripPlace) (page stride left : ℕ) (stop : Stop)
-    (met : Option StripFault) → IsMetBy stop (Some met) → StopsAt form all to page stride left stop → stride ≤ left
-room_by form all to page stride left Done met is stops = cc
-room_by form all to page stride left (Ended Proper) met is stops = stops.0
-room_by form all to page stride left (Ended (Fault p r (File fault))) met is stops = cc
-room_by form all to page stride left (Ended (Fault p r (Strip fault))) met is stops = stops.0
-room_by form all to page stride left (Ended Outside) met is stops = cc
-room_by form all to page stride left Memory met is stops = cc
-room_by form all to page stride left NoRoom met is stops = cc
+module _ (form : StripForm) (all : List Bool) where
+  -- rows that are read begin and end inside the bits
+  ends_within : (from : StripPlace) (rows : List (List Colour)) (to : StripPlace) → from.bits ≤ length all
+      → ReadsTo form all from rows to → to.bits ≤ length all
+  ends_within from [] to within reads = subst (λ (p : StripPlace). p.bits ≤ length all) reads within
+  ends_within from (row ∷ rows) to within (after, inside, due, line, reads) =
+      ends_within (record { row = from.row + 1; bits = after; reference = row }) rows to inside reads
 
--- what of the strip is in the way there
-lines_by : (form : StripForm) (all : List Bool) (to : StripPlace) (page stride left : ℕ) (stop : Stop)
-    (met : Option StripFault)
-    → IsMetBy stop (Some met) → StopsAt form all to page stride left stop
-    → AreLines form to.row to.reference (drop to.bits all) [] met (drop to.bits all)
-lines_by form all to page stride left Done met is stops = cc
-lines_by form all to page stride left (Ended Proper) None is stops = (refl, stops.1)
-lines_by form all to page stride left (Ended Proper) (Some fault) is stops = cc
-lines_by form all to page stride left (Ended (Fault p r (File fault))) met is stops = cc
-lines_by form all to page stride left (Ended (Fault p r (Strip fault))) None is stops = cc
-lines_by form all to page stride left (Ended (Fault p r (Strip fault))) (Some other) is stops =
-    let same : fault ≡ other = cc in
-    (refl, stops.3, subst (λ f. IsCause form to.row to.reference (drop to.bits all) f) same stops.4)
-lines_by form all to page stride left (Ended Outside) met is stops = absurd stops
-lines_by form all to page stride left Memory met is stops = absurd stops
-lines_by form all to page stride left NoRoom met is stops = absurd stops
+  -- the place in memory of the caller is the one up to which rows are read
+  place_is_to : (from : StripPlace) (rows : List (List Colour)) (to : StripPlace) (count : ℕ) (old new : StripMemory)
+      → ReadsTo form all from rows to → count ≡ length rows → IsPlace form.width old.place old.runs from
+      → IsPlaceAfter form.width count old.place old.runs new.place new.runs to
+      → (to.row ≡ new.place.row) × (to.bits ≡ new.place.bits)
+  place_is_to from [] to count old new reads count_is at (inl none) = (
+    sym (ap (λ (p : StripPlace). p.row) reads) ∙ at.row ∙ sym (ap (λ (p : FaxPlace). p.row) none.1),
+    sym (ap (λ (p : StripPlace). p.bits) reads) ∙ at.bits ∙ sym (ap (λ (p : FaxPlace). p.bits) none.1),
+  )
+  place_is_to from (row ∷ rows) to count old new reads count_is at (inl none) = absurd (omega (arith, count_is, none.0))
+  place_is_to from rows to count old new reads count_is at (inr some) = (some.2.row, some.2.bits)
 
--- a stop that is met in the strip, where nothing is read, is its end
-none_by : (form : StripForm) (strip : List ℕ) (stride : ℕ) (place : FaxPlace) (runs : List ℕ) (room : ℕ) (stop : Stop)
-    (met : Option StripFault)
-    → IsMetBy stop (Some met) → ReadsNone form strip stride place runs room stop
-    → HasRoom form stride room × (place.row ≡ form.rows) × (met ≡ None)
-none_by form strip stride place runs room Done met is none = absurd none
-none_by form strip stride place runs room (Ended Proper) met is none = (none.0, none.1, cc)
-none_by form strip stride place runs room (Ended (Fault p r (File fault))) met is none = absurd none
-none_by form strip stride place runs room (Ended (Fault p r (Strip fault))) met is none = absurd none
-none_by form strip stride place runs room (Ended Outside) met is none = cc
-none_by form strip stride place runs room Memory met is none = cc
-none_by form strip stride place runs room NoRoom met is none = cc
+  -- where the strip stops its rows after others, the next one has room, and this is in its way
+  lines_by : (to : StripPlace) (page stride left : ℕ) (stop : Stop) (met : Option StripFault)
+      → met_in_strip stop ≡ Some met → StopsAt form all to page stride left stop
+      → (stride ≤ left) × AreLines form to.row to.reference (drop to.bits all) [] met (drop to.bits all)
+  lines_by to page stride left stop met by (inl (is, full)) = let none = ap met_in_strip (sym is) ∙ by in cc
+  lines_by to page stride left stop met by (inr (room, other, is, lines)) = (
+    room,
+    subst (λ m. AreLines form to.row to.reference (drop to.bits all) [] m (drop to.bits all))
+        (met_is page to.row stop other met is by) lines,
+  )
 
--- a stop that may change, where nothing is read, is a place ahead
-ahead_by : (form : StripForm) (strip : List ℕ) (stride : ℕ) (place : FaxPlace) (runs : List ℕ) (room : ℕ) (stop : Stop)
-    → StopMayChange form strip place stop → ReadsNone form strip stride place runs room stop
-    → HasRoom form stride room × IsAhead form strip place
-ahead_by form strip stride place runs room Done changes none = absurd changes
-ahead_by form strip stride place runs room (Ended Proper) changes none = absurd changes
-ahead_by form strip stride place runs room (Ended (Fault p r (File fault))) changes none = absurd changes
-ahead_by form strip stride place runs room (Ended (Fault p r (Strip fault))) changes none = absurd none
-ahead_by form strip stride place runs room (Ended Outside) changes none = (none.0, changes)
-ahead_by form strip stride place runs room Memory changes none = absurd changes
-ahead_by form strip stride place runs room NoRoom changes none = absurd changes
+module _ (form : StripForm) (strip : List ℕ) (stride : ℕ) (place : FaxPlace) (stop : Stop) where
+  -- a stop that the strip makes, where nothing is read, is its end
+  none_by : (runs : List ℕ) (room : ℕ) (met : Option StripFault) → met_in_strip stop ≡ Some met
+      → ReadsNone form strip stride place runs room stop
+      → HasRoom form stride room × (place.row ≡ form.rows) × (met ≡ None)
+  none_by runs room met by (inl (is, none)) = let no = ap met_in_strip (sym is) ∙ by in cc
+  none_by runs room met by (inr (has, inl (is, row))) = let end = ap met_in_strip (sym is) ∙ by in (has, row, cc)
+  none_by runs room met by (inr (has, inr (inl (is, other, none)))) = let no = ap met_in_strip (sym is) ∙ by in cc
+  none_by runs room met by (inr (has, inr (inr (is, at, due)))) = let no = ap met_in_strip (sym is) ∙ by in cc
+
+  -- a stop that may change, where nothing is read, is a place ahead
+  ahead_by : (runs : List ℕ) (room : ℕ) → StopMayChange form strip place stop
+      → ReadsNone form strip stride place runs room stop → HasRoom form stride room × IsAhead form strip place
+  ahead_by runs room changes (inl (is, none)) = absurd (subst (StopMayChange form strip place) is changes)
+  ahead_by runs room changes (inr (has, inl (is, row))) = absurd (subst (StopMayChange form strip place) is changes)
+  ahead_by runs room changes (inr (has, inr (inl (is, other, none)))) =
+      (has, subst (StopMayChange form strip place) is changes)
+  ahead_by runs room changes (inr (has, inr (inr (is, at, due)))) =
+      absurd (subst (StopMayChange form strip place) is changes)
+
+  -- and one that may change after rows is the end of the data in the next one
+  unsettled_by : (given : FaxStrip) (to : StripPlace) (page left : ℕ) → StopMayChange form strip place stop
+      → StopsAt form (bits form.order strip) to page stride left stop
+      → (stride ≤ left) × IsUnsettled given form strip to
+  unsettled_by given to page left changes (inl (is, full)) = absurd (subst (StopMayChange form strip place) is changes)
+  unsettled_by given to page left changes (inr (room, None, is, lines)) =
+      absurd (subst (StopMayChange form strip place) is changes)
+  unsettled_by given to page left changes (inr (room, Some fault, is, lines)) =
+      let cause = subst (λ f. IsCause form to.row to.reference (drop to.bits (bits form.order strip)) f)
+      (subst (StopMayChange form strip place) is changes) lines.2 in
+      (room, inl (lines.1, cause))
 
 module _ (stays : (form : StripForm) (i : ℕ) (reference : List Colour) → StaysWhateverFollows form i reference)
     (end_stays : EndsStayWhateverFollows)
@@ -181,14 +155,13 @@ module _ (stays : (form : StripForm) (i : ℕ) (reference : List Colour) → Sta
   longer = omega (arith, length-append strip more)
 
   longer_bits : length all ≤ length whole
-  longer_bits = omega (
-    arith,
-    ap (λ (b : List Bool). length b) (bits_follow form.order strip more),
-    length-append all
-        rest,
-  )
+  longer_bits =
+      omega (arith, ap (λ (b : List Bool). length b) (bits_follow form.order strip more), length-append all rest)
 
-  reads_stay : (from : StripPlace) (rows : List (List Colour)) (to : StripPlace) → from.bits ≤ length all
+  count_bits : length all ≡ 8 * length strip
+  count_bits = stand.count form.order strip
+
+  pub reads_stay : (from : StripPlace) (rows : List (List Colour)) (to : StripPlace) → from.bits ≤ length all
       → ReadsTo form all from rows to
       → ReadsTo form whole from rows to
   reads_stay from [] to within reads = reads
@@ -206,55 +179,52 @@ module _ (stays : (form : StripForm) (i : ℕ) (reference : List Colour) → Sta
   stop_stays : (place : FaxPlace) (to : StripPlace) (page stride left : ℕ) (stop : Stop) → to.bits ≤ length all
       → (StopMayChange form strip place stop → ⊥) → StopsAt form all to page stride left stop
       → StopsAt form whole to page stride left stop
-  stop_stays place to page stride left Done within stay stops = stops
-  stop_stays place to page stride left (Ended Proper) within stay stops = stops
-  stop_stays place to page stride left (Ended (Fault p r (File fault))) within stay stops = stops
-  stop_stays place to page stride left (Ended (Fault p r (Strip fault))) within stay stops = (
-    stops.0,
-    stops.1,
-    stops.2,
-    stops.3,
-    subst (λ b. IsCause form to.row to.reference b fault) (sym (from_place to.bits within))
-        ((stays form to.row to.reference).fault (drop to.bits all) rest fault stay stops.4),
-  )
-  stop_stays place to page stride left (Ended Outside) within stay stops = stops
-  stop_stays place to page stride left Memory within stay stops = stops
-  stop_stays place to page stride left NoRoom within stay stops = stops
+  stop_stays place to page stride left stop within stay (inl full) = inl full
+  stop_stays place to page stride left stop within stay (inr (room, None, is, lines)) =
+      inr (room, None, is, (refl, lines.1))
+  stop_stays place to page stride left stop within stay (inr (room, Some fault, is, lines)) =
+      let cause = (stays form to.row to.reference).fault (drop to.bits all) rest fault
+      (λ ends. stay (subst (StopMayChange form strip place) (sym is) ends)) lines.2 in
+      inr (
+        room,
+        Some fault,
+        is,
+        (
+          refl,
+          lines.1,
+          subst (λ b. IsCause form to.row to.reference b fault) (sym (from_place to.bits within)) cause,
+        ),
+      )
 
   none_stays : (stride : ℕ) (place : FaxPlace) (runs : List ℕ) (room : ℕ) (stop : Stop)
       → length (strip ++ more) ≤ 536870911 → (StopMayChange form strip place stop → ⊥)
       → ReadsNone form strip stride place runs room stop → ReadsNone form (strip ++ more) stride place runs room stop
-  none_stays stride place runs room Done few stay none = none
-  none_stays stride place runs room (Ended Proper) few stay none = none
-  none_stays stride place runs room (Ended (Fault p r (File fault))) few stay none = none
-  none_stays stride place runs room (Ended (Fault p r (Strip fault))) few stay none = none
-  none_stays stride place runs room (Ended Outside) few stay none = (
-    none.0,
-    none.1,
-    λ at due.
-        elim (cases_lt (8 * length strip) place.bits) [
-          | inl beyond ↦ stay (
-            subst (λ n. n < form.rows) due.0.row due.1,
-            beyond,
-            omega (arith, due.0.bits, due.2, few),
-          )
-          | inr within ↦ none.2 at (due.0, due.1, omega (arith, due.0.bits, within))
-        ],
+  none_stays stride place runs room stop few stay (inl none) = inl none
+  none_stays stride place runs room stop few stay (inr (has, inl end)) = inr (has, inl end)
+  none_stays stride place runs room stop few stay (inr (has, inr (inl (is, other, none)))) = inr (
+    has,
+    inr (inl (
+      is,
+      other,
+      λ at due.
+          elim (cases_lt (8 * length strip) place.bits) [
+            | inl beyond ↦ stay (subst (StopMayChange form strip place) (sym is) (
+              subst (λ n. n < form.rows) due.0.row due.1,
+              beyond,
+              omega (arith, due.0.bits, due.2, few),
+            ))
+            | inr within ↦ none at (due.0, due.1, omega (arith, due.0.bits, within))
+          ],
+    )),
   )
-  none_stays stride place runs room Memory few stay (has_room, at, (is, due, within)) =
-      (has_room, at, (is, due, omega (arith, within, longer)))
-  none_stays stride place runs room NoRoom few stay none = none
-
-  count_bits : length all ≡ 8 * length strip
-  count_bits = stand.count form.order strip
+  none_stays stride place runs room stop few stay (inr (has, inr (inr (is, at, (place_is, due, within))))) =
+      inr (has, inr (inr (is, at, (place_is, due, omega (arith, within, longer)))))
 
   -- what is read of these bytes is read of all
-  pub reads_on_stays : (stride : ℕ) (old_place : FaxPlace) (old_runs old : List ℕ) (filled : Filled) (place : FaxPlace)
-      (runs new : List ℕ) → length (strip ++ more) ≤ 536870911
-      → (StopMayChange form strip place filled.stop → ⊥) → ReadsOn form strip stride old_place old_runs old filled place
-      runs new
-      → ReadsOn form (strip ++ more) stride old_place old_runs old filled place runs new
-  reads_on_stays stride old_place old_runs old filled place runs new few stay (inl (room, from, to, due, read, after)) =
+  reads_on_stays : (stride : ℕ) (old : StripMemory) (filled : Filled) (new : StripMemory)
+      → length (strip ++ more) ≤ 536870911 → (StopMayChange form strip new.place filled.stop → ⊥)
+      → ReadsOn form strip stride old filled new → ReadsOn form (strip ++ more) stride old filled new
+  reads_on_stays stride old filled new few stay (inl (room, from, to, due, read, after)) =
       let within : from.bits ≤ length all = omega (arith, due.2, count_bits) in
       inl (
         room,
@@ -268,25 +238,19 @@ module _ (stays : (form : StripForm) (i : ℕ) (reference : List Colour) → Sta
           used = read.used;
           written = read.written;
           cursor = read.cursor;
-          stops =
-              stop_stays place to old_place.page stride (length old - filled.used) filled.stop
-              (ends_within form all from read.rows to within read.read)
-              stay read.stops;
+          stops = stop_stays new.place to old.place.page stride (length old.raster - filled.used) filled.stop
+              (ends_within form all from read.rows to within read.read) stay read.stops;
         },
         after,
       )
-  reads_on_stays stride old_place old_runs old filled place runs new few stay
-      (inr (none, count, used, cursor, same, same_runs, same_bytes)) =
-      inr (
-        none_stays stride old_place old_runs (length old) filled.stop few
-            (subst (λ (p : FaxPlace). StopMayChange form strip p filled.stop → ⊥) same stay) none,
-        count,
-        used,
-        cursor,
-        same,
-        same_runs,
-        same_bytes,
-      )
+  reads_on_stays stride old filled new few stay (inr (none, count, used, cursor, same)) = inr (
+    none_stays stride old.place old.runs (length old.raster) filled.stop few
+        (subst (λ (m : StripMemory). StopMayChange form strip m.place filled.stop → ⊥) same stay) none,
+    count,
+    used,
+    cursor,
+    same,
+  )
 
   -- the fault that stops rows, at the place after them
   record HasCause (place : FaxPlace) (fault : StripFault) : Type 0 where
@@ -295,35 +259,22 @@ module _ (stays : (form : StripForm) (i : ℕ) (reference : List Colour) → Sta
     within : place.bits ≤ length all
     cause : IsCause form i reference (drop place.bits all) fault
 
-  cause_in_lines : (i : ℕ) (reference : List Colour) (b : List Bool) (met : Option StripFault) (fault : StripFault)
-      → met ≡ Some fault
-      → AreLines form i reference b [] met b → IsCause form i reference b fault
-  cause_in_lines i reference b None fault is lines = cc
-  cause_in_lines i reference b (Some other) fault is lines =
-      let same : other ≡ fault = cc in subst (λ f. IsCause form i reference b f) same lines.2
-
-  cause_there : (stride : ℕ) (old_place : FaxPlace) (old_runs old : List ℕ) (filled : Filled) (place : FaxPlace)
-      (runs new : List ℕ)
-      (met : Option StripFault) (fault : StripFault) → IsMetBy filled.stop (Some met) → met ≡ Some fault
-      → ReadsOn form strip stride old_place old_runs old filled place runs new → HasCause place fault
-  cause_there stride old_place old_runs old filled place runs new met fault by is
-      (inl (room, from, to, due, read, after)) =
+  cause_there : (stride : ℕ) (old : StripMemory) (filled : Filled) (new : StripMemory) (fault : StripFault)
+      → met_in_strip filled.stop ≡ Some (Some fault) → ReadsOn form strip stride old filled new
+      → HasCause new.place fault
+  cause_there stride old filled new fault by (inl (room, from, to, due, read, after)) =
       let within : from.bits ≤ length all = omega (arith, due.2, count_bits) in
-      let there = place_is_to form all from read.rows to filled.count old_place place old_runs runs read.read read.count
-      due.0 after in
-      let inside = ends_within form all from read.rows to within read.read in
-      let lines = lines_by form all to old_place.page stride (length old - filled.used) filled.stop met by read.stops in
+      let there = place_is_to form all from read.rows to filled.count old new read.read read.count due.0 after in
+      let lines = lines_by form all to old.place.page stride (length old.raster - filled.used) filled.stop (Some fault)
+      by read.stops in
       record {
         i = to.row;
         reference = to.reference;
-        within = omega (arith, there.1, inside);
-        cause = subst (λ n. IsCause form to.row to.reference (drop n all) fault) there.1
-            (cause_in_lines to.row to.reference (drop to.bits all) met fault is lines);
+        within = omega (arith, there.1, ends_within form all from read.rows to within read.read);
+        cause = subst (λ n. IsCause form to.row to.reference (drop n all) fault) there.1 lines.1.2;
       }
-  cause_there stride old_place old_runs old filled place runs new met fault by is
-      (inr (none, count, used, cursor, same_place, same_runs, same_bytes)) =
-      let none = none_by form strip stride old_place old_runs (length old) filled.stop met by none in
-      let same = sym is ∙ none.2 in
+  cause_there stride old filled new fault by (inr (none, count, used, cursor, same)) =
+      let end = (none_by form strip stride old.place filled.stop old.runs (length old.raster) (Some fault) by none).2 in
       cc
 
   -- an end mark may stand after all bits
@@ -370,211 +321,150 @@ module _ (stays : (form : StripForm) (i : ℕ) (reference : List Colour) → Sta
       let none = unmarked_stays place stay so.1 in (none.0, none.1, so.2)
 
   -- the end of these bytes is that of all
-  pub end_told_of_all : (stride : ℕ) (old_place : FaxPlace) (old_runs old : List ℕ) (filled : Filled) (place : FaxPlace)
-      (runs new : List ℕ)
-      (met : Option StripFault) (end : RowsEnd) → IsMetBy filled.stop (Some met)
-      → ReadsOn form strip stride old_place old_runs old filled place runs new
-      → (MayChange form.coding (drop place.bits all) end → ⊥)
-      → EndsSo form.coding place.row (drop place.bits all) met end
-      → EndsSo form.coding place.row (drop place.bits whole) met end
-  end_told_of_all stride old_place old_runs old filled place runs new met end by reads stay so =
-      ends_so_stays place met end (λ fault is. cause_there stride old_place old_runs old filled place runs new met fault
-      by is reads) stay so
-
-  pub rows_of_all : (from : StripPlace) (rows : List (List Colour)) (to : StripPlace) → from.bits ≤ 8 * length strip
-      → ReadsTo form all from rows to
-      → ReadsTo form whole from rows to
-  rows_of_all from rows to within reads = reads_stay from rows to (omega (arith, within, count_bits)) reads
-
--- what is told of rows that nobody counted, where they end so
-end_told : (form : StripForm) (strip : List ℕ) (place : FaxPlace) (filled : Filled) (met : Option StripFault)
-    (end : RowsEnd) (told : FaxTold)
-    (status : ℕ) → IsMetInStrip filled.stop (Some met) → IsRowsEndTold filled place end told status
-    → EndsSo form.coding place.row (drop place.bits (bits form.order strip)) met end
-    → IsUncountedTold form strip place filled told status
-end_told form strip place filled met end told status in_strip is so = record {
-  count = is.count;
-  used = is.used;
-  page = is.page;
-  row = is.row;
-  stop = in_strip form strip place told.fault status (end, so, is.fault, is.answer);
-}
-
--- and where something else stops them
-stop_told : (form : StripForm) (strip : List ℕ) (place : FaxPlace) (filled : Filled) (told : FaxTold) (status : ℕ)
-    → IsMetInStrip filled.stop None → IsTold filled told status → IsUncountedTold form strip place filled told status
-stop_told form strip place filled told status in_strip is = record {
-  count = is.count;
-  used = is.used;
-  page = is.page;
-  row = is.row;
-  stop = subst (λ f. IsStopTold form strip place filled.stop f status) (sym is.fault)
-      (subst (λ n. IsStopTold form strip place filled.stop (fault_of filled.stop) n) (sym is.answer)
-      (in_strip form strip place));
-}
+  end_at_stays : (given : FaxStrip) (stride : ℕ) (old : StripMemory) (filled : Filled) (new : StripMemory)
+      (end : Option RowsEnd)
+      → ReadsOn form strip stride old filled new → (MayGoOn form strip new.place filled.stop end → ⊥)
+      → IsEndAt given form strip new.place filled.stop end
+      → IsEndAt given form (strip ++ more) new.place filled.stop end
+  end_at_stays given stride old filled new None reads stay at = at
+  end_at_stays given stride old filled new (Some end) reads stay (uncounted, met, by, so) = (
+    uncounted,
+    met,
+    by,
+    ends_so_stays new.place met end
+        (λ fault is. cause_there stride old filled new fault (by ∙ ap Some is) reads)
+        (λ changes. stay (inr changes)) so,
+  )
 
 module _ (stays : (form : StripForm) (i : ℕ) (reference : List Colour) → StaysWhateverFollows form i reference)
-    (end_stays : EndsStayWhateverFollows)
-    (stand : AreBitsByPlace) (given : FaxStrip) (form : StripForm) (strip : List ℕ) (stride : ℕ) (old_place : FaxPlace)
-    (old_runs old : List ℕ)
-    (filled : Filled) (place : FaxPlace) (runs new : List ℕ) (old_told told : FaxTold) (status : ℕ)
-    (reads : ReadsOn form strip stride old_place old_runs old filled place runs new)
-    (room_of_runs : most_runs ≤ length old_runs) where
-  abbrev IsPart : Type 0
-  IsPart = TellsStripPart strip given stride old_place old_runs old place runs new old_told told status
+    (end_stays : EndsStayWhateverFollows) (stand : AreBitsByPlace)
+    (asked : AskedStrip) (form : StripForm) (old : StripMemory) (filled : Filled) (new : StripMemory)
+    (end : Option RowsEnd) (old_told told : FaxTold) (status : ℕ)
+    (readable : IsReadableIn asked.strip asked.form form) (room_of_runs : most_runs ≤ length old.runs)
+    (reads : ReadsOn form asked.strip asked.stride old filled new)
+    (at : IsEndAt asked.form form asked.strip new.place filled.stop end) where
+  readable_more : (more : List ℕ) → length (asked.strip ++ more) ≤ 536870911
+      → IsReadableIn (asked.strip ++ more) asked.form form
+  readable_more more few = elim readable [
+    | inl counted ↦ inl (counted.0, few)
+    | inr uncounted ↦ inr (uncounted.0, (uncounted.1.0, few))
+  ]
 
-  pub counted_told : IsReadable strip given form → (StopMayChange form strip place filled.stop → ⊥)
-      → IsTold filled told status → IsPart
-  counted_told readable stay is = inl (
-    inl (form, readable, room_of_runs, filled, reads, is),
+  -- what is told of rows that stay is told of all bytes
+  pub settled : (MayGoOn form asked.strip new.place filled.stop end → ⊥) → IsReadTold filled new.place end told status
+      → TellsStripPart asked old new old_told told status
+  settled stay is = inl (
+    inl (form, readable, room_of_runs, filled, reads, end, at, is),
     λ more few.
         inl (
           form,
-          (readable.0, few),
+          readable_more more few,
           room_of_runs,
           filled,
-          reads_on_stays stays end_stays stand form strip more stride old_place old_runs old filled place runs new few
-              stay reads,
+          reads_on_stays stays end_stays stand form asked.strip more asked.stride old filled new few
+              (λ changes. stay (inl changes)) reads,
+          end,
+          end_at_stays stays end_stays stand form asked.strip more asked.form asked.stride old filled new end reads stay
+              at,
           is,
         ),
   )
 
-  pub other_told : IsReadableUncounted strip given form → (StopMayChange form strip place filled.stop → ⊥)
-      → IsMetInStrip filled.stop None
-      → IsTold filled told status → IsPart
-  other_told readable stay in_strip is = inl (
-    inr (inl (form, readable, room_of_runs, filled, reads, stop_told form strip place filled told status in_strip is)),
-    λ more few.
-        inr (inl (
-          form,
-          (readable.0, (readable.1.0, few)),
-          room_of_runs,
-          filled,
-          reads_on_stays stays end_stays stand form strip more stride old_place old_runs old filled place runs new few
-              stay reads,
-          stop_told form (strip ++ more) place filled told status in_strip is,
-        )),
-  )
+  abbrev all_bits : List Bool
+  all_bits = bits form.order asked.strip
 
-  pub uncounted_told : (met : Option StripFault) (end : RowsEnd) → IsReadableUncounted strip given form
-      → (StopMayChange form strip place filled.stop → ⊥) → IsMetInStrip filled.stop (Some met)
-      → IsMetBy filled.stop (Some met)
-      → (MayChange form.coding (drop place.bits (bits form.order strip)) end → ⊥)
-      → EndsSo form.coding place.row (drop place.bits (bits form.order strip)) met end
-      → IsRowsEndTold filled place end told status → IsPart
-  uncounted_told met end readable stay in_strip by end_stay so is = inl (
-    inr (inl (
-      form,
-      readable,
-      room_of_runs,
-      filled,
-      reads,
-      end_told form strip place filled met end told status in_strip
-          is so,
-    )),
-    λ more few.
-        inr (inl (
-          form,
-          (readable.0, (readable.1.0, few)),
-          room_of_runs,
-          filled,
-          reads_on_stays stays end_stays stand form strip more stride old_place old_runs old filled place runs new few
-              stay reads,
-          end_told form (strip ++ more) place filled met end told status in_strip is
-              (end_told_of_all stays end_stays stand form strip more stride old_place old_runs old filled place runs new
-              met end by reads end_stay so),
-        )),
-  )
+  -- rows that nobody counted end so, and may end otherwise
+  record EndsOpen : Type 0 where
+    uncounted : asked.form.rows ≡ 0
+    met : Option StripFault
+    by : met_in_strip filled.stop ≡ Some met
+    its : RowsEnd
+    so : EndsSo form.coding new.place.row (drop new.place.bits all_bits) met its
+    changes : MayChange form.coding (drop new.place.bits all_bits) its
 
-  -- rows are read up to one that is not settled, for this reason
-  module _ (is : IsMoreTold filled told status)
-      (in_rows : (to : StripPlace) → StopsAt form (bits form.order strip) to old_place.page stride
-      (length old - filled.used) filled.stop
-      → to.row ≡ place.row → to.bits ≡ place.bits
-      → (stride ≤ length old - filled.used) × IsUnsettled given form strip to)
-      (at_once : place ≡ old_place → ReadsNone form strip stride old_place old_runs (length old) filled.stop
-      → HasRoom form stride (length old) × IsUnsettledAt given form strip old_place) where
-    awaits : ReadsOn form strip stride old_place old_runs old filled place runs new
-        → AwaitsMore given form strip stride old_place old_runs old place runs new told
-    awaits (inl (room, from, to, due, read, after)) =
-        let all = bits form.order strip in
-        let there = place_is_to form all from read.rows to filled.count old_place place old_runs runs read.read
-        read.count due.0 after in
-        let part : ArePartRead form strip stride old_place old_runs old place runs new told to = record {
-          from = from;
-          due = due;
-          rows = read.rows;
-          read = λ more. rows_of_all stays end_stays stand form strip more from read.rows to due.2 read.read;
-          count = is.count ∙ read.count;
-          used = is.used ∙ read.used;
-          written = subst (λ n. new ≡ flat_map (padded_row stride) read.rows ++ drop n old) (sym is.used) read.written;
-          page = is.page ∙ ap (λ (at : Cursor). at.page) read.cursor;
-          row = is.row ∙ ap (λ (at : Cursor). at.row) read.cursor;
-          place_is = subst (λ n. IsPlaceAfter form.width n old_place old_runs place runs to) (sym is.count) after;
-        } in
-        let unsettled = in_rows to read.stops there.0 there.1 in
-        let has_room : stride ≤ length old - told.used =
-        subst (λ n. stride ≤ length old - n) (sym is.used) unsettled.0 in
-        (room, is.fault, inl (to, part, has_room, unsettled.1))
-    awaits (inr (none, count, used, cursor, same, same_runs, same_bytes)) =
-        let why = at_once same none in
-        let nothing : IsNothingRead old_place old_runs old place runs new told = record {
-          same_place = same;
-          same_runs = same_runs;
-          same_bytes = same_bytes;
-          count = is.count ∙ count;
-          used = is.used ∙ used;
-          page = is.page ∙ ap (λ (at : Cursor). at.page) cursor;
-          row = is.row ∙ ap (λ (at : Cursor). at.row) cursor;
-        } in
-        (why.0, is.fault, inr (nothing, why.1))
+  ends_open : (end : Option RowsEnd) → EndMayChange form.coding (drop new.place.bits all_bits) end
+      → IsEndAt asked.form form asked.strip new.place filled.stop end → EndsOpen
+  ends_open None changes at = absurd changes
+  ends_open (Some its) changes (uncounted, met, by, so) =
+      record { uncounted = uncounted; met = met; by = by; its = its; so = so; changes = changes }
 
-    waits : (IsReadable strip given form ⊎ IsReadableUncounted strip given form) → IsPart
-    waits readable = inr (is.answer, form, readable, room_of_runs, awaits reads)
+  -- why the row after others is not settled
+  unsettled : (to : StripPlace) → MayGoOn form asked.strip new.place filled.stop end
+      → StopsAt form all_bits to old.place.page asked.stride (length old.raster - filled.used) filled.stop
+      → to.row ≡ new.place.row → to.bits ≡ new.place.bits
+      → (asked.stride ≤ length old.raster - filled.used) × IsUnsettled asked.form form asked.strip to
+  unsettled to (inl changes) stops row bits_are =
+      unsettled_by form asked.strip asked.stride new.place filled.stop asked.form to old.place.page
+      (length old.raster - filled.used) changes stops
+  unsettled to (inr changes) stops row bits_are =
+      let found = ends_open end changes at in
+      let lines = lines_by form all_bits to old.place.page asked.stride (length old.raster - filled.used) filled.stop
+      found.met found.by stops in
+      let so = subst (λ n. EndsSo form.coding to.row (drop n all_bits) found.met found.its) (sym bits_are)
+      (subst (λ n. EndsSo form.coding n (drop new.place.bits all_bits) found.met found.its) (sym row) found.so) in
+      let changes = subst (λ n. MayChange form.coding (drop n all_bits) found.its) (sym bits_are) found.changes in
+      (lines.0, inr (found.uncounted, found.met, found.its, lines.1, so, changes))
 
-  -- the stop may change
-  pub stop_waits : (IsReadable strip given form ⊎ IsReadableUncounted strip given form) → IsMoreTold filled told status
-      → StopMayChange form strip place filled.stop → IsPart
-  stop_waits readable is changes =
-      waits is
-      (λ to stops row bits_are. unsettled_by given form strip place to old_place.page stride (length old - filled.used)
-      filled.stop changes stops)
-      (λ same none.
-      let ahead = ahead_by form strip stride old_place old_runs (length old) filled.stop
-      (subst (λ (p : FaxPlace). StopMayChange form strip p filled.stop) same changes) none in
-      (ahead.0, inl ahead.1))
-      readable
-
-  -- or the end may
-  pub end_waits : (met : Option StripFault) (end : RowsEnd) → IsReadableUncounted strip given form
-      → IsMoreTold filled told status
-      → IsMetBy filled.stop (Some met) → MayChange form.coding (drop place.bits (bits form.order strip)) end
-      → EndsSo form.coding place.row (drop place.bits (bits form.order strip)) met end → IsPart
-  end_waits met end readable is by changes so =
-      let all = bits form.order strip in
-      waits is
-      (λ to stops row bits_are. (
-        room_by form all to old_place.page stride (length old - filled.used) filled.stop met by stops,
+  -- and why it is not where nothing is read
+  unsettled_at : MayGoOn form asked.strip new.place filled.stop end → new ≡ old
+      → ReadsNone form asked.strip asked.stride old.place old.runs (length old.raster) filled.stop
+      → HasRoom form asked.stride (length old.raster) × IsUnsettledAt asked.form form asked.strip old.place
+  unsettled_at (inl changes) same none =
+      let ahead = ahead_by form asked.strip asked.stride old.place filled.stop old.runs (length old.raster)
+      (subst (λ (m : StripMemory). StopMayChange form asked.strip m.place filled.stop) same changes) none in
+      (ahead.0, inl ahead.1)
+  unsettled_at (inr changes) same none =
+      let found = ends_open end changes at in
+      let last = none_by form asked.strip asked.stride old.place filled.stop old.runs (length old.raster) found.met
+      found.by none in
+      let so = subst
+      (λ (m : StripMemory). EndsSo form.coding m.place.row (drop m.place.bits all_bits) found.met found.its) same
+      found.so in (
+        last.0,
         inr (
-          readable.0,
-          met,
-          end,
-          lines_by form all to old_place.page stride (length old - filled.used) filled.stop met by stops,
-          subst (λ n. EndsSo form.coding to.row (drop n all) met end) (sym bits_are)
-              (subst (λ n. EndsSo form.coding n (drop place.bits all) met end) (sym row) so),
-          subst (λ n. MayChange form.coding (drop n all) end) (sym bits_are) changes,
+          found.uncounted,
+          last.1,
+          found.its,
+          subst (λ m. EndsSo form.coding old.place.row (drop old.place.bits all_bits) m found.its) last.2 so,
+          subst (λ (m : StripMemory). MayChange form.coding (drop m.place.bits all_bits) found.its) same found.changes,
         ),
-      ))
-      (λ same none.
-      let at_end = none_by form strip stride old_place old_runs (length old) filled.stop met by none in
-      let so = subst (λ (p : FaxPlace). EndsSo form.coding p.row (drop p.bits all) met end) same so in (
-        at_end.0,
-        inr (
-          readable.0,
-          at_end.1,
-          end,
-          subst (λ m. EndsSo form.coding old_place.row (drop old_place.bits all) m end) at_end.2 so,
-          subst (λ (p : FaxPlace). MayChange form.coding (drop p.bits all) end) same changes,
-        ),
-      ))
-      (inr readable)
+      )
+
+  awaits : IsMoreTold filled told status → MayGoOn form asked.strip new.place filled.stop end
+      → ReadsOn form asked.strip asked.stride old filled new → AwaitsMore form asked old new told
+  awaits is found (inl (room, from, to, due, read, after)) =
+      let there = place_is_to form all_bits from read.rows to filled.count old new read.read read.count due.0 after in
+      let within : from.bits ≤ length all_bits = omega (arith, due.2, stand.count form.order asked.strip) in
+      let part : ArePartRead form asked old new told to = record {
+        from = from;
+        due = due;
+        rows = read.rows;
+        read = λ more.
+            reads_stay stays end_stays stand form asked.strip more from read.rows to within read.read;
+        count = is.count ∙ read.count;
+        used = is.used ∙ read.used;
+        written = subst (λ n. new.raster ≡ flat_map (padded_row asked.stride) read.rows ++ drop n old.raster)
+            (sym is.used) read.written;
+        page = is.page ∙ ap (λ (at : Cursor). at.page) read.cursor;
+        row = is.row ∙ ap (λ (at : Cursor). at.row) read.cursor;
+        place_is = subst (λ n. IsPlaceAfter form.width n old.place old.runs new.place new.runs to) (sym is.count) after;
+      } in
+      let why = unsettled to found read.stops there.0 there.1 in
+      let has_room : asked.stride ≤ length old.raster - told.used =
+      subst (λ n. asked.stride ≤ length old.raster - n) (sym is.used) why.0 in
+      (room, is.fault, inl (to, part, has_room, why.1))
+  awaits is found (inr (none, count, used, cursor, same)) =
+      let why = unsettled_at found same none in
+      let nothing : IsNothingRead old new told = record {
+        unchanged = same;
+        count = is.count ∙ count;
+        used = is.used ∙ used;
+        page = is.page ∙ ap (λ (at : Cursor). at.page) cursor;
+        row = is.row ∙ ap (λ (at : Cursor). at.row) cursor;
+      } in
+      (why.0, is.fault, inr (nothing, why.1))
+
+  -- where it may be something else, more bytes are waited for
+  pub waits : MayGoOn form asked.strip new.place filled.stop end → IsMoreTold filled told status
+      → TellsStripPart asked old new old_told told status
+  waits found is = inr (is.answer, form, readable, room_of_runs, awaits is found reads)

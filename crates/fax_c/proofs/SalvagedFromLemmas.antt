@@ -4,7 +4,6 @@ use Rattle.std.proofs.Common.{take, drop}
 use Rattle.std.proofs.Common.{replicate, Bool, true, false, Option, Some, None, Ok, Err, refl, sym, ap, ◌∙◌, arith}
 use Rattle.std.proofs.Common.{append_assoc, append-nil, length-append, inl, inr, subst}
 use Rattle.std.specs.Prelude.{◌⊎◌, ◌≢◌, flat_map, not}
-use Rattle.std.proofs.lemmas.Grind.{flat_map-append}
 use Rattle.std.proofs.lemmas.List.{length-replicate, length_push}
 use Rattle.fax_rows.specs.Rows.{Colour, White, runs_of}
 use Rattle.fax_rows.specs.Coded.{packed_len}
@@ -41,13 +40,14 @@ use Rattle.fax_c.specs.code.Salvaged.{IsStretchPut, stretch_lost}
 use Rattle.fax_c.specs.code.SalvagedFrom.{AreRowsFilled, EndsOrGoesOn, IsAhead, IsStopBefore, IsToldAfter}
 use Rattle.fax_c.specs.code.SalvagedFrom.{IsToldPlace, stretches_of}
 use Rattle.fax_c.specs.code.Strips.{IsRowBefore}
-use Rattle.fax_c.specs.views.Salvaged.{none_filled_at}
+use Rattle.fax_c.specs.Told.{none_filled_at}
+use Rattle.std.proofs.lemmas.List.{same_from_push}
 use Rattle.fax_c.specs.views.Places.{HasRuns, cursor_of, place_at}
 use Rattle.fax_c.specs.views.SalvagedFrom.{EndsFound, HasRoom, HasRoomFor, IsFull, StopsNoLater}
-use Rattle.fax_c.specs.views.SalvagedFrom.{IsPlaceOn, WritesFrom, WritesNone}
+use Rattle.fax_c.specs.views.SalvagedFrom.{IsPlaceOn, LeftMemory, WritesFrom, WritesNone}
 use Rattle.fax_c.proofs.ListLemmas.{more_put, one_set}
 use Rattle.fax_c.proofs.StripLemmas.{due_told}
-use Rattle.fax_c.proofs.PaddedLemmas.{fills_stride}
+use Rattle.fax_c.proofs.PaddedLemmas.{fills_stride, padded_push}
 use Rattle.fax_walk.proofs.ShortLemmas.{some_run}
 
 pub not_true : (b : Bool) → not b ≡ true → b ≡ false
@@ -190,33 +190,23 @@ module _ (first : RowsFromView) (page row : ℕ) where
       ended = λ _. (ap found_of (append-nil so_far.over) ∙ so_far.none, all, alone);
     }
 
--- rows of which the last ones are lost do not end with one that is found
-ends_lost : (over later before : List PageRow) (row : List Colour) → found_of later ≡ [] → 0 < length later
-    → over ++ later ≡ before ++ Ok row ∷ [] → ⊥
-ends_lost [] [] before row none some same = omega (arith, some)
-ends_lost [] (Ok pels ∷ later) before row none some same = cc
-ends_lost [] (Err cause ∷ []) [] row none some same = cc
-ends_lost [] (Err cause ∷ []) (x ∷ []) row none some same = cc
-ends_lost [] (Err cause ∷ []) (x ∷ y ∷ before) row none some same = cc
-ends_lost [] (Err cause ∷ y ∷ later) [] row none some same = cc
-ends_lost [] (Err cause ∷ y ∷ later) (x ∷ before) row none some same =
-    ends_lost [] (y ∷ later) before row none (omega arith) cc
-ends_lost (o ∷ over) later [] row none some same =
-    let len = ap (λ (l : List PageRow). length l) same in
-    omega (arith, len, length-append over later, some)
-ends_lost (o ∷ over) later (x ∷ before) row none some same = ends_lost over later before row none some cc
+-- rows that are lost end with one
+last_lost : (x : PageRow) (later : List PageRow) → found_of (x ∷ later) ≡ []
+    → (before : List PageRow) × (cause : Cause) × (x ∷ later ≡ before ++ Err cause ∷ [])
+last_lost (Ok pels) later none = absurd cc
+last_lost (Err cause) [] none = ([], cause, refl)
+last_lost (Err cause) (y ∷ later) none =
+    let (before, last, is) = last_lost y later none in
+    (Err cause ∷ before, last, ap (λ (l : List PageRow). Err cause ∷ l) is)
 
 none_later : (over later : List PageRow) → found_of later ≡ [] → EndsFound (over ++ later) → later ≡ []
 none_later over [] none ends = refl
 none_later over (x ∷ later) none (before, row, is) =
-    absurd (ends_lost over (x ∷ later) before row none (omega arith) is)
-
--- no row stands before the one of a list
-none_of_one : (rows : List (List Colour)) (row only : List Colour) → rows ++ row ∷ [] ≡ only ∷ [] → rows ≡ []
-none_of_one [] row only same = refl
-none_of_one (x ∷ rows) row only same =
-    let len = ap (λ (l : List (List Colour)). length l) same in
-    absurd (omega (arith, len, length_push rows row))
+    let (lost, cause, last) = last_lost x later none in
+    let other : Err cause ≡ Ok row =
+    (same_from_push (over ++ lost) before (Err cause) (Ok row) (append_assoc over lost (Err cause ∷ [])
+    ∙ ap (λ (l : List PageRow). over ++ l) (sym last) ∙ is)).1 in
+    absurd cc
 
 -- no stretch stands among no rows
 no_stretch : (lost : Option Stretch) → [] ≡ stretches_of lost ++ [] → lost ≡ None
@@ -339,8 +329,7 @@ module _ (first : RowsFromView) (page row stride : ℕ) (old : List ℕ) (old_lo
         found_append so_far.over next.over ∙ ap (λ (l : List (List Colour)). found_of so_far.over ++ l) alone in
         let bytes_are : flat_map (padded_row stride) (found_of its_over) ≡ front ++ padded_row stride new.last =
         ap (λ (l : List (List Colour)). flat_map (padded_row stride) l) rows_are
-        ∙ flat_map-append (padded_row stride) (found_of so_far.over) (new.last ∷ [])
-        ∙ ap (λ (l : List ℕ). front ++ l) (append-nil (padded_row stride new.last)) in
+        ∙ padded_push stride (found_of so_far.over) new.last in
         let sum : (count + 1) * stride ≡ count * stride + stride = omega arith in
         record {
           over = its_over;
@@ -381,7 +370,8 @@ module _ (first : RowsFromView) (page row stride : ℕ) (old : List ℕ) (old_lo
           λ ends.
               let all : found_of before ++ row ∷ [] ≡ new.last ∷ [] =
               sym (found_append before (Ok row ∷ [])) ∙ ap (λ (l : List PageRow). found_of l) (sym is) ∙ alone in
-              let nothing = none_later so_far.over before (none_of_one (found_of before) row new.last all) ends in
+              let nothing = none_later so_far.over before (same_from_push (found_of before) [] row new.last all).0 ends
+              in
               let next_is : next.over ≡ Ok row ∷ [] = rw nothing at is in
               let no_lost : [] ≡ stretches_of ahead.lost ++ [] =
               ap (λ (l : List PageRow). lost_from page due (l ++ [])) (sym next_is) ∙ next.lost_are [] (λ _. refl) in
@@ -419,9 +409,7 @@ module _ (first : RowsFromView) (page row stride : ℕ) (old : List ℕ) (old_lo
               count = so_far.count_is ∙ ap (λ (l : List (List Colour)). length l) (sym found_are);
               used = its_put.1 ∙ ap (λ (l : List FaxLost). length l) (sym lost_are);
               cursor = ap (λ n. record { page = page; row = n }) due_next;
-              written = so_far.written
-                  ∙ ap (λ (l : List (List Colour)). flat_map (padded_row stride) l ++ drop used old) (sym found_are)
-                  ∙ ap (λ n. flat_map (padded_row stride) (found_of its_over) ++ drop n old) so_far.used_is;
+              written = rw (found_are, ← so_far.used_is) so_far.written;
               lost_are = its_put.0 ∙ ap (λ (l : List FaxLost). l ++ drop to old_lost) (sym lost_are);
               stops = (alone rest left, λ ends full. not_full none (none_later so_far.over next.over none ends) full);
             },
@@ -469,8 +457,7 @@ module _ (first : RowsFromView) (page row stride : ℕ) (old : List ℕ) (old_lo
             count = so_far.count_is;
             used = so_far.stretches_is ∙ ap (λ (l : List FaxLost). length l) (sym lost_are);
             cursor = ap (λ n. record { page = page; row = n }) so_far.due_is;
-            written = so_far.written
-                ∙ ap (λ n. flat_map (padded_row stride) (found_of so_far.over) ++ drop n old) so_far.used_is;
+            written = rw (← so_far.used_is) so_far.written;
             lost_are = so_far.put ∙ ap (λ (l : List FaxLost). l ++ drop stretches old_lost) (sym lost_are);
             stops = (ends, rw (← so_far.used_is) full);
           },
@@ -561,18 +548,18 @@ module _ (file : List ℕ) (here : FilePage) (stride : ℕ) (place : FaxPlace) (
   abbrev m : ℕ
   m = here.form.rows_per_strip
 
+  abbrev memory : LeftMemory
+  memory = record { place = place; runs = runs; raster = old; lost = old_lost }
+
   pub none_before : (stop : Stop) (filled : Filled) → 0 < m
       → IsStopBefore here.form place stride (length old) (length old_lost) (Some stop)
       → filled ≡ none_filled_at (cursor_of place) stop
-      → WritesFrom file here stride place runs old old_lost filled place runs old old_lost
+      → WritesFrom file here stride memory filled memory
   none_before stop filled some why filled_is =
       let stop_is : filled.stop ≡ stop = ap (λ (f : Filled). f.stop) filled_is in
       inr (
         rw stop_is (none_for stop why),
         filled_is ∙ ap (none_filled_at (cursor_of place)) (sym stop_is),
-        refl,
-        refl,
-        refl,
         refl,
       )
     where
@@ -658,7 +645,8 @@ module _ (file : List ℕ) (here : FilePage) (stride : ℕ) (place : FaxPlace) (
       → first.file ≡ file → first.here ≡ here
       → AreRowsFilled place.page place.row stride first old old_lost filled new out lost
       → AreLeftNow new rest → IsToldAfter new filled.cursor place' runs new_runs
-      → WritesFrom file here stride place runs old old_lost filled place' new_runs out lost
+      → WritesFrom file here stride memory filled
+      (record { place = place'; runs = new_runs; raster = out; lost = lost })
   all_from first new filled bits row_before place' new_runs out lost s i at rest room its rows_are file_is here_is
       written left told =
       let (rows, are, now) = written.written rest left in
@@ -702,7 +690,7 @@ module _ (file : List ℕ) (here : FilePage) (stride : ℕ) (place : FaxPlace) (
       → (place.runs ≡ 0 → place.row % m ≡ 0)
       → IsNotBegunFrom (record { file = file; here = here }) place.row bits row_before no_memory
       → filled ≡ none_filled_at (cursor_of place) Memory
-      → WritesFrom file here stride place runs old old_lost filled place runs old old_lost
+      → WritesFrom file here stride memory filled memory
   no_memory_from bits row_before before none some_bits filled some room due first fits filled_is =
       let stop_is : filled.stop ≡ Memory = ap (λ (f : Filled). f.stop) filled_is in
       let why : WritesNone file here stride place runs (length old) (length old_lost) Memory = (
@@ -717,9 +705,6 @@ module _ (file : List ℕ) (here : FilePage) (stride : ℕ) (place : FaxPlace) (
         rw stop_is why,
         filled_is ∙ ap (none_filled_at (cursor_of place)) (sym stop_is),
         refl,
-        refl,
-        refl,
-        refl,
       )
 
   -- no row of the page is due at the place
@@ -728,7 +713,7 @@ module _ (file : List ℕ) (here : FilePage) (stride : ℕ) (place : FaxPlace) (
       → HasRoomFor here.form.width stride (length old) (length old_lost) → place.row < here.form.rows
       → IsNotBegunFrom (record { file = file; here = here }) place.row bits row_before no_such_place
       → filled ≡ none_filled_at (cursor_of place) (Ended Outside)
-      → WritesFrom file here stride place runs old old_lost filled place runs old old_lost
+      → WritesFrom file here stride memory filled memory
   nowhere_from bits row_before before none some_bits filled room due not filled_is =
       let stop_is : filled.stop ≡ Ended Outside = ap (λ (f : Filled). f.stop) filled_is in
       let why : WritesNone file here stride place runs (length old) (length old_lost) (Ended Outside) = (
@@ -740,8 +725,5 @@ module _ (file : List ℕ) (here : FilePage) (stride : ℕ) (place : FaxPlace) (
       inr (
         rw stop_is why,
         filled_is ∙ ap (none_filled_at (cursor_of place)) (sym stop_is),
-        refl,
-        refl,
-        refl,
         refl,
       )

@@ -28,9 +28,9 @@ use Rattle.fax_c.specs.declared.salvage.FaxLost.{FaxLost}
 use Rattle.fax_c.specs.declared.told.FaxTold.{FaxTold}
 use Rattle.fax_c.specs.Raster.{padded_row}
 use Rattle.fax_c.specs.Salvaged.{left_row, lost_among, lost_of}
-use Rattle.fax_c.specs.Told.{IsTold}
+use Rattle.fax_c.specs.Told.{IsTold, none_filled_at}
 use Rattle.fax_c.specs.views.Salvaged.{AreLeftWritten, AreLostPut, HoldsRows, IsLeftTold, StopsAfterLost}
-use Rattle.fax_c.specs.views.Salvaged.{WritesUncounted, none_filled_at}
+use Rattle.fax_c.specs.views.Salvaged.{SalvageMemory, WritesUncounted}
 use Rattle.fax_c.specs.code.Put.{IsPutAt}
 use Rattle.fax_c.specs.code.Salvaged.{AreAllWritten, IsStretchPut, stretch_lost}
 use Rattle.fax_c.proofs.ListLemmas.{more_put, one_set}
@@ -302,14 +302,14 @@ module _ (left : RowsView) (all : List PageRow) (page stride : ℕ) (old : List 
             count = sym len_all;
             used = stretches;
             cursor = ap (the_cursor page) (sym len_all);
-            written = so_far.written
-                ∙ ap (λ n. flat_map (left_row stride) so_far.done ++ drop n old)
-                (so_far.at_is ∙ ap (λ n. n * stride) (sym len_all))
-                ∙ ap (λ (l : List PageRow). flat_map (left_row stride) l ++ drop (length all * stride) old) done_all;
+            written = rw (len_all, ← so_far.at_is, ← done_all) so_far.written;
             lost_are = rw lost_are closed.0;
             stops = rw (← stretches) why;
           },
         )
+
+abbrev memory : List ℕ → List FaxLost → SalvageMemory
+memory raster lost = record { raster = raster; lost = lost }
 
 -- rows that nobody counted are written
 module _ (form : StripForm) (b : List Bool) (stride : ℕ) (left : RowsView) (count : ℕ) (end : RowsEnd)
@@ -317,7 +317,7 @@ module _ (form : StripForm) (b : List Bool) (stride : ℕ) (left : RowsView) (co
   pub uncounted_written : (new : List ℕ) (lost : List FaxLost) (filled : Filled) (told : FaxTold) (status : ℕ)
       → AreLeftOneWay (of_uncounted (uncounted form) b) → HoldsRows (length old) form.width count stride
       → AreAllWritten left 0 stride old old_lost filled new lost → IsLeftTold filled end told status
-      → WritesUncounted form b stride old old_lost told status new lost
+      → WritesUncounted form b stride (memory old old_lost) (memory new lost) told status
   uncounted_written new lost filled told status one holds (rows, are, _, written) told_so =
       let here = subst (λ (its : LeftOf). AreRowsOf its rows) start.start.its_is are in
       let same : rows ≡ start.all = one.one rows here ∙ sym (one.one start.all (end, start.are)) in
@@ -328,7 +328,8 @@ module _ (form : StripForm) (b : List Bool) (stride : ℕ) (left : RowsView) (co
         inl (
           filled,
           subst (λ n. HoldsRows (length old) form.width n stride) start.count_is holds,
-          subst (λ (l : List PageRow). AreLeftWritten 0 stride l old old_lost filled new lost) same written,
+          subst (λ (l : List PageRow). AreLeftWritten 0 stride l (memory old old_lost) filled (memory new lost)) same
+              written,
           told_so,
         ),
       )
@@ -336,7 +337,7 @@ module _ (form : StripForm) (b : List Bool) (stride : ℕ) (left : RowsView) (co
   pub uncounted_no_room : (filled : Filled) (told : FaxTold) (status : ℕ)
       → (HoldsRows (length old) form.width count stride → ⊥)
       → filled ≡ none_filled_at (record { page = 0; row = count }) NoRoom → IsTold filled told status
-      → WritesUncounted form b stride old old_lost told status old old_lost
+      → WritesUncounted form b stride (memory old old_lost) (memory old old_lost) told status
   uncounted_no_room filled told status full filled_is told_so =
       inl (
         start.all,

@@ -1,7 +1,7 @@
 -- The rows of a strip, written one after another.
 use Rattle.std.proofs.Common.{◌≡◌, ℕ, ◌+◌, ◌-◌, ◌*◌, ◌<◌, ◌≤◌, Bool, List, [], ◌∷◌, ◌++◌, length, drop, ap, sym, ◌∙◌}
 use Rattle.std.proofs.Common.{subst, refl, inl, inr}
-use Rattle.std.proofs.Common.{append_assoc, append-nil, arith, length-append}
+use Rattle.std.proofs.Common.{arith, length-append}
 use Rattle.std.specs.Prelude.{Some, None, Err, flat_map}
 use Rattle.fax_bits.specs.Bits.{bits}
 use Rattle.fax_bits.specs.laws.Codes.{AreBitsByPlace}
@@ -20,11 +20,12 @@ use Rattle.fax_walk.specs.declared.cursor.Cursor.{Cursor}
 use Rattle.fax_c.specs.declared.places.FaxPlace.{FaxPlace}
 use Rattle.fax_c.specs.Raster.{padded_row}
 use Rattle.fax_c.specs.views.Places.{HasRuns, cursor_of}
-use Rattle.fax_c.specs.views.Strips.{AreStripRows, IsDueAt, IsPlace, ReadsNone, ReadsOn, ReadsTo, StopsAt, StripPlace}
+use Rattle.fax_c.specs.views.Strips.{AreStripRows, IsDueAt, IsPlace, ReadsNone, ReadsOn, ReadsTo, StopsAt}
+use Rattle.fax_c.specs.views.Strips.{StripMemory, StripPlace}
 use Rattle.fax_c.specs.code.Put.{IsPutAt}
 use Rattle.fax_c.specs.code.Strips.{IsReadNext, IsRowBefore, place_due}
 use Rattle.fax_c.proofs.ListLemmas.{more_put}
-use Rattle.fax_c.proofs.PaddedLemmas.{fills_stride}
+use Rattle.fax_c.proofs.PaddedLemmas.{fills_stride, padded_push}
 use Rattle.fax_walk.proofs.ShortLemmas.{some_run}
 
 -- where no reader begins after the row that a place's runs say, no row is due there
@@ -72,11 +73,6 @@ reads_more form all from (first ∷ rows) mid n row (bits, within, before, first
   reads_more form all (record { row = from.row + 1; bits = bits; reference = first }) rows mid n row reads inside due
       line,
 )
-
-rows-push : (stride : ℕ) (rows : List (List Colour)) (row : List Colour)
-    → flat_map (padded_row stride) (rows ++ row ∷ []) ≡ flat_map (padded_row stride) rows ++ padded_row stride row
-rows-push stride [] row = append-nil (padded_row stride row)
-rows-push stride (first ∷ rows) row = grind (arith, append_assoc, rows-push stride rows row)
 
 -- so many rows are read from a place on, and written
 pub record AreReadSoFar (form : StripForm) (bytes : List ℕ) (stride : ℕ) (from : StripPlace) (old : List ℕ)
@@ -126,7 +122,12 @@ pub why_none : (form : StripForm) (bytes : List ℕ) (page stride left : ℕ) (o
     → old.form ≡ form → old.bytes ≡ bytes
     → stride ≤ left → IsReadNext page old (Some stop) next → StopsAt form (bits form.order bytes) (place_due next) page
     stride left stop
-why_none form bytes page stride left old next stop same_form same_bytes room h = grind arith
+why_none form bytes page stride left old next stop same_form same_bytes room (same, next_form, next_bytes, why) =
+    subst (λ (to : StripPlace). StopsAt form (bits form.order bytes) to page stride left stop) (sym same) (elim why [
+      | inl (end, is) ↦ inr (room, None, is, (refl, rw same_form at end.all_read))
+      | inr (fault, meets, is) ↦
+          inr (room, Some fault, is, (refl, rw same_form at meets.due, rw (same_form, same_bytes) at meets.cause))
+    ])
 
 module _ (form : StripForm) (bytes : List ℕ) (stride : ℕ) (from : StripPlace) (old : List ℕ) (count used : ℕ)
     (state : StripState) (now : List ℕ)
@@ -153,7 +154,7 @@ module _ (form : StripForm) (bytes : List ℕ) (stride : ℕ) (from : StripPlace
       let used_next : to ≡ length (so_far.rows ++ row ∷ []) * stride =
       to_is ∙ ap (λ n. used + n) fills ∙ ap (λ n. n + stride) so_far.used_is ∙ sym product
       ∙ sym (ap (λ n. n * stride) rows_len) in
-      let all = rows-push stride so_far.rows row in
+      let all = padded_push stride so_far.rows row in
       record {
         same_form = reads.same_form ∙ so_far.same_form;
         same_bytes = same_bytes;
@@ -177,9 +178,9 @@ module _ (form : StripForm) (bytes : List ℕ) (stride : ℕ) (from : StripPlace
       }
 
 -- nothing is read from a place, for this reason
-pub none_for : (form : StripForm) (strip : List ℕ) (stride : ℕ) (place : FaxPlace) (runs old : List ℕ) (stop : Stop)
-    (at : Cursor) (filled : Filled)
-    → at ≡ cursor_of place → filled ≡ record { cursor = at; count = 0; used = 0; stop = stop }
-    → ReadsNone form strip stride place runs (length old) stop
-    → ReadsOn form strip stride place runs old filled place runs old
-none_for form strip stride place runs old stop at filled at_is filled_is why = grind arith
+pub none_for : (form : StripForm) (strip : List ℕ) (stride : ℕ) (old : StripMemory) (stop : Stop) (at : Cursor)
+    (filled : Filled)
+    → at ≡ cursor_of old.place → filled ≡ record { cursor = at; count = 0; used = 0; stop = stop }
+    → ReadsNone form strip stride old.place old.runs (length old.raster) stop
+    → ReadsOn form strip stride old filled old
+none_for form strip stride old stop at filled at_is filled_is why = grind arith

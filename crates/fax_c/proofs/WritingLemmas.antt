@@ -96,22 +96,7 @@ page_added written old mid new form strips page directory start link writing sta
     ) in
     let after : drop (start + length page) mid ≡ drop (start + length page) old =
     sym (drop-drop (length page) start mid) ∙ ap (drop (length page)) rest ∙ drop-drop (length page) start old in
-    let patched : List ℕ → ℕ → ℕ → List ℕ = λ b l q. take l b ++ four q ++ drop (l + 4) b in (
-      new_is
-          ∙ ap (λ (l : List ℕ). take link (take start mid) ++ four directory ++ drop (link + 4) (take start mid) ++ page
-          ++ l)
-          (after ∙ ap (λ n. drop n old) all)
-          ∙ ap (λ (b : List ℕ). take link b ++ four directory ++ drop (link + 4) b ++ page
-          ++ drop (length (with_page W written.total written.added form strips).bytes) old) front
-          ∙ ap (λ l. take l W.bytes ++ four directory ++ drop (l + 4) W.bytes ++ page
-          ++ drop (length (with_page W written.total written.added form strips).bytes) old) linked
-          ∙ ap (λ q. take W.link W.bytes ++ four q ++ drop (W.link + 4) W.bytes ++ page
-          ++ drop (length (with_page W written.total written.added form strips).bytes) old) place_is
-          ∙ ap (λ p. take W.link W.bytes ++ four (directory_place (length W.bytes) strips) ++ drop (W.link + 4) W.bytes
-          ++ p ++ drop (length (with_page W written.total written.added form strips).bytes) old) bytes_are,
-      all,
-      ap (λ n. n + 194) place_is,
-    )
+    (new_is ∙ rw (after, all, front, linked, place_is, bytes_are) refl, all, ap (λ n. n + 194) place_is)
 
 pub strips_are_counted : (form : PageForm) (k stride : ℕ) (raster : List ℕ) (strips : List (Vec ℕ Global))
     → contents strips ≡ page_strips form k stride raster → length strips ≡ form.strips
@@ -129,5 +114,4 @@ told_of old len link = record { len = len; link = link; total = old.total; added
 
 pub told_is : (old : FaxWritten) (len last link next : ℕ) → len ≡ last → link ≡ next
     → told_of old len link ≡ told_of old last next
-told_is old len last link next len_is link_is = ap (λ n. told_of old n link) len_is
-    ∙ ap (λ n. told_of old last n) link_is
+told_is old len last link next len_is link_is = rw (len_is, link_is) refl

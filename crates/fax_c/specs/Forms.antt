@@ -7,7 +7,7 @@ use Rattle.fax_files.specs.declared.PageForm.{PageForm}
 use Rattle.fax_walk.specs.Pages.{FormItem, IsFormTail}
 use Rattle.fax_c.specs.declared.filled.Filled.{Filled}
 use Rattle.fax_c.specs.declared.filled.Stop.{Stop}
-use Rattle.fax_c.specs.declared.filled.Stop.TheVariants.{Done, Ended, Memory, NoRoom}
+use Rattle.fax_c.specs.declared.filled.Stop.TheVariants.{Done, Ended}
 use Rattle.fax_c.specs.declared.forms.FaxForm.{FaxForm}
 use Rattle.fax_c.specs.declared.told.FaxTold.{FaxTold}
 use Rattle.fax_c.specs.Numbers.{bool_number, coding_number, order_number}
@@ -42,8 +42,7 @@ abbrev pub StopsAfterForms : List FormItem → End → ℕ → ℕ → Stop → 
 StopsAfterForms items end room count Done = count ≡ room
 StopsAfterForms items end room count (Ended met) =
     (count < room) × (count ≡ length items) × (met ≡ end)
-StopsAfterForms items end room count Memory = ⊥
-StopsAfterForms items end room count NoRoom = ⊥
+StopsAfterForms items end room count stop = ⊥
 
 -- the first forms from a cursor on are written, one after another, and nothing else is changed
 pub record AreFormsFilled (file : List ℕ) (from : Cursor) (old : List FaxForm) (filled : Filled)

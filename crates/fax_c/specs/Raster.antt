@@ -17,6 +17,13 @@ padded_row stride row =
 abbrev pub HoldsRaster : ℕ → ℕ → ℕ → ℕ → Type 0
 HoldsRaster len width rows stride = (rows - 1) * stride + packed_len width ≤ len
 
+-- what is to be coded: the numbers of a form, k, and a raster with so many bytes a row
+pub record AskedRaster (F : Type 0) : Type 0 where
+  pub form : F
+  pub k : ℕ
+  pub raster : List ℕ
+  pub stride : ℕ
+
 -- row i of a raster: so many pels from byte i * stride on
 abbrev pub raster_row : ℕ → ℕ → List ℕ → ℕ → List Colour
 raster_row width stride bytes i =

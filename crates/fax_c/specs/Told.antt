@@ -6,6 +6,7 @@ use Rattle.fax_files.specs.declared.Cause.{Cause}
 use Rattle.fax_files.specs.declared.Cause.TheVariants.{Strip}
 use Rattle.fax_page.specs.declared.RowsEnd.{RowsEnd}
 use Rattle.fax_page.specs.declared.RowsEnd.TheVariants as rows
+use Rattle.fax_walk.specs.declared.cursor.Cursor.{Cursor}
 use Rattle.fax_walk.specs.declared.end.End.{End}
 use Rattle.fax_walk.specs.declared.end.End.TheVariants.{Proper, Fault, Outside}
 use Rattle.fax_c.specs.declared.faults.FaxFault.{FaxFault}
@@ -30,16 +31,13 @@ fault_of_cause page row cause = record {
 
 -- the fault of an end
 abbrev pub fault_of_end : End → FaxFault
-fault_of_end Proper = no_fault
 fault_of_end (Fault page row cause) = fault_of_cause page row cause
-fault_of_end Outside = no_fault
+fault_of_end end = no_fault
 
 -- the fault that is told
 abbrev pub fault_of : Stop → FaxFault
-fault_of Done = no_fault
 fault_of (Ended end) = fault_of_end end
-fault_of Memory = no_fault
-fault_of NoRoom = no_fault
+fault_of stop = no_fault
 
 -- the number that a call answers: all that was asked for is written, there is no more, as the end
 -- says, memory was refused, the next row has no room
@@ -51,14 +49,23 @@ status_of (Ended Outside) = 3
 status_of Memory = 4
 status_of NoRoom = 5
 
--- what was written is told, and the number answered
-pub record IsTold (filled : Filled) (told : FaxTold) (status : ℕ) : Type 0 where
+-- nothing is written at a place, for this reason
+abbrev pub none_filled_at : Cursor → Stop → Filled
+none_filled_at cursor stop = record { cursor = cursor; count = 0; used = 0; stop = stop }
+
+-- what was written is told, with this fault, and this number is answered
+pub record IsToldWith (filled : Filled) (its : FaxFault) (number : ℕ) (told : FaxTold)
+    (status : ℕ) : Type 0 where
   pub count : told.count ≡ filled.count
   pub used : told.used ≡ filled.used
   pub page : told.page ≡ filled.cursor.page
   pub row : told.row ≡ filled.cursor.row
-  pub fault : told.fault ≡ fault_of filled.stop
-  pub answer : status ≡ status_of filled.stop
+  pub fault : told.fault ≡ its
+  pub answer : status ≡ number
+
+-- what was written is told, and why it is no more
+abbrev pub IsTold : Filled → FaxTold → ℕ → Type 0
+IsTold filled = IsToldWith filled (fault_of filled.stop) (status_of filled.stop)
 
 -- the number that a call answers where rows end so that nobody counted
 abbrev pub end_status : RowsEnd → ℕ
@@ -69,8 +76,7 @@ end_status rows.TooMany = 2
 
 -- the fault of rows that nobody counted, where this row of a page is due after them
 abbrev pub end_fault : ℕ → ℕ → RowsEnd → FaxFault
-end_fault page row rows.Marked = no_fault
-end_fault page row rows.DataEnd = no_fault
 end_fault page row (rows.Fault fault) = fault_of_cause page row (Strip fault)
 end_fault page row rows.TooMany =
     record { number = too_many_rows_number; tag = 0; page = page; row = row }
+end_fault page row end = no_fault

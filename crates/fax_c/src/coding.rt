@@ -52,7 +52,9 @@ pub extern "C" fn faxpages_strip_code(
     out: &mut [u8],
     len: &mut usize,
 ) -> u32
-    ensures { Spec.TellsStrip form.now k raster.now stride out.old out.new len.new result }
+    ensures { Spec.TellsStrip
+        (record { form = form.now; k = k; raster = raster.now; stride = stride }) out.old out.new
+        len.new result }
 {
     *len = 0;
     let Some(form) = form.form() else {

@@ -70,7 +70,9 @@ pub extern "C" fn faxpages_strip_code_runs(
     out: &mut [u8],
     len: &mut usize,
 ) -> u32
-    ensures { Spec.TellsStripOfRuns form.now k rows.now runs.now out.old out.new len.new result }
+    ensures { Spec.TellsStripOfRuns
+        (record { form = form.now; k = k; table = rows.now; runs = runs.now }) out.old out.new
+        len.new result }
 {
     *len = 0;
     let Some(form) = form.form() else {

@@ -1,10 +1,11 @@
 //! How a row is written in memory of the caller: as numbers, one after another.
-ghost use Rattle.std.specs.Prelude.{◌≡◌, ◌+◌, ◌≤◌, ◌^◌, ◌++◌, length, take, drop};
+ghost use Rattle.std.specs.Prelude.{◌≡◌, ◌+◌, ◌≤◌, ◌^◌, ◌++◌, length, take, drop, Some};
 ghost use Rattle.fax_rows.specs.Coded.{packed_row};
 ghost use Rattle.fax_rows.specs.Rows.{runs_of};
 ghost use Rattle.fax_c.specs.Changes.{changes_of};
 ghost use Rattle.fax_c.specs.code.Put.{IsPutAt};
 
+use crate::raster::{packed_len, put_packed};
 use fax_rows::{LongestRuns, Row};
 
 /// How a row is written.
@@ -45,13 +46,10 @@ impl RowFormat for Packed {
 
     #[tactic(auto, using(crate::proofs::PackedLemmas::has_packed_len))]
     fn put(row: &Row, out: &mut [u8], at: usize) -> Option<usize> {
-        let len = ((row.width() + 7) / 8) as usize;
-        if out.len() - at < len {
+        if out.len() - at < packed_len(row.width()) {
             return None;
         }
-        let to = at + len;
-        row.to_packed(&mut out[at..to]);
-        Some(to)
+        Some(put_packed(row, out, at))
     }
 }
 
@@ -68,6 +66,17 @@ fn put_runs(runs: &mut LongestRuns, out: &mut [u32], at: usize)
         out[to] = run;
         to += 1;
     }
+}
+
+/// Writes the runs of a row where those of any row have room, and answers how many they are.
+pub(crate) fn put_all_runs(row: &Row, out: &mut [u32]) -> u32
+    requires { 65536 ≤ length out.old }
+    ensures { IsPutAt (runs_of row.now) out.old 0 (Some result) out.new }
+{
+    let mut runs = LongestRuns::of_row(row);
+    let count = runs.len();
+    put_runs(&mut runs, out, 0);
+    count as u32
 }
 
 impl RowFormat for Runs {

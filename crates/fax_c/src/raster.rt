@@ -1,11 +1,10 @@
 //! Rasters: rows of packed bytes, each so many bytes after the one above it.
 ghost use Rattle.std.specs.Prelude.{◌≡◌, ◌<◌, ◌-◌, ◌≤◌, ◌++◌, false, length, take, drop, true};
-ghost use Rattle.std.specs.Prelude.{replicate};
+ghost use Rattle.std.specs.Prelude.{◌+◌, replicate, Some};
 ghost use Rattle.fax_rows.specs.Coded as Coded;
 ghost use Rattle.fax_c.specs.Raster as Spec;
 ghost use Rattle.fax_c.specs.code.Put as Code;
 
-use crate::format::{Packed, RowFormat};
 use fax_rows::Row;
 
 /// How many bytes a row of so many pels has.
@@ -33,6 +32,30 @@ pub(crate) fn put_zeros(out: &mut [u8], at: usize, to: usize)
     clear(&mut out[at..to]);
 }
 
+/// Writes a row's bytes at a place that has room for them, and answers where they end.
+#[tactic(auto, using(crate::proofs::PackedLemmas::has_packed_len))]
+pub(crate) fn put_packed(row: &Row, out: &mut [u8], at: usize) -> usize
+    requires { at + Coded.packed_len (length row.now) ≤ length out.old }
+    ensures { Code.IsPutAt (Coded.packed_row row.now) out.old at (Some result) out.new }
+{
+    let to = at + packed_len(row.width());
+    row.to_packed(&mut out[at..to]);
+    to
+}
+
+/// Writes a row's bytes at a place, and zeros after them up to the stride, which have room there,
+/// and answers where they end.
+pub(crate) fn put_in_stride(row: &Row, stride: usize, out: &mut [u8], at: usize) -> usize
+    requires short { Coded.packed_len (length row.now) ≤ stride }
+    requires room { at + stride ≤ length out.old }
+    ensures { Code.IsPutAt (Spec.padded_row stride row.now) out.old at (Some result) out.new }
+{
+    let end = put_packed(row, out, at);
+    let to = at + stride;
+    put_zeros(out, end, to);
+    to
+}
+
 /// Writes a row's bytes at a place, and zeros after them up to the stride, where they have room,
 /// and answers where they end.
 pub(crate) fn put_padded(row: &Row, stride: usize, out: &mut [u8], at: usize) -> Option<usize>
@@ -43,12 +66,7 @@ pub(crate) fn put_padded(row: &Row, stride: usize, out: &mut [u8], at: usize) ->
     if out.len() - at < size {
         return None;
     }
-    let to = at + size;
-    let Some(end) = Packed::put(row, out, at) else {
-        unreachable!();
-    };
-    put_zeros(out, end, to);
-    Some(to)
+    Some(put_in_stride(row, size, out, at))
 }
 
 /// Whether so many bytes hold a raster of so many rows.

@@ -178,8 +178,10 @@ pub(crate) fn fill_from<F: RowFormat>(
     out: &mut [F::Number],
     told: &mut FaxTold,
 ) -> u32
-    ensures { PlaceSpec.GoesOn F.numbers file.now place.old runs.old rows.old out.old place.new
-        runs.new rows.new out.new told.new result }
+    ensures { PlaceSpec.GoesOn F.numbers file.now
+        (record { place = place.old; runs = runs.old; rows = rows.old; out = out.old })
+        (record { place = place.new; runs = runs.new; rows = rows.new; out = out.new }) told.new
+        result }
 {
     // A place that lacks its runs is OUTSIDE: NO_ROOM would have a caller grow `out` for ever.
     fax_walk::laws::beginnings_have_one_tail();
@@ -224,8 +226,10 @@ pub extern "C" fn faxpages_rows_from(
     out: &mut [u8],
     told: &mut FaxTold,
 ) -> u32
-    ensures { PlaceSpec.GoesOn packed_row file.now place.old runs.old rows.old out.old place.new
-        runs.new rows.new out.new told.new result }
+    ensures { PlaceSpec.GoesOn packed_row file.now
+        (record { place = place.old; runs = runs.old; rows = rows.old; out = out.old })
+        (record { place = place.new; runs = runs.new; rows = rows.new; out = out.new }) told.new
+        result }
 {
     fill_from::<Packed>(alloc, file, place, runs, rows, out, told)
 }

@@ -40,8 +40,10 @@ pub extern "C" fn faxpages_runs_from(
     out: &mut [u32],
     told: &mut FaxTold,
 ) -> u32
-    ensures { PlaceSpec.GoesOn runs_of file.now place.old runs.old rows.old out.old place.new
-        runs.new rows.new out.new told.new result }
+    ensures { PlaceSpec.GoesOn runs_of file.now
+        (record { place = place.old; runs = runs.old; rows = rows.old; out = out.old })
+        (record { place = place.new; runs = runs.new; rows = rows.new; out = out.new }) told.new
+        result }
 {
     fill_from::<Runs>(alloc, file, place, runs, rows, out, told)
 }
@@ -75,8 +77,10 @@ pub extern "C" fn faxpages_changes_from(
     out: &mut [u32],
     told: &mut FaxTold,
 ) -> u32
-    ensures { PlaceSpec.GoesOn changes_of file.now place.old runs.old rows.old out.old place.new
-        runs.new rows.new out.new told.new result }
+    ensures { PlaceSpec.GoesOn changes_of file.now
+        (record { place = place.old; runs = runs.old; rows = rows.old; out = out.old })
+        (record { place = place.new; runs = runs.new; rows = rows.new; out = out.new }) told.new
+        result }
 {
     fill_from::<Changes>(alloc, file, place, runs, rows, out, told)
 }

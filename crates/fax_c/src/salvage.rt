@@ -4,7 +4,6 @@ ghost use Rattle.fax_bits.specs.Bits.{bits};
 ghost use Rattle.fax_page.specs.views.Strip.{IsStripForm};
 ghost use Rattle.fax_rows.specs.Coded as Coded;
 ghost use Rattle.fax_walk.specs.code.SalvagePage as Walk;
-ghost use Rattle.fax_c.specs.Raster.{padded_row};
 ghost use Rattle.fax_c.specs.code.Put.{IsPutAt};
 ghost use Rattle.fax_c.specs.code.Salvaged as Code;
 ghost use Rattle.fax_c.specs.views.Salvaged as Spec;
@@ -13,7 +12,7 @@ use crate::faults::fault_number;
 use crate::filled::{Filled, Stop};
 use crate::forms::FaxForm;
 use crate::places::FaxPlace;
-use crate::raster::{packed_len, put_padded, put_zeros};
+use crate::raster::{packed_len, put_in_stride, put_zeros};
 use crate::status;
 use crate::strip_form::FaxStrip;
 use crate::strips::readable_form;
@@ -21,7 +20,6 @@ use crate::told::FaxTold;
 use crate::uncounted::{tell_end, uncounted_form};
 use fax_files::Cause;
 use fax_page::{RowsEnd, StripForm};
-use fax_rows::Row;
 use fax_walk::{Cursor, PageLeft, PagePart, RowsLeft, Stretch};
 use std::alloc::Global;
 
@@ -100,18 +98,6 @@ fn holds_rows(len: usize, width: u32, rows: u32, stride: usize) -> bool
     }
 }
 
-/// Writes a row that is found into a raster that has room for it, and answers where it ends.
-pub(crate) fn put_found(row: &Row, stride: usize, out: &mut [u8], at: usize) -> usize
-    requires short { Coded.packed_len (length row.now) ≤ stride }
-    requires room { at + stride ≤ length out.old }
-    ensures { IsPutAt (padded_row stride row.now) out.old at (Some result) out.new }
-{
-    let Some(to) = put_padded(row, stride, out, at) else {
-        unreachable!();
-    };
-    to
-}
-
 /// Writes so many rows that are lost into a raster that has room for them, and answers where they end.
 fn put_lost(rows: u32, stride: usize, out: &mut [u8], at: usize) -> usize
     requires room { at + rows * stride ≤ length out.old }
@@ -156,7 +142,7 @@ fn fill_left(
     while let Some(part) = left.next_part() {
         match part {
             PagePart::Found => {
-                at = put_found(left.row(), stride, out, at);
+                at = put_in_stride(left.row(), stride, out, at);
                 count = put_stretch(ended, lost, count);
                 ended = None;
                 row += 1;
@@ -201,8 +187,9 @@ fn salvage_uncounted(
 ) -> u32
     requires count { length strip.now ≤ 536870911 }
     requires limits { IsStripForm form }
-    ensures { Spec.WritesUncounted form (bits form.order strip.now) stride out.old lost.old told.new
-        result out.new lost.new }
+    ensures { Spec.WritesUncounted form (bits form.order strip.now) stride
+        (record { raster = out.old; lost = lost.old }) (record { raster = out.new; lost = lost.new })
+        told.new result }
 {
     fax_walk::laws::rows_are_left_in_one_way();
     let nothing = Cursor { page: 0, row: 0 };
@@ -230,8 +217,9 @@ pub extern "C" fn faxpages_salvage(
     lost: &mut [FaxLost],
     told: &mut FaxTold,
 ) -> u32
-    ensures { Spec.TellsSalvaged file.now page stride form.old form.new out.old out.new lost.old
-        lost.new told.new result }
+    ensures { Spec.TellsSalvaged file.now page stride form.old form.new
+        (record { raster = out.old; lost = lost.old }) (record { raster = out.new; lost = lost.new })
+        told.new result }
 {
     // All rows are written or none, and all lost stretches are counted, also where the table has
     // room for fewer: so a caller knows how large it has to be. (rows + 1) / 2 lines are always
@@ -264,7 +252,9 @@ pub extern "C" fn faxpages_salvage_strip(
     lost: &mut [FaxLost],
     told: &mut FaxTold,
 ) -> u32
-    ensures { Spec.TellsStripSalvaged strip.now form.now stride out.old out.new lost.old lost.new
+    ensures { Spec.TellsStripSalvaged
+        (record { strip = strip.now; form = form.now; stride = stride })
+        (record { raster = out.old; lost = lost.old }) (record { raster = out.new; lost = lost.new })
         told.old told.new result }
 {
     let Some(form) = readable_form(strip, form) else {

@@ -1,17 +1,17 @@
 //! What is left of a damaged page from a place on, and the rows that are lost.
-ghost use Rattle.std.specs.Prelude.{◌≡◌, ◌<◌, ◌≤◌, ◌*◌, false, length, true};
+ghost use Rattle.std.specs.Prelude.{◌≡◌, ◌≢◌, ◌<◌, ◌≤◌, ◌*◌, false, length, true};
 ghost use Rattle.fax_rows.specs.Coded as Coded;
 ghost use Rattle.fax_walk.specs.views.RowsFrom as Walk;
 ghost use Rattle.fax_c.specs.code.SalvagedFrom as Code;
 ghost use Rattle.fax_c.specs.views.SalvagedFrom as Spec;
 
 use crate::filled::{Filled, Stop};
-use crate::format::{RowFormat, Runs};
-use crate::places::FaxPlace;
-use crate::raster::packed_len;
-use crate::salvage::{FaxLost, longer, put_found, put_stretch};
+use crate::format::put_all_runs;
+use crate::places::{FaxPlace, MOST_RUNS};
+use crate::raster::{packed_len, put_in_stride};
+use crate::salvage::{FaxLost, longer, put_stretch};
 use crate::status;
-use crate::strips::{MOST_BYTES, MOST_RUNS, row_before};
+use crate::strips::{MOST_BYTES, row_before};
 use crate::told::FaxTold;
 use fax_files::PageForm;
 use fax_page::PlaceFault;
@@ -104,7 +104,7 @@ fn fill_from(
                 stop: Stop::Ended(End::Proper),
             };
         }
-        used = put_found(left.row(), stride, out, used);
+        used = put_in_stride(left.row(), stride, out, used);
         count += 1;
     }
     Filled {
@@ -153,11 +153,16 @@ fn tell_after(left: &RowsFrom, rows: u32, cursor: Cursor, place: &mut FaxPlace, 
     let Some(lent) = left.place() else {
         return;
     };
-    let Some(to) = Runs::put(lent.reference, runs, 0) else {
-        unreachable!();
-    };
     place.bits = lent.bits;
-    place.runs = to as u32;
+    place.runs = put_all_runs(lent.reference, runs);
+}
+
+/// How many bits of its strip stand before a place: none where it has no runs.
+fn bits_before(place: &FaxPlace) -> u32
+    ensures none { place.now.runs ≡ 0 → result ≡ 0 }
+    ensures some { place.now.runs ≢ 0 → result ≡ place.now.bits }
+{
+    if place.runs == 0 { 0 } else { place.bits }
 }
 
 /// Writes what is left of a page from a place on, which is then the one after it.
@@ -172,8 +177,9 @@ fn salvage_page(
 ) -> Filled
     requires file { length found.file ≤ 536870911 }
     requires room { 65536 ≤ length runs.old }
-    ensures { Spec.WritesFrom found.entry.file found.entry.here stride place.old runs.old out.old
-        lost.old result place.new runs.new out.new lost.new }
+    ensures { Spec.WritesFrom found.entry.file found.entry.here stride
+        (record { place = place.old; runs = runs.old; raster = out.old; lost = lost.old }) result
+        (record { place = place.new; runs = runs.new; raster = out.new; lost = lost.new }) }
 {
     let cursor = place.cursor();
     let form = found.form();
@@ -183,7 +189,7 @@ fn salvage_page(
     let Some(before) = row_before(place, runs) else {
         return Filled::nothing(cursor, Stop::Ended(End::Outside));
     };
-    let bits = if place.runs == 0 { 0 } else { place.bits };
+    let bits = bits_before(place);
     match found.rows_from(alloc, place.row, bits, before) {
         Ok(mut left) => {
             let filled = fill_from(&mut left, place.page, place.row, stride, out, lost);
@@ -209,8 +215,10 @@ pub extern "C" fn faxpages_salvage_from(
     lost: &mut [FaxLost],
     told: &mut FaxTold,
 ) -> u32
-    ensures { Spec.TellsSalvagedFrom file.now stride place.old runs.old out.old lost.old place.new
-        runs.new out.new lost.new told.old told.new result }
+    ensures { Spec.TellsSalvagedFrom file.now stride
+        (record { place = place.old; runs = runs.old; raster = out.old; lost = lost.old })
+        (record { place = place.new; runs = runs.new; raster = out.new; lost = lost.new }) told.old
+        told.new result }
 {
     if file.len() > MOST_BYTES || runs.len() < MOST_RUNS {
         return status::NO_OPTIONS;

@@ -7,13 +7,13 @@ ghost use Rattle.fax_c.specs.code.Strips as Code;
 ghost use Rattle.fax_c.specs.views.Strips as Spec;
 
 use crate::filled::{Filled, Stop};
-use crate::format::{RowFormat, Runs};
-use crate::places::FaxPlace;
-use crate::raster::{packed_len, put_padded};
+use crate::format::put_all_runs;
+use crate::places::{FaxPlace, MOST_RUNS};
+use crate::raster::{packed_len, put_in_stride};
 use crate::status;
 use crate::strip_form::FaxStrip;
 use crate::told::FaxTold;
-use crate::uncounted::{tell_uncounted, uncounted_form};
+use crate::uncounted::{end_at, form_of_rows, tell_read};
 use fax_files::Cause;
 use fax_page::{PlaceFault, RowBefore, StripFault, StripForm, StripReader};
 use fax_walk::{Cursor, End};
@@ -21,9 +21,6 @@ use std::alloc::Global;
 
 /// The most bytes of a strip that is read: so each place of a bit in it has 32 bits.
 pub(crate) const MOST_BYTES: usize = 536_870_911;
-
-/// So many runs hold those of any row.
-pub(crate) const MOST_RUNS: usize = 65_536;
 
 /// The form in which a strip of so many bytes is read, if these numbers are one.
 pub(crate) fn readable_form(strip: &[u8], given: &FaxStrip) -> Option<StripForm>
@@ -74,7 +71,7 @@ fn reader_at<'a>(
 
 /// Why a strip has no row after those that were read.
 fn stop_of(page: u32, row: u32, fault: Option<StripFault>) -> Stop
-    ensures { result ≡ Code.stop_in_strip page row fault }
+    ensures { result ≡ Spec.stop_in_strip page row fault }
 {
     match fault {
         None => Stop::Ended(End::Proper),
@@ -118,11 +115,8 @@ fn fill_strip(reader: &mut StripReader, page: u32, stride: usize, out: &mut [u8]
                 stop,
             };
         }
-        let Some(to) = put_padded(reader.reference(), stride, out, used) else {
-            unreachable!();
-        };
+        used = put_in_stride(reader.reference(), stride, out, used);
         count += 1;
-        used = to;
     }
     let row = reader.row();
     Filled {
@@ -142,14 +136,12 @@ fn tell_due(reader: &StripReader, count: usize, place: &mut FaxPlace, runs: &mut
     if count == 0 {
         return;
     }
-    let Some(to) = Runs::put(reader.reference(), runs, 0) else {
-        unreachable!();
-    };
+    let its = put_all_runs(reader.reference(), runs);
     *place = FaxPlace {
         page: place.page,
         row: reader.row(),
         bits: reader.bit_place() as u32,
-        runs: to as u32,
+        runs: its,
     };
 }
 
@@ -181,8 +173,9 @@ pub(crate) fn read_strip(
     requires count { length strip.now ≤ 536870911 }
     requires limits { IsStripForm form }
     requires room { 65536 ≤ length runs.old }
-    ensures { Spec.ReadsOn form strip.now stride place.old runs.old out.old result place.new
-        runs.new out.new }
+    ensures { Spec.ReadsOn form strip.now stride
+        (record { place = place.old; runs = runs.old; raster = out.old }) result
+        (record { place = place.new; runs = runs.new; raster = out.new }) }
 {
     if let Some(stop) = stop_before(form, place, stride, out.len()) {
         return Filled::nothing(place.cursor(), stop);
@@ -210,18 +203,18 @@ pub extern "C" fn faxpages_strip_rows(
     stride: usize,
     told: &mut FaxTold,
 ) -> u32
-    ensures { Spec.TellsStripRows strip.now form.now stride place.old runs.old out.old place.new
-        runs.new out.new told.old told.new result }
+    ensures { Spec.TellsStripRows
+        (record { strip = strip.now; form = form.now; stride = stride })
+        (record { place = place.old; runs = runs.old; raster = out.old })
+        (record { place = place.new; runs = runs.new; raster = out.new }) told.old told.new result }
 {
     if runs.len() < MOST_RUNS {
         return status::NO_OPTIONS;
     }
-    if let Some(form) = readable_form(strip, form) {
-        return read_strip(alloc, strip, form, place, runs, stride, out).tell(told);
-    }
-    let Some(form) = uncounted_form(strip, form) else {
+    let Some(its) = form_of_rows(strip, form) else {
         return status::NO_OPTIONS;
     };
-    let filled = read_strip(alloc, strip, form, place, runs, stride, out);
-    tell_uncounted(&filled, strip, form, place, told)
+    let filled = read_strip(alloc, strip, its, place, runs, stride, out);
+    let end = end_at(strip, form, its, place, filled.stop);
+    tell_read(&filled, place, end, told)
 }

@@ -1,10 +1,9 @@
 //! Rows of a strip that nobody counted.
-ghost use Rattle.std.specs.Prelude.{◌≡◌, ◌≤◌, drop, length, MatchOption};
+ghost use Rattle.std.specs.Prelude.{◌≡◌, ◌≤◌, drop, length, IfSome, MatchOption};
 ghost use Rattle.fax_bits.specs.Bits.{bits};
-ghost use Rattle.fax_page.specs.Uncounted.{EndsSo};
 ghost use Rattle.fax_page.specs.declared.StripForm.{StripForm as Form};
+ghost use Rattle.fax_page.specs.views.Strip.{IsStripForm};
 ghost use Rattle.fax_c.specs.Told as Told;
-ghost use Rattle.fax_c.specs.code.Strips as Code;
 ghost use Rattle.fax_c.specs.views.Strips as Spec;
 
 use crate::faults::FaxFault;
@@ -34,6 +33,21 @@ pub(crate) fn uncounted_form(strip: &[u8], given: &FaxStrip) -> Option<StripForm
         ..*given
     };
     readable_form(strip, &most)
+}
+
+/// The form in which a strip is read, of counted rows or of such as nobody counted, if these numbers
+/// are one.
+pub(crate) fn form_of_rows(strip: &[u8], given: &FaxStrip) -> Option<StripForm>
+    ensures form { MatchOption result
+        ((form : Form) → Spec.IsReadableIn strip.now given.now form → ⊥)
+        (Spec.IsReadableIn strip.now given.now) }
+    ensures limits { IfSome result IsStripForm }
+    ensures count { IfSome result (λ form. length strip.now ≤ 536870911) }
+{
+    match readable_form(strip, given) {
+        Some(form) => Some(form),
+        None => uncounted_form(strip, given),
+    }
 }
 
 /// The number that a call answers where rows end so that nobody counted.
@@ -69,26 +83,10 @@ pub(crate) fn source_at<'a>(strip: &'a [u8], form: StripForm, place: &FaxPlace) 
     source
 }
 
-/// How rows end that nobody counted and that are read up to a place, where this fault is in the way
-/// of the next one, or none is.
-pub(crate) fn end_at(
-    strip: &[u8],
-    form: StripForm,
-    place: &FaxPlace,
-    met: Option<StripFault>,
-) -> RowsEnd
-    requires count { length strip.now ≤ 536870911 }
-    ensures { EndsSo form.coding place.now.row
-        (drop place.now.bits (bits form.order strip.now)) met result }
-{
-    end_of_rows(&source_at(strip, form, place), form.coding, place.row, met)
-}
-
 /// What stopped the rows of a strip, where that is the strip itself: a fault is in the way of the
 /// next row, or there is none.
-pub(crate) fn met_in_strip(stop: Stop) -> Option<Option<StripFault>>
-    ensures told { Code.IsMetInStrip stop result }
-    ensures met { Code.IsMetBy stop result }
+fn met_in_strip(stop: Stop) -> Option<Option<StripFault>>
+    ensures { result ≡ Spec.met_in_strip stop }
 {
     match stop {
         Stop::Ended(End::Proper) => Some(None),
@@ -100,6 +98,28 @@ pub(crate) fn met_in_strip(stop: Stop) -> Option<Option<StripFault>>
         ) => Some(Some(fault)),
         _ => None,
     }
+}
+
+/// How rows end that nobody counted and that are read up to a place, where the strip itself stopped
+/// them.
+pub(crate) fn end_at(
+    strip: &[u8],
+    given: &FaxStrip,
+    form: StripForm,
+    place: &FaxPlace,
+    stop: Stop,
+) -> Option<RowsEnd>
+    requires count { length strip.now ≤ 536870911 }
+    ensures { Spec.IsEndAt given.now form strip.now place.now stop result }
+{
+    if given.rows != 0 {
+        return None;
+    }
+    let Some(met) = met_in_strip(stop) else {
+        return None;
+    };
+    let source = source_at(strip, form, place);
+    Some(end_of_rows(&source, form.coding, place.row, met))
 }
 
 /// Tells what was written of rows that end so at a place, and answers how the call ended.
@@ -116,21 +136,18 @@ pub(crate) fn tell_end(filled: &Filled, place: &FaxPlace, end: RowsEnd, told: &m
     end_status(end)
 }
 
-/// Tells what was written of rows that nobody counted, up to a place, and answers how the call
-/// ended.
-pub(crate) fn tell_uncounted(
+/// Tells what was written, and how the rows end at a place, if that is to be told, and answers how
+/// the call ended.
+pub(crate) fn tell_read(
     filled: &Filled,
-    strip: &[u8],
-    form: StripForm,
     place: &FaxPlace,
+    end: Option<RowsEnd>,
     told: &mut FaxTold,
 ) -> u32
-    requires count { length strip.now ≤ 536870911 }
-    ensures { Spec.IsUncountedTold form strip.now place.now filled.now told.new result }
+    ensures { Spec.IsReadTold filled.now place.now end told.new result }
 {
-    let Some(met) = met_in_strip(filled.stop) else {
-        return filled.tell(told);
-    };
-    let end = end_at(strip, form, place, met);
-    tell_end(filled, place, end, told)
+    match end {
+        Some(end) => tell_end(filled, place, end, told),
+        None => filled.tell(told),
+    }
 }

@@ -154,7 +154,7 @@ fn is_writing(written: &FaxWritten) -> bool
 /// Whether a file that is written so far has at most so many bytes.
 fn is_held(written: &FaxWritten, room: usize) -> bool
     ensures held { result ≡ true → Spec.IsHeld written.now room }
-    ensures more { result ≡ false → Spec.IsNotHeld written.now room }
+    ensures more { result ≡ false → Spec.IsHeld written.now room → ⊥ }
 {
     written.added == 0 || written.len <= room
 }
@@ -235,8 +235,9 @@ fn add_page(
     requires raster { Raster.HoldsRaster (length raster.now) form.now.width form.now.rows stride }
     requires writing { Spec.IsWriting written.old }
     requires held { Spec.IsHeld written.old (length file.old) }
-    ensures { Spec.AddsPage form.now k raster.now stride file.old file.new written.old written.new
-        result }
+    ensures { Spec.AddsPage
+        (record { form = form.now; k = k; raster = raster.now; stride = stride }) file.old file.new
+        written.old written.new result }
 {
     let (start, link) = place_of(written);
     let Ok(strips) = code_strips(alloc, form, k, raster, stride) else {
@@ -274,8 +275,9 @@ fn add_given(
     file: &mut [u8],
     written: &mut FaxWritten,
 ) -> u32
-    ensures { Spec.TellsPageAdded form.now k raster.now stride file.old file.new written.old
-        written.new result }
+    ensures { Spec.TellsPageAdded
+        (record { form = form.now; k = k; raster = raster.now; stride = stride }) file.old file.new
+        written.old written.new result }
 {
     let Some(form) = page_form_of(form) else {
         return status::NO_OPTIONS;
@@ -307,10 +309,12 @@ pub extern "C" fn faxpages_add_page(
     file: &mut [u8],
     written: &mut FaxWritten,
 ) -> u32
-    ensures told { Spec.TellsPageAdded form.now k raster.now stride file.old file.new written.old
-        written.new result }
-    ensures pages { AddsToPages form.now k raster.now stride file.old file.new written.old
-        written.new result }
+    ensures told { Spec.TellsPageAdded
+        (record { form = form.now; k = k; raster = raster.now; stride = stride }) file.old file.new
+        written.old written.new result }
+    ensures pages { AddsToPages
+        (record { form = form.now; k = k; raster = raster.now; stride = stride }) file.old file.new
+        written.old written.new result }
 {
     add_given(alloc, form, k, raster, stride, file, written)
 }

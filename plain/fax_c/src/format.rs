@@ -1,5 +1,6 @@
 //! How a row is written in memory of the caller: as numbers, one after another.
 
+use crate::raster::{packed_len, put_packed};
 use fax_rows::{LongestRuns, Row};
 
 /// How a row is written.
@@ -23,13 +24,10 @@ impl RowFormat for Packed {
 
     const MOST: usize = 8_192;
     fn put(row: &Row, out: &mut [u8], at: usize) -> Option<usize> {
-        let len = ((row.width() + 7) / 8) as usize;
-        if out.len() - at < len {
+        if out.len() - at < packed_len(row.width()) {
             return None;
         }
-        let to = at + len;
-        row.to_packed(&mut out[at..to]);
-        Some(to)
+        Some(put_packed(row, out, at))
     }
 }
 
@@ -44,6 +42,15 @@ fn put_runs(runs: &mut LongestRuns, out: &mut [u32], at: usize) {
         out[to] = run;
         to += 1;
     }
+}
+
+/// Writes the runs of a row where those of any row have room, and answers how many they are.
+// requires { 65536 ≤ length out.old }
+pub(crate) fn put_all_runs(row: &Row, out: &mut [u32]) -> u32 {
+    let mut runs = LongestRuns::of_row(row);
+    let count = runs.len();
+    put_runs(&mut runs, out, 0);
+    count as u32
 }
 
 impl RowFormat for Runs {

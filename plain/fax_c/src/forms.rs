@@ -80,7 +80,8 @@ pub(crate) fn next_form(pages: &mut Pages) -> Result<PageForm, End> {
         Ok(None) => Err(End::Proper),
         Err(fault) => match Stop::of_fault(fault) {
             Stop::Ended(end) => Err(end),
-            _ => unreachable!(),
+            // A reader of pages takes no memory.
+            Stop::Done | Stop::Memory | Stop::NoRoom => unreachable!(),
         },
     }
 }

@@ -9,7 +9,7 @@ use fax_walk::{Begun, Cursor, LongCursor, Walk};
 use kit_std::alloc::Global;
 
 /// So many runs hold those of any row.
-const MOST_RUNS: usize = 65_536;
+pub(crate) const MOST_RUNS: usize = 65_536;
 
 /// Where to go on: a cursor; and where `runs` is not 0 a place inside a strip, after so many bits
 /// of it, whose row before it has so many runs, which stand apart.

@@ -1,6 +1,5 @@
 //! Rasters: rows of packed bytes, each so many bytes after the one above it.
 
-use crate::format::{Packed, RowFormat};
 use fax_rows::Row;
 
 /// How many bytes a row of so many pels has.
@@ -22,6 +21,25 @@ pub(crate) fn put_zeros(out: &mut [u8], at: usize, to: usize) {
     clear(&mut out[at..to]);
 }
 
+/// Writes a row's bytes at a place that has room for them, and answers where they end.
+// requires { at + Coded.packed_len (length row.now) ≤ length out.old }
+pub(crate) fn put_packed(row: &Row, out: &mut [u8], at: usize) -> usize {
+    let to = at + packed_len(row.width());
+    row.to_packed(&mut out[at..to]);
+    to
+}
+
+/// Writes a row's bytes at a place, and zeros after them up to the stride, which have room there,
+/// and answers where they end.
+// requires short { Coded.packed_len (length row.now) ≤ stride }
+// requires room { at + stride ≤ length out.old }
+pub(crate) fn put_in_stride(row: &Row, stride: usize, out: &mut [u8], at: usize) -> usize {
+    let end = put_packed(row, out, at);
+    let to = at + stride;
+    put_zeros(out, end, to);
+    to
+}
+
 /// Writes a row's bytes at a place, and zeros after them up to the stride, where they have room,
 /// and answers where they end.
 // requires { at ≤ length out.old }
@@ -30,12 +48,7 @@ pub(crate) fn put_padded(row: &Row, stride: usize, out: &mut [u8], at: usize) ->
     if out.len() - at < size {
         return None;
     }
-    let to = at + size;
-    let Some(end) = Packed::put(row, out, at) else {
-        unreachable!();
-    };
-    put_zeros(out, end, to);
-    Some(to)
+    Some(put_in_stride(row, size, out, at))
 }
 
 /// Whether so many bytes hold a raster of so many rows.

@@ -4,7 +4,7 @@ use crate::faults::fault_number;
 use crate::filled::{Filled, Stop};
 use crate::forms::FaxForm;
 use crate::places::FaxPlace;
-use crate::raster::{packed_len, put_padded, put_zeros};
+use crate::raster::{packed_len, put_in_stride, put_zeros};
 use crate::status;
 use crate::strip_form::FaxStrip;
 use crate::strips::readable_form;
@@ -12,7 +12,6 @@ use crate::told::FaxTold;
 use crate::uncounted::{tell_end, uncounted_form};
 use fax_files::Cause;
 use fax_page::{RowsEnd, StripForm};
-use fax_rows::Row;
 use fax_walk::{Cursor, PageLeft, PagePart, RowsLeft, Stretch};
 use kit_std::alloc::Global;
 
@@ -80,16 +79,6 @@ fn holds_rows(len: usize, width: u32, rows: u32, stride: usize) -> bool {
     }
 }
 
-/// Writes a row that is found into a raster that has room for it, and answers where it ends.
-// requires short { Coded.packed_len (length row.now) ≤ stride }
-// requires room { at + stride ≤ length out.old }
-pub(crate) fn put_found(row: &Row, stride: usize, out: &mut [u8], at: usize) -> usize {
-    let Some(to) = put_padded(row, stride, out, at) else {
-        unreachable!();
-    };
-    to
-}
-
 /// Writes so many rows that are lost into a raster that has room for them, and answers where they end.
 // requires room { at + rows * stride ≤ length out.old }
 fn put_lost(rows: u32, stride: usize, out: &mut [u8], at: usize) -> usize {
@@ -128,7 +117,7 @@ fn fill_left(
     while let Some(part) = left.next_part() {
         match part {
             PagePart::Found => {
-                at = put_found(left.row(), stride, out, at);
+                at = put_in_stride(left.row(), stride, out, at);
                 count = put_stretch(ended, lost, count);
                 ended = None;
                 row += 1;

@@ -1,12 +1,12 @@
 //! What is left of a damaged page from a place on, and the rows that are lost.
 
 use crate::filled::{Filled, Stop};
-use crate::format::{RowFormat, Runs};
-use crate::places::FaxPlace;
-use crate::raster::packed_len;
-use crate::salvage::{FaxLost, longer, put_found, put_stretch};
+use crate::format::put_all_runs;
+use crate::places::{FaxPlace, MOST_RUNS};
+use crate::raster::{packed_len, put_in_stride};
+use crate::salvage::{FaxLost, longer, put_stretch};
 use crate::status;
-use crate::strips::{MOST_BYTES, MOST_RUNS, row_before};
+use crate::strips::{MOST_BYTES, row_before};
 use crate::told::FaxTold;
 use fax_files::PageForm;
 use fax_page::PlaceFault;
@@ -91,7 +91,7 @@ fn fill_from(
                 stop: Stop::Ended(End::Proper),
             };
         }
-        used = put_found(left.row(), stride, out, used);
+        used = put_in_stride(left.row(), stride, out, used);
         count += 1;
     }
     Filled {
@@ -136,11 +136,13 @@ fn tell_after(left: &RowsFrom, rows: u32, cursor: Cursor, place: &mut FaxPlace, 
     let Some(lent) = left.place() else {
         return;
     };
-    let Some(to) = Runs::put(lent.reference, runs, 0) else {
-        unreachable!();
-    };
     place.bits = lent.bits;
-    place.runs = to as u32;
+    place.runs = put_all_runs(lent.reference, runs);
+}
+
+/// How many bits of its strip stand before a place: none where it has no runs.
+fn bits_before(place: &FaxPlace) -> u32 {
+    if place.runs == 0 { 0 } else { place.bits }
 }
 
 /// Writes what is left of a page from a place on, which is then the one after it.
@@ -163,7 +165,7 @@ fn salvage_page(
     let Some(before) = row_before(place, runs) else {
         return Filled::nothing(cursor, Stop::Ended(End::Outside));
     };
-    let bits = if place.runs == 0 { 0 } else { place.bits };
+    let bits = bits_before(place);
     match found.rows_from(alloc, place.row, bits, before) {
         Ok(mut left) => {
             let filled = fill_from(&mut left, place.page, place.row, stride, out, lost);

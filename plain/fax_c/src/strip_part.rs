@@ -2,12 +2,12 @@
 
 use crate::faults::FaxFault;
 use crate::filled::{Filled, Stop};
-use crate::places::FaxPlace;
+use crate::places::{FaxPlace, MOST_RUNS};
 use crate::status;
 use crate::strip_form::FaxStrip;
-use crate::strips::{MOST_BYTES, MOST_RUNS, read_strip, readable_form};
+use crate::strips::{MOST_BYTES, read_strip};
 use crate::told::FaxTold;
-use crate::uncounted::{end_at, met_in_strip, source_at, tell_end, uncounted_form};
+use crate::uncounted::{end_at, form_of_rows, source_at, tell_read};
 use fax_files::Cause;
 use fax_page::{RowsEnd, StripFault, StripForm, may_be_end_mark};
 use fax_walk::End;
@@ -58,6 +58,24 @@ fn end_may_change(strip: &[u8], form: StripForm, place: &FaxPlace, end: RowsEnd)
     }
 }
 
+/// Whether what is told of a strip up to a place may be something else where more bytes follow.
+// requires count { length strip.now ≤ 536870911 }
+fn may_go_on(
+    strip: &[u8],
+    form: StripForm,
+    place: &FaxPlace,
+    stop: Stop,
+    end: Option<RowsEnd>,
+) -> bool {
+    if may_change(strip, form, place, stop) {
+        return true;
+    }
+    match end {
+        Some(end) => end_may_change(strip, form, place, end),
+        None => false,
+    }
+}
+
 /// Tells what was written, and that more bytes are waited for.
 fn tell_more(filled: &Filled, told: &mut FaxTold) -> u32 {
     *told = FaxTold {
@@ -88,26 +106,13 @@ pub fn faxpages_strip_part(
     if runs.len() < MOST_RUNS {
         return status::NO_OPTIONS;
     }
-    if let Some(form) = readable_form(strip, form) {
-        let filled = read_strip(alloc, strip, form, place, runs, stride, out);
-        if may_change(strip, form, place, filled.stop) {
-            return tell_more(&filled, told);
-        }
-        return filled.tell(told);
-    }
-    let Some(form) = uncounted_form(strip, form) else {
+    let Some(its) = form_of_rows(strip, form) else {
         return status::NO_OPTIONS;
     };
-    let filled = read_strip(alloc, strip, form, place, runs, stride, out);
-    if may_change(strip, form, place, filled.stop) {
+    let filled = read_strip(alloc, strip, its, place, runs, stride, out);
+    let end = end_at(strip, form, its, place, filled.stop);
+    if may_go_on(strip, its, place, filled.stop, end) {
         return tell_more(&filled, told);
     }
-    let Some(met) = met_in_strip(filled.stop) else {
-        return filled.tell(told);
-    };
-    let end = end_at(strip, form, place, met);
-    if end_may_change(strip, form, place, end) {
-        return tell_more(&filled, told);
-    }
-    tell_end(&filled, place, end, told)
+    tell_read(&filled, place, end, told)
 }

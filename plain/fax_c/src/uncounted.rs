@@ -25,6 +25,15 @@ pub(crate) fn uncounted_form(strip: &[u8], given: &FaxStrip) -> Option<StripForm
     readable_form(strip, &most)
 }
 
+/// The form in which a strip is read, of counted rows or of such as nobody counted, if these numbers
+/// are one.
+pub(crate) fn form_of_rows(strip: &[u8], given: &FaxStrip) -> Option<StripForm> {
+    match readable_form(strip, given) {
+        Some(form) => Some(form),
+        None => uncounted_form(strip, given),
+    }
+}
+
 /// The number that a call answers where rows end so that nobody counted.
 pub(crate) fn end_status(end: RowsEnd) -> u32 {
     match end {
@@ -52,21 +61,9 @@ pub(crate) fn source_at<'a>(strip: &'a [u8], form: StripForm, place: &FaxPlace) 
     source
 }
 
-/// How rows end that nobody counted and that are read up to a place, where this fault is in the way
-/// of the next one, or none is.
-// requires count { length strip.now ≤ 536870911 }
-pub(crate) fn end_at(
-    strip: &[u8],
-    form: StripForm,
-    place: &FaxPlace,
-    met: Option<StripFault>,
-) -> RowsEnd {
-    end_of_rows(&source_at(strip, form, place), form.coding, place.row, met)
-}
-
 /// What stopped the rows of a strip, where that is the strip itself: a fault is in the way of the
 /// next row, or there is none.
-pub(crate) fn met_in_strip(stop: Stop) -> Option<Option<StripFault>> {
+fn met_in_strip(stop: Stop) -> Option<Option<StripFault>> {
     match stop {
         Stop::Ended(End::Proper) => Some(None),
         Stop::Ended(
@@ -77,6 +74,26 @@ pub(crate) fn met_in_strip(stop: Stop) -> Option<Option<StripFault>> {
         ) => Some(Some(fault)),
         _ => None,
     }
+}
+
+/// How rows end that nobody counted and that are read up to a place, where the strip itself stopped
+/// them.
+// requires count { length strip.now ≤ 536870911 }
+pub(crate) fn end_at(
+    strip: &[u8],
+    given: &FaxStrip,
+    form: StripForm,
+    place: &FaxPlace,
+    stop: Stop,
+) -> Option<RowsEnd> {
+    if given.rows != 0 {
+        return None;
+    }
+    let Some(met) = met_in_strip(stop) else {
+        return None;
+    };
+    let source = source_at(strip, form, place);
+    Some(end_of_rows(&source, form.coding, place.row, met))
 }
 
 /// Tells what was written of rows that end so at a place, and answers how the call ended.
@@ -91,19 +108,16 @@ pub(crate) fn tell_end(filled: &Filled, place: &FaxPlace, end: RowsEnd, told: &m
     end_status(end)
 }
 
-/// Tells what was written of rows that nobody counted, up to a place, and answers how the call
-/// ended.
-// requires count { length strip.now ≤ 536870911 }
-pub(crate) fn tell_uncounted(
+/// Tells what was written, and how the rows end at a place, if that is to be told, and answers how
+/// the call ended.
+pub(crate) fn tell_read(
     filled: &Filled,
-    strip: &[u8],
-    form: StripForm,
     place: &FaxPlace,
+    end: Option<RowsEnd>,
     told: &mut FaxTold,
 ) -> u32 {
-    let Some(met) = met_in_strip(filled.stop) else {
-        return filled.tell(told);
-    };
-    let end = end_at(strip, form, place, met);
-    tell_end(filled, place, end, told)
+    match end {
+        Some(end) => tell_end(filled, place, end, told),
+        None => filled.tell(told),
+    }
 }

@@ -31,4 +31,5 @@ abbrev pub AreAllWritten : RowsView → ℕ → ℕ → List ℕ → List FaxLos
     → List FaxLost → Type 0
 AreAllWritten left page stride old old_lost filled new lost =
     (rows : List PageRow) × AreRowsOf left.its rows × (length rows ≡ left.rows)
-    × AreLeftWritten page stride rows old old_lost filled new lost
+    × AreLeftWritten page stride rows (record { raster = old; lost = old_lost }) filled
+    (record { raster = new; lost = lost })

@@ -1,5 +1,9 @@
 -- What bytes that follow may change.
-use Rattle.std.specs.Prelude.{◌≡◌, ℕ, ◌*◌, ◌<◌, ◌≤◌, List, length}
+use Rattle.std.specs.Prelude.{◌≡◌, ℕ, ◌*◌, ◌<◌, ◌≤◌, ◌⊎◌, Bool, List, length, drop}
+use Rattle.std.specs.Prelude.{Option, Some, None}
+use Rattle.fax_bits.specs.Bits.{bits}
+use Rattle.fax_page.specs.declared.Coding.{Coding}
+use Rattle.fax_page.specs.declared.RowsEnd.{RowsEnd}
 use Rattle.fax_page.specs.declared.StripFault.TheVariants.{DataEnds}
 use Rattle.fax_page.specs.declared.StripForm.{StripForm}
 use Rattle.fax_files.specs.declared.Cause.TheVariants.{Strip}
@@ -9,7 +13,8 @@ use Rattle.fax_c.specs.declared.filled.Stop.{Stop}
 use Rattle.fax_c.specs.declared.filled.Stop.TheVariants.{Ended}
 use Rattle.fax_c.specs.declared.places.FaxPlace.{FaxPlace}
 use Rattle.fax_c.specs.declared.told.FaxTold.{FaxTold}
-use Rattle.fax_c.specs.Told.{no_fault}
+use Rattle.fax_c.specs.Told.{IsToldWith, no_fault}
+use Rattle.fax_c.specs.views.StripParts.{MayChange}
 
 -- a place may be one of a strip where more bytes follow: a row is due there, after these bytes
 abbrev pub IsAhead : StripForm → List ℕ → FaxPlace → Type 0
@@ -22,11 +27,17 @@ StopMayChange form strip place (Ended (Fault page row (Strip fault))) = fault �
 StopMayChange form strip place (Ended Outside) = IsAhead form strip place
 StopMayChange form strip place stop = ⊥
 
+-- where rows that nobody counted end so, before these bits, they may end otherwise
+abbrev pub EndMayChange : Coding → List Bool → Option RowsEnd → Type 0
+EndMayChange coding left None = ⊥
+EndMayChange coding left (Some end) = MayChange coding left end
+
+-- what is told of a strip up to a place may be something else where more bytes follow
+abbrev pub MayGoOn : StripForm → List ℕ → FaxPlace → Stop → Option RowsEnd → Type 0
+MayGoOn form strip place stop end =
+    StopMayChange form strip place stop
+    ⊎ EndMayChange form.coding (drop place.bits (bits form.order strip)) end
+
 -- what was written is told, and that more is waited for
-pub record IsMoreTold (filled : Filled) (told : FaxTold) (status : ℕ) : Type 0 where
-  pub count : told.count ≡ filled.count
-  pub used : told.used ≡ filled.used
-  pub page : told.page ≡ filled.cursor.page
-  pub row : told.row ≡ filled.cursor.row
-  pub fault : told.fault ≡ no_fault
-  pub answer : status ≡ 10
+abbrev pub IsMoreTold : Filled → FaxTold → ℕ → Type 0
+IsMoreTold filled = IsToldWith filled no_fault 10

@@ -15,10 +15,7 @@ use Rattle.fax_c.specs.declared.filled.Stop.{Stop}
 use Rattle.fax_c.specs.declared.filled.Stop.TheVariants.{Ended, Memory}
 use Rattle.fax_c.specs.declared.places.FaxPlace.{FaxPlace}
 use Rattle.fax_c.specs.Numbers.{coding_number}
-use Rattle.fax_c.specs.Told.{fault_of, status_of}
-use Rattle.fax_c.specs.declared.faults.FaxFault.{FaxFault}
 use Rattle.fax_c.specs.views.Places.{HasRuns}
-use Rattle.fax_c.specs.views.Strips.{IsEndTold, IsStopTold}
 use Rattle.fax_c.specs.views.Strips.{AreStripRows, HasRoom, IsDueAt, IsPlaceAfter}
 use Rattle.fax_c.specs.views.Strips.{ReadsNone, StripPlace}
 
@@ -47,11 +44,6 @@ IsReaderAt form strip place runs (Err stop) =
     ((stop ≡ Memory) × (at : StripPlace) × IsDueAt form strip place runs at)
     ⊎ ((stop ≡ Ended Outside) × ((at : StripPlace) → IsDueAt form strip place runs at → ⊥))
 
--- why a strip has no row after those that were read
-abbrev pub stop_in_strip : ℕ → ℕ → Option StripFault → Stop
-stop_in_strip page row None = Ended Proper
-stop_in_strip page row (Some fault) = Ended (Fault page row (Strip fault))
-
 -- the row that was due is read, or why it is not, and the place stays
 abbrev pub IsReadNext : ℕ → StripState → Option Stop → StripState → Type 0
 IsReadNext page old None new = ReadsRow old new
@@ -78,19 +70,3 @@ abbrev pub IsStopBefore : StripForm → FaxPlace → ℕ → ℕ → Option Stop
 IsStopBefore form place stride room None = HasRoom form stride room × (place.row < form.rows)
 IsStopBefore form place stride room (Some stop) =
     (strip runs : List ℕ) → ReadsNone form strip stride place runs room stop
-
--- a strip stops its rows itself, and so; or something else does, of which this holds that is told
--- of any strip
-abbrev pub IsMetInStrip : Stop → Option (Option StripFault) → Type 0
-IsMetInStrip stop (Some met) =
-    (form : StripForm) (strip : List ℕ) (place : FaxPlace) (fault : FaxFault) (status : ℕ)
-    → IsEndTold form strip place met fault status → IsStopTold form strip place stop fault status
-IsMetInStrip stop None =
-    (form : StripForm) (strip : List ℕ) (place : FaxPlace)
-    → IsStopTold form strip place stop (fault_of stop) (status_of stop)
-
--- what of a strip stopped its rows
-abbrev pub IsMetBy : Stop → Option (Option StripFault) → Type 0
-IsMetBy (Ended Proper) found = found ≡ Some None
-IsMetBy (Ended (Fault page row (Strip fault))) found = found ≡ Some (Some fault)
-IsMetBy stop found = found ≡ None

@@ -9,7 +9,7 @@ use Rattle.fax_files.specs.declared.PageForm.{PageForm}
 use Rattle.fax_files.specs.views.Writing.{empty_file}
 use Rattle.fax_c.specs.declared.forms.FaxForm.{FaxForm}
 use Rattle.fax_c.specs.declared.writing.FaxWritten.{FaxWritten}
-use Rattle.fax_c.specs.Raster.{page_strips}
+use Rattle.fax_c.specs.Raster.{AskedRaster, page_strips}
 use Rattle.fax_c.specs.views.Written.{IsFormGiven, file_so_far}
 
 -- where the link of a page stands to whose directory a link leads
@@ -70,13 +70,15 @@ pub record IsFileSoFar (total : ℕ) (pages : List WrittenPage) (written : FaxWr
   pub is : file_so_far written file ≡ with_pages empty_file total 0 pages
 
 -- a page that is added to such a file makes it that of one page more
-abbrev pub AddsToPages : FaxForm → ℕ → List ℕ → ℕ → List ℕ → List ℕ → FaxWritten → FaxWritten → ℕ
+abbrev pub AddsToPages : AskedRaster FaxForm → List ℕ → List ℕ → FaxWritten → FaxWritten → ℕ
     → Type 0
-AddsToPages given k raster stride old_file file old written status =
+AddsToPages asked old_file file old written status =
     (pages : List WrittenPage) → IsFileSoFar old.total pages old old_file → status ≡ 0
-    → (form : PageForm) × IsFormGiven given form
-    × IsFileSoFar old.total
-    (pages ++ record { form = form; strips = page_strips form k stride raster } ∷ []) written file
+    → (form : PageForm) × IsFormGiven asked.form form
+    × IsFileSoFar old.total (pages ++ record {
+      form = form;
+      strips = page_strips form asked.k asked.stride asked.raster;
+    } ∷ []) written file
 
 -- such a file, whatever each page said, is then the file of these pages
 abbrev pub EndsWholeFile : List ℕ → List ℕ → FaxWritten → ℕ → Type 0

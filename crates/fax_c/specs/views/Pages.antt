@@ -15,7 +15,7 @@ use Rattle.fax_c.specs.declared.rows.FaxRow.{FaxRow}
 use Rattle.fax_c.specs.declared.told.FaxTold.{FaxTold}
 use Rattle.fax_c.specs.Forms.{form_numbers}
 use Rattle.fax_c.specs.Raster.{padded_row}
-use Rattle.fax_c.specs.Told.{IsTold}
+use Rattle.fax_c.specs.Told.{IsTold, none_filled_at}
 use Rattle.fax_c.specs.views.Filled.{AreRowsFilled}
 
 -- the first rows of what a walk hands out that begins so are written, each in so many bytes at
@@ -27,8 +27,7 @@ IsRasterFilled file begun asked stride old filled new =
 
 -- nothing is written of a page, for this reason
 abbrev pub none_filled : ℕ → Stop → Filled
-none_filled page stop =
-    record { cursor = record { page = page; row = 0 }; count = 0; used = 0; stop = stop }
+none_filled page = none_filled_at (record { page = page; row = 0 })
 
 -- a page's form is told, and its rows are written and told, where a row has room in so many bytes;
 -- or there is no such page, and the end is told

@@ -14,7 +14,7 @@ use Rattle.fax_c.specs.declared.filled.Stop.TheVariants.{Ended}
 use Rattle.fax_c.specs.declared.places.FaxPlace.{FaxPlace}
 use Rattle.fax_c.specs.declared.rows.FaxRow.{FaxRow}
 use Rattle.fax_c.specs.declared.told.FaxTold.{FaxTold}
-use Rattle.fax_c.specs.Told.{IsTold}
+use Rattle.fax_c.specs.Told.{IsTold, none_filled_at}
 use Rattle.fax_c.specs.views.Filled.{AreRowsFilled}
 
 -- the cursor of a place
@@ -77,19 +77,22 @@ IsAfter file begun filled old_runs place runs =
     KeepsRuns old_runs runs × (filled.count ≡ 0 → runs ≡ old_runs)
     × IsAfterRows file begun filled.cursor filled.count place runs
 
--- nothing was written, since there is no such place
-abbrev pub outside_at : Cursor → Filled
-outside_at cursor = record { cursor = cursor; count = 0; used = 0; stop = Ended Outside }
+-- memory of the caller that is read and written: a place with its runs, and numbers of rows with a
+-- table of where they lie
+pub record RowsMemory (N : Type 0) : Type 0 where
+  pub place : FaxPlace
+  pub runs : List ℕ
+  pub rows : List FaxRow
+  pub out : List N
 
 -- rows from a place on are written and told, and the place is the one after them; or the place
 -- lacks runs, which is told as a place outside the file, and nothing is changed
-abbrev pub GoesOn : {N : Type 0} → (List Colour → List N) → List ℕ → FaxPlace → List ℕ
-    → List FaxRow → List N → FaxPlace → List ℕ → List FaxRow → List N → FaxTold → ℕ → Type 0
-GoesOn numbers file old_place old_runs old_rows old_out place runs rows out told status =
-    ((old_place.runs ≤ length old_runs) × (filled : Filled)
-    × AreRowsFilled numbers file (place_begun old_place old_runs) old_rows old_out filled rows out
-    × IsAfter file (place_begun old_place old_runs) filled old_runs place runs
-    × IsTold filled told status)
-    ⊎ (LacksRuns old_place old_runs × (place ≡ old_place) × (runs ≡ old_runs)
-    × (rows ≡ old_rows) × (out ≡ old_out)
-    × IsTold (outside_at (cursor_of old_place)) told status)
+abbrev pub GoesOn : {N : Type 0} → (List Colour → List N) → List ℕ → RowsMemory N → RowsMemory N
+    → FaxTold → ℕ → Type 0
+GoesOn numbers file old new told status =
+    let begun = place_begun old.place old.runs in
+    ((old.place.runs ≤ length old.runs) × (filled : Filled)
+    × AreRowsFilled numbers file begun old.rows old.out filled new.rows new.out
+    × IsAfter file begun filled old.runs new.place new.runs × IsTold filled told status)
+    ⊎ (LacksRuns old.place old.runs × (new ≡ old)
+    × IsTold (none_filled_at (cursor_of old.place) (Ended Outside)) told status)

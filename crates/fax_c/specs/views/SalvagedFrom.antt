@@ -18,9 +18,8 @@ use Rattle.fax_c.specs.declared.salvage.FaxLost.{FaxLost}
 use Rattle.fax_c.specs.declared.told.FaxTold.{FaxTold}
 use Rattle.fax_c.specs.Raster.{padded_row}
 use Rattle.fax_c.specs.Salvaged.{found_of, lost_from}
-use Rattle.fax_c.specs.Told.{IsTold}
+use Rattle.fax_c.specs.Told.{IsTold, none_filled_at}
 use Rattle.fax_c.specs.views.Places.{HasRuns, cursor_of, most_runs, place_at}
-use Rattle.fax_c.specs.views.Salvaged.{none_filled_at}
 
 -- the most bytes of a file that is read so: each place of a bit in it has 32 bits
 abbrev pub most_bytes : ℕ
@@ -112,33 +111,35 @@ WritesNone file here stride place runs len room Memory =
     → (at : Inner) × IsPlaceOn file here place runs s i at)
 WritesNone file here stride place runs len room stop = ⊥
 
+-- memory of the caller that is written: a place with its runs, a raster, a table of stretches
+pub record LeftMemory : Type 0 where
+  pub place : FaxPlace
+  pub runs : List ℕ
+  pub raster : List ℕ
+  pub lost : List FaxLost
+
 -- what is left of a page from a place on is written, which is then the one after it; or nothing is,
 -- and nothing is changed
-abbrev pub WritesFrom : List ℕ → FilePage → ℕ → FaxPlace → List ℕ → List ℕ → List FaxLost → Filled
-    → FaxPlace → List ℕ → List ℕ → List FaxLost → Type 0
-WritesFrom file here stride old_place old_runs old old_lost filled place runs new lost =
-    (HasRoomFor here.form.width stride (length old) (length old_lost)
-    × (s : ℕ) × (i : ℕ) × (at : Inner) × IsPlaceOn file here old_place old_runs s i at
+abbrev pub WritesFrom : List ℕ → FilePage → ℕ → LeftMemory → Filled → LeftMemory → Type 0
+WritesFrom file here stride old filled new =
+    (HasRoomFor here.form.width stride (length old.raster) (length old.lost)
+    × (s : ℕ) × (i : ℕ) × (at : Inner) × IsPlaceOn file here old.place old.runs s i at
     × (rows : List PageRow) × (rest : List PageRow) × AreRowsFrom file here s i at rows
-    × AreFirstWritten old_place.page old_place.row stride rows rest old old_lost filled new lost
-    × IsPlaceAfter file here rest filled.cursor place old_runs runs)
-    ⊎ (WritesNone file here stride old_place old_runs (length old) (length old_lost) filled.stop
-    × (filled ≡ none_filled_at (cursor_of old_place) filled.stop)
-    × (place ≡ old_place) × (runs ≡ old_runs) × (new ≡ old) × (lost ≡ old_lost))
+    × AreFirstWritten old.place.page old.place.row stride rows rest old.raster old.lost filled
+    new.raster new.lost × IsPlaceAfter file here rest filled.cursor new.place old.runs new.runs)
+    ⊎ (WritesNone file here stride old.place old.runs (length old.raster) (length old.lost)
+    filled.stop × (filled ≡ none_filled_at (cursor_of old.place) filled.stop) × (new ≡ old))
 
 -- a page has the number of a place, and what is left of it is written and told; or there is no such
 -- page; or the file is too long, or not all runs of any row have room; then nothing is changed
-abbrev pub TellsSalvagedFrom : List ℕ → ℕ → FaxPlace → List ℕ → List ℕ → List FaxLost → FaxPlace
-    → List ℕ → List ℕ → List FaxLost → FaxTold → FaxTold → ℕ → Type 0
-TellsSalvagedFrom file stride old_place old_runs old old_lost place runs new lost old_told told
-    status =
-    ((length file ≤ most_bytes) × (most_runs ≤ length old_runs)
+abbrev pub TellsSalvagedFrom : List ℕ → ℕ → LeftMemory → LeftMemory → FaxTold → FaxTold → ℕ
+    → Type 0
+TellsSalvagedFrom file stride old new old_told told status =
+    ((length file ≤ most_bytes) × (most_runs ≤ length old.runs)
     × (filled : Filled) × IsTold filled told status
-    × (((here : FilePage) × (read_page file (record { page = old_place.page; row = 0 }) ≡ Ok here)
-    × WritesFrom file here stride old_place old_runs old old_lost filled place runs new lost)
-    ⊎ ((end : End) × (read_page file (record { page = old_place.page; row = 0 }) ≡ Err end)
-    × (filled ≡ none_filled_at (cursor_of old_place) (Ended end))
-    × (place ≡ old_place) × (runs ≡ old_runs) × (new ≡ old) × (lost ≡ old_lost))))
-    ⊎ ((status ≡ 7) × (length file ≤ most_bytes → most_runs ≤ length old_runs → ⊥)
-    × (place ≡ old_place) × (runs ≡ old_runs) × (new ≡ old) × (lost ≡ old_lost)
-    × (told ≡ old_told))
+    × (((here : FilePage) × (read_page file (record { page = old.place.page; row = 0 }) ≡ Ok here)
+    × WritesFrom file here stride old filled new)
+    ⊎ ((end : End) × (read_page file (record { page = old.place.page; row = 0 }) ≡ Err end)
+    × (filled ≡ none_filled_at (cursor_of old.place) (Ended end)) × (new ≡ old))))
+    ⊎ ((status ≡ 7) × (length file ≤ most_bytes → most_runs ≤ length old.runs → ⊥)
+    × (new ≡ old) × (told ≡ old_told))

@@ -19,35 +19,31 @@ use Rattle.fax_c.specs.declared.told.FaxTold.{FaxTold}
 use Rattle.fax_c.specs.Raster.{padded_row}
 use Rattle.fax_c.specs.Told.{no_fault}
 use Rattle.fax_c.specs.views.Places.{most_runs}
-use Rattle.fax_c.specs.views.Strips.{HasRoom, IsDueAt, IsPlaceAfter, IsReadable}
-use Rattle.fax_c.specs.views.Strips.{IsReadableUncounted, ReadsTo, StripPlace, TellsStripRows}
+use Rattle.fax_c.specs.views.Strips.{AskedStrip, HasRoom, IsDueAt, IsPlaceAfter, IsReadableIn}
+use Rattle.fax_c.specs.views.Strips.{ReadsTo, StripMemory, StripPlace, TellsStripRows}
 
 -- the rows from one place of a strip to another are written and told, each in so many bytes, and
 -- are the same whatever bytes follow; the place is the one after them, and no fault is told
-pub record ArePartRead (form : StripForm) (strip : List ℕ) (stride : ℕ) (old_place : FaxPlace)
-    (old_runs old : List ℕ) (place : FaxPlace) (runs new : List ℕ) (told : FaxTold)
-    (to : StripPlace) : Type 0 where
+pub record ArePartRead (form : StripForm) (asked : AskedStrip) (old new : StripMemory)
+    (told : FaxTold) (to : StripPlace) : Type 0 where
   pub from : StripPlace
-  pub due : IsDueAt form strip old_place old_runs from
+  pub due : IsDueAt form asked.strip old.place old.runs from
   pub rows : List (List Colour)
-  pub read : (more : List ℕ) → ReadsTo form (bits form.order (strip ++ more)) from rows to
+  pub read : (more : List ℕ) → ReadsTo form (bits form.order (asked.strip ++ more)) from rows to
   pub count : told.count ≡ length rows
-  pub used : told.used ≡ length rows * stride
-  pub written : new ≡ flat_map (padded_row stride) rows ++ drop told.used old
-  pub page : told.page ≡ old_place.page
+  pub used : told.used ≡ length rows * asked.stride
+  pub written : new.raster ≡ flat_map (padded_row asked.stride) rows ++ drop told.used old.raster
+  pub page : told.page ≡ old.place.page
   pub row : told.row ≡ to.row
-  pub place_is : IsPlaceAfter form.width told.count old_place old_runs place runs to
+  pub place_is : IsPlaceAfter form.width told.count old.place old.runs new.place new.runs to
 
 -- nothing is read, and nothing changed
-pub record IsNothingRead (old_place : FaxPlace) (old_runs old : List ℕ) (place : FaxPlace)
-    (runs new : List ℕ) (told : FaxTold) : Type 0 where
-  pub same_place : place ≡ old_place
-  pub same_runs : runs ≡ old_runs
-  pub same_bytes : new ≡ old
+pub record IsNothingRead (old new : StripMemory) (told : FaxTold) : Type 0 where
+  pub unchanged : new ≡ old
   pub count : told.count ≡ 0
   pub used : told.used ≡ 0
-  pub page : told.page ≡ old_place.page
-  pub row : told.row ≡ old_place.row
+  pub page : told.page ≡ old.place.page
+  pub row : told.row ≡ old.place.row
 
 -- rows that nobody counted, after which these bits are left, may end otherwise where more follow:
 -- the data end in a row or after it, or an end mark may stand there
@@ -78,26 +74,20 @@ IsUnsettledAt given form strip place =
     × EndsSo form.coding place.row left None end × MayChange form.coding left end)
 
 -- rows are read up to one that has room and is not settled
-abbrev pub AwaitsMore : FaxStrip → StripForm → List ℕ → ℕ → FaxPlace → List ℕ → List ℕ → FaxPlace
-    → List ℕ → List ℕ → FaxTold → Type 0
-AwaitsMore given form strip stride old_place old_runs old place runs new told =
-    HasRoom form stride (length old) × (told.fault ≡ no_fault)
-    × (((to : StripPlace)
-    × ArePartRead form strip stride old_place old_runs old place runs new told to
-    × (stride ≤ length old - told.used) × IsUnsettled given form strip to)
-    ⊎ (IsNothingRead old_place old_runs old place runs new told
-    × IsUnsettledAt given form strip old_place))
+abbrev pub AwaitsMore : StripForm → AskedStrip → StripMemory → StripMemory → FaxTold → Type 0
+AwaitsMore form asked old new told =
+    HasRoom form asked.stride (length old.raster) × (told.fault ≡ no_fault)
+    × (((to : StripPlace) × ArePartRead form asked old new told to
+    × (asked.stride ≤ length old.raster - told.used)
+    × IsUnsettled asked.form form asked.strip to)
+    ⊎ (IsNothingRead old new told × IsUnsettledAt asked.form form asked.strip old.place))
 
 -- what is told of these bytes is told of them alone, and of all bytes, whatever follows; or rows
 -- are read up to one that is not settled, and more bytes are waited for
-abbrev pub TellsStripPart : List ℕ → FaxStrip → ℕ → FaxPlace → List ℕ → List ℕ → FaxPlace → List ℕ
-    → List ℕ → FaxTold → FaxTold → ℕ → Type 0
-TellsStripPart strip given stride old_place old_runs old place runs new old_told told status =
-    (TellsStripRows strip given stride old_place old_runs old place runs new old_told told status
-    × ((more : List ℕ) → length (strip ++ more) ≤ 536870911
-    → TellsStripRows (strip ++ more) given stride old_place old_runs old place runs new old_told
-    told status))
-    ⊎ ((status ≡ 10) × (form : StripForm)
-    × (IsReadable strip given form ⊎ IsReadableUncounted strip given form)
-    × (most_runs ≤ length old_runs)
-    × AwaitsMore given form strip stride old_place old_runs old place runs new told)
+abbrev pub TellsStripPart : AskedStrip → StripMemory → StripMemory → FaxTold → FaxTold → ℕ → Type 0
+TellsStripPart asked old new old_told told status =
+    (TellsStripRows asked old new old_told told status
+    × ((more : List ℕ) → length (asked.strip ++ more) ≤ 536870911
+    → TellsStripRows (record asked { strip = asked.strip ++ more }) old new old_told told status))
+    ⊎ ((status ≡ 10) × (form : StripForm) × IsReadableIn asked.strip asked.form form
+    × (most_runs ≤ length old.runs) × AwaitsMore form asked old new told)

@@ -42,10 +42,6 @@ report_without_notes rows fault = record {
   fault = fault;
 }
 
--- this row could not be read
-abbrev pub report_of_fault : ℕ → StripFault → FaxStripReport
-report_of_fault row fault = report_without_notes row (fault_of_cause 0 row (Strip fault))
-
 -- so many rows that nobody counted were read, with these notes where they end well
 abbrev pub report_of_end : ℕ → RowsEnd → StripNotes → FaxStripReport
 report_of_end rows Marked notes = report_of_notes rows notes
@@ -76,7 +72,7 @@ TellsStripReport strip given old report status =
     × (report ≡ report_of_notes form.rows notes))
     ⊎ ((status ≡ 2) × (row : ℕ) × (fault : StripFault)
     × IsNotesFault form (bits form.order strip) (Refused.Strip row fault)
-    × (report ≡ report_of_fault row fault))
+    × (report ≡ report_without_notes row (fault_of_cause 0 row (Strip fault))))
     ⊎ ((status ≡ 4) × (report ≡ old))))
     ⊎ (((form : StripForm) → IsReadable strip given form → ⊥)
     × TellsUncountedReport strip given old report status)

@@ -31,16 +31,22 @@ AreRowsOf form table runs rows =
 abbrev pub IsFormWith : FaxStrip → ℕ → StripForm → Type 0
 IsFormWith given k form = IsStripFormGiven given form × (0 < k)
 
+-- what is to be coded: the numbers of a form, k, a table of rows, and the runs that it tells of
+pub record AskedRuns : Type 0 where
+  pub form : FaxStrip
+  pub k : ℕ
+  pub table : List FaxRow
+  pub runs : List ℕ
+
 -- the rows of a table are coded as a strip, which is written where it has room, and its length
 -- told; or memory was refused; or the numbers are no form, or there are no such rows; then nothing
 -- is written
-abbrev pub TellsStripOfRuns : FaxStrip → ℕ → List FaxRow → List ℕ → List ℕ → List ℕ → ℕ → ℕ
-    → Type 0
-TellsStripOfRuns given k table runs old new len status =
-    ((form : StripForm) × IsFormWith given k form
-    × (((rows : List (List Colour)) × AreRowsOf form table runs rows
-    × IsTextTold (coded_strip form k rows) old new len status)
+abbrev pub TellsStripOfRuns : AskedRuns → List ℕ → List ℕ → ℕ → ℕ → Type 0
+TellsStripOfRuns asked old new len status =
+    ((form : StripForm) × IsFormWith asked.form asked.k form
+    × (((rows : List (List Colour)) × AreRowsOf form asked.table asked.runs rows
+    × IsTextTold (coded_strip form asked.k rows) old new len status)
     ⊎ ((status ≡ 4) × (len ≡ 0) × (new ≡ old))))
     ⊎ ((status ≡ 7) × (len ≡ 0) × (new ≡ old)
-    × ((form : StripForm) (rows : List (List Colour)) → IsFormWith given k form
-    → AreRowsOf form table runs rows → ⊥))
+    × ((form : StripForm) (rows : List (List Colour)) → IsFormWith asked.form asked.k form
+    → AreRowsOf form asked.table asked.runs rows → ⊥))

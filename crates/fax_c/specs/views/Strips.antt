@@ -6,15 +6,14 @@ use Rattle.fax_bits.specs.Bits.{bits}
 use Rattle.fax_rows.specs.Rows.{Colour, runs_of}
 use Rattle.fax_rows.specs.Coded.{packed_len}
 use Rattle.fax_page.specs.declared.StripForm.{StripForm}
-use Rattle.fax_page.specs.Lines.{IsCause, IsLine, white_row}
-use Rattle.fax_page.specs.Strip.{coded_strip, most_rows}
+use Rattle.fax_page.specs.Lines.{IsLine, white_row}
+use Rattle.fax_page.specs.Strip.{AreLines, coded_strip, most_rows}
 use Rattle.fax_page.specs.declared.StripFault.{StripFault}
 use Rattle.fax_page.specs.declared.RowsEnd.{RowsEnd}
 use Rattle.fax_page.specs.Uncounted.{EndsSo}
 use Rattle.fax_page.specs.views.Strip.{IsStripForm}
 use Rattle.fax_files.specs.declared.Cause.TheVariants.{Strip}
 use Rattle.fax_walk.specs.declared.end.End.TheVariants.{Proper, Fault, Outside}
-use Rattle.fax_c.specs.declared.faults.FaxFault.{FaxFault}
 use Rattle.fax_c.specs.declared.filled.Filled.{Filled}
 use Rattle.fax_c.specs.declared.filled.Stop.{Stop}
 use Rattle.fax_c.specs.declared.filled.Stop.TheVariants.{Done, Ended, Memory, NoRoom}
@@ -22,8 +21,8 @@ use Rattle.fax_c.specs.declared.places.FaxPlace.{FaxPlace}
 use Rattle.fax_c.specs.declared.strip_form.FaxStrip.{FaxStrip}
 use Rattle.fax_c.specs.declared.told.FaxTold.{FaxTold}
 use Rattle.fax_c.specs.Numbers.{bool_number, coding_number, order_number}
-use Rattle.fax_c.specs.Raster.{HoldsRaster, padded_row, rows_of_raster}
-use Rattle.fax_c.specs.Told.{IsTold, end_fault, end_status, fault_of, status_of}
+use Rattle.fax_c.specs.Raster.{AskedRaster, HoldsRaster, padded_row, rows_of_raster}
+use Rattle.fax_c.specs.Told.{IsTold, IsToldWith, end_fault, end_status}
 use Rattle.fax_c.specs.views.Places.{HasRuns, cursor_of, most_runs}
 use Rattle.fax_c.specs.views.PlaceTexts.{IsTextTold}
 
@@ -40,11 +39,15 @@ pub record IsStripFormGiven (given : FaxStrip) (form : StripForm) : Type 0 where
 abbrev pub IsReadable : List ℕ → FaxStrip → StripForm → Type 0
 IsReadable strip given form = IsStripFormGiven given form × (length strip ≤ 536870911)
 
--- a strip can be read in this form whose rows nobody counted, which are 0 by the numbers: it may
--- have as many as a strip has at most
+-- or in this one, whose rows nobody counted, 0 by the numbers: they may be as many as a strip has
 abbrev pub IsReadableUncounted : List ℕ → FaxStrip → StripForm → Type 0
 IsReadableUncounted strip given form =
     (given.rows ≡ 0) × IsReadable strip (record given { rows = most_rows }) form
+
+-- a strip can be read in this form, of counted rows or of such as nobody counted
+abbrev pub IsReadableIn : List ℕ → FaxStrip → StripForm → Type 0
+IsReadableIn strip given form =
+    IsReadable strip given form ⊎ IsReadableUncounted strip given form
 
 -- where a row of a strip is due: its number, the bits before it, and the row before it
 pub record StripPlace : Type 0 where
@@ -74,15 +77,17 @@ ReadsTo form all from (row ∷ rows) to =
     × IsLine form from.row from.reference (drop from.bits all) row (drop bits all)
     × ReadsTo form all (record { row = from.row + 1; bits = bits; reference = row }) rows to
 
--- why no row is read after a place: so few bytes have no room for it; or they have, and the strip
--- has no more, or it cannot be read
+-- why a strip has no row after those that were read: a fault is in the way, or it has no more
+abbrev pub stop_in_strip : ℕ → ℕ → Option StripFault → Stop
+stop_in_strip page row None = Ended Proper
+stop_in_strip page row (Some fault) = Ended (Fault page row (Strip fault))
+
+-- why no row is read after a place: it has no room; or it has, and no more rows stand there
 abbrev pub StopsAt : StripForm → List Bool → StripPlace → ℕ → ℕ → ℕ → Stop → Type 0
-StopsAt form all to page stride left Done = left < stride
-StopsAt form all to page stride left (Ended Proper) = (stride ≤ left) × (to.row ≡ form.rows)
-StopsAt form all to page stride left (Ended (Fault p r (Strip fault))) =
-    (stride ≤ left) × (p ≡ page) × (r ≡ to.row) × (to.row < form.rows)
-    × IsCause form to.row to.reference (drop to.bits all) fault
-StopsAt form all to page stride left stop = ⊥
+StopsAt form all to page stride left stop =
+    ((stop ≡ Done) × (left < stride))
+    ⊎ ((stride ≤ left) × (met : Option StripFault) × (stop ≡ stop_in_strip page to.row met)
+    × AreLines form to.row to.reference (drop to.bits all) [] met (drop to.bits all))
 
 -- the rows from one place of a strip to another are written, each in so many bytes, and no more
 pub record AreStripRows (form : StripForm) (all : List Bool) (page stride : ℕ) (from : StripPlace)
@@ -110,95 +115,88 @@ IsPlaceAfter width count old old_runs place runs to =
 -- why nothing is read from a place: no row has room; or all rows were read, or it is no place of
 -- the strip, or memory was refused
 abbrev pub ReadsNone : StripForm → List ℕ → ℕ → FaxPlace → List ℕ → ℕ → Stop → Type 0
-ReadsNone form strip stride place runs room NoRoom = HasRoom form stride room → ⊥
-ReadsNone form strip stride place runs room (Ended Proper) =
-    HasRoom form stride room × (place.row ≡ form.rows)
-ReadsNone form strip stride place runs room (Ended Outside) =
-    HasRoom form stride room × (place.row ≢ form.rows)
-    × ((at : StripPlace) → IsDueAt form strip place runs at → ⊥)
-ReadsNone form strip stride place runs room Memory =
-    HasRoom form stride room × (at : StripPlace) × IsDueAt form strip place runs at
-ReadsNone form strip stride place runs room stop = ⊥
+ReadsNone form strip stride place runs room stop =
+    ((stop ≡ NoRoom) × (HasRoom form stride room → ⊥))
+    ⊎ (HasRoom form stride room × (((stop ≡ Ended Proper) × (place.row ≡ form.rows))
+    ⊎ ((stop ≡ Ended Outside) × (place.row ≢ form.rows)
+    × ((at : StripPlace) → IsDueAt form strip place runs at → ⊥))
+    ⊎ ((stop ≡ Memory) × (at : StripPlace) × IsDueAt form strip place runs at)))
+
+-- what is asked of a strip: its bytes, the numbers of its form, and how many bytes a row has
+pub record AskedStrip : Type 0 where
+  pub strip : List ℕ
+  pub form : FaxStrip
+  pub stride : ℕ
+
+-- memory of the caller that is read and written: a place with its runs, and a raster
+pub record StripMemory : Type 0 where
+  pub place : FaxPlace
+  pub runs : List ℕ
+  pub raster : List ℕ
 
 -- rows are read from a place on, which is then the one after them; or there are none, and nothing
 -- is changed
-abbrev pub ReadsOn : StripForm → List ℕ → ℕ → FaxPlace → List ℕ → List ℕ → Filled → FaxPlace
-    → List ℕ → List ℕ → Type 0
-ReadsOn form strip stride old_place old_runs old filled place runs new =
-    (HasRoom form stride (length old) × (from : StripPlace) × (to : StripPlace)
-    × IsDueAt form strip old_place old_runs from
-    × AreStripRows form (bits form.order strip) old_place.page stride from old filled to new
-    × IsPlaceAfter form.width filled.count old_place old_runs place runs to)
-    ⊎ (ReadsNone form strip stride old_place old_runs (length old) filled.stop
-    × (filled.count ≡ 0) × (filled.used ≡ 0) × (filled.cursor ≡ cursor_of old_place)
-    × (place ≡ old_place) × (runs ≡ old_runs) × (new ≡ old))
+abbrev pub ReadsOn : StripForm → List ℕ → ℕ → StripMemory → Filled → StripMemory → Type 0
+ReadsOn form strip stride old filled new =
+    (HasRoom form stride (length old.raster) × (from : StripPlace) × (to : StripPlace)
+    × IsDueAt form strip old.place old.runs from
+    × AreStripRows form (bits form.order strip) old.place.page stride from old.raster filled to
+    new.raster × IsPlaceAfter form.width filled.count old.place old.runs new.place new.runs to)
+    ⊎ (ReadsNone form strip stride old.place old.runs (length old.raster) filled.stop
+    × (filled.count ≡ 0) × (filled.used ≡ 0) × (filled.cursor ≡ cursor_of old.place)
+    × (new ≡ old))
 
--- rows that nobody counted end at a place, where this fault is in the way of the next one, or none
--- is, and their end is told
-abbrev pub IsEndTold : StripForm → List ℕ → FaxPlace → Option StripFault → FaxFault → ℕ → Type 0
-IsEndTold form strip place met fault status =
-    (end : RowsEnd) × EndsSo form.coding place.row (drop place.bits (bits form.order strip)) met end
-    × (fault ≡ end_fault place.page place.row end) × (status ≡ end_status end)
+-- what of the strip itself stopped its rows, if it did: a fault is in the way, or it has no more
+abbrev pub met_in_strip : Stop → Option (Option StripFault)
+met_in_strip (Ended Proper) = Some None
+met_in_strip (Ended (Fault page row (Strip fault))) = Some (Some fault)
+met_in_strip stop = None
+
+-- how rows that nobody counted end at a place, where the strip itself stopped them; else None
+abbrev pub IsEndAt : FaxStrip → StripForm → List ℕ → FaxPlace → Stop → Option RowsEnd → Type 0
+IsEndAt given form strip place stop None = (0 < given.rows) ⊎ (met_in_strip stop ≡ None)
+IsEndAt given form strip place stop (Some end) =
+    (given.rows ≡ 0) × (met : Option StripFault) × (met_in_strip stop ≡ Some met)
+    × EndsSo form.coding place.row (drop place.bits (bits form.order strip)) met end
 
 -- what was written is told, and that rows that nobody counted end so at a place
-pub record IsRowsEndTold (filled : Filled) (place : FaxPlace) (end : RowsEnd) (told : FaxTold)
-    (status : ℕ) : Type 0 where
-  pub count : told.count ≡ filled.count
-  pub used : told.used ≡ filled.used
-  pub page : told.page ≡ filled.cursor.page
-  pub row : told.row ≡ filled.cursor.row
-  pub fault : told.fault ≡ end_fault place.page place.row end
-  pub answer : status ≡ end_status end
+abbrev pub IsRowsEndTold : Filled → FaxPlace → RowsEnd → FaxTold → ℕ → Type 0
+IsRowsEndTold filled place end =
+    IsToldWith filled (end_fault place.page place.row end) (end_status end)
 
--- rows that nobody counted are read up to a place, and why no more are: how they end, where there
--- is no more row of a strip, or it cannot be read; else what is told of any strip
-abbrev pub IsStopTold : StripForm → List ℕ → FaxPlace → Stop → FaxFault → ℕ → Type 0
-IsStopTold form strip place (Ended Proper) fault status =
-    IsEndTold form strip place None fault status
-IsStopTold form strip place (Ended (Fault page row (Strip met))) fault status =
-    IsEndTold form strip place (Some met) fault status
-IsStopTold form strip place stop fault status =
-    (fault ≡ fault_of stop) × (status ≡ status_of stop)
-
--- what was written of rows that nobody counted, up to a place, is told, and the number answered
-pub record IsUncountedTold (form : StripForm) (strip : List ℕ) (place : FaxPlace) (filled : Filled)
-    (told : FaxTold) (status : ℕ) : Type 0 where
-  pub count : told.count ≡ filled.count
-  pub used : told.used ≡ filled.used
-  pub page : told.page ≡ filled.cursor.page
-  pub row : told.row ≡ filled.cursor.row
-  pub stop : IsStopTold form strip place filled.stop told.fault status
+-- what was written is told, and how the rows end at a place, if that is to be told
+abbrev pub IsReadTold : Filled → FaxPlace → Option RowsEnd → FaxTold → ℕ → Type 0
+IsReadTold filled place None told status = IsTold filled told status
+IsReadTold filled place (Some end) told status = IsRowsEndTold filled place end told status
 
 -- the rows of a strip from a place on are read and told, counted ones or such as nobody counted; or
 -- it can be read in no form of these numbers, or not all runs of any row have room, and nothing is
 -- changed
-abbrev pub TellsStripRows : List ℕ → FaxStrip → ℕ → FaxPlace → List ℕ → List ℕ → FaxPlace → List ℕ
-    → List ℕ → FaxTold → FaxTold → ℕ → Type 0
-TellsStripRows strip given stride old_place old_runs old place runs new old_told told status =
-    ((form : StripForm) × IsReadable strip given form × (most_runs ≤ length old_runs)
-    × (filled : Filled) × ReadsOn form strip stride old_place old_runs old filled place runs new
-    × IsTold filled told status)
-    ⊎ ((form : StripForm) × IsReadableUncounted strip given form × (most_runs ≤ length old_runs)
-    × (filled : Filled) × ReadsOn form strip stride old_place old_runs old filled place runs new
-    × IsUncountedTold form strip place filled told status)
-    ⊎ ((status ≡ 7)
-    × ((form : StripForm) → IsReadable strip given form → most_runs ≤ length old_runs → ⊥)
-    × ((form : StripForm) → IsReadableUncounted strip given form → most_runs ≤ length old_runs → ⊥)
-    × (place ≡ old_place) × (runs ≡ old_runs) × (new ≡ old) × (told ≡ old_told))
+abbrev pub TellsStripRows : AskedStrip → StripMemory → StripMemory → FaxTold → FaxTold → ℕ → Type 0
+TellsStripRows asked old new old_told told status =
+    ((form : StripForm) × IsReadableIn asked.strip asked.form form
+    × (most_runs ≤ length old.runs) × (filled : Filled)
+    × ReadsOn form asked.strip asked.stride old filled new × (end : Option RowsEnd)
+    × IsEndAt asked.form form asked.strip new.place filled.stop end
+    × IsReadTold filled new.place end told status)
+    ⊎ ((status ≡ 7) × (new ≡ old) × (told ≡ old_told)
+    × ((form : StripForm) → IsReadableIn asked.strip asked.form form
+    → most_runs ≤ length old.runs → ⊥))
 
 -- these numbers are a form, and the bytes hold its raster
-abbrev pub IsCodable : FaxStrip → ℕ → List ℕ → ℕ → StripForm → Type 0
-IsCodable given k raster stride form =
-    IsStripFormGiven given form × (0 < k) × HoldsRaster (length raster) form.width form.rows stride
+abbrev pub IsCodable : AskedRaster FaxStrip → StripForm → Type 0
+IsCodable asked form =
+    IsStripFormGiven asked.form form × (0 < asked.k)
+    × HoldsRaster (length asked.raster) form.width form.rows asked.stride
 
 -- the rows of a raster are coded as a strip, which is written where it has room, and its length
 -- told; or memory was refused; or the numbers are no form or the raster is too short; then nothing
 -- is written
-abbrev pub TellsStrip : FaxStrip → ℕ → List ℕ → ℕ → List ℕ → List ℕ → ℕ → ℕ → Type 0
-TellsStrip given k raster stride old new len status =
-    ((form : StripForm) × IsCodable given k raster stride form
-    × (IsTextTold (coded_strip form k (rows_of_raster form.width stride raster 0 form.rows)) old new
-    len status
+abbrev pub TellsStrip : AskedRaster FaxStrip → List ℕ → List ℕ → ℕ → ℕ → Type 0
+TellsStrip asked old new len status =
+    ((form : StripForm) × IsCodable asked form
+    × (IsTextTold (coded_strip form asked.k
+    (rows_of_raster form.width asked.stride asked.raster 0 form.rows)) old new len status
     ⊎ ((status ≡ 4) × (len ≡ 0) × (new ≡ old))))
-    ⊎ ((status ≡ 7) × ((form : StripForm) → IsCodable given k raster stride form → ⊥)
+    ⊎ ((status ≡ 7) × ((form : StripForm) → IsCodable asked form → ⊥)
     × (len ≡ 0) × (new ≡ old))

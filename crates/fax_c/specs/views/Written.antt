@@ -11,7 +11,7 @@ use Rattle.fax_files.specs.views.Writing.{empty_file}
 use Rattle.fax_c.specs.declared.forms.FaxForm.{FaxForm}
 use Rattle.fax_c.specs.declared.writing.FaxWritten.{FaxWritten}
 use Rattle.fax_c.specs.Forms.{form_numbers}
-use Rattle.fax_c.specs.Raster.{HoldsRaster, page_strips}
+use Rattle.fax_c.specs.Raster.{AskedRaster, HoldsRaster, page_strips}
 
 -- these numbers are this form, in which a page can be written
 pub record IsFormGiven (given : FaxForm) (form : PageForm) : Type 0 where
@@ -28,12 +28,9 @@ pub record IsWriting (written : FaxWritten) : Type 0 where
   pub place : (written.added ≡ 0) ⊎ ((8 ≤ written.len) × (written.len ≤ max_file)
       × (4 ≤ written.link) × (written.link + 4 ≤ written.len))
 
--- a file that is written so far has as many bytes as this at most; or it has more
+-- a file that is written so far has as many bytes as this at most
 abbrev pub IsHeld : FaxWritten → ℕ → Type 0
 IsHeld written room = (written.added ≡ 0) ⊎ (written.len ≤ room)
-
-abbrev pub IsNotHeld : FaxWritten → ℕ → Type 0
-IsNotHeld written room = (0 < written.added) × (room < written.len)
 
 -- the last page of a file that is written so far, if there is one, says its total: PageNumber is
 -- the last field of its directory, and this number the last two bytes (TIFF 6.0, PageNumber)
@@ -48,17 +45,17 @@ file_so_far written file =
     else record { bytes = take written.len file; link = written.link }
 
 -- the file with one page more, whose rows are those of a raster
-abbrev pub with_raster : PageForm → ℕ → List ℕ → ℕ → FaxWritten → List ℕ → Written
-with_raster form k raster stride written file =
-    with_page (file_so_far written file) written.total written.added form
-    (page_strips form k stride raster)
+abbrev pub with_raster : AskedRaster PageForm → FaxWritten → List ℕ → Written
+with_raster asked written file =
+    with_page (file_so_far written file) written.total written.added asked.form
+    (page_strips asked.form asked.k asked.stride asked.raster)
 
 -- a page is added to a file in memory of the caller, and nothing after it is changed; or the file
 -- with it has no room there, or is too large, or memory was refused, and nothing is changed
-abbrev pub AddsPage : PageForm → ℕ → List ℕ → ℕ → List ℕ → List ℕ → FaxWritten → FaxWritten → ℕ
+abbrev pub AddsPage : AskedRaster PageForm → List ℕ → List ℕ → FaxWritten → FaxWritten → ℕ
     → Type 0
-AddsPage form k raster stride old_file file old written status =
-    let next = with_raster form k raster stride old old_file in
+AddsPage asked old_file file old written status =
+    let next = with_raster asked old old_file in
     ((status ≡ 0) × (length next.bytes ≤ max_file) × (length next.bytes ≤ length old_file)
     × (file ≡ next.bytes ++ drop (length next.bytes) old_file)
     × (written ≡ record old {
@@ -71,22 +68,23 @@ AddsPage form k raster stride old_file file old written status =
     ⊎ ((status ≡ 8) × (max_file < length next.bytes)) ⊎ (status ≡ 4)))
 
 -- a page can be written of these numbers and this raster, and added to a file
-abbrev pub IsAddable : FaxForm → ℕ → List ℕ → ℕ → FaxWritten → PageForm → Type 0
-IsAddable given k raster stride written form =
-    IsFormGiven given form × (0 < k) × HoldsRaster (length raster) form.width form.rows stride
-    × IsWriting written
+abbrev pub IsAddable : AskedRaster FaxForm → FaxWritten → PageForm → Type 0
+IsAddable asked written form =
+    IsFormGiven asked.form form × (0 < asked.k)
+    × HoldsRaster (length asked.raster) form.width form.rows asked.stride × IsWriting written
 
 -- a page is added; or the file so far has more bytes than there is room; or its last page says
 -- another total; or the numbers are no form, or the raster is too short, or no page can be added to
 -- such a file; then nothing is changed
-abbrev pub TellsPageAdded : FaxForm → ℕ → List ℕ → ℕ → List ℕ → List ℕ → FaxWritten → FaxWritten
-    → ℕ → Type 0
-TellsPageAdded given k raster stride old_file file old written status =
-    ((form : PageForm) × IsAddable given k raster stride old form
+abbrev pub TellsPageAdded : AskedRaster FaxForm → List ℕ → List ℕ → FaxWritten → FaxWritten → ℕ
+    → Type 0
+TellsPageAdded asked old_file file old written status =
+    ((form : PageForm) × IsAddable asked old form
     × ((IsHeld old (length old_file) × IsTotalSaid old old_file
-    × AddsPage form k raster stride old_file file old written status)
-    ⊎ (IsNotHeld old (length old_file) × (status ≡ 5) × (file ≡ old_file) × (written ≡ old))
+    × AddsPage (record { form = form; k = asked.k; raster = asked.raster; stride = asked.stride })
+    old_file file old written status)
+    ⊎ ((IsHeld old (length old_file) → ⊥) × (status ≡ 5) × (file ≡ old_file) × (written ≡ old))
     ⊎ (IsHeld old (length old_file) × (IsTotalSaid old old_file → ⊥) × (status ≡ 7)
     × (file ≡ old_file) × (written ≡ old))))
     ⊎ ((status ≡ 7) × (file ≡ old_file) × (written ≡ old)
-    × ((form : PageForm) → IsAddable given k raster stride old form → ⊥))
+    × ((form : PageForm) → IsAddable asked old form → ⊥))

@@ -30,8 +30,9 @@ loop-part-preserved-in-Found c =
       so_far = found_more left c.loop-part.invariant.all c.args.page c.args.stride c.args.out.now c.args.lost.now
           c.loop-part.left
           new c.loop-part.row c.loop-part.at c.loop-part.count c.loop-part.ended c.loop-part.out c.loop-part.lost so_far
-          c.loop-part.auto.lost next short c.put_found-at.result c.put_stretch-count.result c.put_found-at.new.out
-          c.put_stretch-count.new.lost (rw c.row.ensures.pels at c.put_found-at.ensures) c.put_stretch-count.ensures;
+          c.loop-part.auto.lost next short c.put_in_stride-at.result c.put_stretch-count.result
+          c.put_in_stride-at.new.out c.put_stretch-count.new.lost
+          (rw c.row.ensures.pels at c.put_in_stride-at.ensures) c.put_stretch-count.ensures;
     }
 
 pub put_lost-at-requires : goal.put_lost-at-requires

@@ -15,8 +15,15 @@ returns-in-Ok c =
         found.here,
         c.in-Ok.ensures.ok.there,
         subst
-            (λ (file : List ℕ). WritesFrom file found.here c.args.stride c.args.place.now c.args.runs.now
-            c.args.out.now c.args.lost.now call.result call.new.place call.new.runs call.new.out call.new.lost)
+            (λ (file : List ℕ). WritesFrom file found.here c.args.stride
+            (record {
+              place = c.args.place.now;
+              runs = c.args.runs.now;
+              raster = c.args.out.now;
+              lost = c.args.lost.now;
+            })
+            call.result
+            (record { place = call.new.place; runs = call.new.runs; raster = call.new.out; lost = call.new.lost }))
             c.in-Ok.ensures.ok.file_is call.ensures,
       ),
     )

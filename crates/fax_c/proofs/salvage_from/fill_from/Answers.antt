@@ -39,8 +39,8 @@ loop-left-preserved c =
     c.loop-left.out c.loop-left.lost c.loop-left.invariant c.next_found-ahead.result c.next_found-ahead.ensures
     c.loop-left.auto.lost (omega (arith, room.1, c.loop-left.auto.lost)) c.put_stretch-stretches.result
     c.put_stretch-stretches.new.lost c.put_stretch-stretches.ensures (not_false _ c.if-not-ahead.false) width
-    c.requires.short c.loop-left.auto.out c.put_found-used.result c.put_found-used.new.out
-    (rw c.row.ensures.pels at c.put_found-used.ensures)
+    c.requires.short c.loop-left.auto.out c.put_in_stride-used.result c.put_in_stride-used.new.out
+    (rw c.row.ensures.pels at c.put_in_stride-used.ensures)
 
 pub returns : goal.returns
 returns c =

@@ -17,7 +17,7 @@ returns c =
       page = c.at.result.page;
       row = c.at.result.row;
       bits = c.in-Some.lent.bits;
-      runs = c.in-Some-put.to;
+      runs = c.put_all_runs-place.result;
     })
-    c.args.runs.now c.put.new.out c.in-Some.lent (ap cursor_of c.at.ensures) refl c.requires.cursor more
-    c.requires.ends c.in-Some.ensures c.in-Some-put.ensures.put
+    c.args.runs.now c.put_all_runs-place.new.out c.in-Some.lent (ap cursor_of c.at.ensures) refl c.requires.cursor more
+    c.requires.ends c.in-Some.ensures c.put_all_runs-place.ensures

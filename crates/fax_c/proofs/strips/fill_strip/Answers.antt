@@ -1,6 +1,5 @@
 use Rattle.std.proofs.Common.{◌∙◌, arith}
 use Rattle.fax_c.specs.code.Strips.{place_due}
-use Rattle.fax_c.proofs.PaddedLemmas.{fills_stride}
 use Rattle.fax_c.proofs.StripLemmas.{fits, one_more, stops_after, why_none}
 use Rattle.fax_c.proofs.strips.fill_strip.Goals as goal
 
@@ -20,20 +19,10 @@ returns-in-Some c =
           (omega (arith, c.loop-out-test.true, c.loop-out.auto.out)) none),
     )
 
-pub unreachable-requires : goal.unreachable-requires
-unreachable-requires c =
-    let so_far = c.loop-out.invariant in
-    let next = c.read_next.new.reader in
-    let same = c.in_default.ensures.same_form ∙ so_far.same_form in
-    let short = fits c.reference.result.now next.form c.args.reader.now.form c.args.stride c.reference.ensures.width
-    same c.requires.stride in
-    omega (
-      arith,
-      c.loop-out-test.true,
-      c.in_default-put_padded.ensures.1,
-      fills_stride c.args.stride
-          c.reference.result.now short,
-    )
+pub put_in_stride-used-requires-clause-short : goal.put_in_stride-used-requires-clause-short
+put_in_stride-used-requires-clause-short c =
+    fits c.reference.result.now c.read_next.new.reader.form c.args.reader.now.form c.args.stride
+    c.reference.ensures.width (c.in_default.ensures.same_form ∙ c.loop-out.invariant.same_form) c.requires.stride
 
 pub loop-out-preserved : goal.loop-out-preserved
 loop-out-preserved c =
@@ -45,6 +34,6 @@ loop-out-preserved c =
     c.requires.stride in
     one_more old.form old.bytes c.args.stride (place_due old) c.args.out.now c.loop-out.count c.loop-out.used
     c.loop-out.reader c.loop-out.out so_far
-    c.bits_stand_by_place.ensures next c.in-Some-put_padded.to c.put_padded.new.out c.in_default.ensures
+    c.bits_stand_by_place.ensures next c.put_in_stride-used.result c.put_in_stride-used.new.out c.in_default.ensures
     (rw c.reference.ensures.pels at short)
-    (rw c.reference.ensures.pels at c.in-Some-put_padded.ensures) c.loop-out.auto.out
+    (rw c.reference.ensures.pels at c.put_in_stride-used.ensures) c.loop-out.auto.out

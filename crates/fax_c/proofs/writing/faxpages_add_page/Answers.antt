@@ -3,6 +3,7 @@ use Rattle.fax_c.proofs.writing.faxpages_add_page.Goals as goal
 
 pub returns-clause-pages : goal.returns-clause-pages
 returns-clause-pages c =
-    adds_to_pages c.args.form.now c.args.k c.args.raster.now c.args.stride c.args.file.now c.add_given.new.file
-    c.args.written.now
+    adds_to_pages
+    (record { form = c.args.form.now; k = c.args.k; raster = c.args.raster.now; stride = c.args.stride })
+    c.args.file.now c.add_given.new.file c.args.written.now
     c.add_given.new.written c.add_given.result c.add_given.ensures
