@@ -13,7 +13,8 @@ pub use Rattle.fax_page.specs.declared.RowsEnd.TheVariants.{Marked, DataEnd, Fau
 abbrev pub uncounted : StripForm → StripForm
 uncounted form = record form { rows = most_rows }
 
--- after so many rows, and at least one, nothing is left but fill (T.4, section 4.1.3)
+-- after so many rows, and at least one, nothing is left but zeros: fill, which T.4 knows before an
+-- EOL alone (T.4, section 4.1.3); that it may stand at the end of all data is ours
 abbrev pub HasDataEnd : ℕ → List Bool → Type 0
 HasDataEnd row left = (0 < row) × IsAllZeros left
 
