@@ -8,7 +8,7 @@ use Rattle.std.proofs.Math.Seq.{drop-append-add}
 use Rattle.std.proofs.lemmas.List.{take-append-drop, take-take, take-replicate, length-replicate}
 use Rattle.fax_bits.specs.declared.FillOrder.{FillOrder}
 use Rattle.fax_bits.specs.declared.window.Window.{Window}
-use Rattle.fax_bits.specs.declared.modes.ModeCode.TheVariants.{Vertical}
+use Rattle.fax_bits.specs.declared.mode_codes.ModeCode.TheVariants.{Vertical}
 use Rattle.fax_bits.specs.Bits.{bits, code_bits, bits_number}
 use Rattle.fax_bits.specs.views.Source.{HasZerosAhead, Source, source_of, KeepsEnd}
 use Rattle.fax_bits.specs.Tables.{modes}

@@ -7,8 +7,8 @@ use Rattle.std.proofs.lemmas.List.FromFn.{get_or-map-range_with_len}
 use Rattle.std.proofs.lemmas.Nat.{shr_below}
 use Rattle.fax_bits.specs.declared.codes.CodeEntry.{CodeEntry}
 use Rattle.fax_bits.specs.declared.indexes.TheConstants.{WHITE_SHORT, WHITE_LONG, BLACK_SHORT, BLACK_LONG, MODE_PLACES}
-use Rattle.fax_bits.specs.code.Places.{place_of}
-use Rattle.fax_bits.proofs.PlaceLemmas.{long_codes_test, short_place}
+use Rattle.fax_bits.specs.code.CodePlaces.{place_of}
+use Rattle.fax_bits.proofs.TablePlaceLemmas.{long_codes_test, short_place}
 use Rattle.fax_bits.specs.Tables.{modes, white_runs, white_terminating, white_make_up, black_runs, black_terminating}
 use Rattle.fax_bits.specs.Tables.{black_make_up}
 use Rattle.fax_bits.specs.Tables.{common_make_up}

@@ -9,7 +9,7 @@ pub mod PrefixLemmas
 pub mod ReadingLemmas
 pub mod RunCodeLemmas
 pub mod ModeLemmas
-pub mod ReadBackLemmas
+pub mod RunReadBackLemmas
 pub mod PutLemmas
 pub mod PendingLemmas
 pub mod FindLemmas
@@ -17,13 +17,13 @@ pub mod NumberLemmas
 pub mod OneLemmas
 pub mod TakeLemmas
 pub mod ReadLemmas
-pub mod PlaceLemmas
+pub mod TablePlaceLemmas
 pub mod AheadLemmas
 pub mod IndexLemmas
 pub mod WordLemmas
 pub mod WordPutLemmas
 pub mod WindowLemmas
-pub mod PackedLemmas
+pub mod PackedByteLemmas
 pub mod LaneLemmas
 pub mod WrittenRunLemmas
 pub mod PairLemmas

@@ -9,10 +9,10 @@ use Rattle.fax_bits.specs.Bits.{code_bits}
 use Rattle.fax_bits.specs.Codes.{bits_of, Takes, IsRun}
 use Rattle.fax_bits.specs.Written.{run_bits, mode_bits}
 use Rattle.fax_bits.specs.declared.Colour.{Colour}
-use Rattle.fax_bits.specs.declared.modes.ModeCode.TheVariants.{Horizontal}
+use Rattle.fax_bits.specs.declared.mode_codes.ModeCode.TheVariants.{Horizontal}
 use Rattle.fax_bits.specs.Tables.{run_table, modes}
-use Rattle.fax_bits.specs.declared.runs.RunCode.{RunCode}
-use Rattle.fax_bits.specs.declared.runs.RunCode.TheVariants.{Terminating, MakeUp}
+use Rattle.fax_bits.specs.declared.run_codes.RunCode.{RunCode}
+use Rattle.fax_bits.specs.declared.run_codes.RunCode.TheVariants.{Terminating, MakeUp}
 use Rattle.fax_bits.specs.code.TableLaws.{run_table_has_short_codes}
 use Rattle.fax_bits.specs.views.Codes.{HasCodeAhead, HasShortCodes}
 use Rattle.fax_bits.specs.views.Pairs.{IsPairRead, IsHorizontalPairRead}
@@ -20,7 +20,7 @@ use Rattle.fax_bits.specs.views.Source.{Source}
 use Rattle.fax_bits.specs.code.Pairs.{IsPairAhead}
 use Rattle.fax_bits.specs.code.LookUp.{IsBegun, IsLookedUp, IsCode, IsOneRun, AreTwoRuns, IsHorizontalPair}
 use Rattle.fax_bits.proofs.CodeBitsLemmas.{length-code_bits}
-use Rattle.fax_bits.proofs.ReadBackLemmas.{run_bits_are_read}
+use Rattle.fax_bits.proofs.RunReadBackLemmas.{run_bits_are_read}
 use Rattle.fax_bits.proofs.WrittenRunLemmas.{short_written, long_written, terminating_few, make_up_few}
 use Rattle.fax_bits.proofs.LookedAtLemmas.{begins_all, begins_next, begins_after}
 use Rattle.fax_bits.proofs.ModeLemmas.{mode_bits_are_read}

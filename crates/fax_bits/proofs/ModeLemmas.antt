@@ -8,18 +8,19 @@ use Rattle.fax_bits.specs.declared.indexes.TheConstants.{MODE_PLACES, VERTICAL_M
 use Rattle.fax_bits.specs.declared.put.TheConstants.{VERTICAL_CODES}
 use Rattle.std.proofs.lemmas.List.{get_or-map}
 use Rattle.fax_bits.specs.declared.codes.CodeEntry.{CodeEntry}
-use Rattle.fax_bits.specs.declared.modes.ModeCode.{ModeCode}
-use Rattle.fax_bits.specs.declared.modes.ModeCode.TheVariants.{Pass, Horizontal, Vertical, Extension as ModeExtension}
+use Rattle.fax_bits.specs.declared.mode_codes.ModeCode.{ModeCode}
+use Rattle.fax_bits.specs.declared.mode_codes.ModeCode.TheVariants.{Pass, Horizontal, Vertical}
+use Rattle.fax_bits.specs.declared.mode_codes.ModeCode.TheVariants.{Extension as ModeExtension}
 use Rattle.fax_bits.specs.Bits.{code_bits}
 use Rattle.fax_bits.specs.views.Codes.{HasCodeAhead, IsWritten}
-use Rattle.fax_bits.specs.code.Places.{place_of}
+use Rattle.fax_bits.specs.code.CodePlaces.{place_of}
 use Rattle.fax_bits.specs.Codes.{Takes, bits_of}
 use Rattle.fax_bits.specs.Written.{mode_bits}
 use Rattle.fax_bits.specs.laws.Codes.{ModeBitsAreRead}
 use Rattle.fax_bits.specs.Tables.{modes}
 use Rattle.fax_bits.proofs.FindLemmas.{code_ahead}
 use Rattle.fax_bits.proofs.IndexLemmas.{mode_place}
-use Rattle.fax_bits.proofs.PlaceLemmas.{found_at_place}
+use Rattle.fax_bits.proofs.TablePlaceLemmas.{found_at_place}
 use Rattle.fax_bits.proofs.TableLemmas.{listed}
 
 -- a mode that is written has a distance of at most 3

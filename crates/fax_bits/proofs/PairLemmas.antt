@@ -13,7 +13,7 @@ use Rattle.fax_bits.specs.declared.Colour.{Colour}
 use Rattle.fax_bits.specs.declared.Colour.TheVariants.{White, Black}
 use Rattle.fax_bits.specs.declared.indexes.TheConstants.{PAIRS, WHITE_PAIR_CODES, WHITE_PAIR_LENS, BLACK_PAIR_CODES}
 use Rattle.fax_bits.specs.declared.indexes.TheConstants.{BLACK_PAIR_LENS}
-use Rattle.fax_bits.specs.declared.runs.TheConstants.{WHITE_CODES, WHITE_LENS, BLACK_CODES, BLACK_LENS}
+use Rattle.fax_bits.specs.declared.run_codes.TheConstants.{WHITE_CODES, WHITE_LENS, BLACK_CODES, BLACK_LENS}
 use Rattle.fax_bits.specs.Bits.{code_bits}
 use Rattle.fax_bits.specs.Tables.{run_table}
 use Rattle.fax_bits.specs.Written.{run_bits, run_code_bits}

@@ -5,7 +5,7 @@ use Rattle.std.proofs.Common.{◌∙◌, arith, zero-add}
 use Rattle.std.specs.Prelude.{Some, slice_get}
 use Rattle.fax_bits.specs.declared.codes.CodeEntry.{CodeEntry}
 use Rattle.fax_bits.specs.declared.Colour.{Colour}
-use Rattle.fax_bits.specs.declared.runs.RunCode.TheVariants.{Terminating, MakeUp}
+use Rattle.fax_bits.specs.declared.run_codes.RunCode.TheVariants.{Terminating, MakeUp}
 use Rattle.fax_bits.specs.Codes.{bits_of, Takes}
 use Rattle.fax_bits.specs.code.Codes.{bits_at, run_meaning}
 use Rattle.fax_bits.specs.Written.{same_run_code, code_for, run_code_bits}

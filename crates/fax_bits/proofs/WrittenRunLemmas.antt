@@ -7,8 +7,8 @@ use Rattle.std.specs.Prelude.{Some, slice_get, flat_map}
 use Rattle.std.proofs.lemmas.Option.{slice_get_read}
 use Rattle.fax_bits.specs.declared.codes.CodeEntry.{CodeEntry}
 use Rattle.fax_bits.specs.declared.Colour.{Colour}
-use Rattle.fax_bits.specs.declared.runs.RunCode.{RunCode}
-use Rattle.fax_bits.specs.declared.runs.RunCode.TheVariants.{Terminating, MakeUp}
+use Rattle.fax_bits.specs.declared.run_codes.RunCode.{RunCode}
+use Rattle.fax_bits.specs.declared.run_codes.RunCode.TheVariants.{Terminating, MakeUp}
 use Rattle.fax_bits.specs.Codes.{bits_of, Takes}
 use Rattle.fax_bits.specs.code.Codes.{run_meaning}
 use Rattle.fax_bits.specs.code.TableLaws.{length-run_table}

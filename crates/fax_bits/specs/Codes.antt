@@ -4,7 +4,7 @@ use Rattle.fax_bits.specs.Bits.{Colour, BeginsWith, code_bits}
 use Rattle.fax_bits.specs.Tables.{CodeEntry, run_table}
 use Rattle.fax_bits.specs.declared.codes.CodeFault.{CodeFault}
 use Rattle.fax_bits.specs.declared.codes.CodeFault.TheVariants.{DataEnds, BadCode}
-use Rattle.fax_bits.specs.declared.runs.RunCode.TheVariants.{MakeUp, Terminating}
+use Rattle.fax_bits.specs.declared.run_codes.RunCode.TheVariants.{MakeUp, Terminating}
 
 -- the bits of an entry's code
 abbrev pub bits_of : {M : Type 0} → CodeEntry M → List Bool

@@ -3,11 +3,11 @@ use Rattle.std.specs.Prelude.{ℕ, ◌+◌, ◌*◌, ◌-◌, ◌==◌, List, []
 use Rattle.std.specs.Prelude.{negsuc}
 use Rattle.std.specs.List.{slice_split}
 use Rattle.fax_bits.specs.Bits.{Colour, White, Black}
-use Rattle.fax_bits.specs.declared.modes.ModeCode.TheVariants as mode
-use Rattle.fax_bits.specs.declared.runs.RunCode.TheVariants.{Terminating, MakeUp, Extension}
+use Rattle.fax_bits.specs.declared.mode_codes.ModeCode.TheVariants as mode
+use Rattle.fax_bits.specs.declared.run_codes.RunCode.TheVariants.{Terminating, MakeUp, Extension}
 pub use Rattle.fax_bits.specs.declared.codes.CodeEntry.{CodeEntry}
-pub use Rattle.fax_bits.specs.declared.modes.ModeCode.{ModeCode}
-pub use Rattle.fax_bits.specs.declared.runs.RunCode.{RunCode}
+pub use Rattle.fax_bits.specs.declared.mode_codes.ModeCode.{ModeCode}
+pub use Rattle.fax_bits.specs.declared.run_codes.RunCode.{RunCode}
 
 -- the code that these binary digits spell, the highest first, with its meaning (48 is the digit 0)
 abbrev pub entry : {M : Type 0} → List ℕ → M → CodeEntry M

@@ -4,8 +4,8 @@ use Rattle.std.specs.Prelude.{[], ◌∷◌, ◌++◌, flat_map, replicate}
 use Rattle.std.specs.Ordering.{int_eq}
 use Rattle.fax_bits.specs.Bits.{Colour}
 use Rattle.fax_bits.specs.Tables.{CodeEntry, ModeCode, RunCode, run_table, modes}
-use Rattle.fax_bits.specs.declared.modes.ModeCode.TheVariants as mode
-use Rattle.fax_bits.specs.declared.runs.RunCode.TheVariants.{Terminating, MakeUp, Extension}
+use Rattle.fax_bits.specs.declared.mode_codes.ModeCode.TheVariants as mode
+use Rattle.fax_bits.specs.declared.run_codes.RunCode.TheVariants.{Terminating, MakeUp, Extension}
 use Rattle.fax_bits.specs.Codes.{bits_of}
 
 -- the two run codes mean the same

@@ -7,5 +7,5 @@ pub mod Window
 pub mod Pairs
 pub mod BitsAhead
 pub mod Codes
-pub mod Places
+pub mod CodePlaces
 pub mod LookUp

@@ -57,8 +57,8 @@ pub trait CodeTable {
         ensures short { result.len ≤ LONGEST_CODE };
 
     /// The length in bits and the meaning of the code that begins `n` bits, 0 to 13 of them: the
-    /// lowest of `window`, the highest first. `None` where no code is the beginning of them. A table
-    /// that has no quicker way goes through its entries.
+    /// lowest of `window`, the highest first. `None` where no code is the beginning of them. A
+    /// table that has no quicker way goes through its entries.
     fn find(window: u32, n: u32) -> Option<(u32, Self::Meaning)>
         requires few { n ≤ LONGEST_CODE }
         requires fits { window < 2 ^ n }

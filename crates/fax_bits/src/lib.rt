@@ -1,29 +1,29 @@
 //! Bits of coded strips, read and written, and the code tables of ITU-T T.4.
 #![tactic(auto)]
 
+mod bit_reversal;
 mod codes;
 mod indexes;
-mod lanes;
 pub mod laws;
 mod look_up;
-mod modes;
+mod mode_codes;
 mod pairs;
 mod pending;
 mod put;
-mod runs;
+mod run_codes;
 mod sink;
 mod source;
 mod vertical_indexes;
 mod verticals;
 mod window;
 
+pub use bit_reversal::reverse_bits;
 pub use codes::{CodeEntry, CodeFault, CodeTable, read_code};
-pub use lanes::reverse_bits;
-pub use modes::{ModeCode, Modes};
+pub use mode_codes::{ModeCode, Modes};
 pub use pairs::{Pair, SHORT_RUN};
 pub use pending::PendingBits;
 pub use put::{put_mode, put_run};
-pub use runs::{BlackRuns, LONGEST_MAKE_UP, RunCode, WhiteRuns};
+pub use run_codes::{BlackRuns, LONGEST_MAKE_UP, RunCode, WhiteRuns};
 pub use sink::BitSink;
 pub use source::BitSource;
 use thiserror::Error;

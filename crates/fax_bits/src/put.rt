@@ -1,8 +1,8 @@
-//! The codes of runs and modes as they are written: put into a sink or after pending bits, or looked
-//! for in a source (ITU-T T.4, sections 4.1.1 and 4.2.1.3.2).
+//! The codes of runs and modes as they are written: put into a sink or after pending bits, or
+//! looked for in a source (ITU-T T.4, sections 4.1.1 and 4.2.1.3.2).
 ghost use Rattle.std.specs.Prelude.{◌≡◌, ◌*◌, ◌<◌, ◌≤◌, ◌^◌, ◌++◌, length, OnOk, OnErr, IfOk};
-ghost use Rattle.fax_bits.specs.declared.modes.ModeCode.TheVariants.{Vertical};
-ghost use Rattle.fax_bits.specs.declared.runs.RunCode.TheVariants.{MakeUp};
+ghost use Rattle.fax_bits.specs.declared.mode_codes.ModeCode.TheVariants.{Vertical};
+ghost use Rattle.fax_bits.specs.declared.run_codes.RunCode.TheVariants.{MakeUp};
 ghost use Rattle.fax_bits.specs.Written.{run_codes, run_code_bits, run_bits, mode_bits};
 ghost use Rattle.fax_bits.specs.views.Codes.{IsWritten};
 ghost use Rattle.fax_bits.specs.views.Pairs.{pair_bits};
@@ -12,7 +12,7 @@ ghost use Rattle.fax_bits.specs.code.Codes.{run_meaning};
 
 use crate::codes::LONGEST_CODE;
 use crate::pairs::{SHORT_RUN, short_pair_code};
-use crate::runs::{TERMINATING_CODES, run_entry};
+use crate::run_codes::{TERMINATING_CODES, run_entry};
 use crate::{BitSink, BitSource, Colour, Memory, ModeCode, PendingBits};
 
 /// The codes of vertical modes, from a1 three pels left of b1 to three pels right of it (T.4,

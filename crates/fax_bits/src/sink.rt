@@ -5,7 +5,7 @@ ghost use Rattle.fax_bits.specs.Bits.{bits, code_bits, BeginsWith};
 ghost use Rattle.fax_bits.specs.views.Sink.{Appends, IsPadded};
 ghost use Rattle.fax_bits.specs.declared.FillOrder.TheVariants.{MsbFirst};
 
-use crate::lanes::reverse_bits;
+use crate::bit_reversal::reverse_bits;
 use crate::{BitSource, FillOrder, Memory};
 use std::alloc::Global;
 use std::marker::Model;

@@ -3,7 +3,7 @@ use Rattle.std.proofs.lemmas.Grind.{common_steps}
 use Rattle.std.proofs.Common.{◌≡◌, ℕ, ◌+◌, ◌<◌, List, ◌++◌, length, get_or, map, set, take, drop, arith}
 use Rattle.std.proofs.lemmas.List.{length-map, length-take-le}
 use Rattle.fax_walk.specs.declared.checking.Note.{Note}
-use Rattle.fax_c.specs.declared.checking.FaxNote.{FaxNote}
+use Rattle.fax_c.specs.declared.file_report.FaxNote.{FaxNote}
 use Rattle.fax_c.specs.Checked.{note_of}
 use Rattle.fax_c.proofs.ListLemmas.{one_set}
 

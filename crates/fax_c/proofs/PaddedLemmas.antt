@@ -8,9 +8,9 @@ use Rattle.std.proofs.lemmas.List.{length-replicate, length-take-le}
 use Rattle.fax_rows.specs.Rows.{Colour}
 use Rattle.fax_rows.specs.Coded.{packed_len, packed_row}
 use Rattle.fax_c.specs.Raster.{padded_row}
-use Rattle.fax_c.specs.code.Put.{IsPutAt}
+use Rattle.fax_c.specs.code.CallSteps.{IsPutAt}
 use Rattle.fax_c.proofs.ListLemmas.{more_put}
-use Rattle.fax_c.proofs.PackedLemmas.{has_packed_len}
+use Rattle.fax_c.proofs.PackedLenLemmas.{has_packed_len}
 
 pub length-padded : (stride : ℕ) (row : List Colour) → length (padded_row stride row)
     ≡ max (packed_len (length row)) stride

@@ -31,9 +31,9 @@ use Rattle.fax_c.specs.declared.places.FaxPlace.{FaxPlace}
 use Rattle.fax_c.specs.declared.strip_form.FaxStrip.{FaxStrip}
 use Rattle.fax_c.specs.declared.told.FaxTold.{FaxTold}
 use Rattle.fax_c.specs.views.Places.{most_runs}
-use Rattle.fax_c.specs.views.Strips.{AskedStrip, HasRoom, IsEndAt, IsPlace, IsPlaceAfter, IsReadableIn, IsReadTold}
-use Rattle.fax_c.specs.views.Strips.{ReadsNone, ReadsOn, ReadsTo, StopsAt, StripMemory, StripPlace}
-use Rattle.fax_c.specs.views.Strips.{met_in_strip, stop_in_strip}
+use Rattle.fax_c.specs.views.BareStrips.{AskedStrip, HasRoom, IsEndAt, IsPlace, IsPlaceAfter, IsReadableIn, IsReadTold}
+use Rattle.fax_c.specs.views.BareStrips.{ReadsNone, ReadsOn, ReadsTo, StopsAt, StripMemory, StripPlace}
+use Rattle.fax_c.specs.views.BareStrips.{met_in_strip, stop_in_strip}
 use Rattle.fax_c.specs.views.StripParts.{ArePartRead, AwaitsMore, IsNothingRead, IsUnsettled, IsUnsettledAt, MayChange}
 use Rattle.fax_c.specs.views.StripParts.{TellsStripPart}
 use Rattle.fax_c.specs.code.StripParts.{EndMayChange, IsAhead, IsMoreTold, MayGoOn, StopMayChange}

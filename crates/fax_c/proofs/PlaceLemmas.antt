@@ -13,7 +13,7 @@ use Rattle.fax_walk.specs.views.Walk.{HasPage, IsLongOf, WalkView, place_inside}
 use Rattle.fax_c.specs.declared.places.FaxPlace.{FaxPlace}
 use Rattle.fax_c.specs.views.Filled.{TakesRuns}
 use Rattle.fax_c.specs.views.Places.{HasRuns, IsAfterRows, KeepsRuns, place_begun, cursor_of, most_runs, place_at}
-use Rattle.fax_c.specs.code.Put.{IsInsideTold, IsPutAt}
+use Rattle.fax_c.specs.code.CallSteps.{IsInsideTold, IsPutAt}
 use Rattle.fax_walk.proofs.ShortLemmas.{some_run}
 
 -- what is kept past a place is kept past a later one

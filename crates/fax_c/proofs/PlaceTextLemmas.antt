@@ -13,7 +13,7 @@ use Rattle.fax_walk.specs.laws.Cursors.{TextsNameOne}
 use Rattle.fax_c.specs.declared.places.FaxPlace.{FaxPlace}
 use Rattle.fax_c.specs.views.Places.{most_runs}
 use Rattle.fax_c.specs.views.PlaceTexts.{NamesNoPlace, ReadsPlace}
-use Rattle.fax_c.specs.code.Put.{IsPlaceTold}
+use Rattle.fax_c.specs.code.CallSteps.{IsPlaceTold}
 
 decimal_utf8 : (n : ℕ) → n < 2 ^ 32 → IsUtf8 (decimal n)
 decimal_utf8 n short = IsUtf8-from_ascii (decimal n) (IsAscii-decimal n (omega (arith, short)))

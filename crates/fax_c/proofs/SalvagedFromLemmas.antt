@@ -31,19 +31,19 @@ use Rattle.fax_c.specs.declared.filled.Filled.{Filled}
 use Rattle.fax_c.specs.declared.filled.Stop.{Stop}
 use Rattle.fax_c.specs.declared.filled.Stop.TheVariants.{Done, Ended, Memory, NoRoom}
 use Rattle.fax_c.specs.declared.places.FaxPlace.{FaxPlace}
-use Rattle.fax_c.specs.declared.salvage.FaxLost.{FaxLost}
+use Rattle.fax_c.specs.declared.salvaged_raster.FaxLost.{FaxLost}
 use Rattle.fax_c.specs.declared.salvage_from.Ahead.{Ahead}
 use Rattle.fax_c.specs.Raster.{padded_row}
-use Rattle.fax_c.specs.Salvaged.{found_of, lost_from, lost_of}
-use Rattle.fax_c.specs.code.Put.{IsPutAt}
-use Rattle.fax_c.specs.code.Salvaged.{IsStretchPut, stretch_lost}
+use Rattle.fax_c.specs.SalvagedRaster.{found_of, lost_from, lost_of}
+use Rattle.fax_c.specs.code.CallSteps.{IsPutAt}
+use Rattle.fax_c.specs.code.SalvagedRaster.{IsStretchPut, stretch_lost}
 use Rattle.fax_c.specs.code.SalvagedFrom.{AreRowsFilled, EndsOrGoesOn, IsAhead, IsStopBefore, IsToldAfter}
 use Rattle.fax_c.specs.code.SalvagedFrom.{IsToldPlace, stretches_of}
-use Rattle.fax_c.specs.code.Strips.{IsRowBefore}
+use Rattle.fax_c.specs.code.BareStrips.{IsRowBefore}
 use Rattle.fax_c.specs.Told.{none_filled_at}
 use Rattle.std.proofs.lemmas.List.{same_from_push}
 use Rattle.fax_c.specs.views.Places.{HasRuns, cursor_of, place_at}
-use Rattle.fax_c.specs.views.SalvagedFrom.{EndsFound, HasRoom, HasRoomFor, IsFull, StopsNoLater}
+use Rattle.fax_c.specs.views.SalvagedFrom.{EndsFound, HasRoomForBoth, HasRoomFor, IsFull, StopsNoLater}
 use Rattle.fax_c.specs.views.SalvagedFrom.{IsPlaceOn, LeftMemory, WritesFrom, WritesNone}
 use Rattle.fax_c.proofs.ListLemmas.{more_put, one_set}
 use Rattle.fax_c.proofs.StripLemmas.{due_told}
@@ -380,7 +380,7 @@ module _ (first : RowsFromView) (page row stride : ℕ) (old : List ℕ) (old_lo
         )
 
     -- no other row is left
-    pub ended : ahead.found ≡ false → HasRoom (length old) used stride stretches (length old_lost)
+    pub ended : ahead.found ≡ false → HasRoomForBoth (length old) used stride stretches (length old_lost)
         → AreRowsFilled page row stride first old old_lost
         (record { cursor = record { page = page; row = ahead.row }; count = count; used = to; stop = Ended Proper }) new
         out new_lost
@@ -430,7 +430,7 @@ module _ (first : RowsFromView) (page row stride : ℕ) (old : List ℕ) (old_lo
 
   -- no more has room
   pub is_done : (now : RowsFromView) (due count used stretches : ℕ) (out : List ℕ) (lost : List FaxLost)
-      → AreWrittenSoFar now due count used stretches out lost → HasRoom (length old) 0 stride 0 (length old_lost)
+      → AreWrittenSoFar now due count used stretches out lost → HasRoomForBoth (length old) 0 stride 0 (length old_lost)
       → IsFull (length old) used stride stretches (length old_lost)
       → AreRowsFilled page row stride first old old_lost
       (record { cursor = record { page = page; row = due }; count = count; used = stretches; stop = Done }) now out lost

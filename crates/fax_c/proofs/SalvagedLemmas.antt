@@ -17,22 +17,22 @@ use Rattle.fax_walk.specs.declared.salvage.Stretch.{Stretch}
 use Rattle.fax_walk.specs.declared.salvage_rows.PagePart.TheVariants.{Found, Lost}
 use Rattle.fax_walk.specs.Salvaged.{PageRow, LeftItem, row_found, page_items}
 use Rattle.fax_walk.specs.laws.RowsLeft.{AreLeftOneWay}
-use Rattle.fax_walk.specs.views.RowsLeft.{LeftOf, of_uncounted, AreRowsOf, RowsView, IsNextPart, IsUncountedStart}
+use Rattle.fax_walk.specs.views.RowsLeft.{LeftOf, of_uncounted, AreLeftOf, RowsView, IsNextPart, IsUncountedStart}
 use Rattle.fax_walk.specs.views.RowsLeft.{PassesRows}
 use Rattle.fax_walk.specs.code.SalvagePage.{longer, rows_of, with_lost}
 use Rattle.fax_walk.proofs.SalvagePageLemmas.{lost_on}
 use Rattle.fax_c.specs.declared.filled.Filled.{Filled}
 use Rattle.fax_c.specs.declared.filled.Stop.{Stop}
 use Rattle.fax_c.specs.declared.filled.Stop.TheVariants.{NoRoom}
-use Rattle.fax_c.specs.declared.salvage.FaxLost.{FaxLost}
+use Rattle.fax_c.specs.declared.salvaged_raster.FaxLost.{FaxLost}
 use Rattle.fax_c.specs.declared.told.FaxTold.{FaxTold}
 use Rattle.fax_c.specs.Raster.{padded_row}
-use Rattle.fax_c.specs.Salvaged.{left_row, lost_among, lost_of}
+use Rattle.fax_c.specs.SalvagedRaster.{left_row, lost_among, lost_of}
 use Rattle.fax_c.specs.Told.{IsTold, none_filled_at}
-use Rattle.fax_c.specs.views.Salvaged.{AreLeftWritten, AreLostPut, HoldsRows, IsLeftTold, StopsAfterLost}
-use Rattle.fax_c.specs.views.Salvaged.{SalvageMemory, WritesUncounted}
-use Rattle.fax_c.specs.code.Put.{IsPutAt}
-use Rattle.fax_c.specs.code.Salvaged.{AreAllWritten, IsStretchPut, stretch_lost}
+use Rattle.fax_c.specs.views.SalvagedRaster.{AreLeftWritten, AreLostPut, HoldsRows, IsLeftTold, StopsAfterLost}
+use Rattle.fax_c.specs.views.SalvagedRaster.{SalvageMemory, WritesUncounted}
+use Rattle.fax_c.specs.code.CallSteps.{IsPutAt}
+use Rattle.fax_c.specs.code.SalvagedRaster.{AreAllWritten, IsStretchPut, stretch_lost}
 use Rattle.fax_c.proofs.ListLemmas.{more_put, one_set}
 use Rattle.fax_c.proofs.PaddedLemmas.{fills_stride}
 
@@ -121,7 +121,7 @@ module _ (left : RowsView) (all : List PageRow) (page stride : ℕ) (old : List 
     pub same_its : now.its ≡ left.its
     pub same_rows : now.rows ≡ left.rows
     pub same_width : now.width ≡ left.width
-    pub are : AreRowsOf left.its all
+    pub are : AreLeftOf left.its all
     pub row_is : now.row ≡ row
     pub within : row ≤ left.rows
     pub at_is : at ≡ row * stride
@@ -139,7 +139,7 @@ module _ (left : RowsView) (all : List PageRow) (page stride : ℕ) (old : List 
     pub open_few : rows_of ended ≤ row
 
   -- none is written
-  pub none_yet : left.row ≡ 0 → AreRowsOf left.its all → AreLeftSoFar left 0 0 0 None old old_lost
+  pub none_yet : left.row ≡ 0 → AreLeftOf left.its all → AreLeftSoFar left 0 0 0 None old old_lost
   none_yet none are = record {
     same_its = refl;
     same_rows = refl;
@@ -188,7 +188,7 @@ module _ (left : RowsView) (all : List PageRow) (page stride : ℕ) (old : List 
           append_assoc so_far.done over (drop (row + n) all)
           ∙ ap (λ (l : List PageRow). so_far.done ++ l) (sym here) ∙ so_far.done_is
         where
-          rw_its : AreRowsOf left.its all → AreRowsOf now.its all
+          rw_its : AreLeftOf left.its all → AreLeftOf now.its all
           rw_its are = rw so_far.same_its are
 
       pub within_next : row + n ≤ left.rows
@@ -319,7 +319,7 @@ module _ (form : StripForm) (b : List Bool) (stride : ℕ) (left : RowsView) (co
       → AreAllWritten left 0 stride old old_lost filled new lost → IsLeftTold filled end told status
       → WritesUncounted form b stride (memory old old_lost) (memory new lost) told status
   uncounted_written new lost filled told status one holds (rows, are, _, written) told_so =
-      let here = subst (λ (its : LeftOf). AreRowsOf its rows) start.start.its_is are in
+      let here = subst (λ (its : LeftOf). AreLeftOf its rows) start.start.its_is are in
       let same : rows ≡ start.all = one.one rows here ∙ sym (one.one start.all (end, start.are)) in
       inl (
         start.all,

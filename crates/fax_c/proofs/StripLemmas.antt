@@ -20,10 +20,10 @@ use Rattle.fax_walk.specs.declared.cursor.Cursor.{Cursor}
 use Rattle.fax_c.specs.declared.places.FaxPlace.{FaxPlace}
 use Rattle.fax_c.specs.Raster.{padded_row}
 use Rattle.fax_c.specs.views.Places.{HasRuns, cursor_of}
-use Rattle.fax_c.specs.views.Strips.{AreStripRows, IsDueAt, IsPlace, ReadsNone, ReadsOn, ReadsTo, StopsAt}
-use Rattle.fax_c.specs.views.Strips.{StripMemory, StripPlace}
-use Rattle.fax_c.specs.code.Put.{IsPutAt}
-use Rattle.fax_c.specs.code.Strips.{IsReadNext, IsRowBefore, place_due}
+use Rattle.fax_c.specs.views.BareStrips.{AreStripRows, IsDueAt, IsPlace, ReadsNone, ReadsOn, ReadsTo, StopsAt}
+use Rattle.fax_c.specs.views.BareStrips.{StripMemory, StripPlace}
+use Rattle.fax_c.specs.code.CallSteps.{IsPutAt}
+use Rattle.fax_c.specs.code.BareStrips.{IsReadNext, IsRowBefore, place_due}
 use Rattle.fax_c.proofs.ListLemmas.{more_put}
 use Rattle.fax_c.proofs.PaddedLemmas.{fills_stride, padded_push}
 use Rattle.fax_walk.proofs.ShortLemmas.{some_run}

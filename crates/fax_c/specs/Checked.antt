@@ -7,8 +7,8 @@ use Rattle.fax_walk.specs.declared.checking.Note.{Note}
 use Rattle.fax_walk.specs.declared.checking.Report.{Report}
 use Rattle.fax_walk.specs.declared.walk.Place.{Place}
 use Rattle.fax_walk.specs.Report.{IsReport, number_and_name}
-use Rattle.fax_c.specs.declared.checking.FaxNote.{FaxNote}
-use Rattle.fax_c.specs.declared.checking.FaxReport.{FaxReport}
+use Rattle.fax_c.specs.declared.file_report.FaxNote.{FaxNote}
+use Rattle.fax_c.specs.declared.file_report.FaxReport.{FaxReport}
 use Rattle.fax_c.specs.declared.faults.FaxFault.{FaxFault}
 use Rattle.fax_c.specs.Told.{fault_of_cause, no_fault}
 

@@ -1,4 +1,4 @@
-pub mod Faults
+pub mod FaultNumbers
 pub mod Numbers
 pub mod Texts
 pub mod Changes
@@ -6,7 +6,7 @@ pub mod Forms
 pub mod Raster
 pub mod Told
 pub mod Checked
-pub mod Converted
+pub mod ConversionTold
 pub mod views
 pub mod code
-pub mod Salvaged
+pub mod SalvagedRaster

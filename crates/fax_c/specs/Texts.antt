@@ -8,8 +8,8 @@ use Rattle.fax_files.specs.declared.pbm.PbmFault.{PbmFault}
 use Rattle.fax_files.specs.Pbm.{pbm_fault_name}
 use Rattle.fax_walk.specs.declared.checking.NoteKind.{NoteKind}
 use Rattle.fax_walk.specs.Report.{number_and_name}
-use Rattle.fax_c.specs.Faults.{fault_number, output_too_large_number, pbm_fault_number}
-use Rattle.fax_c.specs.Faults.{too_many_rows_number, unknown_input_number}
+use Rattle.fax_c.specs.FaultNumbers.{fault_number, output_too_large_number, pbm_fault_number}
+use Rattle.fax_c.specs.FaultNumbers.{too_many_rows_number, unknown_input_number}
 
 -- a text is written where it has room, and nothing else is changed; how many bytes it has is told
 pub record IsTextPut (text old : List ℕ) (len : ℕ) (new : List ℕ) : Type 0 where

@@ -14,7 +14,7 @@ use Rattle.fax_c.specs.declared.filled.Stop.{Stop}
 use Rattle.fax_c.specs.declared.filled.Stop.TheVariants.{Done, Ended, Memory, NoRoom}
 use Rattle.fax_c.specs.declared.filled.Filled.{Filled}
 use Rattle.fax_c.specs.declared.told.FaxTold.{FaxTold}
-use Rattle.fax_c.specs.Faults.{fault_number, too_many_rows_number}
+use Rattle.fax_c.specs.FaultNumbers.{fault_number, too_many_rows_number}
 
 -- no fault
 abbrev pub no_fault : FaxFault

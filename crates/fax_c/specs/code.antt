@@ -1,9 +1,9 @@
 -- What speaks of this code alone: one step of a call.
-pub mod Put
-pub mod Strips
+pub mod CallSteps
+pub mod BareStrips
 pub mod StripRuns
-pub mod Writing
-pub mod Conversion
+pub mod AddedPages
+pub mod CallerNumbers
 pub mod StripParts
-pub mod Salvaged
+pub mod SalvagedRaster
 pub mod SalvagedFrom

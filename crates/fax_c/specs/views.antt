@@ -1,12 +1,12 @@
 pub mod Filled
-pub mod Pages
+pub mod PageRaster
 pub mod Places
 pub mod PlaceTexts
-pub mod Strips
+pub mod BareStrips
 pub mod StripReports
 pub mod StripRuns
-pub mod Written
+pub mod PageByPage
 pub mod Ended
 pub mod StripParts
-pub mod Salvaged
+pub mod SalvagedRaster
 pub mod SalvagedFrom

@@ -3,7 +3,7 @@ ghost use Rattle.std.specs.Prelude.{◌≡◌, ◌<◌, ◌+◌, length, IfOk};
 ghost use Rattle.fax_page.specs.Strip.{coded_strip};
 ghost use Rattle.fax_page.specs.views.Strip.{IsStripForm};
 ghost use Rattle.fax_c.specs.Raster as Raster;
-ghost use Rattle.fax_c.specs.views.Strips as Spec;
+ghost use Rattle.fax_c.specs.views.BareStrips as Spec;
 
 use crate::cursors::put_counted;
 use crate::raster::{holds_raster, packed_len};

@@ -13,8 +13,8 @@ use fax_page::{Memory, StripForm, StripWriter};
 use fax_rows::Row;
 use std::alloc::Global;
 
-/// Takes the pels of row `i` of a table, whose runs stand apart, and answers whether there is such a
-/// row of this width.
+/// Takes the pels of row `i` of a table, whose runs stand apart, and answers whether there is such
+/// a row of this width.
 fn take_row(row: &mut Row, rows: &[FaxRow], runs: &[u32], i: usize) -> bool
     ensures taken { result ≡ true → Spec.IsRowAt (length row.old) rows.now runs.now i row.new }
     ensures none { result ≡ false → (pels : List Colour)
@@ -32,8 +32,8 @@ fn take_row(row: &mut Row, rows: &[FaxRow], runs: &[u32], i: usize) -> bool
     row.set_runs(&runs[at..at + len])
 }
 
-/// The rows of a table, whose runs stand apart, coded as a strip, or none where one is no row of its
-/// width.
+/// The rows of a table, whose runs stand apart, coded as a strip, or none where one is no row of
+/// its width.
 fn code_rows(
     alloc: Global,
     form: StripForm,

@@ -1,9 +1,9 @@
 //! Places as text and back.
 ghost use Rattle.fax_c.specs.views.PlaceTexts as Spec;
 
+use crate::caller_text::put_text;
 use crate::places::{FaxPlace, begun_at, tell_place};
 use crate::status;
-use crate::text::put_text;
 use fax_walk::{Begun, Cursor, LongCursor, LongFault};
 use std::alloc::Global;
 

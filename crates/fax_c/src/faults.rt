@@ -1,7 +1,7 @@
 //! The numbers of faults.
 
 ghost use Rattle.std.specs.Prelude.{◌≡◌};
-ghost use Rattle.fax_c.specs.Faults as Spec;
+ghost use Rattle.fax_c.specs.FaultNumbers as Spec;
 
 use fax_files::{Cause, FileFault, PbmFault, StripFault};
 use fax_page::RowsEnd;
@@ -81,7 +81,7 @@ pub(crate) fn fault_number(cause: Cause) -> u32
 
 impl FaxFault {
     ghost use Rattle.fax_c.specs.Told.{end_fault, no_fault, fault_of_end, fault_of_cause};
-    ghost use Rattle.fax_c.specs.Converted.{fault_of_number};
+    ghost use Rattle.fax_c.specs.ConversionTold.{fault_of_number};
 
     /// No fault.
     pub(crate) fn none() -> Self

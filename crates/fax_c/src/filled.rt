@@ -30,7 +30,7 @@ pub(crate) struct Filled {
 
 impl Stop {
     ghost use Rattle.fax_c.specs.Told.{fault_of, status_of};
-    ghost use Rattle.fax_c.specs.code.Put.{stop_of};
+    ghost use Rattle.fax_c.specs.code.CallSteps.{stop_of};
 
     /// Why nothing more is handed out.
     pub(crate) fn of_fault(fault: WalkFault) -> Self

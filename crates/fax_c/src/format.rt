@@ -3,7 +3,7 @@ ghost use Rattle.std.specs.Prelude.{◌≡◌, ◌+◌, ◌≤◌, ◌^◌, ◌+
 ghost use Rattle.fax_rows.specs.Coded.{packed_row};
 ghost use Rattle.fax_rows.specs.Rows.{runs_of};
 ghost use Rattle.fax_c.specs.Changes.{changes_of};
-ghost use Rattle.fax_c.specs.code.Put.{IsPutAt};
+ghost use Rattle.fax_c.specs.code.CallSteps.{IsPutAt};
 
 use crate::raster::{packed_len, put_packed};
 use fax_rows::{LongestRuns, Row};
@@ -44,7 +44,7 @@ impl RowFormat for Packed {
 
     const MOST: usize = 8_192;
 
-    #[tactic(auto, using(crate::proofs::PackedLemmas::has_packed_len))]
+    #[tactic(auto, using(crate::proofs::PackedLenLemmas::has_packed_len))]
     fn put(row: &Row, out: &mut [u8], at: usize) -> Option<usize> {
         if out.len() - at < packed_len(row.width()) {
             return None;

@@ -2,7 +2,7 @@
 ghost use Rattle.std.specs.Prelude.{◌≡◌};
 ghost use Rattle.fax_c.specs.Forms as Spec;
 ghost use Rattle.fax_c.specs.Numbers as Numbers;
-ghost use Rattle.fax_c.specs.code.Put as Code;
+ghost use Rattle.fax_c.specs.code.CallSteps as Code;
 
 use crate::filled::{Filled, Stop};
 use crate::told::FaxTold;

@@ -6,10 +6,10 @@ ghost use Rattle.fax_files.specs.declared.Cause.{Cause as TheCause};
 ghost use Rattle.fax_files.specs.declared.pbm.PbmFault.{PbmFault as ThePbmFault};
 ghost use Rattle.fax_walk.specs.declared.checking.NoteKind.{NoteKind as TheNoteKind};
 ghost use Rattle.fax_walk.specs.Report.{number_and_name};
-ghost use Rattle.fax_c.specs.Faults.{fault_number, pbm_fault_number};
+ghost use Rattle.fax_c.specs.FaultNumbers.{fault_number, pbm_fault_number};
 ghost use Rattle.fax_c.specs.Texts as Spec;
 
-use crate::text::put_text;
+use crate::caller_text::put_text;
 use fax_files::{Cause, FileFault, PbmFault, StripFault};
 use fax_walk::NoteKind;
 

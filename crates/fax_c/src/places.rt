@@ -2,7 +2,7 @@
 ghost use Rattle.std.specs.Prelude.{◌≡◌, ◌≢◌, ◌<◌, ◌≤◌, false, length, true, MatchOption};
 ghost use Rattle.fax_c.specs.declared.filled.Stop.TheVariants.{NoRoom};
 ghost use Rattle.fax_c.specs.views.Places as Spec;
-ghost use Rattle.fax_c.specs.code.Put as Code;
+ghost use Rattle.fax_c.specs.code.CallSteps as Code;
 
 use crate::filled::Filled;
 use crate::format::{RowFormat, Runs};

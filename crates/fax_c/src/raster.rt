@@ -3,7 +3,7 @@ ghost use Rattle.std.specs.Prelude.{◌≡◌, ◌<◌, ◌-◌, ◌≤◌, ◌+
 ghost use Rattle.std.specs.Prelude.{◌+◌, replicate, Some};
 ghost use Rattle.fax_rows.specs.Coded as Coded;
 ghost use Rattle.fax_c.specs.Raster as Spec;
-ghost use Rattle.fax_c.specs.code.Put as Code;
+ghost use Rattle.fax_c.specs.code.CallSteps as Code;
 
 use fax_rows::Row;
 
@@ -24,7 +24,7 @@ fn clear(bytes: &mut [u8])
 }
 
 /// Writes zeros from a place to another.
-pub(crate) fn put_zeros(out: &mut [u8], at: usize, to: usize)
+pub(crate) fn put_zeros_to(out: &mut [u8], at: usize, to: usize)
     requires order { at ≤ to }
     requires within { to ≤ length out.old }
     ensures { out.new ≡ take at out.old ++ replicate (to - at) 0 ++ drop to out.old }
@@ -33,7 +33,7 @@ pub(crate) fn put_zeros(out: &mut [u8], at: usize, to: usize)
 }
 
 /// Writes a row's bytes at a place that has room for them, and answers where they end.
-#[tactic(auto, using(crate::proofs::PackedLemmas::has_packed_len))]
+#[tactic(auto, using(crate::proofs::PackedLenLemmas::has_packed_len))]
 pub(crate) fn put_packed(row: &Row, out: &mut [u8], at: usize) -> usize
     requires { at + Coded.packed_len (length row.now) ≤ length out.old }
     ensures { Code.IsPutAt (Coded.packed_row row.now) out.old at (Some result) out.new }
@@ -52,7 +52,7 @@ pub(crate) fn put_in_stride(row: &Row, stride: usize, out: &mut [u8], at: usize)
 {
     let end = put_packed(row, out, at);
     let to = at + stride;
-    put_zeros(out, end, to);
+    put_zeros_to(out, end, to);
     to
 }
 

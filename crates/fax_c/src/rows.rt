@@ -5,7 +5,7 @@ ghost use Rattle.fax_rows.specs.Coded.{packed_row};
 ghost use Rattle.fax_walk.specs.declared.begun.Begun.TheVariants.{At};
 ghost use Rattle.fax_walk.specs.Pages.{read_page};
 ghost use Rattle.fax_walk.specs.views.Walk.{HasPage};
-ghost use Rattle.fax_c.specs.code.Put as Code;
+ghost use Rattle.fax_c.specs.code.CallSteps as Code;
 ghost use Rattle.fax_c.specs.views.Filled as Spec;
 ghost use Rattle.fax_c.specs.views.Places as PlaceSpec;
 

@@ -1,10 +1,10 @@
 //! The form of a strip with no file around it.
 ghost use Rattle.std.specs.Prelude.{◌≡◌, ◌≢◌, false, true, MatchOption};
 ghost use Rattle.fax_page.specs.declared.StripForm.{StripForm as Form};
-ghost use Rattle.fax_c.specs.views.Strips as Spec;
-ghost use Rattle.fax_c.specs.code.Strips as Code;
+ghost use Rattle.fax_c.specs.views.BareStrips as Spec;
+ghost use Rattle.fax_c.specs.code.BareStrips as Code;
 
-use crate::conversion::order_of;
+use crate::file_conversion::order_of;
 use fax_page::{Coding, StripForm};
 
 /// The form of a strip.

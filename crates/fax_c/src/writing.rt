@@ -19,13 +19,13 @@ ghost use Rattle.fax_files.specs.Layout.{four};
 ghost use Rattle.fax_files.specs.views.Page.{IsGoodRational, IsPageForm};
 ghost use Rattle.fax_files.specs.views.Writing.{contents};
 ghost use Rattle.fax_c.specs.Raster as Raster;
-ghost use Rattle.fax_c.specs.views.Written as Spec;
+ghost use Rattle.fax_c.specs.views.PageByPage as Spec;
 ghost use Rattle.fax_c.specs.views.Ended.{AddsToPages};
-ghost use Rattle.fax_c.specs.code.Writing as Code;
+ghost use Rattle.fax_c.specs.code.AddedPages as Code;
 
 use crate::bytes::{put_bytes, put_four, two_at};
 use crate::coding::code_strip;
-use crate::conversion::order_of;
+use crate::file_conversion::order_of;
 use crate::forms::FaxForm;
 use crate::raster::holds_raster;
 use crate::status;

@@ -9,6 +9,6 @@ mod bits;
 #[cfg(test)]
 mod first_row;
 #[cfg(test)]
-mod rows;
+mod recoding;
 #[cfg(test)]
-mod strips;
+mod strip_callers;

@@ -1,6 +1,6 @@
 -- Each file has one chain of directories.
 use Rattle.std.proofs.Common.{◌≡◌, ℕ, zero, suc, ◌+◌, ◌<◌, ◌≤◌, Bool, true, false, ◌||◌, eqb, List, [], ◌∷◌}
-use Rattle.std.proofs.Common.{length, Option, Some, None, ◌≢◌, refl, subst, arith}
+use Rattle.std.proofs.Common.{length, Option, Some, None, ◌≢◌, refl, arith}
 use Rattle.std.specs.Prelude.{◌==◌}
 use Rattle.std.specs.List.{list_any, IsDistinct, All}
 use Rattle.std.proofs.lemmas.List.Elements.{All-nil, All-cons, recursion_from_All}
@@ -10,7 +10,7 @@ use Rattle.fax_files.specs.declared.Endian.{Endian}
 use Rattle.std.proofs.lemmas.Bool.Decides.{nat_tests}
 use Rattle.fax_files.specs.Directory.{ChainRead, Header, is_directory, next_offset, offset_fault, read_chain}
 use Rattle.fax_files.specs.Directory.{read_chain_from}
-use Rattle.fax_files.specs.laws.Files.{HasOneChain, IsChainFrom}
+use Rattle.fax_files.specs.laws.TiffFiles.{HasOneChain, IsChainFrom}
 
 -- the chain goes on at an offset
 pub record GoesOn (endian : Endian) (file before : List ℕ) (due : ℕ) : Type 0 where

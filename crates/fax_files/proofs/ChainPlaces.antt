@@ -10,7 +10,7 @@ use Rattle.fax_files.specs.declared.FileFault.{FileFault}
 use Rattle.fax_files.specs.declared.FileFault.TheVariants.{DirectoryOutside, DirectoryLoop}
 use Rattle.fax_files.specs.declared.Endian.{Endian}
 use Rattle.fax_files.specs.Directory.{number_at, is_directory, next_offset}
-use Rattle.fax_files.specs.laws.Files.{IsChainFrom}
+use Rattle.fax_files.specs.laws.TiffFiles.{IsChainFrom}
 use Rattle.fax_files.specs.code.Chain.{link, onward}
 use Rattle.fax_files.proofs.ChainLaws.{IsApart, AreBelow, GoesOn, going_on, still_below, few}
 
@@ -91,7 +91,8 @@ module _ (endian : Endian) (file : List ℕ) where
   apart before due (q ∷ offsets) end is (suc i) (suc j) lower h =
       apart (due ∷ before) (next due) offsets end is.3 i j (omega arith) (omega arith)
 
-  -- the same after offsets that stood before: one that is met again is one of those or stands in the chain
+  -- the same after offsets that stood before: one that is met again is one of those or stands in
+  -- the chain
   abbrev EndsAfterPlaces : List ℕ → ℕ → ℕ → Option FileFault → Type 0
   EndsAfterPlaces before due n end =
       (((link endian file due n == 0) ≡ true) × (end ≡ None))

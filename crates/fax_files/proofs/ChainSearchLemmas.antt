@@ -1,5 +1,5 @@
 -- A search that goes along with a reader of a chain.
-use Rattle.std.proofs.Common.{◌≡◌, ◌≢◌, ℕ, zero, suc, ◌+◌, ◌-◌, ◌*◌, ◌/◌, ◌%◌, ◌<◌, ◌≤◌, inl, inr, true, false, List}
+use Rattle.std.proofs.Common.{◌≡◌, ◌≢◌, ℕ, zero, suc, ◌+◌, ◌-◌, ◌*◌, ◌/◌, ◌%◌, ◌<◌, ◌≤◌, inl, inr, true, false}
 use Rattle.std.proofs.Common.{length, Option, Some}
 use Rattle.std.proofs.Common.{None, sym, ap, ◌∙◌, arith}
 use Rattle.std.proofs.lemmas.Bool.Decides.{nat_tests}
@@ -22,7 +22,8 @@ module _ (tiff : TiffFile) where
       along_places tiff (j + p) j (i + m * p - j) (i + suc m * p) (i + m * p) (omega arith) (omega arith) back in
       one ∙ rounds j p i m back from
 
-  -- a chain that turns back has a place that is met again after as many steps, at its end at the latest
+  -- a chain that turns back has a place that is met again after as many steps, at its end at the
+  -- latest
   pub met : (chain_of tiff).end ≡ Some DirectoryLoop
       → (k : ℕ) × (0 < k) × (k ≤ length (chain_of tiff).offsets) × (place tiff k ≡ place tiff (k + k))
   met loop = elim (the_places tiff).ends [

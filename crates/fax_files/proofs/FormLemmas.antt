@@ -7,9 +7,9 @@ use Rattle.fax_files.specs.Directory.{Endian, Entry}
 use Rattle.fax_files.specs.Page.{form_in}
 use Rattle.fax_files.specs.code.Steps.{IsFormOf, IsGoodResolution, resolution_in}
 use Rattle.fax_files.specs.views.Page.{IsPageForm}
-use Rattle.fax_files.specs.laws.Files.{FormsAreWhole}
+use Rattle.fax_files.specs.laws.TiffFiles.{FormsAreWhole}
 use Rattle.fax_files.proofs.PageLemmas.{strip_begins_before}
-use Rattle.fax_files.proofs.StepLemmas.{form_of_fields, form_within}
+use Rattle.fax_files.proofs.PageFormLemmas.{form_of_fields, form_within}
 
 -- a form of good numbers
 pub within : (endian : Endian) (file : List ℕ) (fields : List Entry) (form : PageForm)

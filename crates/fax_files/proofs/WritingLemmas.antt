@@ -5,7 +5,7 @@ use Rattle.std.proofs.Common.{append_assoc, append-nil}
 use Rattle.std.proofs.lemmas.List.{length-append}
 use Rattle.std.specs.declared.alloc.Global.{Global}
 use Rattle.fax_files.specs.Layout.{four, array_bytes, offsets_from}
-use Rattle.fax_files.specs.code.Parts.{longs, lengths_of, joined_strips}
+use Rattle.fax_files.specs.code.PageParts.{longs, lengths_of, joined_strips}
 use Rattle.fax_files.specs.views.Writing.{contents}
 
 -- one more strip

@@ -7,14 +7,14 @@ use Rattle.std.specs.Prelude.{◌&&◌, flat_map, Option, Some, nat_lt, find, �
 use Rattle.fax_files.specs.Directory.{Entry, FileFault, is_inside, entries_at, field, scalar, values_place, value_at}
 use Rattle.fax_files.specs.Directory.{has_integers}
 use Rattle.fax_files.specs.code.Steps.{first_number, first_value, good_rational}
-use Rattle.fax_files.proofs.StepLemmas.{taken}
+use Rattle.fax_files.proofs.PageFormLemmas.{taken}
 use Rattle.fax_files.specs.code.Entries.{entry_at}
 use Rattle.fax_files.specs.declared.Endian.TheVariants.{Little}
 use Rattle.fax_files.specs.views.Page.{IsGoodRational}
 use Rattle.fax_files.specs.Page.{rational_of}
 use Rattle.fax_files.specs.Layout.{two, four, WrittenField, field_bytes}
-use Rattle.fax_files.specs.code.Parts.{long_field, short_field, rational_field, rational_bytes}
-use Rattle.fax_files.proofs.PlaceLemmas.{HasBytesAt, at_place, at_left, at_right, at_inside, number_there}
+use Rattle.fax_files.specs.code.PageParts.{long_field, short_field, rational_field, rational_bytes}
+use Rattle.fax_files.proofs.FilePlaceLemmas.{HasBytesAt, at_place, at_left, at_right, at_inside, number_there}
 use Rattle.fax_files.specs.declared.tags.TheConstants as Tags
 
 -- a field's numbers fit their bytes

@@ -11,19 +11,19 @@ use Rattle.std.specs.Prelude.{◌==◌, replicate, codes, bytes_eq, nat_le, if�
 use Rattle.fax_files.specs.declared.FileFault.TheVariants as file_fault
 use Rattle.fax_files.specs.Directory.{is_inside, number_at, is_directory, next_offset, Endian, Little, Big, FileFault}
 use Rattle.fax_files.specs.Directory.{Header, header}
-use Rattle.fax_files.specs.laws.Files.{IsChainFrom}
+use Rattle.fax_files.specs.laws.TiffFiles.{IsChainFrom}
 use Rattle.fax_files.proofs.ChainLaws.{has_one_chain}
 use Rattle.fax_files.specs.Layout.{to_link, two, four, offsets_from, directory_place, page_bytes, Written, with_page}
 use Rattle.fax_files.specs.Layout.{with_pages}
 use Rattle.fax_files.specs.Layout.{WrittenPage, file_of, array_bytes}
-use Rattle.fax_files.specs.code.Parts.{to_x, to_offsets, lengths_of, fields_bytes, values_bytes, joined_strips}
+use Rattle.fax_files.specs.code.PageParts.{to_x, to_offsets, lengths_of, fields_bytes, values_bytes, joined_strips}
 use Rattle.fax_files.specs.views.Writing.{empty_file}
-use Rattle.fax_files.specs.laws.Files.{IsWritable, AreWritable, IsReadAt, AppendedPagesAreRead, WrittenFilesAreRead}
-use Rattle.fax_files.proofs.PlaceLemmas.{HasBytesAt, at_place, at_left, at_right, at_inside, at_drop, at_start}
-use Rattle.fax_files.proofs.PlaceLemmas.{at_slice, length-slice}
-use Rattle.fax_files.proofs.PlaceLemmas.{slice_there, at_end, at_grown, at_patch, at_before_patch, at_after_patch}
-use Rattle.fax_files.proofs.PlaceLemmas.{length-patched}
-use Rattle.fax_files.proofs.PlaceLemmas.{number_there}
+use Rattle.fax_files.specs.laws.TiffFiles.{IsWritable, AreWritable, IsReadAt, AppendedPagesAreRead, WrittenFilesAreRead}
+use Rattle.fax_files.proofs.FilePlaceLemmas.{HasBytesAt, at_place, at_left, at_right, at_inside, at_drop, at_start}
+use Rattle.fax_files.proofs.FilePlaceLemmas.{at_slice, length-slice}
+use Rattle.fax_files.proofs.FilePlaceLemmas.{slice_there, at_end, at_grown, at_patch, at_before_patch, at_after_patch}
+use Rattle.fax_files.proofs.FilePlaceLemmas.{length-patched}
+use Rattle.fax_files.proofs.FilePlaceLemmas.{number_there}
 use Rattle.fax_files.proofs.WrittenStripLemmas.{length-offsets_from, length-lengths_of, length-longs}
 use Rattle.fax_files.proofs.WrittenPageLemmas.{page_fields, IsPageAt, length-page_fields, page_back, directory_whole}
 use Rattle.fax_files.proofs.WrittenPageLemmas.{next_there}

@@ -20,21 +20,22 @@ use Rattle.fax_files.specs.code.Steps.{resolution_in}
 use Rattle.fax_files.specs.Layout.{to_link, two, WrittenField, field_bytes, compression_of, options_field, offsets_from}
 use Rattle.fax_files.specs.Layout.{array_bytes}
 use Rattle.fax_files.specs.Layout.{WrittenPage}
-use Rattle.fax_files.specs.code.Parts.{field_count, to_x, to_y, to_offsets, long_field, short_field, lengths_of}
-use Rattle.fax_files.specs.code.Parts.{rational_bytes, fields_of}
-use Rattle.fax_files.specs.code.Parts.{fields_bytes, values_bytes, joined_strips}
-use Rattle.fax_files.specs.laws.Files.{IsWritable, IsReadAt}
-use Rattle.fax_files.proofs.PlaceLemmas.{HasBytesAt, at_place, at_left, at_right, at_inside, number_there}
+use Rattle.fax_files.specs.code.PageParts.{field_count, to_x, to_y, to_offsets, long_field, short_field, lengths_of}
+use Rattle.fax_files.specs.code.PageParts.{rational_bytes, fields_of}
+use Rattle.fax_files.specs.code.PageParts.{fields_bytes, values_bytes, joined_strips}
+use Rattle.fax_files.specs.laws.TiffFiles.{IsWritable, IsReadAt}
+use Rattle.fax_files.proofs.FilePlaceLemmas.{HasBytesAt, at_place, at_left, at_right, at_inside, number_there}
 use Rattle.fax_files.proofs.WrittenFieldLemmas.{AllFit, length-fields, read_fields, HasValues, written_field}
 use Rattle.fax_files.proofs.WrittenFieldLemmas.{entries_there}
 use Rattle.fax_files.proofs.WrittenFieldLemmas.{long_read, short_read, rational_back}
 use Rattle.fax_files.proofs.WrittenStripLemmas.{ArrayThere, array_back, array_checked, array_is_longs, length-longs}
 use Rattle.fax_files.proofs.WrittenStripLemmas.{length-offsets_from}
 use Rattle.fax_files.proofs.WrittenStripLemmas.{length-lengths_of, strip_there}
-use Rattle.fax_files.proofs.StepLemmas.{after_form, page_is, strip_is_placed}
+use Rattle.fax_files.proofs.PageFormLemmas.{after_form, page_is, strip_is_placed}
 use Rattle.fax_files.specs.declared.tags.TheConstants as Tags
 
--- the fields of page k of `total`, of which the strips begin at `start` and the directory stands at q
+-- the fields of page k of `total`, of which the strips begin at `start` and the directory stands at
+-- q
 abbrev pub page_fields : ℕ → ℕ → ℕ → ℕ → WrittenPage → List WrittenField
 page_fields q start total k written = fields_of q total k written.form (offsets_from start written.strips)
     (lengths_of written.strips)

@@ -4,7 +4,7 @@ use Rattle.fax_bits.specs.declared.Colour.{Colour}
 use Rattle.fax_files.specs.declared.Endian.TheVariants.{Little}
 use Rattle.fax_files.specs.declared.PageForm.{PageForm}
 use Rattle.fax_files.specs.Page.{strip_bytes}
-use Rattle.fax_files.specs.laws.Files.{AreStrips, HoldStripRows, WrittenRowsAreRead}
+use Rattle.fax_files.specs.laws.TiffFiles.{AreStrips, HoldStripRows, WrittenRowsAreRead}
 
 strips_from : (file : List ℕ) (q : ℕ) (form : PageForm) (s : ℕ) (strips : List (List ℕ))
     (lists : List (List (List Colour)))

@@ -9,8 +9,9 @@ use Rattle.fax_files.specs.Directory.{Entry, field, values_place, value_at, has_
 use Rattle.fax_files.specs.declared.Endian.TheVariants.{Little}
 use Rattle.fax_files.specs.code.Steps.{placed_bytes, strip_field}
 use Rattle.fax_files.specs.Layout.{four, WrittenField, offsets_from, one_or_place, array_bytes}
-use Rattle.fax_files.specs.code.Parts.{long_field, lengths_of, longs, joined_strips}
-use Rattle.fax_files.proofs.PlaceLemmas.{HasBytesAt, at_place, at_left, at_right, at_inside, number_there, bytes_there}
+use Rattle.fax_files.specs.code.PageParts.{long_field, lengths_of, longs, joined_strips}
+use Rattle.fax_files.proofs.FilePlaceLemmas.{HasBytesAt, at_place, at_left, at_right, at_inside, number_there}
+use Rattle.fax_files.proofs.FilePlaceLemmas.{bytes_there}
 use Rattle.fax_files.proofs.WrittenFieldLemmas.{read_fields, HasValues, written_field, field_there}
 use Rattle.fax_files.specs.declared.tags.TheConstants as Tags
 

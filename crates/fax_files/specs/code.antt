@@ -6,4 +6,4 @@ pub mod Writing
 pub mod Pbm
 pub mod Entries
 pub mod Steps
-pub mod Parts
+pub mod PageParts

@@ -100,21 +100,21 @@ impl Limits {
 
 /// How a field is refused whose number is not taken.
 #[derive(Clone, Copy)]
-pub(crate) enum Refusal {
+pub(crate) enum FieldRefusal {
     OutOfLimits,
     Unsupported,
     BadField,
 }
 
-impl Refusal {
+impl FieldRefusal {
     /// The fault of a tag.
     fn fault(self, tag: u16) -> FileFault
         ensures { result ≡ fault_of self tag }
     {
         match self {
-            Refusal::OutOfLimits => FileFault::OutOfLimits(tag),
-            Refusal::Unsupported => FileFault::Unsupported(tag),
-            Refusal::BadField => FileFault::BadField(tag),
+            FieldRefusal::OutOfLimits => FileFault::OutOfLimits(tag),
+            FieldRefusal::Unsupported => FileFault::Unsupported(tag),
+            FieldRefusal::BadField => FileFault::BadField(tag),
         }
     }
 }
@@ -202,7 +202,7 @@ impl<'d, 'a> Fields<'d, 'a> {
         tag: u16,
         absent: Option<u32>,
         limits: Limits,
-        refusal: Refusal,
+        refusal: FieldRefusal,
     ) -> Result<u32, FileFault>
         requires { IsTrue (is_sought tag) }
         ensures exact { result ≡ Spec.scalar self.now.endian self.now.file (entries_of self.now)

@@ -1,7 +1,7 @@
 //! Laws of files. The functions compute nothing: each has a law as its contract.
-ghost use Rattle.fax_files.specs.laws.Files as Laws;
+ghost use Rattle.fax_files.specs.laws.TiffFiles as Laws;
 ghost use Rattle.fax_files.specs.laws.Pbm as PbmLaws;
-ghost use Rattle.fax_files.specs.laws.Files.{WritesPageByPage};
+ghost use Rattle.fax_files.specs.laws.TiffFiles.{WritesPageByPage};
 
 /// Each file has one chain of directories, which has one end (TIFF 6.0, section 2). So that of a
 /// written file is that of its pages, and no other.

@@ -15,7 +15,7 @@ mod pbm;
 mod strips;
 mod tags;
 mod tiff;
-mod writer;
+mod tiff_writer;
 mod written;
 
 pub use chain::Chain;
@@ -26,7 +26,7 @@ pub use pbm::{PbmFault, PbmImage, PbmReader, put_pbm_head, put_pbm_row};
 pub use strips::Strips;
 use thiserror::Error;
 pub use tiff::Tiff;
-pub use writer::{PageBytes, TiffWriter, WriteFault, write_page};
+pub use tiff_writer::{PageBytes, TiffWriter, WriteFault, write_page};
 pub use written::MAX_FILE;
 
 /// Which byte of a number stands first in a file (TIFF 6.0, section 2).

@@ -15,7 +15,7 @@ ghost use Rattle.fax_files.specs.code.Fields.{is_sought};
 ghost use Rattle.fax_files.specs.views.Tiff.{form_of};
 
 use crate::entries::Entry;
-use crate::fields::{Fields, Limits, Refusal};
+use crate::fields::{FieldRefusal, Fields, Limits};
 use crate::strips::Strips;
 use crate::tags::{
     BITS_PER_SAMPLE, COMPRESSION, FILL_ORDER, IMAGE_LENGTH, IMAGE_WIDTH,
@@ -53,7 +53,7 @@ impl Model for Resolution {
 }
 
 /// The form of a page and the places of its strips, or its first fault.
-#[tactic(auto, using(crate::proofs::StepLemmas::page_is))]
+#[tactic(auto, using(crate::proofs::PageFormLemmas::page_is))]
 pub(crate) fn read_page<'a>(fields: &Fields<'_, 'a>) -> Result<(PageForm, Strips<'a>), FileFault>
     ensures form { IfOk result (λ page. form_of fields.now ≡ Ok page.0) }
     ensures fault { IfErr result (λ fault. form_of fields.now ≡ Err fault) }
@@ -76,7 +76,7 @@ fn read_form(fields: &Fields) -> Result<PageForm, FileFault>
     ensures limits { IfOk result IsPageForm }
 {
     use Limits::{AboveZero, Between};
-    use Refusal::{BadField, OutOfLimits, Unsupported};
+    use FieldRefusal::{BadField, OutOfLimits, Unsupported};
     let width = fields.scalar(IMAGE_WIDTH, None, Between(1, MAX_WIDTH), OutOfLimits)?;
     let rows = fields.scalar(IMAGE_LENGTH, None, Between(1, MAX_ROWS), OutOfLimits)?;
     fields.scalar(BITS_PER_SAMPLE, Some(1), Between(1, 1), Unsupported)?;
@@ -116,7 +116,7 @@ fn read_options(fields: &Fields, compression: u32) -> Result<u32, FileFault>
     if compression == COMPRESSION_T6 {
         return Ok(0);
     }
-    fields.scalar(T4_OPTIONS, Some(0), Limits::Any, Refusal::BadField)
+    fields.scalar(T4_OPTIONS, Some(0), Limits::Any, FieldRefusal::BadField)
 }
 
 /// How the rows are coded, by Compression and T4Options.
@@ -154,7 +154,7 @@ fn page_resolution(fields: &Fields) -> Resolution
     match (
         x,
         y,
-        fields.scalar(RESOLUTION_UNIT, Some(2), units, Refusal::Unsupported),
+        fields.scalar(RESOLUTION_UNIT, Some(2), units, FieldRefusal::Unsupported),
     ) {
         (Some(x), Some(y), Ok(unit)) => Resolution {
             x,

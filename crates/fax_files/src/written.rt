@@ -5,7 +5,7 @@ ghost use Rattle.std.specs.Prelude.{IfSome};
 ghost use Rattle.std.specs.Option.{IfNone};
 ghost use Rattle.fax_files.specs.Page.{fill_order_of};
 ghost use Rattle.fax_files.specs.Layout as Spec;
-ghost use Rattle.fax_files.specs.code.Parts as Parts;
+ghost use Rattle.fax_files.specs.code.PageParts as Parts;
 ghost use Rattle.fax_files.specs.Directory.{max_file};
 ghost use Rattle.fax_files.specs.code.Writing.{IsLayout, laid_out_fields, tail_bytes};
 ghost use Rattle.fax_files.specs.views.Writing.{contents};

@@ -11,7 +11,7 @@ use Rattle.fax_page.specs.declared.StripFault.{StripFault}
 use Rattle.fax_page.specs.Lines.{NextOne, ends_line, in_code, next_one, not_there}
 use Rattle.fax_page.specs.Strip.{AreReturnEols, HasEndMark, IsEndMark, IsReturnEol, end_bits, end_of_line}
 use Rattle.fax_page.specs.Uncounted.{EndsSo, HasDataEnd}
-use Rattle.fax_page.specs.laws.Graphs.{EndsAreToldByAFunction}
+use Rattle.fax_page.specs.laws.StripGraphs.{EndsAreToldByAFunction}
 use Rattle.fax_page.specs.reads.Uncounted.{ends, after_mark, after_return, after_returns, has_data_end, has_end_mark}
 use Rattle.fax_page.specs.reads.Uncounted.{end_by_stop, rows_end}
 use Rattle.fax_rows.proofs.CodeGraph.{front_is}

@@ -11,7 +11,7 @@ use Rattle.fax_bits.specs.laws.Codes.{ReadsOneWay, ReadsRunsOneWay}
 use Rattle.fax_bits.specs.declared.Colour.{Colour}
 use Rattle.fax_rows.specs.declared.RowFault.{RowFault}
 use Rattle.fax_rows.specs.declared.RowFault.TheVariants as in_row
-use Rattle.fax_rows.specs.reads.Codes.{◌>>=◌, after_front, named}
+use Rattle.fax_rows.specs.reads.CodeReading.{◌>>=◌, after_front, map_fault}
 use Rattle.fax_page.specs.declared.Dimension.{Dimension}
 use Rattle.fax_page.specs.declared.Dimension.TheVariants.{OneDimensional, TwoDimensional}
 use Rattle.fax_page.specs.declared.Coding.{Coding}
@@ -21,9 +21,9 @@ use Rattle.fax_page.specs.declared.StripFault.TheVariants.{DataEnds, EndMarker}
 use Rattle.fax_page.specs.Lines.{IsLine, strip_fault}
 use Rattle.fax_page.specs.Strip.{AreLines}
 use Rattle.fax_page.specs.laws.Following.{ReadsInPieces, StaysWhateverFollows}
-use Rattle.fax_page.specs.laws.Graphs.{StripsAreReadByFunctions}
+use Rattle.fax_page.specs.laws.StripGraphs.{StripsAreReadByFunctions}
 use Rattle.fax_page.specs.laws.Writer.{last_of}
-use Rattle.fax_page.specs.reads.Lines.{check_first, first_bits, read_line, read_row}
+use Rattle.fax_page.specs.reads.Lines.{check_first, first_bits, read_line, read_row_codes}
 use Rattle.fax_rows.proofs.CodeGraph.{front_is}
 use Rattle.fax_page.proofs.LineGraph.{begins_of, marker_of}
 use Rattle.fax_page.proofs.StartLaws.{eol_is}
@@ -81,32 +81,34 @@ module _ (more : List Bool) where
 
   named_front : (b : List Bool) (r now : Result (List Colour × List Bool) RowFault)
       → IsFront in_row.DataEnds more b r now
-      → IsFront DataEnds more b (named strip_fault r) (named strip_fault now)
-  named_front b (Ok x) now front = record { is = (front.is.0, ap (named strip_fault) front.is.1) }
+      → IsFront DataEnds more b (map_fault strip_fault r) (map_fault strip_fault now)
+  named_front b (Ok x) now front = record { is = (front.is.0, ap (map_fault strip_fault) front.is.1) }
   named_front b (Err fault) now front =
-      record { is = λ other. ap (named strip_fault) (front.is (λ same. other (ap strip_fault same))) }
+      record { is = λ other. ap (map_fault strip_fault) (front.is (λ same. other (ap strip_fault same))) }
 
   module _ (runs_read : (colour : Colour) → ReadsRunsOneWay colour) (modes_read : ReadsOneWay modes) where
     row_front : (dimension : Dimension) (width : ℕ) (reference : List Colour) (b : List Bool)
-        → IsFront in_row.DataEnds more b (read_row dimension width reference b)
-        (read_row dimension width reference (b ++ more))
+        → IsFront in_row.DataEnds more b (read_row_codes dimension width reference b)
+        (read_row_codes dimension width reference (b ++ more))
     row_front OneDimensional width reference b = one_front runs_read modes_read more width b
     row_front TwoDimensional width reference b = two_front runs_read modes_read more reference b
 
     codes_front : (dimension : Dimension) (width : ℕ) (reference : List Colour) (b : List Bool)
-        → IsFront DataEnds more b (check_first b >>= λ _. named strip_fault (read_row dimension width reference b))
-        (check_first (b ++ more) >>= λ _. named strip_fault (read_row dimension width reference (b ++ more)))
+        → IsFront DataEnds more b
+        (check_first b >>= λ _. map_fault strip_fault (read_row_codes dimension width reference b))
+        (check_first (b ++ more) >>= λ _. map_fault strip_fault (read_row_codes dimension width reference (b ++ more)))
     codes_front dimension width reference b =
         by (after_front (replicate 11 false) b) (next_one 0 b) (front_is (replicate 11 false) b) refl
       where
         by : (r : Option (List Bool)) (one : NextOne)
             → MatchOption r (BeginsWith b (replicate 11 false) → ⊥) (λ rest. b ≡ replicate 11 false ++ rest)
             → next_one 0 b ≡ one → IsFront DataEnds more b
-            (first_bits r one >>= λ _. named strip_fault (read_row dimension width reference b))
-            (check_first (b ++ more) >>= λ _. named strip_fault (read_row dimension width reference (b ++ more)))
+            (first_bits r one >>= λ _. map_fault strip_fault (read_row_codes dimension width reference b))
+            (check_first (b ++ more) >>= λ _. map_fault strip_fault
+            (read_row_codes dimension width reference (b ++ more)))
         by (Some after) one is at =
-            stops b EndMarker _ (ap (λ checked. checked >>= λ _. named strip_fault
-            (read_row dimension width reference (b ++ more))) (marker_of (b ++ more) (after ++ more)
+            stops b EndMarker _ (ap (λ checked. checked >>= λ _. map_fault strip_fault
+            (read_row_codes dimension width reference (b ++ more))) (marker_of (b ++ more) (after ++ more)
             (ap (λ c. c ++ more) is ∙ append_assoc (replicate 11 false) after more)))
         by None not_there none at = at_end b _
         by None in_code none at =

@@ -1,4 +1,5 @@
--- What a function reads of bits stands at their front: a rest follows it, and it stays, whatever follows.
+-- What a function reads of bits stands at their front: a rest follows it, and it stays, whatever
+-- follows.
 use Rattle.std.proofs.Common.{arith, ◌≡◌, ◌≢◌, ℕ, zero, suc, ◌+◌, ◌-◌}
 use Rattle.std.proofs.Common.{◌≤◌, List, [], ◌∷◌, ◌++◌, length, drop, replicate}
 use Rattle.std.proofs.Common.{Bool, true, false, refl, ap, sym, ◌∙◌, append_assoc, length-append, Result, Ok, Err}
@@ -10,10 +11,10 @@ use Rattle.fax_bits.specs.declared.codes.CodeFault.{CodeFault}
 use Rattle.fax_bits.specs.declared.codes.CodeFault.TheVariants as code_fault
 use Rattle.fax_bits.specs.declared.Colour.{Colour}
 use Rattle.fax_bits.specs.declared.Colour.TheVariants.{White}
-use Rattle.fax_bits.specs.declared.modes.ModeCode.{ModeCode}
-use Rattle.fax_bits.specs.declared.modes.ModeCode.TheVariants as mode
-use Rattle.fax_bits.specs.declared.runs.RunCode.{RunCode}
-use Rattle.fax_bits.specs.declared.runs.RunCode.TheVariants as run
+use Rattle.fax_bits.specs.declared.mode_codes.ModeCode.{ModeCode}
+use Rattle.fax_bits.specs.declared.mode_codes.ModeCode.TheVariants as mode
+use Rattle.fax_bits.specs.declared.run_codes.RunCode.{RunCode}
+use Rattle.fax_bits.specs.declared.run_codes.RunCode.TheVariants as run
 use Rattle.fax_bits.specs.Codes.{bits_of, IsFaultOf, Takes}
 use Rattle.fax_bits.specs.Tables.{run_table, modes}
 use Rattle.fax_bits.specs.laws.Codes.{ReadsOneWay, ReadsRunsOneWay}
@@ -21,9 +22,9 @@ use Rattle.fax_rows.specs.declared.RowFault.TheVariants.{DataEnds, Extension}
 use Rattle.fax_rows.specs.Faults.{row_fault}
 use Rattle.fax_rows.specs.Rows.{Position, beginning, first_pel, other}
 use Rattle.fax_rows.specs.laws.Graphs.{IsGraph}
-use Rattle.fax_rows.specs.reads.Codes.{◌>>=◌, after_front, is_cut, named, read_code}
+use Rattle.fax_rows.specs.reads.CodeReading.{◌>>=◌, after_front, is_cut_code, map_fault, read_code}
 use Rattle.fax_rows.specs.reads.Rows.{by_mode, by_run_code, is_ended, read_one_dimensional, read_run, read_runs}
-use Rattle.fax_rows.specs.reads.Rows.{read_steps, read_two_dimensional, row_code, vertical, within}
+use Rattle.fax_rows.specs.reads.Rows.{read_steps, read_two_dimensional, row_code, vertical_step, within}
 use Rattle.fax_rows.proofs.CodeGraph.{code_is}
 use Rattle.fax_rows.proofs.RunGraph.{row_code_of}
 
@@ -41,8 +42,8 @@ onwards b middle rest first second = record {
   parts = first.parts ∙ ap (λ c. first.front ++ c) second.parts ∙ sym (append_assoc first.front second.front rest);
 }
 
--- what is read of bits, and what is read of them where more follow: the same answer, of which the rest is the end of
--- the bits, or the same fault, unless it is that the data end
+-- what is read of bits, and what is read of them where more follow: the same answer, of which the
+-- rest is the end of the bits, or the same fault, unless it is that the data end
 pub record IsFront {A F : Type 0} (ends : F) (more b : List Bool) (r now : Result (A × List Bool) F) : Type 0 where
   pub is : MatchResult r (λ x. EndsWith b x.1 × (now ≡ Ok (x.0, x.1 ++ more))) (λ fault. fault ≢ ends → now ≡ Err fault)
 
@@ -119,8 +120,8 @@ module _ {A F : Type 0} {IsAnswer : List Bool → A → List Bool → Type 0} {I
       (MatchResult-at_err _ _ fault ((is.fault b fault).0 stop) (fronts more b).is other)
 
 -- bits that are no code, nor a front of one
-no_front : (more code b : List Bool) → after_front code b ≡ None → is_cut code b ≡ false
-    → (after_front code (b ++ more) ≡ None) × (is_cut code (b ++ more) ≡ false)
+no_front : (more code b : List Bool) → after_front code b ≡ None → is_cut_code code b ≡ false
+    → (after_front code (b ++ more) ≡ None) × (is_cut_code code (b ++ more) ≡ false)
 no_front more [] b none whole = absurd (cc none)
 no_front more (bit ∷ code) [] none whole = absurd (cc whole)
 no_front more (true ∷ code) (true ∷ b) none whole = no_front more code b none whole
@@ -141,7 +142,7 @@ code_front {M} more table b reads = by (read_code table b) refl (code_is b table
   where
     by : (r : Result (M × List Bool) CodeFault) → read_code table b ≡ r
         → MatchResult r (λ code. Takes table b code.0 code.1) (IsFaultOf table b)
-        → IsFront DataEnds more b (named row_fault r) (row_code table (b ++ more))
+        → IsFront DataEnds more b (map_fault row_fault r) (row_code table (b ++ more))
     by (Ok (meaning, rest)) at taken =
         let now : Takes table (b ++ more) meaning (rest ++ more) = record {
           entry = taken.entry;
@@ -156,7 +157,7 @@ code_front {M} more table b reads = by (read_code table b) refl (code_is b table
           );
         }
     by (Err code_fault.DataEnds) at none = at_end b _
-    by (Err code_fault.BadCode) at none = stops b _ _ (ap (named row_fault) (no_code more table b at))
+    by (Err code_fault.BadCode) at none = stops b _ _ (ap (map_fault row_fault) (no_code more table b at))
 
 module _ (runs_read : (colour : Colour) → ReadsRunsOneWay colour) (modes_read : ReadsOneWay modes) (more : List Bool)
   where
@@ -202,7 +203,7 @@ module _ (runs_read : (colour : Colour) → ReadsRunsOneWay colour) (modes_read 
     mode_front : (reference : List Colour) (at : Position) (code : ModeCode) (b : List Bool)
         → IsFront DataEnds more b (by_mode reference at (code, b)) (by_mode reference at (code, b ++ more))
     mode_front reference at mode.Pass b = done _ b
-    mode_front reference at (mode.Vertical d) b = by_place b (vertical reference at _) _ _ (λ new. done new b)
+    mode_front reference at (mode.Vertical d) b = by_place b (vertical_step reference at _) _ _ (λ new. done new b)
     mode_front reference at mode.Horizontal b =
         joined b _ _ _ _ (whole_run at.colour (length reference) (first_pel at) b) (λ a1 rest.
         joined rest _ _ _ _ (whole_run (other at.colour) (length reference) a1 rest) (λ a2 left. done _ left))

@@ -18,7 +18,7 @@ use Rattle.fax_page.specs.reads.Salvage.{lacks_eol, read_over}
 use Rattle.fax_page.specs.reads.Uncounted.{rows_end}
 use Rattle.fax_page.specs.reads.Salvage.{RowsAndEnd, before_rows, end_or_row, salvage_uncounted}
 use Rattle.fax_page.specs.reads.Salvage.{uncounted_after_lost, uncounted_from_eol, uncounted_row}
-use Rattle.fax_page.specs.laws.Graphs.{StripsAreReadByFunctions}
+use Rattle.fax_page.specs.laws.StripGraphs.{StripsAreReadByFunctions}
 use Rattle.fax_page.proofs.EndGraph.{end_is, end_of}
 use Rattle.fax_page.proofs.SalvageGraph.{Line, lacks, lacks_where, lost_of, over_is, over_of}
 

@@ -11,7 +11,7 @@ use Rattle.fax_page.specs.Salvage.{SalvagedRow, found, lost, next_due, unended}
 use Rattle.fax_page.specs.LeftUncounted.{AreLeftUncounted, GoesOnUncounted, IsLeftUncounted}
 use Rattle.fax_page.specs.laws.LeftUncounted.{AreUncountedOneWay}
 use Rattle.fax_page.specs.laws.Salvage.{SalvagesStripsOneWay}
-use Rattle.fax_page.specs.laws.Graphs.{DamagedStripsAreReadByFunctions, StripsAreReadByFunctions}
+use Rattle.fax_page.specs.laws.StripGraphs.{DamagedStripsAreReadByFunctions, StripsAreReadByFunctions}
 use Rattle.fax_page.specs.reads.Salvage.{RowsAndEnd, salvage_uncounted}
 use Rattle.fax_page.proofs.LeftUncountedGraph.{left_are, left_of}
 use Rattle.fax_page.proofs.SalvageGraph.{rows_are, rows_of}

@@ -5,8 +5,8 @@ use Rattle.std.specs.Prelude.{◌⊎◌, ◌≢◌, MatchOption}
 use Rattle.std.proofs.lemmas.Bool.{cases_lt}
 use Rattle.std.proofs.lemmas.List.{length_push}
 use Rattle.fax_page.specs.declared.StripFault.TheVariants.{MissingEol}
-use Rattle.fax_page.specs.declared.salvage.Salvaged.{Salvaged}
-use Rattle.fax_page.specs.declared.salvage.Salvaged.TheVariants.{Found, Lost, Unended}
+use Rattle.fax_page.specs.declared.salvage_reader.Salvaged.{Salvaged}
+use Rattle.fax_page.specs.declared.salvage_reader.Salvaged.TheVariants.{Found, Lost, Unended}
 use Rattle.fax_page.specs.Lines.{StripFault, StripForm, white_row}
 use Rattle.fax_page.specs.Strip.{most_rows}
 use Rattle.fax_page.specs.Uncounted.{EndsSo, Fault, RowsEnd, TooMany}

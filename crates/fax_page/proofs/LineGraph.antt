@@ -20,8 +20,8 @@ use Rattle.fax_page.specs.declared.StripForm.{StripForm}
 use Rattle.fax_page.specs.Lines.{IsRowIn, IsRowFaultIn, IsStopInCodes}
 use Rattle.fax_page.specs.Lines.{strip_fault, IsLine, IsCause, NextOne}
 use Rattle.fax_page.specs.Lines.{ends_line, in_code, next_one, not_there, read_start}
-use Rattle.fax_rows.specs.reads.Codes.{◌>>=◌, after_front, named}
-use Rattle.fax_page.specs.reads.Lines.{check_first, first_bits, read_row, read_line}
+use Rattle.fax_rows.specs.reads.CodeReading.{◌>>=◌, after_front, map_fault}
+use Rattle.fax_page.specs.reads.Lines.{check_first, first_bits, read_row_codes, read_line}
 use Rattle.fax_rows.specs.laws.Graphs.{RowsAreReadByFunctions}
 use Rattle.fax_rows.proofs.CodeGraph.{front_is}
 use Rattle.fax_rows.proofs.RunGraph.{bound, goes, stop}
@@ -86,19 +86,19 @@ short_of b n short is =
 
 module _ (rows : RowsAreReadByFunctions) where
   codes_are : (dimension : Dimension) (width : ℕ) (reference : List Colour) (b : List Bool)
-      → MatchResult (read_row dimension width reference b) (λ row. IsRowIn dimension width reference b row.0 row.1)
-      (IsRowFaultIn dimension width reference b)
+      → MatchResult (read_row_codes dimension width reference b)
+      (λ row. IsRowIn dimension width reference b row.0 row.1) (IsRowFaultIn dimension width reference b)
   codes_are OneDimensional width reference b = read_is (rows.one width) b
   codes_are TwoDimensional width reference b = read_is (rows.two reference) b
 
   codes_of : (dimension : Dimension) (width : ℕ) (reference : List Colour) (b : List Bool) (row : List Colour)
       (rest : List Bool)
-      → IsRowIn dimension width reference b row rest → read_row dimension width reference b ≡ Ok (row, rest)
+      → IsRowIn dimension width reference b row rest → read_row_codes dimension width reference b ≡ Ok (row, rest)
   codes_of OneDimensional width reference b row rest is = ((rows.one width).answer b row rest).0 is
   codes_of TwoDimensional width reference b row rest is = ((rows.two reference).answer b row rest).0 is
 
   codes_fault_of : (dimension : Dimension) (width : ℕ) (reference : List Colour) (b : List Bool) (fault : RowFault)
-      → IsRowFaultIn dimension width reference b fault → read_row dimension width reference b ≡ Err fault
+      → IsRowFaultIn dimension width reference b fault → read_row_codes dimension width reference b ≡ Err fault
   codes_fault_of OneDimensional width reference b fault is = ((rows.one width).fault b fault).0 is
   codes_fault_of TwoDimensional width reference b fault is = ((rows.two reference).fault b fault).0 is
 
@@ -112,7 +112,8 @@ module _ (rows : RowsAreReadByFunctions) where
       (r : Result (List Colour × List Bool) RowFault) → IsStart form.coding i b (Ok start) → BeginsBelowEleven start.1
       → MatchResult r (λ row. IsRowIn start.0 form.width reference start.1 row.0 row.1)
       (IsRowFaultIn start.0 form.width reference start.1)
-      → MatchResult (named strip_fault r) (λ line. IsLine form i reference b line.0 line.1) (IsCause form i reference b)
+      → MatchResult (map_fault strip_fault r) (λ line. IsLine form i reference b line.0 line.1)
+      (IsCause form i reference b)
   named_is form i reference b start (Ok row) begun first is =
       record { dimension = start.0; codes = start.1; start = begun; first_code = first; coded = is }
   named_is form i reference b start (Err fault) begun first is =
@@ -124,13 +125,13 @@ module _ (rows : RowsAreReadByFunctions) where
       (IsCause form i reference b)
   line_is form i reference b =
       bound (λ line. IsLine form i reference b line.0 line.1) (IsCause form i reference b) (read_start form.coding i b)
-      (λ start. check_first start.1 >>= λ _. named strip_fault (read_row start.0 form.width reference start.1))
+      (λ start. check_first start.1 >>= λ _. map_fault strip_fault
+      (read_row_codes start.0 form.width reference start.1))
       (start_read form.coding i b (read_start form.coding i b) refl)
       (λ start begun. bound (λ line. IsLine form i reference b line.0 line.1) (IsCause form i reference b)
-      (check_first start.1)
-      (λ _. named strip_fault (read_row start.0 form.width reference start.1))
+      (check_first start.1) (λ _. map_fault strip_fault (read_row_codes start.0 form.width reference start.1))
       (first_is start.0 form.width reference start.1)
-      (λ _ first. named_is form i reference b start (read_row start.0 form.width reference start.1) begun first
+      (λ _ first. named_is form i reference b start (read_row_codes start.0 form.width reference start.1) begun first
       (codes_are start.0 form.width reference start.1))
       (λ fault stops. inr (start.0, start.1, begun, stops)))
       (λ fault stops. inl stops)
@@ -142,18 +143,18 @@ module _ (rows : RowsAreReadByFunctions) where
   line_of form i reference b row rest line =
       goes _ line.start
       (goes _ (begins_of line.codes line.first_code)
-      (ap (named strip_fault) (codes_of line.dimension form.width reference line.codes row rest line.coded)))
+      (ap (map_fault strip_fault) (codes_of line.dimension form.width reference line.codes row rest line.coded)))
 
   stop_of : (dimension : Dimension) (width : ℕ) (reference : List Colour) (b : List Bool) (fault : StripFault)
       → IsStopInCodes dimension width reference b fault
-      → (check_first b >>= λ _. named strip_fault (read_row dimension width reference b)) ≡ Err fault
+      → (check_first b >>= λ _. map_fault strip_fault (read_row_codes dimension width reference b)) ≡ Err fault
   stop_of dimension width reference b fault (inl marker) =
       stop _ (marker_of b marker.0 marker.1 ∙ ap (λ f. Err f) (sym marker.2))
   stop_of dimension width reference b fault (inr (inl short)) =
       stop _ (short_of b short.0 short.1 short.2 ∙ ap (λ f. Err f) (sym short.3))
   stop_of dimension width reference b fault (inr (inr (first, cause, at, is))) =
       goes _ (begins_of b first)
-      (ap (named strip_fault) (codes_fault_of dimension width reference b cause at) ∙ ap (λ f. Err f) (sym is))
+      (ap (map_fault strip_fault) (codes_fault_of dimension width reference b cause at) ∙ ap (λ f. Err f) (sym is))
 
   pub cause_of : (form : StripForm) (i : ℕ) (reference : List Colour) (b : List Bool) (fault : StripFault)
       → IsCause form i reference b fault → read_line form i reference b ≡ Err fault

@@ -8,7 +8,7 @@ use Rattle.fax_rows.proofs.RowLaws.{one_way}
 use Rattle.fax_page.specs.declared.Dimension.{Dimension}
 use Rattle.fax_page.specs.declared.StripForm.{StripForm}
 use Rattle.fax_page.specs.Lines.{IsRowIn}
-use Rattle.fax_page.specs.laws.Graphs.{StripsAreReadByFunctions}
+use Rattle.fax_page.specs.laws.StripGraphs.{StripsAreReadByFunctions}
 use Rattle.fax_page.specs.laws.Strips.{ReadsLinesOneWay}
 use Rattle.fax_page.proofs.FollowingLaws.{line_ends}
 use Rattle.fax_page.proofs.RestLemmas.{rest_among}

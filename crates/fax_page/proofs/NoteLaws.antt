@@ -9,7 +9,7 @@ use Rattle.fax_page.specs.declared.StripForm.{StripForm}
 use Rattle.fax_page.specs.declared.notes.StripNotes.{StripNotes}
 use Rattle.fax_page.specs.Lines.{white_row}
 use Rattle.fax_page.specs.Strip.{AreReturnEols, HasEndMark, HasOtherChoice, IsEndMark, IsNotedAs, end_bits}
-use Rattle.fax_page.specs.laws.Graphs.{StripsAreReadByFunctions}
+use Rattle.fax_page.specs.laws.StripGraphs.{StripsAreReadByFunctions}
 use Rattle.fax_page.specs.laws.Strips.{StripsAreNotedInOneWay}
 use Rattle.fax_page.proofs.EndLemmas.{same_return_eol}
 use Rattle.fax_page.proofs.StripLaws.{one_strip}

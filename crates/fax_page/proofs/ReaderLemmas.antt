@@ -5,7 +5,7 @@ use Rattle.fax_page.specs.declared.StripFault.{StripFault}
 use Rattle.fax_page.specs.Strip.{AreLines}
 use Rattle.fax_page.proofs.StripLaws.{EndsAt, no_rows}
 use Rattle.fax_page.specs.views.Reader.{StripState, bits_left, strip_after, ReadsRow, IsAtEnd, MeetsFault, IsAdvance}
-use Rattle.fax_page.specs.laws.Reader.{HasReadFrom, ReadsRowByRow, ReadsOn}
+use Rattle.fax_page.specs.laws.Reader.{HasReadFrom, ReadsRowByRow, StripsAreReadOn}
 
 begins_on : (start : StripState) → HasReadFrom start [] start
 begins_on start = record { same_form = refl; same_bytes = refl; followed = λ more end left lines. lines }
@@ -62,7 +62,7 @@ read_row_by_row = record {
 }
 
 -- from any place on
-pub read_on : ReadsOn
+pub read_on : StripsAreReadOn
 read_on = record {
   begins = begins_on;
   goes_on = row_read_on;

@@ -1,4 +1,5 @@
--- The rows that are read before a fault are found, all but the last where an EOL is missing after it.
+-- The rows that are read before a fault are found, all but the last where an EOL is missing after
+-- it.
 use Rattle.fax_page.specs.code.Starts.{BeginsBelowEleven}
 use Rattle.fax_page.proofs.StartLaws.{IsStart}
 use Rattle.std.proofs.Common.{arith, ◌≡◌, ℕ, ◌+◌, ◌-◌, List, [], ◌∷◌, ◌++◌, map, Bool, Some, None, refl}

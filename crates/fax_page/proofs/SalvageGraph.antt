@@ -23,7 +23,7 @@ use Rattle.fax_page.specs.Salvage.{sought_from, SalvagedRow, found, lost, next_d
 use Rattle.fax_page.specs.reads.Lines.{read_line}
 use Rattle.fax_page.specs.reads.Salvage.{after_lost, is_in_code, cause_over, from_eol, has_eols, lacks_eol}
 use Rattle.fax_page.specs.reads.Salvage.{read_over, row_and_more, salvage_rows, unless}
-use Rattle.fax_page.specs.laws.Graphs.{StripsAreReadByFunctions}
+use Rattle.fax_page.specs.laws.StripGraphs.{StripsAreReadByFunctions}
 
 abbrev pub Start : Type 0
 Start = Result (Dimension × List Bool) StripFault

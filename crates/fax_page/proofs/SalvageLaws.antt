@@ -1,4 +1,5 @@
--- What is left of a strip is found and lost in one way, and a strip that is read wholly loses nothing.
+-- What is left of a strip is found and lost in one way, and a strip that is read wholly loses
+-- nothing.
 use Rattle.fax_page.specs.code.Starts.{BeginsBelowEleven}
 use Rattle.fax_page.proofs.StartLaws.{IsStart}
 use Rattle.std.proofs.Common.{◌≡◌, ℕ, ◌+◌, ◌-◌, ◌<◌, List, [], ◌∷◌, length, map, replicate, Bool, Err, Ok, suc}
@@ -13,7 +14,7 @@ use Rattle.fax_page.specs.Salvage.{AreSalvaged, GoesOnAfter, IsEolDue}
 use Rattle.fax_page.specs.Salvage.{SalvagedRow, found, lost, next_due, unended}
 use Rattle.fax_page.specs.Strip.{AreLines}
 use Rattle.fax_page.specs.laws.Salvage.{FindsWholeStrips, SalvagesStripsOneWay}
-use Rattle.fax_page.specs.laws.Graphs.{StripsAreReadByFunctions}
+use Rattle.fax_page.specs.laws.StripGraphs.{StripsAreReadByFunctions}
 use Rattle.fax_page.specs.reads.Salvage.{salvage_rows}
 use Rattle.fax_page.proofs.BegunLemmas.{one_start}
 use Rattle.fax_page.proofs.SalvageGraph.{rows_are, rows_of}

@@ -9,7 +9,7 @@ use Rattle.std.specs.Prelude.{◌⊎◌, option_map, MatchOption}
 use Rattle.std.proofs.lemmas.Bool.{cases_lt}
 use Rattle.std.proofs.lemmas.Bool.Decides.{nat_tests}
 use Rattle.fax_bits.specs.declared.Colour.{Colour}
-use Rattle.fax_page.specs.declared.salvage.Salvaged.TheVariants.{Found, Lost, Unended}
+use Rattle.fax_page.specs.declared.salvage_reader.Salvaged.TheVariants.{Found, Lost, Unended}
 use Rattle.fax_page.specs.Lines.{Coding, Dimension, Mh, Mr, Mmr, StripFault, StripForm, read_start, white_row}
 use Rattle.fax_page.specs.Strip.{end_of_line}
 use Rattle.fax_page.specs.Salvage.{after_eol, next_due, sought_from}

@@ -8,7 +8,7 @@ use Rattle.fax_rows.proofs.RowLaws.{graph}
 use Rattle.fax_page.specs.declared.StripFault.{StripFault}
 use Rattle.fax_page.specs.declared.StripForm.{StripForm}
 use Rattle.fax_page.specs.Lines.{IsCause, IsLine, white_row}
-use Rattle.fax_page.specs.laws.Graphs.{StripsAreReadByFunctions}
+use Rattle.fax_page.specs.laws.StripGraphs.{StripsAreReadByFunctions}
 use Rattle.fax_page.specs.Strip.{AreLines}
 use Rattle.fax_page.specs.reads.Lines.{StripRead, read_line, read_lines}
 use Rattle.fax_page.proofs.LineGraph.{line_is, line_of, cause_of}

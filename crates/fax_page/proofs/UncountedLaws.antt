@@ -15,7 +15,7 @@ use Rattle.fax_page.specs.Lines.{Coding, Mh, Mr, Mmr, StripFault, StripForm, IsC
 use Rattle.fax_page.specs.Strip.{AreLines, end_bits, end_of_line, most_rows}
 use Rattle.fax_page.specs.Uncounted.{EndsSo, IsUncounted}
 use Rattle.fax_page.specs.Uncounted.{uncounted}
-use Rattle.fax_page.specs.laws.Graphs.{EndsAreToldByAFunction, StripsAreReadByFunctions}
+use Rattle.fax_page.specs.laws.StripGraphs.{EndsAreToldByAFunction, StripsAreReadByFunctions}
 use Rattle.fax_page.specs.reads.Lines.{StripRead, read_strip}
 use Rattle.fax_page.specs.reads.Uncounted.{rows_end}
 use Rattle.fax_page.specs.laws.Uncounted.{ReadsUncountedOneWay, UncountedRowsAreAStrip, written_end}

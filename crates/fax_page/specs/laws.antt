@@ -5,4 +5,4 @@ pub mod Uncounted
 pub mod Following
 pub mod Salvage
 pub mod LeftUncounted
-pub mod Graphs
+pub mod StripGraphs

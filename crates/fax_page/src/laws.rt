@@ -4,9 +4,9 @@ ghost use Rattle.fax_bits.specs.declared.Colour.{Colour};
 ghost use Rattle.fax_page.specs.declared.StripForm.{StripForm};
 ghost use Rattle.fax_page.specs.laws.Strips as Law;
 ghost use Rattle.fax_page.specs.laws.Following as Following;
-ghost use Rattle.fax_page.specs.laws.Graphs as Graphs;
+ghost use Rattle.fax_page.specs.laws.StripGraphs as Graphs;
 ghost use Rattle.fax_page.specs.laws.LeftUncounted.{LeavesUncounted};
-ghost use Rattle.fax_page.specs.laws.Reader.{ReadsRowByRow, ReadsOn};
+ghost use Rattle.fax_page.specs.laws.Reader.{ReadsRowByRow, StripsAreReadOn};
 ghost use Rattle.fax_page.specs.laws.Salvage as Salvage;
 ghost use Rattle.fax_page.specs.laws.Uncounted as Uncounted;
 ghost use Rattle.fax_page.specs.laws.Writer.{WritesRowByRow};
@@ -93,7 +93,7 @@ pub fn strips_are_read_row_by_row()
 /// `StripReader::advance` reads from there are the lines of the strip from that row on, up to their
 /// end, and a fault leaves the reader where it was before that call.
 pub fn strips_are_read_on()
-    ensures { ReadsOn }
+    ensures { StripsAreReadOn }
 {}
 
 /// A strip is written row by row: where `StripWriter::put_row` puts rows one after another, the
@@ -137,8 +137,8 @@ pub fn rows_stay_whatever_follows()
     fax_bits::laws::codes_are_read_in_one_way::<fax_bits::Modes>();
 }
 
-/// A strip is read in pieces: the rows of its first bits, and then those of what is left of them and
-/// of the bits that follow, are the rows of all of them.
+/// A strip is read in pieces: the rows of its first bits, and then those of what is left of them
+/// and of the bits that follow, are the rows of all of them.
 pub fn strips_are_read_in_pieces()
     ensures { Following.ReadsInPieces }
 {
@@ -170,8 +170,8 @@ pub fn rows_before_a_fault_are_found()
     strips_are_salvaged_in_one_way();
 }
 
-/// In MH and MR the row after a lost one is due at the next EOL, whatever bits that hold no EOL stand
-/// before it: so what is found after a lost row is the same whatever its bits were.
+/// In MH and MR the row after a lost one is due at the next EOL, whatever bits that hold no EOL
+/// stand before it: so what is found after a lost row is the same whatever its bits were.
 pub fn lost_bits_do_not_matter()
     ensures { Salvage.LostBitsDoNotMatter }
 {}
@@ -189,8 +189,9 @@ pub fn whole_strips_are_found()
 {}
 
 /// What is left of rows that nobody counted is found and lost in one way, from any row on, in any
-/// coding: one list and one end. It is what is left of the first rows of a strip with as many as there
-/// may be, and where the rows are read to an end mark, or to the end of the data, all are found.
+/// coding: one list and one end. It is what is left of the first rows of a strip with as many as
+/// there may be, and where the rows are read to an end mark, or to the end of the data, all are
+/// found.
 pub fn uncounted_rows_are_left_in_one_way()
     ensures { LeavesUncounted }
 {
@@ -199,8 +200,8 @@ pub fn uncounted_rows_are_left_in_one_way()
     strips_are_salvaged_in_one_way();
 }
 
-/// What is left of a damaged strip, and of damaged rows that nobody counted, with their end, is what
-/// functions read of its bits (T.4, sections 4.1.2 and 4.2.2; T.6, section 2.2.1).
+/// What is left of a damaged strip, and of damaged rows that nobody counted, with their end, is
+/// what functions read of its bits (T.4, sections 4.1.2 and 4.2.2; T.6, section 2.2.1).
 pub fn damaged_strips_are_read_by_functions()
     ensures { Graphs.DamagedStripsAreReadByFunctions }
 {

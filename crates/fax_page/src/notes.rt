@@ -119,9 +119,9 @@ struct NotedStrip<'a> {
 }
 
 impl<'a> NotedStrip<'a> {
-    /// Reads the codes of row `i`, which are due, into `row`, of which nothing is said after a fault,
-    /// and answers whether they are those that T.4 chooses. Only where that is not seen while they
-    /// are read, the row is written and compared.
+    /// Reads the codes of row `i`, which are due, into `row`, of which nothing is said after a
+    /// fault, and answers whether they are those that T.4 chooses. Only where that is not seen
+    /// while they are read, the row is written and compared.
     fn read_choice(
         &mut self,
         rows: &mut NotedRows,
@@ -156,8 +156,8 @@ impl<'a> NotedStrip<'a> {
         Ok(rows.sink.begins(&codes))
     }
 
-    /// Reads the codes of row `i`, which are due, into `row`, of which nothing is said after a fault,
-    /// and asks nothing of them.
+    /// Reads the codes of row `i`, which are due, into `row`, of which nothing is said after a
+    /// fault, and asks nothing of them.
     fn read_unasked(
         &mut self,
         rows: &mut NotedRows,
@@ -390,9 +390,9 @@ impl NotesReader {
         Ok(notes_after(&strip.source, form.coding, strip.not_t4_choice))
     }
 
-    /// How many rows that nobody counted stand in at most 4,294,967,295 bytes, how they end, and the
-    /// notes on them. How many rows the form says is not looked at. It takes memory only where a row
-    /// is written, at most for that row.
+    /// How many rows that nobody counted stand in at most 4,294,967,295 bytes, how they end, and
+    /// the notes on them. How many rows the form says is not looked at. It takes memory only where
+    /// a row is written, at most for that row.
     ///
     /// # Errors
     ///

@@ -3,7 +3,7 @@ ghost use Rattle.std.specs.Prelude.{◌≡◌, ◌*◌, ◌<◌, ◌≤◌, leng
 ghost use Rattle.std.specs.Borrow.{sem};
 
 use crate::lines::{begins_below_eleven, line_fault, next_eol, read_start};
-use crate::turns::{RowsInTurn, is_row};
+use crate::rows_in_turn::{RowsInTurn, is_row};
 use crate::uncounted::end_of_rows;
 use crate::{Coding, Dimension, PlaceFault, RowBefore, RowsEnd, StripFault, StripForm};
 use fax_bits::laws::bits_stand_by_place;
@@ -150,7 +150,7 @@ impl<'a> StripReader<'a> {
         self.place = 0;
         self.begun = 0;
         self.row = 0;
-        self.rows.whiten();
+        self.rows.whiten_reference();
         self.fault = None;
     }
 
@@ -254,7 +254,8 @@ impl<'a> StripReader<'a> {
         self.row
     }
 
-    /// Whether a row is due that is coded over the row before it. It is for readers of damaged strips.
+    /// Whether a row is due that is coded over the row before it. It is for readers of damaged
+    /// strips.
     #[cold]
     pub(crate) fn begins_two_dimensional(&self) -> bool
         requires { self.now.fault ≡ None }
@@ -284,9 +285,9 @@ impl<'a> StripReader<'a> {
         begins_below_eleven(&self.source)
     }
 
-    /// Goes before row `row` of the same strip, or after its last one, after so many bits, over a white
-    /// reference. A fault is forgotten. It takes no memory.
-    fn go_to(&mut self, row: u32, bits: u64)
+    /// Goes before row `row` of the same strip, or after its last one, after so many bits, over a
+    /// white reference. A fault is forgotten. It takes no memory.
+    fn go_to_row(&mut self, row: u32, bits: u64)
         requires row { row ≤ self.old.form.rows }
         requires within { bits ≤ 8 * length self.old.bytes }
         ensures { self.new ≡ restarted_at self.old self.old.bytes self.old.form.rows row bits
@@ -300,13 +301,13 @@ impl<'a> StripReader<'a> {
         self.place = bits;
         self.begun = row;
         self.row = row;
-        RowsInTurn::whiten(&mut self.rows);
+        RowsInTurn::whiten_reference(&mut self.rows);
         self.fault = None;
     }
 
-    /// Goes on after row `row`, which is lost and begins after so many bits: before the next row, at the
-    /// next EOL, over a white reference; or after the strip's last row, where no EOL is left. How many
-    /// rows are lost so is answered. It takes no memory.
+    /// Goes on after row `row`, which is lost and begins after so many bits: before the next row,
+    /// at the next EOL, over a white reference; or after the strip's last row, where no EOL is
+    /// left. How many rows are lost so is answered. It takes no memory.
     #[cold]
     #[inline(never)]
     pub(crate) fn pass_lost(&mut self, row: u32, bits: u64) -> u32
@@ -320,18 +321,18 @@ impl<'a> StripReader<'a> {
         start.skip(bits);
         match next_eol(start, self.form.coding, row) {
             Some(eol) => {
-                self.go_to(row + 1, eol);
+                self.go_to_row(row + 1, eol);
                 1
             }
             None => {
-                self.go_to(rows, bits);
+                self.go_to_row(rows, bits);
                 rows - row
             }
         }
     }
 
-    /// How rows that nobody counted end before the row that is due, whose form has the most rows that
-    /// a strip has, `MOST_ROWS`: after a fault with that one, if not well.
+    /// How rows that nobody counted end before the row that is due, whose form has the most rows
+    /// that a strip has, `MOST_ROWS`: after a fault with that one, if not well.
     #[cold]
     pub(crate) fn uncounted_end(&self) -> RowsEnd
         ensures { EndsSo self.now.form.coding self.now.row (bits_left self.now) self.now.fault

@@ -7,7 +7,7 @@ ghost use Rattle.fax_page.specs.views.LeftUncounted.{IsUncountedStep, PassesAll}
 ghost use Rattle.fax_page.specs.views.LeftUncounted.{uncounted_beginning};
 ghost use Rattle.fax_page.specs.views.Strip.{IsStripForm};
 
-use crate::salvage::{SalvageReader, Salvaged};
+use crate::salvage_reader::{SalvageReader, Salvaged};
 use crate::{MOST_ROWS, RowsEnd, StripFault, StripForm};
 use fax_rows::{Memory, Row};
 use std::alloc::Global;
@@ -69,8 +69,8 @@ fn over_after(reader: &SalvageReader, salvaged: Salvaged) -> Option<StripFault>
 }
 
 impl<'a> UncountedSalvage<'a> {
-    /// Before the first row of at most 4,294,967,295 bytes. It takes all the memory that rows of this
-    /// width need. How many rows the form says does not matter.
+    /// Before the first row of at most 4,294,967,295 bytes. It takes all the memory that rows of
+    /// this width need. How many rows the form says does not matter.
     ///
     /// # Errors
     ///
@@ -92,8 +92,8 @@ impl<'a> UncountedSalvage<'a> {
         })
     }
 
-    /// Goes before the first row of other bytes, at most 4,294,967,295, with rows of the same coding,
-    /// order and width. It takes no memory.
+    /// Goes before the first row of other bytes, at most 4,294,967,295, with rows of the same
+    /// coding, order and width. It takes no memory.
     pub fn restart(&mut self, bytes: &'a [u8])
         requires { length bytes.now ≤ 4294967295 }
         ensures { self.new ≡ uncounted_beginning self.old.strip.form
@@ -110,7 +110,7 @@ impl<'a> UncountedSalvage<'a> {
     /// # Errors
     ///
     /// How the rows end, where none is due. Each later call answers the same.
-    pub fn advance(&mut self) -> Result<Salvaged, RowsEnd>
+    pub fn next_salvaged(&mut self) -> Result<Salvaged, RowsEnd>
         ensures { IsUncountedStep self.old result self.new }
     {
         if let Some(fault) = self.over {
@@ -120,7 +120,7 @@ impl<'a> UncountedSalvage<'a> {
             RowsEnd::TooMany => {}
             end => return Err(end),
         }
-        let Some(salvaged) = self.reader.advance() else {
+        let Some(salvaged) = self.reader.next_salvaged() else {
             return Err(RowsEnd::TooMany);
         };
         self.row += 1;
@@ -133,7 +133,7 @@ impl<'a> UncountedSalvage<'a> {
         ensures { PassesAll self.old result self.new }
     {
         'rows: loop {
-            if let Err(end) = self.advance() {
+            if let Err(end) = self.next_salvaged() {
                 return end;
             }
         }

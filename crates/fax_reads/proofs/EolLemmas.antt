@@ -1,4 +1,5 @@
--- No EOL stands among the codes of a row: each code begins with at most seven zeros, and ends with at most three.
+-- No EOL stands among the codes of a row: each code begins with at most seven zeros, and ends with
+-- at most three.
 use Rattle.fax_page.specs.code.Starts.{BeginsBelowEleven, IsEndOfLine}
 use Rattle.std.proofs.Common.{arith, ◌≡◌, ℕ, zero, suc, ◌+◌, ◌<◌, ◌≤◌, List, [], ◌∷◌, ◌++◌, map, Bool, true, false}
 use Rattle.std.proofs.Common.{refl, append_assoc, append-nil, get_or, length, sym, ap, ◌∙◌, subst, inl, inr, Option}
@@ -8,10 +9,10 @@ use Rattle.std.proofs.lemmas.Bool.Decides.{nat_tests}
 use Rattle.fax_bits.specs.declared.Colour.{Colour}
 use Rattle.fax_bits.specs.declared.Colour.TheVariants.{White, Black}
 use Rattle.fax_bits.specs.declared.codes.CodeEntry.{CodeEntry}
-use Rattle.fax_bits.specs.declared.modes.ModeCode.{ModeCode}
-use Rattle.fax_bits.specs.declared.modes.ModeCode.TheVariants as mode
-use Rattle.fax_bits.specs.declared.runs.RunCode.{RunCode}
-use Rattle.fax_bits.specs.declared.runs.RunCode.TheVariants.{Extension, MakeUp, Terminating}
+use Rattle.fax_bits.specs.declared.mode_codes.ModeCode.{ModeCode}
+use Rattle.fax_bits.specs.declared.mode_codes.ModeCode.TheVariants as mode
+use Rattle.fax_bits.specs.declared.run_codes.RunCode.{RunCode}
+use Rattle.fax_bits.specs.declared.run_codes.RunCode.TheVariants.{Extension, MakeUp, Terminating}
 use Rattle.fax_bits.specs.Bits.{IsAllZeros, code_bits}
 use Rattle.fax_bits.specs.Codes.{IsRun, Spells, Takes, bits_of}
 use Rattle.fax_bits.specs.Tables.{black_make_up, black_runs, black_terminating, common_make_up, modes, run_table}

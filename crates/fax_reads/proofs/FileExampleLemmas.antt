@@ -18,19 +18,20 @@ use Rattle.fax_reads.specs.Files.{read_rows, read_forms}
 use Rattle.fax_reads.specs.laws.Files.{FilesAreReadByFunctions}
 use Rattle.fax_reads.specs.laws.FileExamples.{AreFaultsOfHeaders, AreFaultsOfChains, AreFaultsOfFields}
 use Rattle.fax_reads.specs.laws.FileExamples.{AreFaultsOfStrips}
-use Rattle.fax_reads.specs.laws.FileExamples.{AreWholeFiles, IsSampleRead, AreFilesRead, HasForms, HasRows, IsRefused}
-use Rattle.fax_reads.specs.laws.FileExamples.{shown}
+use Rattle.fax_reads.specs.laws.FileExamples.{AreWholeFiles, IsSampleRead, AreFilesRead, HasForms, HasRows}
+use Rattle.fax_reads.specs.laws.FileExamples.{IsFileRefused}
+use Rattle.fax_reads.specs.laws.FileExamples.{row_and_place}
 
 module _ (read : FilesAreReadByFunctions) where
   refused : (file : List ℕ) (fault : FileFault) → read_rows file ≡ record { items = []; end = Fault 0 0 (File fault) }
-      → read_forms file ≡ record { items = []; end = Fault 0 0 (File fault) } → IsRefused file fault
+      → read_forms file ≡ record { items = []; end = Fault 0 0 (File fault) } → IsFileRefused file fault
   refused file fault rows forms = record {
     rows = (read.rows file [] (Fault 0 0 (File fault))).1 rows;
     forms = (read.forms file [] (Fault 0 0 (File fault))).1 forms;
   }
 
   pub has : (file : List ℕ) (rows : List (ℕ × ℕ × List Colour)) (end : End)
-      → map shown (read_rows file).items ≡ rows → (read_rows file).end ≡ end → HasRows file rows end
+      → map row_and_place (read_rows file).items ≡ rows → (read_rows file).end ≡ end → HasRows file rows end
   has file rows end rows_are end_is = record {
     items = (read_rows file).items;
     are = rw (← end_is) ((read.rows file (read_rows file).items (read_rows file).end).1 refl);

@@ -11,16 +11,16 @@ use Rattle.fax_page.specs.declared.StripForm.{StripForm}
 use Rattle.fax_page.specs.Lines.{IsCause, IsLine}
 use Rattle.fax_files.specs.declared.PageForm.{PageForm}
 use Rattle.fax_files.specs.Page.{most_rows, strip_bytes, strip_form}
-use Rattle.fax_files.specs.laws.Files.{FilesHaveOneChain, FormsAreWhole}
+use Rattle.fax_files.specs.laws.TiffFiles.{FilesHaveOneChain, FormsAreWhole}
 use Rattle.fax_walk.specs.declared.end.End.{End}
 use Rattle.fax_walk.specs.Pages.{AreFrom, FilePage, FormItem, IsForm, NextItem, ends_as, goes_on, read_page}
-use Rattle.fax_walk.specs.Items.{Inner, IsInStrip, IsRow, RowItem, RowPlace, before, first_at}
+use Rattle.fax_walk.specs.Items.{Inner, IsInStrip, IsRow, RowPlace, before, first_at}
 use Rattle.fax_walk.proofs.RowLawLemmas.{LinesAreRead, exchanged_twice, measure, one_row, row_falls}
 use Rattle.fax_walk.proofs.TailLawLemmas.{files_have_one_items}
 use Rattle.fax_walk.proofs.InOrderLemmas.{IsOneAnswer, same_answer, two_of}
 use Rattle.fax_walk.proofs.PageLawLemmas.{form_falls, one_form, one_forms}
 use Rattle.fax_page.specs.reads.Lines.{read_line}
-use Rattle.fax_page.specs.laws.Graphs.{StripsAreReadByFunctions}
+use Rattle.fax_page.specs.laws.StripGraphs.{StripsAreReadByFunctions}
 use Rattle.fax_reads.specs.Files.{AllRead, all_after, forms_from, read_all, read_form, read_forms, read_in_strip}
 use Rattle.fax_reads.specs.Files.{read_row, read_rows, row_or_end, rows_from}
 use Rattle.fax_reads.specs.laws.Files.{FilesAreReadByFunctions}

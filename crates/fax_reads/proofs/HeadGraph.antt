@@ -13,7 +13,7 @@ use Rattle.fax_files.specs.code.Pbm.{begins_piece, has_digit, is_digit, is_line_
 use Rattle.fax_files.proofs.PbmGapLemmas.{gap_is_read, gap_passed, gap_has_no_digit, white_is_no_digit}
 use Rattle.fax_files.proofs.PbmNumberLemmas.{number_begins}
 use Rattle.fax_rows.proofs.RunGraph.{bound, goes}
-use Rattle.fax_rows.specs.reads.Codes.{◌>>=◌}
+use Rattle.fax_rows.specs.reads.CodeReading.{◌>>=◌}
 use Rattle.fax_reads.specs.Images.{after_magic, after_pieces, after_gap, read_digits, read_number, after_space}
 use Rattle.fax_reads.specs.Images.{HeadRead, read_head}
 

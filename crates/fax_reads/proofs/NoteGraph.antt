@@ -14,10 +14,10 @@ use Rattle.fax_page.specs.declared.StripFault.{StripFault}
 use Rattle.fax_page.specs.Lines.{IsLine, white_row}
 use Rattle.fax_page.specs.Strip.{AreLines, HasEndMark, HasOtherChoice, IsEndMark, IsNotedAs}
 use Rattle.fax_page.specs.Strip.{row_bits}
-use Rattle.fax_rows.specs.reads.Codes.{after_front}
+use Rattle.fax_rows.specs.reads.CodeReading.{after_front}
 use Rattle.fax_page.specs.Lines.{read_start}
 use Rattle.fax_page.specs.reads.Uncounted.{after_mark}
-use Rattle.fax_page.specs.laws.Graphs.{StripsAreReadByFunctions}
+use Rattle.fax_page.specs.laws.StripGraphs.{StripsAreReadByFunctions}
 use Rattle.fax_reads.specs.Reports.{has_other_choice, is_all, is_mmr, is_other, strip_notes}
 use Rattle.fax_rows.proofs.CodeGraph.{front_is}
 use Rattle.fax_page.proofs.EndGraph.{IsAfterMark, has_mark, mark_is}

@@ -15,7 +15,7 @@ use Rattle.fax_page.specs.laws.Strips.{StripsAreNotedInOneWay}
 use Rattle.fax_files.specs.declared.FileFault.TheVariants.{StripOutside}
 use Rattle.fax_files.specs.declared.PageForm.{PageForm}
 use Rattle.fax_files.specs.Page.{strip_bytes, strip_form}
-use Rattle.fax_files.specs.laws.Files.{FilesHaveOneChain, FormsAreWhole, IsWholeForm}
+use Rattle.fax_files.specs.laws.TiffFiles.{FilesHaveOneChain, FormsAreWhole, IsWholeForm}
 use Rattle.fax_walk.specs.declared.checking.Note.{Note}
 use Rattle.fax_walk.specs.declared.checking.Report.{Report}
 use Rattle.fax_walk.specs.declared.end.End.{End}
@@ -25,8 +25,8 @@ use Rattle.fax_walk.specs.declared.end.End.TheVariants.{Proper, Fault, Outside}
 use Rattle.fax_walk.specs.Pages.{AreFrom, FilePage, read_page, NextItem, goes_on, ends_as, File}
 use Rattle.fax_walk.specs.Items.{AreItems, IsRow, RowItem, RowPlace, first_at}
 use Rattle.fax_walk.specs.Report.{IsNoted, IsReport, IsReportedEnd, IsStripNoted, notes_on_strip}
-use Rattle.fax_walk.specs.code.Places.{first_on}
-use Rattle.fax_walk.proofs.EndLemmas.{never_outside}
+use Rattle.fax_walk.specs.code.RowPlaces.{first_on}
+use Rattle.fax_walk.proofs.FileEndLemmas.{never_outside}
 use Rattle.fax_walk.proofs.InOrderLemmas.{IsSingle, joined, ended_at, single_from, two_of}
 use Rattle.fax_walk.proofs.PageLawLemmas.{by_page, page_few, proper_after, single_on_page}
 use Rattle.fax_walk.proofs.RowLawLemmas.{LinesAreRead, any_row, whole_page}
@@ -34,9 +34,9 @@ use Rattle.fax_walk.proofs.StripPlaceLemmas.{in_strip, strip_count}
 use Rattle.fax_walk.proofs.StripRowLemmas.{row_at, strip_rows}
 use Rattle.fax_walk.proofs.TailLawLemmas.{files_have_one_items}
 use Rattle.fax_page.specs.reads.Lines.{StripRead, read_strip}
-use Rattle.fax_page.specs.laws.Graphs.{StripsAreReadByFunctions}
+use Rattle.fax_page.specs.laws.StripGraphs.{StripsAreReadByFunctions}
 use Rattle.fax_reads.specs.Files.{all_after, read_all, read_rows}
-use Rattle.fax_reads.specs.Reports.{ReportRead, fault_of, noted_by, noted_in, noted_on, pages_to, read_noted}
+use Rattle.fax_reads.specs.Reports.{ReportRead, fault_and_place, noted_by, noted_in, noted_on, pages_to, read_noted}
 use Rattle.fax_reads.specs.Reports.{read_notes, read_report, strip_notes}
 use Rattle.fax_reads.specs.laws.Reports.{ReportsAreReadByAFunction, parts_of}
 use Rattle.fax_reads.proofs.FileGraph.{on_page, rows_are}
@@ -271,7 +271,7 @@ count_is file p at = let (head, is_head, none, count) = proper_after file p at i
 
 pub end_is : (file : List ℕ) (items : List RowItem) (notes : List (List Note)) (end : End)
     → AreItems file items end → AreFrom (IsNoted file) (0, None) notes end
-    → IsReportedEnd file end (pages_to file end) (fault_of end)
+    → IsReportedEnd file end (pages_to file end) (fault_and_place end)
 end_is file items notes Proper are noted =
     let at = proper_at file (0, None) notes noted in
     (subst (λ p. read_page file (record { page = p; row = 0 }) ≡ Err Proper) (count_is file at.0 at.1) at.1, refl)
@@ -291,14 +291,14 @@ module _ (strips : StripsAreReadByFunctions)
       are found.1 in
       let noted_so = subst (AreFrom (IsNoted file) (0, None) notes.items) (sym same.1) noted in
       let pages : pages_to file all.end ≡ report.pages = ap (λ (r : ReportRead). r.pages) e in
-      let fault : fault_of all.end ≡ report.fault = ap (λ (r : ReportRead). r.fault) e in
+      let fault : fault_and_place all.end ≡ report.fault = ap (λ (r : ReportRead). r.fault) e in
       record {
         items = all.items;
         end = all.end;
         read = are;
         rows_are = sym (ap (λ (r : ReportRead). r.rows) e);
         end_is = subst (λ f. IsReportedEnd file all.end report.pages f) fault
-            (subst (λ n. IsReportedEnd file all.end n (fault_of all.end)) pages
+            (subst (λ n. IsReportedEnd file all.end n (fault_and_place all.end)) pages
             (end_is file all.items notes.items all.end are noted_so));
         notes = notes.items;
         noted = noted_so;
@@ -340,7 +340,7 @@ module _ (strips : StripsAreReadByFunctions)
         (λ here. single_strip here.form p s (strip_bytes here.endian file here.offset s))
 
     end_of : (file : List ℕ) (end : End) (pages : ℕ) (fault : Option (Place × Cause))
-        → IsReportedEnd file end pages fault → (pages_to file end ≡ pages) × (fault_of end ≡ fault)
+        → IsReportedEnd file end pages fault → (pages_to file end ≡ pages) × (fault_and_place end ≡ fault)
     end_of file Proper pages fault is = (sym (count_is file pages is.0), sym is.1)
     end_of file (Fault p r cause) pages fault is = (sym is.0, sym is.1)
     end_of file Outside pages fault is = absurd is
@@ -356,7 +356,7 @@ module _ (strips : StripsAreReadByFunctions)
         let ends = end_of file is.end report.pages report.fault is.end_is in
         parts (ap (flat_map (λ (own : List Note). own)) noted.0 ∙ sym is.notes_are)
         (ap (pages_to file) rows.1 ∙ ends.0)
-        (ap (λ (l : List RowItem). length l) rows.0 ∙ sym is.rows_are) (ap fault_of rows.1 ∙ ends.1)
+        (ap (λ (l : List RowItem). length l) rows.0 ∙ sym is.rows_are) (ap fault_and_place rows.1 ∙ ends.1)
       where
         parts : {a b : List Note} {c d e f : ℕ} {g h : Option (Place × Cause)} → a ≡ b → c ≡ d → e ≡ f → g ≡ h
             → ◌≡◌ {A = ReportRead} (record { notes = a; pages = c; rows = e; fault = g })

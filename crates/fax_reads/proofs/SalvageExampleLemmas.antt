@@ -14,12 +14,12 @@ use Rattle.fax_bits.specs.declared.FillOrder.TheVariants.{MsbFirst}
 use Rattle.fax_page.specs.declared.Coding.{Coding}
 use Rattle.fax_page.specs.declared.RowsEnd.{RowsEnd}
 use Rattle.fax_page.specs.Salvage.{SalvagedRow}
-use Rattle.fax_page.specs.laws.Graphs.{DamagedStripsAreReadByFunctions}
+use Rattle.fax_page.specs.laws.StripGraphs.{DamagedStripsAreReadByFunctions}
 use Rattle.fax_page.specs.Strip.{most_rows}
 use Rattle.fax_page.specs.reads.Salvage.{salvage_rows_and_end}
-use Rattle.fax_reads.specs.Salvage.{salvage_file}
+use Rattle.fax_reads.specs.FileSalvage.{salvage_file}
 use Rattle.fax_reads.specs.laws.Examples.{form}
-use Rattle.fax_reads.specs.laws.Salvage.{SalvagesAreReadByFunctions}
+use Rattle.fax_reads.specs.laws.FileSalvage.{SalvagesAreReadByFunctions}
 use Rattle.fax_reads.specs.laws.SalvageExamples.{AreSalvagesRead, HasLeft, HasLeftUncounted}
 
 has : SalvagesAreReadByFunctions → (file : List ℕ) (items : List LeftItem) → salvage_file file ≡ items

@@ -3,7 +3,7 @@ use Rattle.std.proofs.Common.{arith, ◌≡◌, ℕ, zero, suc, ◌+◌, List, [
 use Rattle.std.proofs.Common.{Err}
 use Rattle.std.specs.Prelude.{MatchResult}
 use Rattle.fax_bits.specs.Bits.{bits}
-use Rattle.fax_page.specs.laws.Graphs.{DamagedStripsAreReadByFunctions}
+use Rattle.fax_page.specs.laws.StripGraphs.{DamagedStripsAreReadByFunctions}
 use Rattle.fax_files.specs.declared.Endian.{Endian}
 use Rattle.fax_files.specs.declared.FileFault.{FileFault}
 use Rattle.fax_files.specs.declared.PageForm.{PageForm}
@@ -14,9 +14,9 @@ use Rattle.fax_walk.specs.Salvaged.{ArePagesLeft, AreStripsLeft, IsPageLeftAs, I
 use Rattle.fax_walk.specs.Salvaged.{strip_left}
 use Rattle.fax_walk.specs.laws.Salvaged.{IsSalvagedOneWay}
 use Rattle.fax_page.specs.reads.Salvage.{salvage_strip}
-use Rattle.fax_reads.specs.Salvage.{salvage_file, salvage_page, salvage_page_strip, salvage_pages}
-use Rattle.fax_reads.specs.Salvage.{salvage_strips}
-use Rattle.fax_reads.specs.laws.Salvage.{SalvagesAreReadByFunctions}
+use Rattle.fax_reads.specs.FileSalvage.{salvage_file, salvage_page, salvage_page_strip, salvage_pages}
+use Rattle.fax_reads.specs.FileSalvage.{salvage_strips}
+use Rattle.fax_reads.specs.laws.FileSalvage.{SalvagesAreReadByFunctions}
 
 module _ (strips : DamagedStripsAreReadByFunctions) (file : List ℕ) where
   page_strip_is : (here : FilePage) (s : ℕ) → IsStripLeft file here s (salvage_page_strip file here s)

@@ -12,15 +12,16 @@ use Rattle.fax_files.specs.Layout.{field_bytes}
 use Rattle.fax_walk.specs.declared.begun.Begun.{Begun}
 use Rattle.fax_walk.specs.declared.cursor.Cursor.{Cursor}
 use Rattle.fax_walk.specs.declared.end.End.{End}
-use Rattle.fax_reads.specs.Tails.{read_tail, read_form_tail}
+use Rattle.fax_reads.specs.TailReading.{read_tail, read_form_tail}
 use Rattle.fax_reads.specs.laws.Files.{TailsAreReadByFunctions}
-use Rattle.fax_reads.specs.laws.FileExamples.{shown}
+use Rattle.fax_reads.specs.laws.FileExamples.{row_and_place}
 use Rattle.fax_reads.specs.laws.TailExamples.{AreTailsOfCursors, AreTailsOfPlaces, AreTailsOfForms, AreTailsRead}
 use Rattle.fax_reads.specs.laws.TailExamples.{HasFormTail, HasTail}
 
 module _ (read : TailsAreReadByFunctions) where
   has : (file : List ℕ) (begun : Begun) (rows : List (ℕ × ℕ × List Colour)) (end : End)
-      → map shown (read_tail file begun).items ≡ rows → (read_tail file begun).end ≡ end → HasTail file begun rows end
+      → map row_and_place (read_tail file begun).items ≡ rows → (read_tail file begun).end ≡ end
+      → HasTail file begun rows end
   has file begun rows end rows_are end_is =
       let tail = read_tail file begun in
       record {

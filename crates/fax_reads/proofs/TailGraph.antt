@@ -5,8 +5,8 @@ use Rattle.std.specs.Prelude.{MatchResult, if◌then◌else◌}
 use Rattle.std.proofs.lemmas.Bool.Decides.{nat_tests}
 use Rattle.std.proofs.lemmas.Slice.Eq.{bytes_eq-Decides}
 use Rattle.fax_bits.specs.laws.Codes.{AreBitsByPlace}
-use Rattle.fax_page.specs.laws.Graphs.{StripsAreReadByFunctions}
-use Rattle.fax_files.specs.laws.Files.{FilesHaveOneChain, FormsAreWhole}
+use Rattle.fax_page.specs.laws.StripGraphs.{StripsAreReadByFunctions}
+use Rattle.fax_files.specs.laws.TiffFiles.{FilesHaveOneChain, FormsAreWhole}
 use Rattle.fax_walk.specs.declared.begun.Begun.{Begun}
 use Rattle.fax_walk.specs.declared.begun.Begun.TheVariants.{At, Inside}
 use Rattle.fax_walk.specs.declared.cursor.Cursor.{Cursor}
@@ -14,13 +14,13 @@ use Rattle.fax_walk.specs.declared.end.End.{End}
 use Rattle.fax_walk.specs.declared.end.End.TheVariants.{Outside}
 use Rattle.fax_walk.specs.Pages.{AreFrom, FilePage, IsForm, IsFormTail, LongPlace, first_page, read_page}
 use Rattle.fax_walk.specs.Items.{IsBegunOn, IsInnerOn, IsRow, IsTailFrom, RowItem, RowPlace, begun_cursor, inner_at}
-use Rattle.fax_walk.specs.code.Places.{FitsStrip}
+use Rattle.fax_walk.specs.code.RowPlaces.{FitsStrip}
 use Rattle.fax_walk.proofs.RowLawLemmas.{LinesAreRead, one_tail_from}
 use Rattle.fax_walk.proofs.PageLawLemmas.{one_form_tail}
-use Rattle.fax_rows.specs.reads.Codes.{◌>>=◌}
+use Rattle.fax_rows.specs.reads.CodeReading.{◌>>=◌}
 use Rattle.fax_reads.specs.Files.{rows_from}
-use Rattle.fax_reads.specs.Tails.{begin_on, fits_strip, form_tail_from, is_inner_on, read_form_tail}
-use Rattle.fax_reads.specs.Tails.{read_tail, tail_from}
+use Rattle.fax_reads.specs.TailReading.{begin_on, fits_strip, form_tail_from, is_inner_on, read_form_tail}
+use Rattle.fax_reads.specs.TailReading.{read_tail, tail_from}
 use Rattle.fax_reads.specs.laws.Files.{TailsAreReadByFunctions}
 use Rattle.fax_reads.proofs.FileGraph.{both_lists, forms_are, on_page, rows_are}
 

@@ -1,6 +1,6 @@
 pub mod Files
-pub mod Tails
+pub mod TailReading
 pub mod Reports
 pub mod Images
-pub mod Salvage
+pub mod FileSalvage
 pub mod laws

@@ -26,7 +26,7 @@ use Rattle.fax_walk.specs.declared.end.End.TheVariants.{Fault}
 use Rattle.fax_walk.specs.declared.walk.Place.{Place}
 use Rattle.fax_walk.specs.Pages.{FilePage, NextItem, goes_on, ends_as, File, Strip, read_page}
 use Rattle.fax_walk.specs.Report.{note_if, notes_on_strip}
-use Rattle.fax_rows.specs.reads.Codes.{after_front}
+use Rattle.fax_rows.specs.reads.CodeReading.{after_front}
 use Rattle.fax_page.specs.Lines.{read_start}
 use Rattle.fax_page.specs.reads.Lines.{read_line, read_strip}
 use Rattle.fax_page.specs.reads.Uncounted.{after_mark}
@@ -110,9 +110,9 @@ pages_to file _ =
       | Ok head ↦ length (read_chain head file).offsets
     ]
 
-abbrev pub fault_of : End → Option (Place × Cause)
-fault_of (Fault p r cause) = Some (record { page = p; row = r }, cause)
-fault_of _ = None
+abbrev pub fault_and_place : End → Option (Place × Cause)
+fault_and_place (Fault p r cause) = Some (record { page = p; row = r }, cause)
+fault_and_place _ = None
 
 -- what is reported
 pub record ReportRead : Type 0 where
@@ -128,5 +128,5 @@ read_report file =
       notes = flat_map (λ own. own) (read_notes file).items;
       pages = pages_to file all.end;
       rows = length all.items;
-      fault = fault_of all.end;
+      fault = fault_and_place all.end;
     }

@@ -8,6 +8,6 @@ pub mod SampleExamples
 pub mod CodedExamples
 pub mod Images
 pub mod ImageExamples
-pub mod Salvage
+pub mod FileSalvage
 pub mod SalvageExamples
 pub mod Eols

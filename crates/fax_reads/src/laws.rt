@@ -1,5 +1,5 @@
 //! Laws of the functions. These here compute nothing: each has a law as its contract.
-ghost use Rattle.fax_reads.specs.laws.Examples.{AreRead};
+ghost use Rattle.fax_reads.specs.laws.Examples.{AreStripsRead};
 ghost use Rattle.fax_reads.specs.laws.Files.{FilesAreReadByFunctions, TailsAreReadByFunctions};
 ghost use Rattle.fax_reads.specs.laws.FileExamples.{AreFilesRead};
 ghost use Rattle.fax_reads.specs.laws.Images.{ImagesAreReadByFunctions};
@@ -10,12 +10,12 @@ ghost use Rattle.fax_reads.specs.laws.TailExamples.{AreTailsRead};
 ghost use Rattle.fax_reads.specs.laws.Reports.{ReportsAreReadByAFunction};
 ghost use Rattle.fax_reads.specs.laws.ReportExamples.{AreReportsRead};
 ghost use Rattle.fax_reads.specs.laws.Eols.{FoundRowsReachToTheNextEol, RowsHoldNoEol};
-ghost use Rattle.fax_reads.specs.laws.Salvage.{SalvagesAreReadByFunctions};
+ghost use Rattle.fax_reads.specs.laws.FileSalvage.{SalvagesAreReadByFunctions};
 ghost use Rattle.fax_reads.specs.laws.SalvageExamples.{AreSalvagesRead};
 
 /// Worked strips are read as they are meant.
 pub fn examples_are_read()
-    ensures { AreRead }
+    ensures { AreStripsRead }
 {}
 
 /// The row at a place of a file, the form of a page, and all rows and all forms with their end are
@@ -126,8 +126,8 @@ pub fn rows_hold_no_eol()
     ensures { RowsHoldNoEol }
 {}
 
-/// A row that is found in a damaged strip, and after which an EOL is due, reaches from its own EOL to
-/// the next one, or nothing but zeros follows it (T.4, section 4.1.2).
+/// A row that is found in a damaged strip, and after which an EOL is due, reaches from its own EOL
+/// to the next one, or nothing but zeros follows it (T.4, section 4.1.2).
 pub fn found_rows_reach_to_the_next_eol()
     ensures { FoundRowsReachToTheNextEol }
 {}

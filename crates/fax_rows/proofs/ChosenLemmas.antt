@@ -14,8 +14,8 @@ use Rattle.std.proofs.Math.Seq.{get_or-append_right}
 use Rattle.std.proofs.Math.Nat.{eq-or-lt_of_le}
 use Rattle.fax_bits.specs.declared.Colour.{Colour}
 use Rattle.fax_bits.specs.declared.Colour.TheVariants.{White}
-use Rattle.fax_bits.specs.declared.modes.ModeCode.{ModeCode}
-use Rattle.fax_bits.specs.declared.modes.ModeCode.TheVariants.{Pass, Horizontal, Vertical}
+use Rattle.fax_bits.specs.declared.mode_codes.ModeCode.{ModeCode}
+use Rattle.fax_bits.specs.declared.mode_codes.ModeCode.TheVariants.{Pass, Horizontal, Vertical}
 use Rattle.fax_bits.specs.Written.{mode_bits, run_bits}
 use Rattle.fax_rows.specs.Rows.{other, pel, pel_before, is_changing, is_right_of, next_change, Position, first_pel}
 use Rattle.fax_rows.specs.Rows.{a0_number}
@@ -24,7 +24,7 @@ use Rattle.fax_rows.specs.code.Seen.{b1_from, b2_from}
 use Rattle.fax_rows.specs.code.Choice.{Places, places, colour_of, chosen_mode, run_pair_bits, next_a0}
 use Rattle.fax_rows.specs.code.Chosen.{GoesOnFrom, IsStepOf, IsChosenPair}
 use Rattle.fax_rows.proofs.ChangeLemmas.{first_of, next_change_is, still_left}
-use Rattle.fax_rows.proofs.PlaceLemmas.{next_change_at}
+use Rattle.fax_rows.proofs.ChangePlaceLemmas.{next_change_at}
 use Rattle.fax_rows.proofs.PlacedStepLemmas.{right_after_first}
 use Rattle.fax_rows.proofs.TakenModeLemmas.{is_near}
 

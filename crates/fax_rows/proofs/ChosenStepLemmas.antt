@@ -4,11 +4,11 @@ use Rattle.std.proofs.Common.{◌≡◌, ℕ, ◌<◌, ◌≤◌, List, length, 
 use Rattle.std.specs.Prelude.{None, Result, IfOk}
 use Rattle.std.proofs.lemmas.Int.{ints}
 use Rattle.fax_bits.specs.declared.Colour.TheVariants.{White}
-use Rattle.fax_bits.specs.declared.modes.ModeCode.TheVariants.{Pass, Horizontal, Vertical}
+use Rattle.fax_bits.specs.declared.mode_codes.ModeCode.TheVariants.{Pass, Horizontal, Vertical}
 use Rattle.fax_bits.specs.Codes.{Takes}
 use Rattle.fax_bits.specs.Tables.{modes}
 use Rattle.fax_rows.specs.declared.two_dimensional.steps.PlacedReached.{PlacedReached}
-use Rattle.fax_rows.specs.declared.rows.PlacedRow.{PlacedRow}
+use Rattle.fax_rows.specs.declared.placed_rows.PlacedRow.{PlacedRow}
 use Rattle.fax_rows.specs.Rows.{Position, first_pel, coloured_up_to, IsVerticalStep}
 use Rattle.fax_rows.specs.code.Seen.{b2_from}
 use Rattle.fax_rows.specs.code.Chosen.{IsChosenStep, IsChosenPair}

@@ -11,7 +11,7 @@ use Rattle.fax_bits.specs.declared.codes.CodeFault.TheVariants.{DataEnds, BadCod
 use Rattle.fax_bits.specs.Bits.{BeginsWith}
 use Rattle.fax_bits.specs.Codes.{bits_of, Takes, IsFaultOf, HasNoCode, IsCutShort}
 use Rattle.fax_bits.specs.laws.Codes.{ReadsOneWay}
-use Rattle.fax_rows.specs.reads.Codes.{after_front, is_cut, first_code, read_code}
+use Rattle.fax_rows.specs.reads.CodeReading.{after_front, is_cut_code, first_code, read_code}
 
 -- what is left after a front, or no front
 pub front_is : (front b : List Bool)
@@ -25,7 +25,7 @@ front_is (true ∷ front) (true ∷ b) = grind (arith, front_is front b)
 front_is (false ∷ front) (false ∷ b) = grind (arith, front_is front b)
 
 -- a code is cut short
-cut_is : (code b : List Bool) → is_cut code b ≡ true → (missing : Bool) × (more : List Bool)
+cut_is : (code b : List Bool) → is_cut_code code b ≡ true → (missing : Bool) × (more : List Bool)
     × (b ++ missing ∷ more ≡ code)
 cut_is [] b is = grind arith
 cut_is (bit ∷ code) [] is = (bit, code, refl)
@@ -34,7 +34,7 @@ cut_is (false ∷ code) (false ∷ b) is = let more = cut_is code b is in (more.
 cut_is (true ∷ code) (false ∷ b) is = grind arith
 cut_is (false ∷ code) (true ∷ b) is = grind arith
 
-is_cut_of : (b more : List Bool) (missing : Bool) → is_cut (b ++ missing ∷ more) b ≡ true
+is_cut_of : (b more : List Bool) (missing : Bool) → is_cut_code (b ++ missing ∷ more) b ≡ true
 is_cut_of [] more missing = refl
 is_cut_of (true ∷ b) more missing = is_cut_of b more missing
 is_cut_of (false ∷ b) more missing = is_cut_of b more missing
@@ -78,19 +78,21 @@ module _ {M : Type 0} (b : List Bool) where
   abbrev IsCode : List (CodeEntry M) → Result (M × List Bool) CodeFault → Type 0
   IsCode table r = MatchResult r (λ code. Takes table b code.0 code.1) (IsFaultOf table b)
 
-  cut_of : (table : List (CodeEntry M)) → list_any (λ entry. is_cut (bits_of entry) b) table ≡ true → IsCutShort table b
+  cut_of : (table : List (CodeEntry M)) → list_any (λ entry. is_cut_code (bits_of entry) b) table ≡ true
+      → IsCutShort table b
   cut_of table is =
-      let any = Any-from_list_any (λ entry. is_cut (bits_of entry) b) table is in
+      let any = Any-from_list_any (λ entry. is_cut_code (bits_of entry) b) table is in
       let cut = cut_is (bits_of any.1) b any.4 in
       (any.1, (any.0, any.2, any.3), (cut.0, cut.1, cut.2))
 
-  of_cut : (table : List (CodeEntry M)) → IsCutShort table b → list_any (λ entry. is_cut (bits_of entry) b) table ≡ true
+  of_cut : (table : List (CodeEntry M)) → IsCutShort table b
+      → list_any (λ entry. is_cut_code (bits_of entry) b) table ≡ true
   of_cut table cut =
-      let is : is_cut (bits_of cut.0) b ≡ true = rw (sym cut.2.2) (is_cut_of b cut.2.1 cut.2.0) in
-      list_any-from_Any (λ entry. is_cut (bits_of entry) b) table (cut.1.0, cut.0, cut.1.1, cut.1.2, is)
+      let is : is_cut_code (bits_of cut.0) b ≡ true = rw (sym cut.2.2) (is_cut_of b cut.2.1 cut.2.0) in
+      list_any-from_Any (λ entry. is_cut_code (bits_of entry) b) table (cut.1.0, cut.0, cut.1.1, cut.1.2, is)
 
   fault_is : (table : List (CodeEntry M)) → HasNoCode table b → (test : Bool)
-      → list_any (λ entry. is_cut (bits_of entry) b) table ≡ test
+      → list_any (λ entry. is_cut_code (bits_of entry) b) table ≡ test
       → IsCode table (elim test [ true ↦ Err DataEnds | false ↦ Err BadCode ])
   fault_is table none true is = (none, cut_of table is)
   fault_is table none false is = (none, λ cut. true≢false (sym (of_cut table cut) ∙ is))
@@ -98,10 +100,11 @@ module _ {M : Type 0} (b : List Bool) where
   by_first : (table : List (CodeEntry M)) (r : Option (M × List Bool)) → IsFirst table r
       → IsCode table (elim r [
         | Some code ↦ Ok code
-        | None ↦ elim (list_any (λ entry. is_cut (bits_of entry) b) table) [ true ↦ Err DataEnds | false ↦ Err BadCode ]
+        | None ↦ elim
+            (list_any (λ entry. is_cut_code (bits_of entry) b) table) [ true ↦ Err DataEnds | false ↦ Err BadCode ]
       ])
   by_first table (Some code) taken = taken
-  by_first table None none = fault_is table none (list_any (λ entry. is_cut (bits_of entry) b) table) refl
+  by_first table None none = fault_is table none (list_any (λ entry. is_cut_code (bits_of entry) b) table) refl
 
   -- codes are read as they are defined
   pub code_is : (table : List (CodeEntry M)) → IsCode table (read_code table b)

@@ -22,7 +22,7 @@ use Rattle.fax_rows.specs.Coded.{colour_of_bit}
 use Rattle.fax_rows.specs.views.Packed.{first_other}
 use Rattle.fax_rows.specs.code.FirstOther.{is_other_bit, first_other_in_byte, plain_byte, others, IsFirstOtherByte}
 use Rattle.fax_rows.proofs.ChangeLemmas.{IsFirstPlace, first_place_is}
-use Rattle.fax_rows.proofs.PlaceLemmas.{first_place_at}
+use Rattle.fax_rows.proofs.ChangePlaceLemmas.{first_place_at}
 
 -- each number below n passes the test
 abbrev all_below : (ℕ → Bool) → ℕ → Bool

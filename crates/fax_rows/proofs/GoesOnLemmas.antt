@@ -5,12 +5,12 @@ use Rattle.std.proofs.Common.{append_assoc, arith}
 use Rattle.std.specs.Prelude.{Option, Some, None}
 use Rattle.fax_bits.specs.declared.codes.CodeEntry.{CodeEntry}
 use Rattle.fax_bits.specs.declared.Colour.{Colour}
-use Rattle.fax_bits.specs.declared.modes.ModeCode.{ModeCode}
-use Rattle.fax_bits.specs.declared.modes.ModeCode.TheVariants.{Pass, Horizontal, Vertical, Extension}
+use Rattle.fax_bits.specs.declared.mode_codes.ModeCode.{ModeCode}
+use Rattle.fax_bits.specs.declared.mode_codes.ModeCode.TheVariants.{Pass, Horizontal, Vertical, Extension}
 use Rattle.fax_bits.specs.Codes.{Takes, bits_of}
 use Rattle.fax_bits.specs.views.Source.{Source}
-use Rattle.fax_rows.specs.declared.two_dimensional.codes.Due.{Due}
-use Rattle.fax_rows.specs.declared.two_dimensional.codes.Due.TheVariants.{Mode, Runs}
+use Rattle.fax_rows.specs.declared.two_dimensional.horizontal_runs.Due.{Due}
+use Rattle.fax_rows.specs.declared.two_dimensional.horizontal_runs.Due.TheVariants.{Mode, Runs}
 use Rattle.fax_rows.specs.Rows.{Position, beginning, AreSteps, IsStep, IsStepBy}
 use Rattle.fax_rows.specs.code.Chosen.{AreChosenSteps, GoesOn, GoesOnAsChosen}
 use Rattle.fax_rows.specs.code.Due.{AreRunsDue, IsDue}

@@ -4,8 +4,8 @@ use Rattle.std.proofs.lemmas.Grind.{common_steps}
 use Rattle.std.proofs.lemmas.Int.{ints}
 use Rattle.std.specs.Prelude.{Option, Some, IsTrue, unwrap_or}
 use Rattle.fax_bits.specs.declared.Colour.TheVariants.{White}
-use Rattle.fax_rows.specs.declared.rows.PlacedRow.{PlacedRow}
-use Rattle.fax_rows.specs.declared.two_dimensional.codes.TwoRuns.{TwoRuns}
+use Rattle.fax_rows.specs.declared.placed_rows.PlacedRow.{PlacedRow}
+use Rattle.fax_rows.specs.declared.two_dimensional.horizontal_runs.TwoRuns.{TwoRuns}
 use Rattle.fax_rows.specs.declared.two_dimensional.over_white.ReachedOverWhite.{ReachedOverWhite}
 use Rattle.fax_rows.specs.declared.two_dimensional.steps.PlacedReached.{PlacedReached}
 use Rattle.fax_rows.specs.Rows.{b1, b2, is_right_of, first_pel, IsVerticalStep}

@@ -12,7 +12,7 @@ use Rattle.fax_bits.specs.declared.Colour.{Colour}
 use Rattle.fax_bits.specs.declared.Colour.TheVariants.{White, Black}
 use Rattle.fax_rows.specs.Rows.{other}
 use Rattle.fax_rows.specs.Coded.{is_black}
-use Rattle.fax_rows.specs.declared.rows.PlacedRow.{PlacedRow}
+use Rattle.fax_rows.specs.declared.placed_rows.PlacedRow.{PlacedRow}
 use Rattle.fax_rows.specs.code.PackedWord.{word_bit, IsPackedByte, IsPackedWord, IsWordTo}
 use Rattle.fax_rows.specs.code.PlacedRow.{placed_pels}
 use Rattle.fax_rows.specs.code.Turns.{alternate, HasPassed}

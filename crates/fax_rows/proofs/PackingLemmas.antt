@@ -48,7 +48,8 @@ module _ {places : List ℕ} {end width : ℕ} (all : ArePlaces places end width
       → IsPackedByte (row_of places end width) from (plain_byte (alternate Black k))
   whole_byte at from k passed order whole i h = grind (arith, plain_bit, bit_after)
 
--- a list of which the first elements have what they are to have, after a write to the part that follows
+-- a list of which the first elements have what they are to have, after a write to the part that
+-- follows
 pub part_written : (P : ℕ → ℕ → Type 0) (out part : List ℕ) (a k : ℕ) → a ≤ length out
     → ((i : ℕ) → i < a → P i (get_or out i 0))
     → ((i : ℕ) → i < length part → P (a + i) (get_or part i 0)) → (i : ℕ) → i < a + length part

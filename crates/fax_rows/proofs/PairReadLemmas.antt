@@ -1,5 +1,5 @@
--- A row in one-dimensional coding that is read run by run, and a white run and the black one after it that are read at
--- once.
+-- A row in one-dimensional coding that is read run by run, and a white run and the black one after
+-- it that are read at once.
 use Rattle.std.proofs.lemmas.Grind.{common_steps}
 use Rattle.std.proofs.Common.{◌≡◌, ℕ, ◌+◌, ◌-◌, ◌<◌, ◌≤◌, List, ◌++◌, take, Bool, ap, sym, ◌∙◌, subst, arith, inl}
 use Rattle.std.specs.Prelude.{◌⊎◌}
@@ -18,8 +18,8 @@ use Rattle.fax_rows.proofs.PlacedReadLemmas.{put_on, run_turned}
 use Rattle.fax_rows.proofs.PlacedRowLemmas.{turned-first}
 use Rattle.fax_rows.proofs.RowLemmas.{IsRowSoFar}
 
--- the places of the runs that are read, after which the row has a colour; where they are seen to be chosen, the bits
--- are written so
+-- the places of the runs that are read, after which the row has a colour; where they are seen to be
+-- chosen, the bits are written so
 pub record HasRead (width : ℕ) (b : List Bool) (chosen : Type 0) (total : ℕ) (colour : Colour) (places : List ℕ)
     (end : ℕ)
     (rest : List Bool) : Type 0 where

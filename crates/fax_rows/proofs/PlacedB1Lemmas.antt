@@ -9,11 +9,11 @@ use Rattle.std.proofs.lemmas.Bool.{and_from, cases_lt, true≢false}
 use Rattle.fax_bits.specs.declared.Colour.{Colour}
 use Rattle.fax_bits.specs.declared.Colour.TheVariants.{Black}
 use Rattle.fax_rows.specs.Rows.{other, same_colour, pel, is_changing, is_right_of, next_change, b1, b2}
-use Rattle.fax_rows.specs.declared.rows.PlacedRow.{PlacedRow}
+use Rattle.fax_rows.specs.declared.placed_rows.PlacedRow.{PlacedRow}
 use Rattle.fax_rows.specs.code.PlacedRow.{placed_pels, IsBeforeB1, IsB1At}
 use Rattle.fax_rows.specs.code.Turns.{alternate, ArePlacesUpTo, IsFrom}
 use Rattle.fax_rows.proofs.ChangeLemmas.{still_left, next_change_is}
-use Rattle.fax_rows.proofs.PlaceLemmas.{next_of_at}
+use Rattle.fax_rows.proofs.ChangePlaceLemmas.{next_of_at}
 use Rattle.fax_rows.proofs.TurnLemmas.{length-pels_by, alternate-suc, below_later, not_later, pel_after, changing_at}
 use Rattle.fax_rows.proofs.TurnLemmas.{unchanging}
 use Rattle.fax_rows.proofs.PlacedRowLemmas.{next_here, end_within}

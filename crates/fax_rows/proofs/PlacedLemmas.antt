@@ -8,10 +8,11 @@ use Rattle.fax_rows.specs.code.ChangesAhead.{bits_from, place_from}
 use Rattle.fax_rows.specs.Coded.{step_bits, two_dimensional_bits}
 use Rattle.fax_rows.proofs.ChangeLemmas.{first_of}
 use Rattle.fax_rows.proofs.ChoiceLemmas.{passed, passed_within, place_ahead}
-use Rattle.fax_rows.proofs.PutLemmas.{put_begins, put_goes_on, put_pending}
+use Rattle.fax_rows.proofs.PutBitsLemmas.{put_begins, put_goes_on, put_pending}
 use Rattle.fax_rows.proofs.WrittenLemmas.{step_bits-end, step_bits-more}
 
--- the steps before a0 are put, but for the pending bits, and those that are left are enough to end the row
+-- the steps before a0 are put, but for the pending bits, and those that are left are enough to end
+-- the row
 pub record IsPutToPlace (reference row : List Colour) (old : Sink) (a0 : Option ℕ) (pending : List Bool) (new : Sink) :
     Type 0 where
   pub limit : ℕ

@@ -13,7 +13,7 @@ use Rattle.fax_rows.specs.Rows.{IsInRow, IsVerticalStep, IsHorizontalStep, IsTwo
 use Rattle.fax_rows.specs.declared.RowFault.{RowFault}
 use Rattle.fax_rows.specs.Faults.{IsStepFault, IsTwoDimensionalFault}
 use Rattle.fax_rows.specs.code.Reached.{reached_pel, position_of}
-use Rattle.fax_rows.specs.declared.rows.PlacedRow.{PlacedRow}
+use Rattle.fax_rows.specs.declared.placed_rows.PlacedRow.{PlacedRow}
 use Rattle.fax_rows.specs.code.PlacedRow.{placed_pels, IsB1At}
 use Rattle.fax_rows.specs.code.Put.{ArePut, HasRoom}
 use Rattle.fax_rows.specs.code.Turns.{turned, pels_by, IsTurnedFrom, TurnsAt}

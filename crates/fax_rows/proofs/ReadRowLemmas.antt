@@ -1,7 +1,7 @@
 -- A row in two-dimensional coding that is read from its beginning to its end.
 use Rattle.std.proofs.Common.{◌≡◌, ℕ, List, take, Bool, None, refl, ap, sym, ◌∙◌, arith}
 use Rattle.fax_bits.specs.declared.Colour.TheVariants.{White}
-use Rattle.fax_rows.specs.declared.rows.PlacedRow.{PlacedRow}
+use Rattle.fax_rows.specs.declared.placed_rows.PlacedRow.{PlacedRow}
 use Rattle.fax_rows.specs.declared.two_dimensional.steps.PlacedReached.{PlacedReached}
 use Rattle.fax_rows.specs.Rows.{beginning}
 use Rattle.fax_rows.specs.code.PlacedReached.{placed_position, IsReadOn, IsReadSoFar}

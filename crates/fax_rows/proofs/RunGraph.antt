@@ -11,8 +11,8 @@ use Rattle.fax_bits.specs.declared.Colour.{Colour}
 use Rattle.fax_bits.specs.declared.Colour.TheVariants.{White}
 use Rattle.fax_bits.specs.declared.codes.CodeFault.{CodeFault}
 use Rattle.fax_bits.specs.declared.codes.CodeEntry.{CodeEntry}
-use Rattle.fax_bits.specs.declared.runs.RunCode.{RunCode}
-use Rattle.fax_bits.specs.declared.runs.RunCode.TheVariants.{Terminating, MakeUp, Extension as RunExtension}
+use Rattle.fax_bits.specs.declared.run_codes.RunCode.{RunCode}
+use Rattle.fax_bits.specs.declared.run_codes.RunCode.TheVariants.{Terminating, MakeUp, Extension as RunExtension}
 use Rattle.fax_bits.specs.Tables.{run_table}
 use Rattle.fax_bits.specs.Codes.{Takes, Spells, IsFaultOf, IsRun}
 use Rattle.fax_bits.specs.laws.Codes.{ReadsOneWay, ReadsRunsOneWay}
@@ -21,7 +21,7 @@ use Rattle.fax_rows.specs.declared.RowFault.TheVariants.{Extension, RunTooLong}
 use Rattle.fax_rows.specs.Rows.{other, pels_of, AreRuns, IsOneDimensionalRow}
 use Rattle.fax_rows.specs.Faults.{row_fault, IsCodeFault, IsRunFault, StopsAtRun, IsOneDimensionalFault}
 use Rattle.fax_rows.specs.code.RowFaults.{IsAtRunCode}
-use Rattle.fax_rows.specs.reads.Codes.{◌>>=◌, named, read_code}
+use Rattle.fax_rows.specs.reads.CodeReading.{◌>>=◌, map_fault, read_code}
 use Rattle.fax_rows.specs.reads.Rows.{by_run_code, row_code, within, read_run, read_runs, read_one_dimensional}
 use Rattle.fax_rows.proofs.CodeGraph.{code_is, code_of}
 
@@ -54,14 +54,14 @@ module _ {M : Type 0} (table : List (CodeEntry M)) (b : List Bool) where
     where
       by : (r : Result (M × List Bool) CodeFault)
           → MatchResult r (λ code. Takes table b code.0 code.1) (IsFaultOf table b)
-          → IsRowCode (named row_fault r)
+          → IsRowCode (map_fault row_fault r)
       by (Ok code) is = is
       by (Err fault) is = (fault, is, refl)
 
   pub row_code_of : ReadsOneWay table → (r : Result (M × List Bool) RowFault) → IsRowCode r → row_code table b ≡ r
-  row_code_of reads (Ok code) is = ap (named row_fault) (code_of b table reads (Ok code) is)
+  row_code_of reads (Ok code) is = ap (map_fault row_fault) (code_of b table reads (Ok code) is)
   row_code_of reads (Err fault) is =
-      ap (named row_fault) (code_of b table reads (Err is.0) is.1) ∙ ap (λ f. Err f) (sym is.2)
+      ap (map_fault row_fault) (code_of b table reads (Err is.0) is.1) ∙ ap (λ f. Err f) (sym is.2)
 
 within_is : (width to : ℕ) → MatchResult (within width to) (λ x. (x ≡ to) × (to ≤ width))
     (λ fault. (fault ≡ RunTooLong) × (width < to))

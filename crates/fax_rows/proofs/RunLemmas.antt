@@ -6,7 +6,7 @@ use Rattle.std.proofs.lemmas.Grind.{common_steps}
 use Rattle.std.proofs.lemmas.List.{map-append}
 use Rattle.fax_bits.specs.declared.codes.CodeEntry.{CodeEntry}
 use Rattle.fax_bits.specs.declared.Colour.{Colour}
-use Rattle.fax_bits.specs.declared.runs.RunCode.TheVariants.{Terminating, MakeUp}
+use Rattle.fax_bits.specs.declared.run_codes.RunCode.TheVariants.{Terminating, MakeUp}
 use Rattle.fax_bits.specs.Tables.{run_table}
 use Rattle.fax_bits.specs.Written.{run_bits}
 use Rattle.fax_bits.specs.laws.Codes.{ChosenCodesAreWritten}
@@ -44,7 +44,8 @@ pub run_done : (colour : Colour) (b : List Bool) (n m : ℕ) (mid rest : List Bo
     → IsPartialRun colour b n mid → Takes (run_table colour) mid (Terminating m) rest → IsRun colour b (n + m) rest
 run_done colour b n m mid rest part taken = grind (arith, Spells-push)
 
--- make-up codes of the longest run so far: with a run after them that is written, they are one that is written
+-- make-up codes of the longest run so far: with a run after them that is written, they are one that
+-- is written
 abbrev pub AreLongestMakeUp : Colour → List Bool → ℕ → List Bool → Type 0
 AreLongestMakeUp colour b n rest = (m : ℕ) (after : List Bool) → rest ≡ run_bits colour m ++ after
     → b ≡ run_bits colour (n + m) ++ after

@@ -1,6 +1,5 @@
--- Steps in vertical mode, one after another, each to a place that is right of the one before, and between the changes
--- before and
--- after its b1.
+-- Steps in vertical mode, one after another, each to a place that is right of the one before, and
+-- between the changes before and after its b1.
 use Rattle.std.proofs.lemmas.Grind.{common_steps}
 use Rattle.std.proofs.Common.{◌≡◌, ℕ, zero, suc, ◌+◌, ◌-◌, ◌<◌, ◌≤◌, List, [], ◌∷◌, length, map, take, get_or, Bool}
 use Rattle.std.proofs.Common.{pos, refl, ap}
@@ -14,7 +13,7 @@ use Rattle.fax_bits.specs.Codes.{Spells}
 use Rattle.fax_bits.specs.Tables.{modes}
 use Rattle.fax_bits.specs.views.Verticals.{shift, vertical}
 use Rattle.fax_rows.specs.declared.two_dimensional.steps.PlacedReached.{PlacedReached}
-use Rattle.fax_rows.specs.declared.rows.PlacedRow.{PlacedRow}
+use Rattle.fax_rows.specs.declared.placed_rows.PlacedRow.{PlacedRow}
 use Rattle.fax_rows.specs.Rows.{other, is_right_of, a0_number, IsVerticalStep}
 use Rattle.fax_rows.specs.code.Chosen.{GoesOn, GoesOnAsChosen}
 use Rattle.fax_rows.specs.code.PlacedRow.{placed_pels, IsB1At}

@@ -10,8 +10,9 @@ use Rattle.std.proofs.lemmas.Result.{MatchResult-weaker}
 use Rattle.std.proofs.lemmas.Bool.{and_parts}
 use Rattle.std.proofs.lemmas.Bool.Decides.{nat_tests}
 use Rattle.fax_bits.specs.declared.Colour.{Colour}
-use Rattle.fax_bits.specs.declared.modes.ModeCode.{ModeCode}
-use Rattle.fax_bits.specs.declared.modes.ModeCode.TheVariants.{Pass, Horizontal, Vertical, Extension as ModeExtension}
+use Rattle.fax_bits.specs.declared.mode_codes.ModeCode.{ModeCode}
+use Rattle.fax_bits.specs.declared.mode_codes.ModeCode.TheVariants.{Pass, Horizontal, Vertical}
+use Rattle.fax_bits.specs.declared.mode_codes.ModeCode.TheVariants.{Extension as ModeExtension}
 use Rattle.fax_bits.specs.laws.Codes.{ReadsOneWay, ReadsRunsOneWay}
 use Rattle.fax_bits.specs.Tables.{modes}
 use Rattle.fax_rows.specs.declared.RowFault.{RowFault}
@@ -21,8 +22,8 @@ use Rattle.fax_rows.specs.Rows.{IsStep, AreSteps}
 use Rattle.fax_rows.specs.Rows.{IsTwoDimensionalRow}
 use Rattle.fax_rows.specs.Faults.{IsModeFault, IsStepFault, IsRunFault, IsTwoDimensionalFault}
 use Rattle.fax_rows.proofs.ChangeLemmas.{next_change_is}
-use Rattle.fax_rows.specs.reads.Codes.{◌>>=◌}
-use Rattle.fax_rows.specs.reads.Rows.{row_code, read_run, by_mode, vertical, horizontal, is_in_row, second_run}
+use Rattle.fax_rows.specs.reads.CodeReading.{◌>>=◌}
+use Rattle.fax_rows.specs.reads.Rows.{row_code, read_run, by_mode, vertical_step, horizontal, is_in_row, second_run}
 use Rattle.fax_rows.specs.reads.Rows.{coloured_twice, read_step, read_steps, read_two_dimensional, is_ended}
 use Rattle.fax_rows.proofs.RunGraph.{bound, goes, stop, row_code_is, row_code_of, run_is, run_of, run_fault_of}
 use Rattle.fax_rows.proofs.RunGraph.{run_shorter}
@@ -96,11 +97,11 @@ test_in_row reference old d is =
     record { right_of_a0 = omega (arith, ints, parts.0); within = omega (arith, ints, parts.1) }
 
 vertical_ok : (reference : List Colour) (old : Position) (z : ℤ) → is_in_row reference old z ≡ true
-    → vertical reference old z ≡ Ok (record (coloured_up_to old (nat_abs z)) { colour = other old.colour })
+    → vertical_step reference old z ≡ Ok (record (coloured_up_to old (nat_abs z)) { colour = other old.colour })
 vertical_ok reference old z is = rw (is) refl
 
 vertical_err : (reference : List Colour) (old : Position) (z : ℤ) → is_in_row reference old z ≡ false
-    → vertical reference old z ≡ Err OutOfRow
+    → vertical_step reference old z ≡ Err OutOfRow
 vertical_err reference old z is = rw (is) refl
 
 -- the test of the row's end

@@ -3,8 +3,8 @@ use Rattle.std.proofs.Common.{◌≡◌, ℕ, ◌<◌, List, ◌++◌, length, B
 use Rattle.std.specs.Prelude.{Some, slice_get, nat_abs, nat_le}
 use Rattle.std.proofs.lemmas.Option.{slice_get_read}
 use Rattle.fax_bits.specs.declared.codes.CodeEntry.{CodeEntry}
-use Rattle.fax_bits.specs.declared.modes.ModeCode.{ModeCode}
-use Rattle.fax_bits.specs.declared.modes.ModeCode.TheVariants.{Vertical}
+use Rattle.fax_bits.specs.declared.mode_codes.ModeCode.{ModeCode}
+use Rattle.fax_bits.specs.declared.mode_codes.ModeCode.TheVariants.{Vertical}
 use Rattle.fax_bits.specs.Bits.{code_bits}
 use Rattle.fax_bits.specs.Codes.{bits_of, Takes}
 use Rattle.fax_bits.specs.Written.{mode_bits}

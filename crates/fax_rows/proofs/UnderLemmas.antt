@@ -9,14 +9,14 @@ use Rattle.std.proofs.lemmas.Int.{ints}
 use Rattle.std.proofs.lemmas.List.{get_or-take}
 use Rattle.fax_bits.specs.declared.Colour.{Colour}
 use Rattle.fax_bits.specs.declared.Colour.TheVariants.{Black}
-use Rattle.fax_bits.specs.declared.modes.ModeCode.TheVariants.{Vertical}
+use Rattle.fax_bits.specs.declared.mode_codes.ModeCode.TheVariants.{Vertical}
 use Rattle.fax_bits.specs.Codes.{Takes, Spells}
 use Rattle.fax_bits.specs.Bits.{code_bits}
 use Rattle.fax_bits.specs.Tables.{modes}
 use Rattle.fax_bits.specs.Written.{mode_bits}
 use Rattle.fax_bits.specs.laws.Codes.{ModeBitsAreRead}
 use Rattle.fax_rows.specs.declared.two_dimensional.steps.PlacedReached.{PlacedReached}
-use Rattle.fax_rows.specs.declared.rows.PlacedRow.{PlacedRow}
+use Rattle.fax_rows.specs.declared.placed_rows.PlacedRow.{PlacedRow}
 use Rattle.fax_rows.specs.Rows.{other, Position, IsStep, IsVerticalStep}
 use Rattle.fax_rows.specs.code.Chosen.{IsChosenStep, GoesOn, GoesOnAsChosen}
 use Rattle.fax_rows.specs.code.PlacedRow.{placed_pels}
@@ -217,9 +217,8 @@ ones_are_spelled law (suc k) rest = (
   ones_are_spelled law k rest,
 )
 
--- the row is read on by a step whose code is taken, and by so many ones after it, where the places that are put are
--- those of
--- the reference row
+-- the row is read on by a step whose code is taken, and by so many ones after it, where the places
+-- that are put are those of the reference row
 pub several_read : (reference : PlacedRow) (places new : List ℕ) (at : PlacedReached) (more : ℕ) (colour : Colour)
     (b first rest : List Bool) → ModeBitsAreRead → Takes modes b (Vertical (pos 0)) first
     → first ≡ replicate more true ++ rest

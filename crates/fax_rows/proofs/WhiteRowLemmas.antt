@@ -12,7 +12,7 @@ use Rattle.fax_bits.specs.declared.Colour.{Colour}
 use Rattle.fax_bits.specs.declared.Colour.TheVariants.{White}
 use Rattle.fax_bits.specs.Tables.{modes}
 use Rattle.fax_bits.specs.Written.{mode_bits, run_bits}
-use Rattle.fax_bits.specs.declared.modes.ModeCode.TheVariants.{Vertical}
+use Rattle.fax_bits.specs.declared.mode_codes.ModeCode.TheVariants.{Vertical}
 use Rattle.fax_rows.specs.Coded.{packed_len, packed_row, is_black, alternating_bits, one_dimensional_bits}
 use Rattle.fax_rows.specs.Coded.{two_dimensional_bits}
 use Rattle.fax_rows.specs.Rows.{pel, is_changing, next_change, b1, runs_after}

@@ -2,8 +2,8 @@
 use Rattle.std.proofs.lemmas.Grind.{common_steps}
 use Rattle.std.proofs.Common.{◌≡◌, ◌≤◌, length, sym, ◌∙◌, arith}
 use Rattle.std.specs.Prelude.{unwrap_or}
-use Rattle.fax_rows.specs.declared.put.ChangesAhead.{ChangesAhead}
-use Rattle.fax_rows.specs.declared.rows.RowPair.{RowPair}
+use Rattle.fax_rows.specs.declared.put_rows.ChangesAhead.{ChangesAhead}
+use Rattle.fax_rows.specs.declared.placed_rows.RowPair.{RowPair}
 use Rattle.fax_rows.specs.code.ChangesAhead.{AreAhead}
 use Rattle.fax_rows.specs.code.PlacedRow.{placed_pels}
 use Rattle.fax_rows.proofs.ChangeLemmas.{next_change_is, next_of_within}

@@ -3,15 +3,15 @@ use Rattle.std.proofs.lemmas.Grind.{common_steps}
 use Rattle.std.proofs.Common.{◌≡◌, ℕ, ◌+◌, ◌<◌, ◌≤◌, ◌++◌, length, true, sym, ◌∙◌, subst, arith}
 use Rattle.std.specs.Prelude.{Option, Some, unwrap_or, pos}
 use Rattle.std.proofs.lemmas.Int.{ints}
-use Rattle.fax_bits.specs.declared.modes.ModeCode.{ModeCode}
-use Rattle.fax_bits.specs.declared.modes.ModeCode.TheVariants.{Horizontal, Vertical}
+use Rattle.fax_bits.specs.declared.mode_codes.ModeCode.{ModeCode}
+use Rattle.fax_bits.specs.declared.mode_codes.ModeCode.TheVariants.{Horizontal, Vertical}
 use Rattle.fax_bits.specs.Written.{mode_bits}
 use Rattle.fax_rows.specs.code.Choice.{colour_of, chosen_mode}
 use Rattle.fax_bits.specs.declared.Colour.{Colour}
 use Rattle.fax_bits.specs.declared.Colour.TheVariants.{Black}
-use Rattle.fax_rows.specs.declared.put.ChangesAhead.{ChangesAhead}
-use Rattle.fax_rows.specs.declared.rows.PlacedRow.{PlacedRow}
-use Rattle.fax_rows.specs.declared.rows.RowPair.{RowPair}
+use Rattle.fax_rows.specs.declared.put_rows.ChangesAhead.{ChangesAhead}
+use Rattle.fax_rows.specs.declared.placed_rows.PlacedRow.{PlacedRow}
+use Rattle.fax_rows.specs.declared.placed_rows.RowPair.{RowPair}
 use Rattle.fax_rows.specs.Rows.{other, is_right_of}
 use Rattle.fax_rows.specs.code.ChangesAhead.{AreAhead, mode_from, bits_from, place_from, run_pair}
 use Rattle.fax_rows.specs.code.PlacedRow.{placed_pels, IsBeforeB1, IsB1At}

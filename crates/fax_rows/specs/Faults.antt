@@ -7,9 +7,9 @@ use Rattle.fax_rows.specs.Rows.{beginning, first_pel, other}
 use Rattle.fax_bits.specs.declared.codes.CodeEntry.{CodeEntry}
 use Rattle.fax_bits.specs.declared.codes.CodeFault.{CodeFault}
 use Rattle.fax_bits.specs.declared.codes.CodeFault.TheVariants as code_fault
-use Rattle.fax_bits.specs.declared.modes.ModeCode.TheVariants as mode
-use Rattle.fax_bits.specs.declared.runs.RunCode.{RunCode}
-use Rattle.fax_bits.specs.declared.runs.RunCode.TheVariants as run
+use Rattle.fax_bits.specs.declared.mode_codes.ModeCode.TheVariants as mode
+use Rattle.fax_bits.specs.declared.run_codes.RunCode.{RunCode}
+use Rattle.fax_bits.specs.declared.run_codes.RunCode.TheVariants as run
 use Rattle.fax_bits.specs.Tables.{run_table, modes}
 use Rattle.fax_bits.specs.Codes.{IsFaultOf, IsRun, Spells, Takes}
 use Rattle.fax_rows.specs.declared.RowFault.{RowFault}

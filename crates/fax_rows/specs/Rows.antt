@@ -5,13 +5,13 @@ use Rattle.std.specs.Prelude.{◌≡◌, ◌≢◌, ℕ, zero, suc, ◌+◌, ◌
 use Rattle.std.specs.Prelude.{◌+ℤ◌, ◌<ℤ◌, ◌≤ℤ◌, Bool, true, false, not, ◌&&◌, if◌then◌else◌, List}
 use Rattle.std.specs.Prelude.{[], ◌∷◌, ◌++◌, length, replicate, slice_index_or, Option}
 use Rattle.std.specs.Prelude.{Some, None, unwrap_or}
-use Rattle.fax_bits.specs.declared.modes.ModeCode.TheVariants.{Pass, Horizontal, Vertical}
-use Rattle.fax_bits.specs.declared.modes.ModeCode.TheVariants.{Extension}
+use Rattle.fax_bits.specs.declared.mode_codes.ModeCode.TheVariants.{Pass, Horizontal, Vertical}
+use Rattle.fax_bits.specs.declared.mode_codes.ModeCode.TheVariants.{Extension}
 use Rattle.fax_bits.specs.Tables.{modes}
 use Rattle.fax_bits.specs.Codes.{IsRun, Takes}
 pub use Rattle.fax_bits.specs.declared.Colour.{Colour}
 pub use Rattle.fax_bits.specs.declared.Colour.TheVariants.{White, Black}
-pub use Rattle.fax_bits.specs.declared.modes.ModeCode.{ModeCode}
+pub use Rattle.fax_bits.specs.declared.mode_codes.ModeCode.{ModeCode}
 
 -- the opposite colour
 abbrev pub other : Colour → Colour

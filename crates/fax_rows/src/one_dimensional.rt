@@ -18,7 +18,7 @@ use fax_bits::{BitSource, Colour};
 
 /// The runs of a row that are read so far, as places of change.
 #[derive(Clone, Copy)]
-struct Runs {
+struct RunsSoFar {
     /// The index after the last place that is put.
     end: usize,
     /// How many pels they have.
@@ -27,11 +27,11 @@ struct Runs {
     is_chosen: bool,
 }
 
-impl Runs {
+impl RunsSoFar {
     ghost use Rattle.std.specs.Prelude.{◌<◌, ◌≡◌, ◌⊎◌, IsTrue};
 
-    /// Sees that a run after them may be one of the longest: it has pels, or is the first of its row.
-    /// Else the codes are not those that T.4 chooses (T.4, section 4.1.1).
+    /// Sees that a run after them may be one of the longest: it has pels, or is the first of its
+    /// row. Else the codes are not those that T.4 chooses (T.4, section 4.1.1).
     #[inline(always)]
     fn see(&mut self, colour: Colour, run: u32)
         ensures chosen { IsTrue self.new.is_chosen → IsTrue self.old.is_chosen
@@ -51,7 +51,7 @@ fn next_run(
     ahead: &mut BitSource,
     colour: Colour,
     width: u32,
-    runs: &mut Runs,
+    runs: &mut RunsSoFar,
 ) -> Result<u32, RowFault>
     requires short { width < 2 ^ 16 }
     requires within { runs.old.total ≤ width }
@@ -76,12 +76,12 @@ fn next_run(
 
 /// Reads a run of the colour after others, and puts the place where it ends.
 #[inline(always)]
-fn read_on(
+fn put_next_run(
     ahead: &mut BitSource,
     places: &mut [u32],
     width: u32,
     colour: Colour,
-    runs: &mut Runs,
+    runs: &mut RunsSoFar,
 ) -> Result<(), RowFault>
     requires short { width < 2 ^ 16 }
     requires unfinished { runs.old.total < width }
@@ -111,7 +111,7 @@ fn read_on(
 
 /// Reads the runs of a row: a white run and the black one after it mostly by one look-up.
 #[inline(always)]
-fn read_runs(source: &mut BitSource, places: &mut [u32], width: u32) -> Result<Runs, RowFault>
+fn read_runs(source: &mut BitSource, places: &mut [u32], width: u32) -> Result<RunsSoFar, RowFault>
     requires some { 0 < width }
     requires short { width < 2 ^ 16 }
     requires room { HasRoom width places.old }
@@ -128,7 +128,7 @@ fn read_runs(source: &mut BitSource, places: &mut [u32], width: u32) -> Result<R
     // see it costs nothing where no run is empty.
     crate::laws::one_dimensional_rows_are_read_as_nothing_else();
     let mut ahead = source.again();
-    let mut runs = Runs {
+    let mut runs = RunsSoFar {
         end: 1,
         total: 0,
         is_chosen: true,
@@ -141,9 +141,9 @@ fn read_runs(source: &mut BitSource, places: &mut [u32], width: u32) -> Result<R
             runs.end = put_turn(places, next, runs.total);
             continue;
         }
-        read_on(&mut ahead, places, width, Colour::White, &mut runs)?;
+        put_next_run(&mut ahead, places, width, Colour::White, &mut runs)?;
         if runs.total < width {
-            read_on(&mut ahead, places, width, Colour::Black, &mut runs)?;
+            put_next_run(&mut ahead, places, width, Colour::Black, &mut runs)?;
         }
     }
     source.go_to(&ahead);

@@ -11,7 +11,7 @@ ghost use Rattle.fax_rows.specs.code.Turns.{HasPassed};
 
 use crate::lanes::plain_byte;
 use crate::pels::Row;
-use crate::rows::PlacedRow;
+use crate::placed_rows::PlacedRow;
 use crate::turns::{close, colour_after};
 use crate::unpacked::places_of_bits;
 use fax_bits::laws::{bits_are_packed_in_one_way, bits_stand_by_place};

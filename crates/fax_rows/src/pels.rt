@@ -6,7 +6,7 @@ ghost use Rattle.fax_rows.specs.Coded.{packed_len, packed_row};
 ghost use Rattle.fax_rows.specs.Rows.{other as other_than, runs_of, is_changing, pel as pel_of};
 
 use crate::longest_runs::{LongestRuns, are_longest, put_runs};
-use crate::rows::PlacedRow;
+use crate::placed_rows::PlacedRow;
 use crate::turns::{close, colour_after, copy_places, places_up_to, turn_first};
 use fax_bits::{Colour, Memory};
 use std::alloc::Global;

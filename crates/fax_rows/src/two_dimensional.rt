@@ -9,23 +9,23 @@ ghost use Rattle.fax_rows.specs.Rows as Spec;
 ghost use Rattle.fax_rows.specs.Faults as Fault;
 ghost use Rattle.fax_rows.specs.code.PlacedRow.{placed_pels};
 ghost use Rattle.fax_rows.specs.code.Put.{HasRoom};
-ghost use Rattle.fax_rows.specs.code.Stop.{IsRowStop};
+ghost use Rattle.fax_rows.specs.code.RowStop.{IsRowStop};
 ghost use Rattle.fax_rows.specs.code.ReadRow.{IsReadRow};
 
 use crate::RowFault;
 use crate::pels::Row;
-use crate::rows::PlacedRow;
+use crate::placed_rows::PlacedRow;
 use crate::turns::close;
-use codes::{Stop, Unread};
 use due::read_on;
 use fax_bits::BitSource;
+use horizontal_runs::{RowStop, Unread};
 use modes::read_by_look_ups;
 use over_white::read_over_white;
 
 mod choices;
-mod codes;
 mod copied;
 mod due;
+mod horizontal_runs;
 mod modes;
 mod over_white;
 mod several;
@@ -52,7 +52,7 @@ fn read_modes<const CHOICE: bool>(
     source: &mut BitSource,
     reference: PlacedRow,
     places: &mut [u32],
-) -> Result<usize, Stop>
+) -> Result<usize, RowStop>
     requires room { HasRoom reference.width places.old }
     ensures read { IfOk result (λ end. IsReadRow CHOICE reference.entry source.old.left places.new
         end source.new.left) }
@@ -103,17 +103,17 @@ fn read_places<const CHOICE: bool>(
             end,
             is_chosen: CHOICE,
         }),
-        Err(Stop::Fault(fault)) => return Err(fault),
-        Err(Stop::Other) => {}
+        Err(RowStop::Fault(fault)) => return Err(fault),
+        Err(RowStop::Other) => {}
     }
     match read_modes::<false>(source, reference, places) {
         Ok(end) => Ok(ReadRow {
             end,
             is_chosen: false,
         }),
-        Err(Stop::Fault(fault)) => Err(fault),
+        Err(RowStop::Fault(fault)) => Err(fault),
         // No choice was asked for.
-        Err(Stop::Other) => unreachable!(),
+        Err(RowStop::Other) => unreachable!(),
     }
 }
 

@@ -13,7 +13,7 @@ use Rattle.fax_tool.specs.declared.refusal.Refusal.{Refusal}
 use Rattle.fax_tool.specs.declared.refusal.Refusal.TheVariants.{Memory, Read, Write}
 use Rattle.fax_tool.specs.declared.words.Command.{Command}
 use Rattle.fax_tool.specs.declared.words.Command.TheVariants.{List as Forms, Rows}
-use Rattle.fax_tool.specs.declared.words.Part.{Part}
+use Rattle.fax_tool.specs.declared.words.Selection.{Selection}
 use Rattle.fax_tool.specs.Run.{Counts, Input, Output, HasWorked, IsRead, IsTextAfterMemory, IsTextOf, IsTextOfFirst}
 use Rattle.fax_tool.specs.Run.{begun_of}
 use Rattle.fax_tool.specs.Streams.{input_after, output_after}
@@ -76,7 +76,7 @@ module _ (command : Command) (bytes : Option (List ℕ)) (taken : ℕ) (counts :
     command_stops refusal stops = grind arith
 
 -- rows were not read, and where to go on was to be written
-pub rows_unread : BeginningsHaveOneTail → (part : Part) (refusal : Refusal) (bytes : Option (List ℕ)) (taken : ℕ)
+pub rows_unread : BeginningsHaveOneTail → (part : Selection) (refusal : Refusal) (bytes : Option (List ℕ)) (taken : ℕ)
     (counts : Counts)
     (output : Output)
     → StopsAtBeginning (next_line (At (begun_cursor (begun_of part)))) refusal (input_after bytes taken counts) output
@@ -88,7 +88,7 @@ rows_unread tails part refusal bytes taken counts output stops =
     of_none _ part.max (begun_of part) (one.items, one.end, one.is) text is) stops
 
 -- the part's beginning was refused
-pub rows_unbegun : BeginningsHaveOneTail → (part : Part) (refusal : Refusal) (bytes : Option (List ℕ)) (taken : ℕ)
+pub rows_unbegun : BeginningsHaveOneTail → (part : Selection) (refusal : Refusal) (bytes : Option (List ℕ)) (taken : ℕ)
     (counts : Counts)
     (output : Output) → IsRead (input_after bytes taken counts)
     → StopsWith (next_line (At (begun_cursor (begun_of part)))) refusal output
@@ -99,7 +99,7 @@ rows_unbegun tails part refusal bytes taken counts output read stops =
     read stops)
 
 -- pages were not read, and where to go on was to be written
-pub pages_unread : CursorsHaveOneFormTail → (part : Part) (refusal : Refusal) (bytes : Option (List ℕ)) (taken : ℕ)
+pub pages_unread : CursorsHaveOneFormTail → (part : Selection) (refusal : Refusal) (bytes : Option (List ℕ)) (taken : ℕ)
     (counts : Counts)
     (output : Output) → StopsAtBeginning (next_line (At part.cursor)) refusal (input_after bytes taken counts) output
     → IsStopped (Forms part) refusal (input_after bytes taken counts) output

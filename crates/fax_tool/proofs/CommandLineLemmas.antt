@@ -1,4 +1,5 @@
--- What a command is read as that has no help, and to which an argument, or a command of its own, was added.
+-- What a command is read as that has no help, and to which an argument, or a command of its own,
+-- was added.
 use Rattle.std.proofs.Common.{◌≡◌, ◌∙◌, ◌||◌, ap, ap₂, true, false}
 use Rattle.clap.specs.Built.{AddsArg, AddsSubcommand}
 use Rattle.clap.specs.Simple.{App, Shape, app_of, app_of_fields, new_app, on_top, with_rule, with_subcommand}
@@ -8,7 +9,7 @@ use Rattle.clap.specs.declared.builder.command.Command.{Command}
 use Rattle.clap.specs.declared.builder.command.Command.TheOpen.{Command-F}
 use Rattle.clap.specs.declared.builder.command.Command.TheViews.{out-Command}
 use Rattle.fax_tool.specs.code.CommandLine.{bare_app}
-use Rattle.fax_tool.specs.code.Entries.{IsApp}
+use Rattle.fax_tool.specs.code.CommandEntries.{IsApp}
 
 pub bare : (new old : Command) {name : Text} → out-Command new ≡ record (out-Command old) { disable_help_flag = true }
     → app_of old ≡ new_app name → (out-Command old).has_globals ≡ false → IsApp new (bare_app name)

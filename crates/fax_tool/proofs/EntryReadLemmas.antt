@@ -9,7 +9,7 @@ use Rattle.clap.specs.Matches.{ReadsOne, one_text}
 use Rattle.clap.specs.Walk.{Row, Text, first_of, rows_of}
 use Rattle.clap.specs.declared.parser.matches.Found.{Found}
 use Rattle.clap.proofs.WalkLemmas.{one_text-rows}
-use Rattle.fax_tool.specs.code.Entries.{HasFlag, HasNumber, given_by}
+use Rattle.fax_tool.specs.code.CommandEntries.{HasFlag, HasNumber, given_by}
 use Rattle.fax_tool.specs.Grammar.{IsNumberText}
 use Rattle.fax_tool.specs.Job.{is_set, number_in}
 

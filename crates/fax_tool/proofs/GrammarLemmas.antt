@@ -1,4 +1,5 @@
--- What the grammar says of one word, of numbers and of uses that differ, and what scanning computes of them.
+-- What the grammar says of one word, of numbers and of uses that differ, and what scanning computes
+-- of them.
 use Rattle.std.proofs.Common.{◌≡◌, ◌≢◌, ◌<◌, ◌||◌, ◌++◌, arith, refl}
 use Rattle.std.proofs.Common.{Bool, true, false, ℕ, zero, suc, List, [], ◌∷◌, length}
 use Rattle.std.specs.Prelude.{nat_lt, not}

@@ -1,29 +1,29 @@
 pub mod TransferLemmas
-mod NumberLemmas
+mod NumberTextLemmas
 mod clap
 mod RunTextLemmas
 mod RememberedLemmas
 mod BeginLemmas
-mod EntryLemmas
+mod CommandEntryLemmas
 mod EntryReadLemmas
 mod GetterLemmas
 mod CommandLineLemmas
-mod ExampleLemmas
+mod WordExampleLemmas
 mod RuleLemmas
 mod UseLemmas
-mod RowLemmas
-mod ReadLemmas
+mod ParsedRowLemmas
+mod WordReadLemmas
 mod AgreeLemmas
 mod SpellLemmas
 mod ShapeLemmas
 mod GrammarLemmas
-mod AnswerLemmas
+mod WordAnswerLemmas
 pub mod LineLemmas
 pub mod StopLemmas
 pub mod PrintLemmas
-pub mod SalvageLemmas
+pub mod SalvageLineLemmas
 pub mod TextLemmas
 pub mod CommandLemmas
 pub mod WholeLemmas
-pub mod RunLemmas
+pub mod CutRunLemmas
 mod TextLawLemmas

@@ -29,7 +29,8 @@ use Rattle.fax_tool.proofs.TextLemmas.{first_text}
 abbrev pub IsLeftOf : Option ℕ → Option ℕ → ℕ → Type 0
 IsLeftOf max left count = max ≡ option_map (λ n. n + count) left
 
--- so many of the lines are printed, the last part of their text is collected only, and so much of the limit is left
+-- so many of the lines are printed, the last part of their text is collected only, and so much of
+-- the limit is left
 pub record PrintsSome (tail now : List PrintedLine → End → Type 0) (given : ℕ) (max left : Option ℕ)
     (output written : Option (List ℕ))
     (text : List ℕ) : Type 0 where

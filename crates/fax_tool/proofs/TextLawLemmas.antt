@@ -17,7 +17,7 @@ use Rattle.fax_tool.specs.ReportText.{IsCheckText, IsConversionText, convert_fau
 use Rattle.fax_tool.specs.Run.{ArePageLines, AreRowLines, IsTextOfLines, begun_of}
 use Rattle.fax_tool.specs.Text.{Begun, At, End, PrintedLine, Printed, and_number, end_text, fault_line}
 use Rattle.fax_tool.specs.declared.words.Command.TheVariants.{Check, Convert, List as Forms, Rows, Salvage, Version}
-use Rattle.fax_tool.specs.laws.Texts.{TextsAreOne}
+use Rattle.fax_tool.specs.laws.OneText.{TextsAreOne}
 use Rattle.fax_tool.proofs.LineLemmas.{one_pages, one_rows}
 
 -- of one list of lines and one end there is one text

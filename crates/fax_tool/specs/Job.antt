@@ -22,7 +22,7 @@ use Rattle.fax_tool.specs.declared.words.Command.{Command}
 use Rattle.fax_tool.specs.declared.words.Command.TheVariants.{Check, Convert, List as Forms, Rows}
 use Rattle.fax_tool.specs.declared.words.Command.TheVariants.{Salvage, Version}
 use Rattle.fax_tool.specs.declared.words.Job.{Job}
-use Rattle.fax_tool.specs.declared.words.Part.{Part}
+use Rattle.fax_tool.specs.declared.words.Selection.{Selection}
 use Rattle.fax_tool.specs.declared.words.WordsFault.{WordsFault}
 use Rattle.fax_tool.specs.declared.words.WordsFault.TheVariants.{Memory, NotACursor, Usage}
 
@@ -57,7 +57,7 @@ order_by number = if unwrap_or number 1 == 2 then LsbFirst else MsbFirst
 
 -- what is given after `list` or `rows` gives this part, with long cursors or without: it begins
 -- with what the cursor's text names, if one is given, else with the first cursor
-pub record IsPart (given : Given) (long : Bool) (part : Part) : Type 0 where
+pub record IsPart (given : Given) (long : Bool) (part : Selection) : Type 0 where
   pub begins : MatchOption (given (codes "cursor")) (begun_of part ≡ At start)
       (λ text. text ≡ begun_text (begun_of part))
   pub cursor : part.cursor ≡ begun_cursor (begun_of part)

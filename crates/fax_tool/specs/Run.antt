@@ -14,7 +14,7 @@ use Rattle.fax_tool.specs.declared.refusal.Refusal.TheVariants.{Memory, Read, Wr
 use Rattle.fax_tool.specs.declared.words.Command.{Command}
 use Rattle.fax_tool.specs.declared.words.Command.TheVariants.{List as Forms, Rows, Convert, Check}
 use Rattle.fax_tool.specs.declared.words.Command.TheVariants.{Salvage, Version}
-use Rattle.fax_tool.specs.declared.words.Part.{Part}
+use Rattle.fax_tool.specs.declared.words.Selection.{Selection}
 use Rattle.fax_tool.specs.ReportText.{IsCheckText, IsConversionText}
 use Rattle.fax_tool.specs.SalvageText.{IsSalvageFront, IsSalvageText}
 use Rattle.fax_tool.specs.Words.{version_text}
@@ -95,7 +95,7 @@ IsTextOfFirst are max begun output =
     × (output ≡ (text_of false (Some count) begun lines end).output)
 
 -- what a part begins with: the place inside a strip, where there is one, else the cursor
-abbrev pub begun_of : Part → Begun
+abbrev pub begun_of : Selection → Begun
 begun_of part = option_map_or Inside part.from (At part.cursor)
 
 -- what a command writes of a file; the version is the same for each

@@ -6,7 +6,7 @@ pub mod Printing
 pub mod Salvaging
 pub mod ReportParts
 pub mod Outcome
-pub mod Entries
+pub mod CommandEntries
 pub mod CommandLine
 pub mod Scan
 pub mod Remembered

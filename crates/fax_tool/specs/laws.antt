@@ -1,4 +1,4 @@
 pub mod Runs
-pub mod Texts
+pub mod OneText
 pub mod Words
-pub mod Examples
+pub mod WordExamples

@@ -2,7 +2,7 @@
 
 pub mod check;
 pub mod convert;
-pub mod lines;
 pub mod print;
-pub mod salvage;
+pub mod printed_lines;
+pub mod remains;
 pub mod version;

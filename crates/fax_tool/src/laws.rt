@@ -1,8 +1,8 @@
 //! Laws of runs and of words. The functions compute nothing: each has a law as its contract.
 ghost use Rattle.fax_tool.specs.laws.Words.{WordsHaveOneAnswer};
 ghost use Rattle.fax_tool.specs.laws.Runs as Laws;
-ghost use Rattle.fax_tool.specs.laws.Texts.{TextsAreOne};
-ghost use Rattle.fax_tool.specs.laws.Examples.{AreNotTaken, AreSpellingsRead};
+ghost use Rattle.fax_tool.specs.laws.OneText.{TextsAreOne};
+ghost use Rattle.fax_tool.specs.laws.WordExamples.{AreNotTaken, AreSpellingsRead};
 
 /// Runs of `rows`, all with `--long` or all without, the first from any cursor, with `--long` also
 /// from a long cursor to which its strip's rows lead, and each later one from what is read of the

@@ -62,8 +62,8 @@ pub trait Sink {
         ensures counts { counts self.new ≡ counts_after result (counts self.old) };
 }
 
-/// How many calls on a stream were interrupted, how many failed, and how many files were not opened.
-/// All stay at `u64::MAX`.
+/// How many calls on a stream were interrupted, how many failed, and how many files were not
+/// opened. All stay at `u64::MAX`.
 #[derive(Clone, Copy)]
 struct FaultCounts {
     interrupted: u64,

@@ -17,11 +17,11 @@ ghost use Rattle.fax_tool.specs.Job.{number_in, order_by, target_in};
 ghost use Rattle.fax_tool.specs.Run.{HasFailed};
 ghost use Rattle.fax_tool.specs.Streams.{no_faults};
 ghost use Rattle.fax_tool.specs.Words.{names_salvage, usage_for, words_status, words_text};
-ghost use Rattle.fax_tool.specs.code.Entries.{HasEntries, HasFlag, HasNumber, HasOptions};
+ghost use Rattle.fax_tool.specs.code.CommandEntries.{HasEntries, HasFlag, HasNumber, HasOptions};
 ghost use Rattle.fax_tool.specs.code.CommandLine.{coding_app, convert_app, faxpages_app, file_app};
 ghost use Rattle.fax_tool.specs.code.CommandLine.{printers_app, printing_app, rows_app, value_rule};
-ghost use Rattle.fax_tool.specs.code.Entries.{IsApp, IsCommandFault, IsNoCursor, IsNoLongCursor};
-ghost use Rattle.fax_tool.specs.code.Entries.{entries_of, given_by};
+ghost use Rattle.fax_tool.specs.code.CommandEntries.{IsApp, IsCommandFault, IsNoCursor, IsNoLongCursor};
+ghost use Rattle.fax_tool.specs.code.CommandEntries.{entries_of, given_by};
 
 use crate::streams::Sink;
 use crate::streams::transfer::{Interruptions, give_all};
@@ -44,9 +44,9 @@ pub struct Job {
 #[derive(Debug, Drop)]
 pub enum Command {
     /// Prints the form of each page.
-    List(Part),
+    List(Selection),
     /// Prints the runs of each row.
-    Rows(Part),
+    Rows(Selection),
     /// Writes the pages in another form.
     Convert(Options),
     /// Prints what is worth a note.
@@ -61,7 +61,7 @@ pub enum Command {
 // It is lent and not copied, since it may hold a long cursor. What the walk needs of it is copied
 // before the input is read.
 #[derive(Debug, Drop)]
-pub struct Part {
+pub struct Selection {
     /// Where to begin: at page 0, row 0 where no cursor is named; where a long one is, at its row.
     pub cursor: Cursor,
     /// The most lines of pages or rows, or `None` for all.
@@ -73,7 +73,7 @@ pub struct Part {
     pub from: Option<LongCursor>,
 }
 
-impl Part {
+impl Selection {
     ghost use Rattle.fax_walk.specs.Items.{begun_cursor};
     ghost use Rattle.fax_tool.specs.Run.{begun_of};
 
@@ -161,7 +161,8 @@ fn usage_for(words: &[&str]) -> &'static str
 }
 
 impl WordsFault {
-    /// The text for the error stream, with its line ends, and the program's status, for these words.
+    /// The text for the error stream, with its line ends, and the program's status, for these
+    /// words.
     pub fn text(&self, words: &[&str]) -> (&'static str, u8)
         ensures text { result.0.now ≡ words_text (texts words.now) self.now }
         ensures status { result.1 ≡ words_status self.now }
@@ -341,7 +342,7 @@ fn file_of(alloc: Global, matches: &ArgMatches) -> Result<Option<String>, AllocE
 }
 
 /// The part of a file's pages that the words after `list` name.
-fn pages_of(matches: &ArgMatches) -> Result<Part, NotACursor>
+fn pages_of(matches: &ArgMatches) -> Result<Selection, NotACursor>
     requires { HasNumber (codes "max") most_lines (entries_of matches.now) }
     ensures ok { IfOk result (λ part. IsPart (given_by (entries_of matches.now)) false part
         × (part.from ≡ None)) }
@@ -353,7 +354,7 @@ fn pages_of(matches: &ArgMatches) -> Result<Part, NotACursor>
         Some(text) => Cursor::parse(text)?,
         None => Cursor { page: 0, row: 0 },
     };
-    Ok(Part {
+    Ok(Selection {
         cursor,
         max: matches.get_one::<u32>("max"),
         long: false,
@@ -362,7 +363,7 @@ fn pages_of(matches: &ArgMatches) -> Result<Part, NotACursor>
 }
 
 /// The part of a file's rows that the words after `rows` name, where the cursor may be a long one.
-fn rows_of(alloc: Global, matches: &ArgMatches) -> Result<Part, WordsFault>
+fn rows_of(alloc: Global, matches: &ArgMatches) -> Result<Selection, WordsFault>
     requires max { HasNumber (codes "max") most_lines (entries_of matches.now) }
     requires long { HasFlag (codes "long") (entries_of matches.now) }
     ensures ok { IfOk result (λ part. IsPart (given_by (entries_of matches.now))
@@ -384,7 +385,7 @@ fn rows_of(alloc: Global, matches: &ArgMatches) -> Result<Part, WordsFault>
         },
         None => (Cursor { page: 0, row: 0 }, None),
     };
-    Ok(Part {
+    Ok(Selection {
         cursor,
         max: matches.get_one::<u32>("max"),
         long: matches.get_flag("long"),
@@ -518,8 +519,9 @@ fn job_of(alloc: Global, words: &[&str]) -> Result<Job, WordsFault>
 /// # Errors
 ///
 /// `Usage` where the words are not those of a command, a request for help included, nor ask for the
-/// version, or `-o` names no target, or `--align` meets one that has no EOLs. `NotACursor` where the
-/// words are those of a command, but for the text of `--cursor`. `Memory` where a growth was refused.
+/// version, or `-o` names no target, or `--align` meets one that has no EOLs. `NotACursor` where
+/// the words are those of a command, but for the text of `--cursor`. `Memory` where a growth was
+/// refused.
 pub fn parse_words(alloc: Global, words: &[&str]) -> Result<Job, WordsFault>
     ensures job { IfOk result (λ job. IsJob (texts words.now) job) }
     ensures fault { IfErr result (λ fault. IsFault (texts words.now) fault) }

@@ -16,13 +16,13 @@ use Rattle.fax_page.specs.laws.Strips.{AreRowsOf, CodedStripsAreRead}
 use Rattle.fax_files.specs.declared.PageForm.{PageForm}
 use Rattle.fax_files.specs.views.Page.{IsPageForm}
 use Rattle.fax_files.specs.Page.{strip_form}
-use Rattle.fax_files.specs.laws.Files.{joined, IsWritable, AreWritable, HoldStripRows}
+use Rattle.fax_files.specs.laws.TiffFiles.{joined, IsWritable, AreWritable, HoldStripRows}
 use Rattle.fax_files.specs.laws.Pbm.{AreOfWidth}
 use Rattle.fax_walk.specs.declared.options.Options.{Options}
 use Rattle.fax_walk.specs.Converted.{SourcePage, written_page}
 use Rattle.fax_walk.specs.code.OpenStrips.{coded_of, rows_of_strip}
-use Rattle.fax_walk.specs.laws.Written.{HoldsRows, IsWritableSource, written_pages, WrittenFilesAreWalked}
-use Rattle.fax_walk.specs.laws.Written.{CodedFilesAreWalked}
+use Rattle.fax_walk.specs.laws.WrittenFiles.{HoldsPageRows, IsWritableSource, written_pages, WrittenFilesAreWalked}
+use Rattle.fax_walk.specs.laws.WrittenFiles.{CodedFilesAreWalked}
 use Rattle.fax_walk.proofs.OpenPageLemmas.{whole_of}
 
 -- strips of enough rows, from strip s on, are all rows that are left
@@ -86,7 +86,7 @@ module _ (law : CodedStripsAreRead) (options : Options) (coding : Coding)
     page_writable : IsWritable (written_page options coding source)
     page_writable = grind (arith, common_steps, length-map-range_with_len)
 
-    page_holds : HoldsRows (written_page options coding source) source.image.rows
+    page_holds : HoldsPageRows (written_page options coding source) source.image.rows
     page_holds =
         let rows = source.image.rows in
         let none : 0 ≡ 0 * form.rows_per_strip = omega arith in (
@@ -107,7 +107,7 @@ module _ (law : CodedStripsAreRead) (options : Options) (coding : Coding)
   )
 
   all_hold : (pages : List SourcePage) → All IsWritableSource pages
-      → AllZip HoldsRows (written_pages options coding pages) (map (λ source. source.image.rows) pages)
+      → AllZip HoldsPageRows (written_pages options coding pages) (map (λ source. source.image.rows) pages)
   all_hold [] are = tt
   all_hold (source ∷ pages) are = (
     page_holds source (All-head IsWritableSource source pages are),

@@ -14,7 +14,7 @@ use Rattle.fax_walk.specs.declared.opening.OpenFault.TheVariants.{Memory, Ended}
 use Rattle.fax_walk.specs.Pages.{LongPlace, ends_as}
 use Rattle.fax_walk.specs.views.Walk.{Begins, EndsBefore, EntersFirst, HasPage}
 use Rattle.fax_walk.specs.Items.{IsInnerOn, IsRow, RowPlace, begun_cursor, first_at, inner_at}
-use Rattle.fax_walk.specs.code.Places.{row_in_strip, strip_at}
+use Rattle.fax_walk.specs.code.RowPlaces.{row_in_strip, strip_at}
 use Rattle.fax_walk.specs.code.Opening.{EndsAt, IsFilePage, IsNamed, PageDue, page_with}
 use Rattle.fax_walk.specs.code.Stages.{IsNoInner, IsNoStrip, IsOpenedAt, IsRefusal, PageState}
 use Rattle.fax_walk.specs.code.Walk.{HasNoRows, IsOpenedFirst}

@@ -1,4 +1,5 @@
--- What is handed out in order: one answer at each place makes one list, and what follows an item begins after it.
+-- What is handed out in order: one answer at each place makes one list, and what follows an item
+-- begins after it.
 use Rattle.std.proofs.lemmas.Grind.{common_steps}
 use Rattle.std.proofs.Common.{◌≡◌, ℕ, zero, suc, ◌+◌, ◌<◌, ◌≤◌, List, [], ◌∷◌, ◌++◌, length, take, drop, Some, refl}
 use Rattle.std.proofs.Common.{sym, ap, ◌∙◌}

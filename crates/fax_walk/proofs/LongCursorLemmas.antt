@@ -52,8 +52,8 @@ pub record IsRunText (text : List ℕ) : Type 0 where
   pub short : run < 2 ^ 32
   pub text_is : text ≡ decimal run
 
--- These runs stand in front of the rest of a text, each with a comma after it; where the text is that of some runs, so
--- is the rest
+-- These runs stand in front of the rest of a text, each with a comma after it; where the text is
+-- that of some runs, so is the rest
 pub record AreRunsCut (text runs rest : List ℕ) : Type 0 where
   pub parts : text ≡ flat_map run_and runs ++ rest
   pub others : IsRunsText text → IsRunsText rest

@@ -17,7 +17,7 @@ use Rattle.fax_page.specs.views.Reader.{StripState, ReadsRow, MeetsFault, IsAdva
 use Rattle.fax_files.specs.declared.FileFault.TheVariants.{StripOutside}
 use Rattle.fax_files.specs.declared.Cause.TheVariants.{File, Strip}
 use Rattle.fax_files.specs.declared.PageForm.{PageForm}
-use Rattle.fax_files.specs.laws.Files.{IsWholeForm}
+use Rattle.fax_files.specs.laws.TiffFiles.{IsWholeForm}
 use Rattle.fax_files.specs.views.Page.{IsPageForm}
 use Rattle.fax_files.specs.Page.{most_rows, strip_form}
 use Rattle.fax_files.specs.views.Chain.{ChainState}
@@ -28,7 +28,7 @@ use Rattle.fax_walk.specs.declared.opening.OpenFault.{OpenFault}
 use Rattle.fax_walk.specs.Pages.{LongPlace, read_page, goes_on, ends_as}
 use Rattle.fax_walk.specs.Items.{Inner, RowItem, RowPlace, IsRow, before, exchanged, first_at, long_at}
 use Rattle.fax_walk.specs.Items.{place_after}
-use Rattle.fax_walk.specs.code.Places.{IsInner, cursor_at, row_in_strip, strip_at, place_on}
+use Rattle.fax_walk.specs.code.RowPlaces.{IsInner, cursor_at, row_in_strip, strip_at, place_on}
 use Rattle.fax_walk.specs.laws.InOrder.{LeadTo}
 use Rattle.fax_walk.specs.code.Opening.{IsFilePage, PageDue, page_with}
 use Rattle.fax_walk.specs.views.Walk.{HasPage}
@@ -37,7 +37,7 @@ use Rattle.fax_walk.specs.code.Stages.{IsSamePage, IsStripOf}
 use Rattle.fax_walk.specs.code.Stages.{KeepsPlace, PageState, ReadsPageRow, StopsAtRow, item_of, place_of, row_of}
 use Rattle.fax_walk.specs.code.Stages.{skipped}
 use Rattle.fax_walk.proofs.InOrderLemmas.{leads_on}
-use Rattle.fax_walk.proofs.RunLemmas.{pels_after}
+use Rattle.fax_walk.proofs.PelsAfterLemmas.{pels_after}
 use Rattle.fax_walk.proofs.StripPlaceLemmas.{in_strip}
 use Rattle.fax_walk.proofs.RowLawLemmas.{exchanged_twice}
 

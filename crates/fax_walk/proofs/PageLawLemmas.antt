@@ -10,13 +10,12 @@ use Rattle.std.proofs.lemmas.Bool.Decides.{nat_tests}
 use Rattle.fax_files.specs.declared.FileFault.{FileFault}
 use Rattle.fax_files.specs.declared.Cause.{Cause}
 use Rattle.fax_files.specs.declared.Cause.TheVariants.{File}
-use Rattle.fax_files.specs.declared.PageForm.{PageForm}
 use Rattle.fax_files.specs.Directory.{ChainRead, Header, header, read_chain}
 use Rattle.fax_files.specs.Page.{page}
-use Rattle.fax_files.specs.laws.Files.{FilesHaveOneChain}
+use Rattle.fax_files.specs.laws.TiffFiles.{FilesHaveOneChain}
 use Rattle.fax_walk.specs.declared.cursor.Cursor.{Cursor}
 use Rattle.fax_walk.specs.declared.end.End.{End}
-use Rattle.fax_walk.specs.declared.end.End.TheVariants.{Fault, Outside, Proper}
+use Rattle.fax_walk.specs.declared.end.End.TheVariants.{Fault, Proper}
 use Rattle.fax_walk.specs.Pages.{AreFrom, FormItem, FilePage, IsForm, IsFormTail, NextItem, chain_end, ends_as}
 use Rattle.fax_walk.specs.Pages.{first_page}
 use Rattle.fax_walk.specs.Pages.{goes_on, page_of_chain, page_with_form, read_page}
@@ -25,7 +24,7 @@ use Rattle.fax_walk.specs.laws.Tails.{FormsStandByNumber}
 use Rattle.fax_walk.specs.laws.Tails.{FormTailsGoOn}
 use Rattle.fax_bits.specs.laws.Codes.{IsOne}
 use Rattle.fax_walk.proofs.InOrderLemmas.{get_dropped, IsOneAnswer, IsSingle, IsListed, listed_by, one_list}
-use Rattle.fax_walk.proofs.InOrderLemmas.{same_answer, split_at_number}
+use Rattle.fax_walk.proofs.InOrderLemmas.{split_at_number}
 
 -- an equation has one answer
 pub only_it : {A : Type 0} (it : A) → IsOneAnswer (λ (other : A). other ≡ it)

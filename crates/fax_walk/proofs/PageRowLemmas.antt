@@ -1,6 +1,6 @@
 -- The rows of a page without a fault are rows that a walk hands out, one after another.
 use Rattle.std.proofs.Common.{◌≡◌, ℕ, ◌+◌, ◌*◌, min, inl, inr, Bool, true, List, [], ◌∷◌, ◌++◌, map, length, Some, None}
-use Rattle.std.proofs.Common.{Ok, refl, ap, arith}
+use Rattle.std.proofs.Common.{refl, ap, arith}
 use Rattle.std.proofs.lemmas.List.{map-append}
 use Rattle.std.proofs.lemmas.Bool.Decides.{nat_tests}
 use Rattle.std.specs.Prelude.{if◌then◌else◌, nat_lt}
@@ -9,13 +9,12 @@ use Rattle.fax_bits.specs.laws.Codes.{AreBitsByPlace}
 use Rattle.fax_rows.specs.Rows.{other}
 use Rattle.fax_files.specs.declared.PageForm.{PageForm}
 use Rattle.fax_files.specs.declared.Endian.{Endian}
-use Rattle.fax_files.specs.laws.Files.{AreStrips, joined, shown, IsWholeForm}
+use Rattle.fax_files.specs.laws.TiffFiles.{AreStrips, joined, shown, IsWholeForm}
 use Rattle.fax_files.specs.Page.{strip_form}
-use Rattle.fax_walk.specs.Pages.{read_page}
 use Rattle.fax_walk.specs.Items.{RowPlace, first_at}
 use Rattle.fax_walk.specs.code.Opening.{IsPageOf}
-use Rattle.fax_walk.specs.code.Places.{first_on}
-use Rattle.fax_walk.specs.laws.Written.{WalkedRow, numbered}
+use Rattle.fax_walk.specs.code.RowPlaces.{first_on}
+use Rattle.fax_walk.specs.laws.WrittenFiles.{WalkedRow, numbered}
 use Rattle.fax_walk.proofs.InOrderLemmas.{leads_both}
 use Rattle.fax_walk.proofs.StripPlaceLemmas.{shown_length, strip_count}
 use Rattle.fax_walk.proofs.RowLawLemmas.{LinesAreRead}

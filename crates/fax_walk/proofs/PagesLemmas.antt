@@ -18,10 +18,10 @@ use Rattle.fax_walk.specs.declared.end.End.TheVariants.{Proper}
 use Rattle.fax_walk.specs.declared.end.WalkFault.{WalkFault}
 use Rattle.fax_walk.specs.code.Walk.{answer_of}
 use Rattle.fax_walk.specs.views.Pages.{IsCursorOfPages, PagesView, HandsOutPage, IsNextPage}
-use Rattle.fax_walk.specs.laws.Forms.{AreFormsLeft}
+use Rattle.fax_walk.specs.laws.FormsLeft.{AreFormsLeft}
 use Rattle.fax_walk.specs.laws.Tails.{CursorsHaveOneFormTail, FormTailOfPage}
 use Rattle.fax_files.specs.views.Page.{IsPageForm}
-use Rattle.fax_walk.specs.code.Opening.{PageDue, IsFilePage, IsChainBefore, IsNamed, EndsAt, page_with}
+use Rattle.fax_walk.specs.code.Opening.{PageDue, IsFilePage, IsChainBefore, IsNamed, EndsAt}
 use Rattle.fax_walk.proofs.InOrderLemmas.{get_after}
 use Rattle.fax_walk.proofs.LeftLemmas.{left_after, left_ended}
 use Rattle.fax_walk.specs.declared.pages.PagesStage.{PagesStage}

@@ -9,7 +9,7 @@ use Rattle.fax_bits.specs.Bits.{BeginsWith}
 use Rattle.fax_bits.specs.declared.Colour.{Colour}
 use Rattle.fax_files.specs.declared.PageForm.{PageForm}
 use Rattle.fax_files.specs.Pbm.{AreImages, Image, IsImage, is_within_limits}
-use Rattle.fax_files.specs.laws.Files.{FormsAreWithinLimits}
+use Rattle.fax_files.specs.laws.TiffFiles.{FormsAreWithinLimits}
 use Rattle.fax_files.specs.laws.Pbm.{AreOfWidth, AreWritableImages, IsWritableImage, WrittenImagesAreRead}
 use Rattle.fax_files.specs.views.Page.{IsPageForm}
 use Rattle.fax_walk.specs.declared.cursor.Cursor.{Cursor}
@@ -25,11 +25,11 @@ use Rattle.fax_walk.specs.code.Output.{form_sheet, page_of}
 use Rattle.fax_walk.specs.code.Sources.{ArePaged, AreRowsOn, FilesArePaged, page_of_image, pels_of}
 use Rattle.fax_walk.specs.laws.ReadBack.{AreReadBack, ConversionsAreReadBack, ConversionsKeepItems}
 use Rattle.fax_walk.specs.laws.Tails.{FilesHaveOneItems}
-use Rattle.fax_walk.specs.laws.Written.{CodedFilesAreWalked, IsWritableSource, numbered, rows_of, walked}
+use Rattle.fax_walk.specs.laws.WrittenFiles.{CodedFilesAreWalked, IsWritableSource, numbered, rows_of, walked}
 use Rattle.fax_walk.proofs.FileLemmas.{some_pages}
 use Rattle.fax_walk.proofs.PageLawLemmas.{in_chain}
 use Rattle.fax_walk.proofs.ImageLemmas.{raster_count, raster_widths}
-use Rattle.fax_walk.proofs.SourceLemmas.{first_page, found_page}
+use Rattle.fax_walk.proofs.SourcePageLemmas.{first_page, found_page}
 
 -- a page of a form within the limits, whose rows have its width, can be written
 page_writable : (form : PageForm) (own : List RowItem) → IsPageForm form → length own ≡ form.rows

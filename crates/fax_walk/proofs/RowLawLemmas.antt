@@ -19,7 +19,7 @@ use Rattle.fax_page.specs.laws.Strips.{ReadsLinesOneWay}
 use Rattle.fax_files.specs.declared.Cause.TheVariants.{Strip}
 use Rattle.fax_files.specs.declared.PageForm.{PageForm}
 use Rattle.fax_files.specs.Page.{strip_form, strip_bytes}
-use Rattle.fax_files.specs.laws.Files.{FilesHaveOneChain, FormsAreWhole, IsWholeForm}
+use Rattle.fax_files.specs.laws.TiffFiles.{FilesHaveOneChain, FormsAreWhole, IsWholeForm}
 use Rattle.fax_walk.specs.declared.begun.Begun.{Begun}
 use Rattle.fax_walk.specs.declared.begun.Begun.TheVariants.{At, Inside}
 use Rattle.fax_walk.specs.declared.end.End.{End}
@@ -28,10 +28,10 @@ use Rattle.fax_walk.specs.Pages.{LongPlace, Cursor, FilePage, read_page, NextIte
 use Rattle.fax_walk.specs.Items.{RowItem, RowPlace, first_at, exchanged, before, IsInStrip, IsRow, place_after}
 use Rattle.fax_walk.specs.Items.{IsBegunOn, IsInnerOn}
 use Rattle.fax_walk.specs.Items.{IsTailFrom, inner_at, begun_cursor}
-use Rattle.fax_walk.specs.code.Places.{strip_at, row_in_strip, FitsStrip, cursor_at}
+use Rattle.fax_walk.specs.code.RowPlaces.{strip_at, row_in_strip, FitsStrip, cursor_at}
 use Rattle.fax_walk.specs.views.Walk.{Begins}
 use Rattle.fax_walk.specs.laws.Tails.{BeginningsHaveOneTail}
-use Rattle.fax_walk.proofs.InOrderLemmas.{IsOneAnswer, IsListed, listed_by, one_list, same_answer}
+use Rattle.fax_walk.proofs.InOrderLemmas.{IsOneAnswer, IsListed, listed_by, one_list}
 use Rattle.fax_walk.proofs.PageLawLemmas.{in_chain, one_on_page, page_few}
 
 abbrev pub LinesAreRead : Type 0
@@ -158,7 +158,8 @@ inner_after form item =
           (record { bits = item.bits; reference = exchanged form item.pels });
     }
 
--- after an item of a page of this form: on the page after, at the page's next strip, or inside its strip
+-- after an item of a page of this form: on the page after, at the page's next strip, or inside its
+-- strip
 abbrev pub IsAfter : PageForm → RowItem → RowPlace → Type 0
 IsAfter form item to =
     ((form.rows ≤ item.row + 1) × (to ≡ first_at (item.page + 1) 0))
@@ -199,7 +200,8 @@ module _ (file : List ℕ) where
   same_page at here there is is_too =
       let same : ◌≡◌ {A = Result FilePage End} (Ok here) (Ok there) = sym is ∙ is_too in cc
 
-  -- what holds of the place after a row that was read: on the page after, at the next strip, or inside the strip
+  -- what holds of the place after a row that was read: on the page after, at the next strip, or
+  -- inside the strip
   pub after_read : (holds : RowPlace → Type 0) (at : RowPlace) (item : RowItem) (to : RowPlace)
       (read : IsRead at item to)
       → (read.here.form.rows ≤ item.row + 1 → holds (first_at (item.page + 1) 0))

@@ -9,8 +9,8 @@ use Rattle.fax_bits.specs.Bits.{bits}
 use Rattle.fax_page.specs.declared.StripFault.{StripFault}
 use Rattle.fax_page.specs.declared.StripFault.TheVariants.{MissingEol}
 use Rattle.fax_page.specs.declared.StripForm.{StripForm}
-use Rattle.fax_page.specs.declared.salvage.Salvaged.{Salvaged}
-use Rattle.fax_page.specs.declared.salvage.Salvaged.TheVariants as in_strip
+use Rattle.fax_page.specs.declared.salvage_reader.Salvaged.{Salvaged}
+use Rattle.fax_page.specs.declared.salvage_reader.Salvaged.TheVariants as in_strip
 use Rattle.fax_page.specs.Lines.{white_row}
 use Rattle.fax_page.specs.Salvage.{SalvagedRow, found, lost, unended, AreSalvaged, next_due}
 use Rattle.fax_page.specs.views.Salvage.{SalvageState, IsSalvageStep, IsAfterLost}
@@ -32,9 +32,9 @@ use Rattle.fax_walk.specs.declared.salvage_rows.PagePart.TheVariants.{Found, Los
 use Rattle.fax_walk.specs.Pages.{Cause, Strip}
 use Rattle.fax_walk.specs.Salvaged.{PageRow, strip_row}
 use Rattle.fax_walk.specs.laws.RowsLeft.{AreLeftOneWay}
-use Rattle.fax_walk.specs.views.RowsLeft.{LeftOf, of_page, of_strip, of_uncounted, AreRowsOf}
+use Rattle.fax_walk.specs.views.RowsLeft.{LeftOf, of_page, of_strip, of_uncounted, AreLeftOf}
 use Rattle.fax_walk.specs.views.RowsLeft.{IsNextPart, IsUncountedStart, PassesRows}
-use Rattle.fax_walk.specs.code.Salvage.{AreRowsLeft, IsBeforeRows, IsPart, StaysOnPage, part_of, row_due}
+use Rattle.fax_walk.specs.code.SalvageItems.{AreRowsLeft, IsBeforeRows, IsPart, StaysOnPage, part_of, row_due}
 use Rattle.fax_walk.specs.code.ShownRows.{ShownState, IsShownPart}
 use Rattle.fax_walk.specs.code.RowsLeft.{AreLeftNow, IsCountOf, IsGoneOver, GoesOver, GoesOverPart, IsNextOf}
 use Rattle.fax_walk.specs.code.RowsLeft.{its_of, row_of, rows_of, last_of, view_of}
@@ -91,7 +91,7 @@ module _ (old new : Left) (sound : IsGoneOver old) where
 
     -- and it is what stands there
     rows_at : (one : AreLeftOneWay (its_of old)) → (rest : List PageRow) → AreLeftNow new rest → (all : List PageRow)
-        → AreRowsOf (its_of old) all → drop (row_of old) all ≡ over ++ drop (row_of new) all
+        → AreLeftOf (its_of old) all → drop (row_of old) all ≡ over ++ drop (row_of new) all
     rows_at one rest is all are =
         let before = sound.passed (over ++ rest) (goes.followed rest is) in
         let first : all ≡ before.0 ++ (over ++ rest) =
@@ -116,7 +116,7 @@ module _ (old new : Left) (sound : IsGoneOver old) where
 
   -- nothing is left
   all_passed : (one : AreLeftOneWay (its_of old)) → GoesOver old [] new → AreLeftNow new [] → (all : List PageRow)
-      → AreRowsOf (its_of old) all → length all ≡ row_of old
+      → AreLeftOf (its_of old) all → length all ≡ row_of old
   all_passed one goes none all are =
       let before = sound.passed [] (goes.followed [] none) in
       let same : all ≡ before.0 =
@@ -479,7 +479,7 @@ module _ (form : StripForm) (bytes : Bor (List ℕ)) (end : RowsEnd) (start pass
 
       shown : (rows : List PageRow)
           → AreLeftNow (Uncounted (uncounted_beginning form (bits form.order bytes.now)) bytes count) rows
-          → AreRowsOf (of_uncounted (uncounted form) (bits form.order bytes.now)) rows
+          → AreLeftOf (of_uncounted (uncounted form) (bits form.order bytes.now)) rows
       shown rows (own, end', are, rows_are) = (end', (own, are, rows_are))
 
   pub uncounted_started : IsUncountedStart form (bits form.order bytes.now) (view_of Begun) count end

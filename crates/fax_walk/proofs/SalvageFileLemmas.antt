@@ -8,7 +8,7 @@ use Rattle.std.specs.Prelude.{◌^◌}
 use Rattle.fax_rows.specs.Rows.{Colour}
 use Rattle.fax_walk.specs.declared.salvage.SalvageItem.{SalvageItem}
 use Rattle.fax_walk.specs.declared.salvage.SalvageItem.TheVariants as Item
-use Rattle.fax_walk.specs.views.Salvage.{SalvageView, HandsOutLeft, item_of}
+use Rattle.fax_walk.specs.views.SalvageItems.{SalvageView, HandsOutLeft, item_of}
 use Rattle.std.proofs.Common.{zero}
 use Rattle.fax_page.specs.laws.Salvage.{SalvagesStripsOneWay}
 use Rattle.fax_walk.specs.laws.Salvaged.{IsSalvagedOneWay}

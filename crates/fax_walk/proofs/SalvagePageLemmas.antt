@@ -6,7 +6,7 @@ use Rattle.fax_walk.specs.declared.salvage.Stretch.{Stretch}
 use Rattle.fax_files.specs.Page.{most_rows}
 use Rattle.fax_walk.specs.Pages.{Cause, PageForm}
 use Rattle.fax_walk.specs.Salvaged.{PageRow, LeftItem, row_found, rows_lost, page_refused, lost_before, page_items}
-use Rattle.fax_walk.specs.code.Salvage.{RowsState, AreRowsLeft, IsPart, StaysOnPage, row_due}
+use Rattle.fax_walk.specs.code.SalvageItems.{RowsState, AreRowsLeft, IsPart, StaysOnPage, row_due}
 use Rattle.fax_walk.specs.declared.salvage.SalvageItem.TheVariants.{Row, Lost as Lost_}
 use Rattle.fax_walk.specs.declared.salvage_rows.PagePart.TheVariants.{Found, Lost}
 use Rattle.fax_walk.specs.Items.{exchanged}

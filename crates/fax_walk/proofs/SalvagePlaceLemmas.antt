@@ -23,8 +23,8 @@ use Rattle.fax_files.specs.views.Tiff.{PageStrips, TiffDirectory, form_of}
 use Rattle.fax_walk.specs.Pages.{FilePage}
 use Rattle.fax_walk.specs.Salvaged.{PageRow, AreRowsFrom, AreStripsLeft, IsRowOfStrip, on_page}
 use Rattle.fax_walk.specs.code.Opening.{page_with}
-use Rattle.fax_walk.specs.code.Salvage.{AreBytesLeft, IsBegunAt, IsInPage, IsNotBegunAt, IsPlaceOf}
-use Rattle.fax_walk.specs.code.Salvage.{GoesOverRows, RowsState, row_due, seen_from}
+use Rattle.fax_walk.specs.code.SalvageItems.{AreBytesLeft, IsBegunAt, IsInPage, IsNotBegunAt, IsPlaceOf}
+use Rattle.fax_walk.specs.code.SalvageItems.{GoesOverRows, RowsState, row_due, seen_from}
 use Rattle.fax_walk.specs.code.ShownRows.{IsShownPart, ShownState}
 use Rattle.fax_walk.specs.declared.salvage_rows.PagePart.{PagePart}
 use Rattle.fax_walk.specs.declared.salvage_rows.PagePart.TheVariants.{Found, Lost}
@@ -286,7 +286,8 @@ next_from old new (Some (Lost rows cause)) ((goes, some, next, within), shown) =
       (next ∙ ap (λ n. row_due old.rows + n) (sym (length-replicate rows (Err cause)))) within,
 )
 
--- what is left from a place on is one list, and from the first one on it is what is left of the page
+-- what is left from a place on is one list, and from the first one on it is what is left of the
+-- page
 pub left_from_places : SalvagesStripsOneWay → AreLeftFromPlaces
 left_from_places salvages = record {
   one = λ file here s i at rows others within (own, strips, is, are, rows_are) (own', strips', is', are', others_are).

@@ -8,26 +8,26 @@ use Rattle.fax_page.specs.declared.StripForm.{StripForm}
 use Rattle.fax_page.specs.declared.StripFault.{StripFault}
 use Rattle.fax_page.specs.Lines.{white_row}
 use Rattle.fax_page.specs.declared.StripFault.TheVariants.{MissingEol}
-use Rattle.fax_page.specs.declared.salvage.Salvaged.{Salvaged}
-use Rattle.fax_page.specs.declared.salvage.Salvaged.TheVariants as in_strip
+use Rattle.fax_page.specs.declared.salvage_reader.Salvaged.{Salvaged}
+use Rattle.fax_page.specs.declared.salvage_reader.Salvaged.TheVariants as in_strip
 use Rattle.fax_page.specs.Salvage.{SalvagedRow, found, lost, unended, AreSalvaged, IsSalvagedStrip, next_due}
-use Rattle.fax_walk.specs.code.Salvage.{AreWholeBefore, IsCleanSoFar, IsWholeStrip, is_found}
+use Rattle.fax_walk.specs.code.SalvageItems.{AreWholeBefore, IsCleanSoFar, IsWholeStrip, is_found}
 use Rattle.fax_page.specs.views.Salvage.{SalvageState, salvage_beginning, FindsRow, IsSalvageStep, IsAfterLost}
 use Rattle.fax_files.specs.declared.PageForm.{PageForm}
 use Rattle.fax_files.specs.Page.{strip_form}
-use Rattle.fax_files.specs.laws.Files.{IsWholeForm}
+use Rattle.fax_files.specs.laws.TiffFiles.{IsWholeForm}
 use Rattle.fax_files.specs.views.Page.{IsPageForm}
 use Rattle.fax_files.specs.views.Tiff.{PageStrips, TiffDirectory, bytes_of, form_of, inside_of}
-use Rattle.fax_walk.specs.code.Salvage.{IsInPage, StandsInStrip, seen_from}
+use Rattle.fax_walk.specs.code.SalvageItems.{IsInPage, StandsInStrip, seen_from}
 use Rattle.fax_walk.specs.views.RowsFrom.{EndsWithPage}
 use Rattle.fax_page.specs.laws.Salvage.{DueRowsStandInStrips, FindsWholeStrips}
 use Rattle.std.proofs.Common.{subst}
 use Rattle.fax_walk.specs.Items.{exchanged}
 use Rattle.fax_walk.specs.Salvaged.{PageRow, on_page, IsStripLeft, AreStripsLeft}
 use Rattle.fax_walk.specs.code.Opening.{page_with}
-use Rattle.fax_walk.specs.code.Salvage.{RowsState, AreBytesLeft, AreRowsLeft, IsBeforeRows, EntersStrip}
+use Rattle.fax_walk.specs.code.SalvageItems.{RowsState, AreBytesLeft, AreRowsLeft, IsBeforeRows, EntersStrip}
 use Rattle.fax_walk.specs.declared.salvage_rows.PagePart.TheVariants.{Found, Lost}
-use Rattle.fax_walk.specs.code.Salvage.{cause_of, part_of, IsPart}
+use Rattle.fax_walk.specs.code.SalvageItems.{cause_of, part_of, IsPart}
 use Rattle.std.proofs.lemmas.Bool.{cases_lt}
 use Rattle.std.proofs.Common.{inl, inr, suc}
 use Rattle.std.proofs.lemmas.List.{map-append}

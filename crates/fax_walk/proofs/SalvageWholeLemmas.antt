@@ -7,13 +7,13 @@ use Rattle.fax_bits.specs.Bits.{bits}
 use Rattle.fax_bits.specs.laws.Codes.{AreBitsByPlace}
 use Rattle.fax_files.specs.declared.PageForm.{PageForm}
 use Rattle.fax_files.specs.Page.{strip_form}
-use Rattle.fax_files.specs.laws.Files.{IsWholeForm}
+use Rattle.fax_files.specs.laws.TiffFiles.{IsWholeForm}
 use Rattle.fax_files.specs.views.Page.{IsPageForm}
 use Rattle.fax_files.specs.views.Tiff.{TiffDirectory}
 use Rattle.fax_walk.specs.Items.{IsRow, RowItem, first_at}
 use Rattle.fax_walk.specs.laws.InOrder.{LeadTo}
-use Rattle.fax_walk.specs.code.Places.{first_on}
-use Rattle.fax_walk.specs.code.Salvage.{AreWholeBefore}
+use Rattle.fax_walk.specs.code.RowPlaces.{first_on}
+use Rattle.fax_walk.specs.code.SalvageItems.{AreWholeBefore}
 use Rattle.fax_walk.specs.code.Opening.{IsPageOf, page_with}
 use Rattle.fax_walk.proofs.InOrderLemmas.{leads_both}
 use Rattle.fax_walk.proofs.OpenPageLemmas.{whole_of}

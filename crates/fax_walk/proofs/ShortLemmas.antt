@@ -7,7 +7,7 @@ use Rattle.std.proofs.lemmas.List.Elements.{All-cons, All-nil}
 use Rattle.fax_bits.specs.declared.Colour.{Colour}
 use Rattle.fax_bits.specs.declared.Colour.TheVariants.{White}
 use Rattle.fax_rows.specs.Rows.{other, runs_after, runs_of}
-use Rattle.fax_files.specs.laws.Files.{FilesHaveOneChain, FormsAreWhole}
+use Rattle.fax_files.specs.laws.TiffFiles.{FilesHaveOneChain, FormsAreWhole}
 use Rattle.fax_walk.specs.Pages.{IsLongCursor}
 use Rattle.fax_walk.specs.Items.{exchanged}
 use Rattle.fax_walk.specs.laws.Cursors.{CursorsAreShort, PlacesAreShort}

@@ -16,7 +16,7 @@ use Rattle.fax_files.specs.declared.Cause.{Cause}
 use Rattle.fax_files.specs.declared.Cause.TheVariants.{File, Strip}
 use Rattle.fax_files.specs.declared.FileFault.TheVariants.{StripOutside}
 use Rattle.fax_files.specs.declared.PageForm.{PageForm}
-use Rattle.fax_files.specs.laws.Files.{IsWholeForm, shown}
+use Rattle.fax_files.specs.laws.TiffFiles.{IsWholeForm, shown}
 use Rattle.fax_files.specs.Page.{strip_form}
 use Rattle.fax_files.specs.views.Page.{IsPageForm}
 use Rattle.fax_files.specs.views.Tiff.{TiffDirectory, bytes_of, form_of}
@@ -25,7 +25,7 @@ use Rattle.fax_walk.specs.declared.checking.PageRead.{PageRead}
 use Rattle.fax_walk.specs.declared.end.End.{End}
 use Rattle.fax_walk.specs.declared.end.End.TheVariants.{Fault}
 use Rattle.fax_walk.specs.laws.InOrder.{LeadTo}
-use Rattle.fax_walk.specs.Pages.{read_page, NextItem, ends_as}
+use Rattle.fax_walk.specs.Pages.{NextItem, ends_as}
 use Rattle.fax_walk.specs.Items.{RowItem, RowPlace, first_at, IsRow}
 use Rattle.fax_walk.specs.Report.{notes_on_strip, IsStripNoted, IsNoted}
 use Rattle.fax_walk.specs.code.Opening.{IsPageOf}

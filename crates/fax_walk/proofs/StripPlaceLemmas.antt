@@ -9,7 +9,7 @@ use Rattle.fax_page.specs.declared.StripFault.{StripFault}
 use Rattle.fax_page.specs.Strip.{AreLines}
 use Rattle.fax_page.specs.views.Strip.{IsStrip}
 use Rattle.fax_files.specs.declared.PageForm.{PageForm}
-use Rattle.fax_files.specs.laws.Files.{shown}
+use Rattle.fax_files.specs.laws.TiffFiles.{shown}
 use Rattle.fax_walk.specs.Items.{exchanged}
 
 -- row e of a page, row k of strip s

@@ -1,7 +1,7 @@
 -- The rows of a strip are rows that a walk hands out, one after another.
 use Rattle.std.proofs.Common.{◌≡◌, ℕ, ◌+◌, ◌*◌, ◌<◌, ◌≤◌, inl, inr, Bool, true, false, List, [], ◌∷◌, map, length, drop}
 use Rattle.std.proofs.Common.{Option, Some, None}
-use Rattle.std.proofs.Common.{Ok, refl, sym, ap, ◌∙◌, subst, arith}
+use Rattle.std.proofs.Common.{refl, ap, ◌∙◌, arith}
 use Rattle.std.proofs.lemmas.Bool.{cases_lt}
 use Rattle.std.proofs.lemmas.Bool.Decides.{nat_tests}
 use Rattle.std.proofs.lemmas.List.{length-map}
@@ -17,19 +17,20 @@ use Rattle.fax_files.specs.declared.Cause.TheVariants.{Strip}
 use Rattle.fax_files.specs.declared.PageForm.{PageForm}
 use Rattle.fax_files.specs.declared.Endian.{Endian}
 use Rattle.fax_files.specs.Page.{strip_form, strip_bytes}
-use Rattle.fax_files.specs.laws.Files.{shown, IsWholeForm}
+use Rattle.fax_files.specs.laws.TiffFiles.{shown, IsWholeForm}
 use Rattle.fax_walk.specs.declared.end.End.TheVariants.{Fault}
 use Rattle.fax_walk.specs.laws.InOrder.{LeadTo}
-use Rattle.fax_walk.specs.Pages.{read_page, NextItem, goes_on, ends_as}
+use Rattle.fax_walk.specs.Pages.{NextItem, goes_on, ends_as}
 use Rattle.fax_walk.specs.Items.{RowItem, Inner, RowPlace, first_at, exchanged, before, IsInStrip, IsRow, place_after}
 use Rattle.fax_walk.specs.code.Opening.{IsPageOf}
-use Rattle.fax_walk.specs.code.Places.{first_on, place_on, strip_at}
-use Rattle.fax_walk.specs.laws.Written.{WalkedRow, walked, numbered}
+use Rattle.fax_walk.specs.code.RowPlaces.{first_on, place_on, strip_at}
+use Rattle.fax_walk.specs.laws.WrittenFiles.{WalkedRow, walked, numbered}
 use Rattle.fax_walk.proofs.RowLawLemmas.{LinesAreRead, exchanged_twice}
 use Rattle.fax_walk.proofs.OpenPageLemmas.{at_first, at_end, due_at, numbers}
 use Rattle.fax_walk.proofs.StripPlaceLemmas.{in_strip, shown_row}
 
--- these rows of page p are read from a place on, the first of them with this number, and what they lead to is so
+-- these rows of page p are read from a place on, the first of them with this number, and what they
+-- lead to is so
 pub record AreRead (file : List ℕ) (p : ℕ) (at : RowPlace) (r : ℕ) (rows : List (List Colour))
     (reached : RowPlace → Type 0) : Type 0 where
   pub items : List RowItem

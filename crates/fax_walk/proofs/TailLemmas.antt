@@ -9,10 +9,10 @@ use Rattle.fax_walk.specs.declared.end.End.TheVariants.{Outside}
 use Rattle.fax_walk.specs.Pages.{FilePage, read_page}
 use Rattle.fax_walk.specs.Items.{IsBegunOn, RowPlace, first_at}
 use Rattle.fax_walk.specs.views.Walk.{Begins}
-use Rattle.fax_walk.specs.code.Places.{row_in_strip, strip_at}
+use Rattle.fax_walk.specs.code.RowPlaces.{row_in_strip, strip_at}
 
--- a walk from a cursor begins at the strip of its row, after the page's last row on the next page, and past that
--- nowhere
+-- a walk from a cursor begins at the strip of its row, after the page's last row on the next page,
+-- and past that nowhere
 module _ (file : List ℕ) (at : Cursor) (here : FilePage) (page : read_page file at ≡ Ok here) where
   abbrev strip : RowPlace
   strip = first_at at.page (strip_at here.form at.row * here.form.rows_per_strip)
@@ -39,7 +39,8 @@ pub same_place : (from at : RowPlace) (k n : ℕ) → ◌≡◌ {A = Result (Row
 same_place from at k n e = let both : ◌≡◌ {A = RowPlace × ℕ} (from, k) (at, n) = cc in
     ap (λ (b : RowPlace × ℕ). b.0) both
 
--- the place where a walk from a cursor begins: the first row of the cursor's strip, or of the page after
+-- the place where a walk from a cursor begins: the first row of the cursor's strip, or of the page
+-- after
 pub begun_cases : (file : List ℕ) (at : Cursor) (here : FilePage) (from : RowPlace) (k : ℕ)
     → IsBegunOn file (At at) here (Ok (from, k))
     → ((at.row < here.form.rows) × (from ≡ first_at at.page (strip_at here.form at.row * here.form.rows_per_strip)))

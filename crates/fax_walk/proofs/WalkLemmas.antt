@@ -6,7 +6,7 @@ use Rattle.std.proofs.Common.{append_assoc, append-nil}
 use Rattle.std.proofs.lemmas.Bool.{cases_lt}
 use Rattle.std.specs.Prelude.{MatchResult, slice_get}
 use Rattle.fax_bits.specs.laws.Codes.{AreBitsByPlace}
-use Rattle.fax_files.specs.laws.Files.{FilesHaveOneChain, FormsAreWhole}
+use Rattle.fax_files.specs.laws.TiffFiles.{FilesHaveOneChain, FormsAreWhole}
 use Rattle.fax_walk.specs.declared.begun.Begun.{Begun}
 use Rattle.fax_walk.specs.declared.cursor.Cursor.{Cursor}
 use Rattle.fax_walk.specs.declared.end.End.{End}
@@ -21,7 +21,7 @@ use Rattle.fax_walk.specs.views.Walk.{IsItemNumber, IsLongOf, WalkView}
 use Rattle.fax_walk.specs.laws.Left.{IsLeft}
 use Rattle.fax_walk.specs.Items.{IsBegunOn, IsRow, IsTailFrom, RowItem, RowPlace, begun_cursor, cursor_after, first_at}
 use Rattle.fax_walk.specs.Items.{long_at, place_after}
-use Rattle.fax_walk.specs.code.Places.{cursor_at}
+use Rattle.fax_walk.specs.code.RowPlaces.{cursor_at}
 use Rattle.fax_walk.specs.laws.Tails.{BeginningsHaveOneTail}
 use Rattle.fax_walk.specs.code.Stages.{GivesNone, GivesRow, IsOpen, PageState, place_of, row_of, skipped}
 use Rattle.fax_walk.specs.code.Walk.{IsAdvance, IsDueOn, IsEntered, answer_of, GoesOnFrom, HasCome, HasEndedOn}

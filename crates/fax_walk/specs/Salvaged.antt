@@ -2,7 +2,7 @@
 -- each row that is found, and each stretch of rows that are lost.
 -- A definition without a citation is this project's profile.
 use Rattle.std.specs.Prelude.{◌≡◌, ℕ, ◌+◌, ◌*◌, ◌<◌, Bool, true, false, List, [], ◌∷◌, ◌++◌, map}
-use Rattle.std.specs.Prelude.{drop, flat_map, Option, Some, None, Result, Ok, Err, MatchResult}
+use Rattle.std.specs.Prelude.{drop, flat_map, Some, None, Result, Ok, Err, MatchResult}
 use Rattle.fax_bits.specs.Bits.{bits}
 use Rattle.fax_rows.specs.Rows.{Colour}
 use Rattle.fax_page.specs.declared.StripFault.TheVariants.{MissingEol}

@@ -10,8 +10,8 @@ pub mod OpenStrips
 pub mod Output
 pub mod Check
 pub mod Sources
-pub mod Places
-pub mod Salvage
+pub mod RowPlaces
+pub mod SalvageItems
 pub mod SalvagePage
 pub mod SalvageFile
 pub mod ShownRows

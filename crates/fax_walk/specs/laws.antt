@@ -3,8 +3,8 @@ pub mod Tails
 pub mod Cursors
 pub mod Left
 pub mod Printed
-pub mod Forms
-pub mod Written
+pub mod FormsLeft
+pub mod WrittenFiles
 pub mod ReadBack
 pub mod Answers
 pub mod Salvaged

@@ -3,6 +3,6 @@ pub mod Walk
 pub mod Pages
 pub mod Parts
 pub mod Lent
-pub mod Salvage
+pub mod SalvageItems
 pub mod RowsLeft
 pub mod RowsFrom

@@ -5,7 +5,7 @@ ghost use Rattle.fax_walk.specs.Pages.{FormItem};
 ghost use Rattle.fax_walk.specs.code.Sources.{FilesArePaged};
 ghost use Rattle.fax_walk.specs.laws.Answers as AnswerLaws;
 ghost use Rattle.fax_walk.specs.laws.Cursors as CursorLaws;
-ghost use Rattle.fax_walk.specs.laws.Forms.{AreFormsLeft};
+ghost use Rattle.fax_walk.specs.laws.FormsLeft.{AreFormsLeft};
 ghost use Rattle.fax_walk.specs.laws.Tails as PageLaws;
 ghost use Rattle.fax_walk.specs.laws.Left.{IsLeft};
 ghost use Rattle.fax_walk.specs.laws.Printed as PrintedLaws;
@@ -13,7 +13,7 @@ ghost use Rattle.fax_walk.specs.laws.RowsLeft.{AreLeftFromPlaces, AreLeftOneWay,
 ghost use Rattle.fax_walk.specs.laws.Salvaged.{IsSalvagedOneWay};
 ghost use Rattle.fax_walk.specs.laws.ReadBack as ReadBackLaws;
 ghost use Rattle.fax_walk.specs.Items.{RowItem};
-ghost use Rattle.fax_walk.specs.laws.Written as WrittenLaws;
+ghost use Rattle.fax_walk.specs.laws.WrittenFiles as WrittenLaws;
 ghost use Rattle.fax_walk.specs.declared.end.End.{End};
 ghost use Rattle.fax_walk.specs.views.RowsLeft.{LeftOf};
 
@@ -208,9 +208,9 @@ pub fn files_are_salvaged_in_one_way()
     fax_page::laws::strips_are_salvaged_in_one_way();
 }
 
-/// What is left of a page, or of a strip with no file around it, is one list of rows, found or lost;
-/// and what is left of a file has that of each page. From any place of a page on it is one list too,
-/// and from its first row on it is what is left of the page.
+/// What is left of a page, or of a strip with no file around it, is one list of rows, found or
+/// lost; and what is left of a file has that of each page. From any place of a page on it is one
+/// list too, and from its first row on it is what is left of the page.
 pub fn rows_are_left_in_one_way()
     ensures one { (its : LeftOf) → AreLeftOneWay its }
     ensures pages { PagesAreLeft }

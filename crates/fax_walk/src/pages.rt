@@ -83,7 +83,7 @@ fn first_page<'a>(file: &'a [u8], cursor: Cursor) -> Result<DuePage<'a>, End>
 }
 
 impl<'a> Pages<'a> {
-    ghost use Rattle.fax_walk.specs.laws.Forms.{AreFormsLeft};
+    ghost use Rattle.fax_walk.specs.laws.FormsLeft.{AreFormsLeft};
     ghost use Rattle.fax_walk.specs.views.Pages.{IsCursorOfPages, IsNextPage};
     ghost use Rattle.fax_walk.specs.views.Pages.{pages_from, pages_start};
 

@@ -3,7 +3,7 @@ ghost use Rattle.std.specs.Prelude.{◌≡◌, ◌<◌, ◌≤◌, IfErr, IfOk, 
 ghost use Rattle.fax_files.specs.views.Page.{IsPageForm};
 ghost use Rattle.fax_files.specs.views.Tiff.{form_of};
 ghost use Rattle.fax_walk.specs.Salvaged.{PageRow};
-ghost use Rattle.fax_walk.specs.code.Salvage as Code;
+ghost use Rattle.fax_walk.specs.code.SalvageItems as Code;
 
 use crate::salvage_rows::{PagePart, PlaceInStrip};
 use crate::shown_rows::ShownRows;
@@ -21,7 +21,7 @@ pub struct RowsFrom<'a> {
 }
 
 impl<'a> Model for RowsFrom<'a> {
-    ghost use Rattle.fax_walk.specs.code.Salvage.{seen_from};
+    ghost use Rattle.fax_walk.specs.code.SalvageItems.{seen_from};
     ghost use Rattle.fax_walk.specs.views.RowsFrom.{RowsFromView};
 
     ghost Value = { RowsFromView };
@@ -32,8 +32,8 @@ impl<'a> Model for RowsFrom<'a> {
 impl<'a> RowsFrom<'a> {
     ghost use Rattle.fax_walk.specs.views.RowsFrom as Spec;
 
-    /// Before row `row` of a page, after so many bits of its strip, with this row before it. It takes all
-    /// the memory that the page needs.
+    /// Before row `row` of a page, after so many bits of its strip, with this row before it. It
+    /// takes all the memory that the page needs.
     pub(crate) fn open(
         alloc: Global,
         form: PageForm,
@@ -64,8 +64,8 @@ impl<'a> RowsFrom<'a> {
     }
 
     /// Where the row that is due is read in its strip, where the row before it is found; or `None`
-    /// where its strip begins with it, or the page has no more. Then what is left from that place on is
-    /// what is left now.
+    /// where its strip begins with it, or the page has no more. Then what is left from that place
+    /// on is what is left now.
     pub fn place(&self) -> Option<PlaceInStrip<'_>>
         requires { length self.now.file ≤ 536870911 }
         ensures { Spec.IsPlaceNow self.now result }

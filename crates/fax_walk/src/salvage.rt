@@ -78,8 +78,8 @@ fn next_page<'a>(alloc: Global, chain: &Chain<'a>) -> Result<NextPage<'a>, Memor
     }
 }
 
-/// Leaves the page that is gone through, if one is, and answers whether it lies wholly in the file, and
-/// no row of it is lost.
+/// Leaves the page that is gone through, if one is, and answers whether it lies wholly in the file,
+/// and no row of it is lost.
 fn leave(page: &mut Option<SalvagePage>) -> bool
     ensures none { page.new ≡ None }
     ensures clean { result ≡ Spec.was_clean page.old }
@@ -92,8 +92,8 @@ fn leave(page: &mut Option<SalvagePage>) -> bool
     clean
 }
 
-/// Hands out what is next on the page that is gone through, or `None` where nothing is left of it, or
-/// no page was entered.
+/// Hands out what is next on the page that is gone through, or `None` where nothing is left of it,
+/// or no page was entered.
 #[inline(always)]
 fn item_of_page(page: &mut Option<SalvagePage>) -> Option<SalvageItem>
     ensures { Spec.GivesItem page.old result page.new }
@@ -126,7 +126,7 @@ pub struct Salvage<'a> {
 }
 
 impl<'a> Model for Salvage<'a> {
-    ghost use Rattle.fax_walk.specs.views.Salvage.{SalvageView};
+    ghost use Rattle.fax_walk.specs.views.SalvageItems.{SalvageView};
     ghost use Rattle.fax_walk.specs.code.SalvageFile.{IsInFile, shown_last};
 
     ghost Value = { SalvageView };
@@ -142,7 +142,7 @@ impl<'a> Model for Salvage<'a> {
 }
 
 impl<'a> Salvage<'a> {
-    ghost use Rattle.fax_walk.specs.views.Salvage.{IsLentLast, IsNextLeft, IsSalvageStart};
+    ghost use Rattle.fax_walk.specs.views.SalvageItems.{IsLentLast, IsNextLeft, IsSalvageStart};
 
     /// Before the first page of a file, from any bytes. It takes no memory.
     pub fn begin(alloc: Global, file: &'a [u8]) -> Self
@@ -172,7 +172,8 @@ impl<'a> Salvage<'a> {
     ///
     /// # Errors
     ///
-    /// `Memory` where a growth was refused. Then nothing was handed out, and it may be called again.
+    /// `Memory` where a growth was refused. Then nothing was handed out, and it may be called
+    /// again.
     #[inline(always)]
     pub fn next_item(&mut self) -> Result<Option<SalvageItem>, Memory>
         ensures { IsNextLeft self.old result self.new }
@@ -212,8 +213,8 @@ impl<'a> Salvage<'a> {
         }
     }
 
-    /// Whether nothing of the file is lost, once all was handed out: then its rows end properly. Before
-    /// that, whether nothing of the pages that were left is lost.
+    /// Whether nothing of the file is lost, once all was handed out: then its rows end properly.
+    /// Before that, whether nothing of the pages that were left is lost.
     pub fn is_whole(&self) -> bool
         ensures { result ≡ self.now.whole }
     {

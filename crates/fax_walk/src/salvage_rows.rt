@@ -3,7 +3,7 @@ ghost use Rattle.std.specs.Prelude.{◌≡◌, ◌<◌, ◌≤◌, IfErr, IfOk, 
 ghost use Rattle.fax_walk.specs.Salvaged.{PageRow};
 ghost use Rattle.fax_files.specs.views.Page.{IsPageForm};
 ghost use Rattle.fax_files.specs.views.Tiff.{form_of};
-ghost use Rattle.fax_walk.specs.code.Salvage as Spec;
+ghost use Rattle.fax_walk.specs.code.SalvageItems as Spec;
 
 use fax_bits::Memory;
 use fax_files::{Cause, FileFault, PageForm, Strips};
@@ -12,8 +12,8 @@ use fax_rows::Row;
 use std::alloc::Global;
 use std::marker::Model;
 
-/// What became of the next row of a page, or of a strip with no file around it, and of those that are
-/// lost with it.
+/// What became of the next row of a page, or of a strip with no file around it, and of those that
+/// are lost with it.
 #[derive(Clone, Copy, Debug, PartialEq, Eq)]
 pub enum PagePart {
     /// The row is found.
@@ -55,8 +55,8 @@ fn cause_of(fault: StripFault, whole: bool) -> Cause
     }
 }
 
-/// What became of the next row of a page, by what became of it in its strip, which lies wholly in the
-/// file or does not.
+/// What became of the next row of a page, by what became of it in its strip, which lies wholly in
+/// the file or does not.
 pub(crate) fn part_of(salvaged: Salvaged, whole: bool) -> PagePart
     ensures { result ≡ Spec.part_of salvaged whole }
 {
@@ -100,7 +100,7 @@ pub(crate) struct SalvageRows<'a> {
 }
 
 impl<'a> Model for SalvageRows<'a> {
-    ghost use Rattle.fax_walk.specs.code.Salvage.{RowsState, IsInPage};
+    ghost use Rattle.fax_walk.specs.code.SalvageItems.{RowsState, IsInPage};
 
     ghost Value = { RowsState };
 
@@ -170,8 +170,8 @@ impl<'a> SalvageRows<'a> {
         })
     }
 
-    /// Goes before the first row of the next strip, if there is one, where the one before it is gone
-    /// through.
+    /// Goes before the first row of the next strip, if there is one, where the one before it is
+    /// gone through.
     fn enter_strip(&mut self)
         ensures { Spec.EntersStrip self.old self.new }
     {
@@ -197,15 +197,15 @@ impl<'a> SalvageRows<'a> {
         fax_page::laws::whole_strips_are_found();
         fax_page::laws::due_rows_stand_in_strips();
         self.enter_strip();
-        let Some(salvaged) = self.reader.advance() else {
+        let Some(salvaged) = self.reader.next_salvaged() else {
             return None;
         };
         self.clean = self.clean && is_found(salvaged);
         Some(part_of(salvaged, self.whole))
     }
 
-    /// Where the row that is due is read in its strip, or `None` where the strip is gone through: then
-    /// the next one begins with that row, if the page has more.
+    /// Where the row that is due is read in its strip, or `None` where the strip is gone through:
+    /// then the next one begins with that row, if the page has more.
     pub fn place(&self) -> Option<PlaceInStrip<'_>>
         requires { length self.now.directory.file ≤ 536870911 }
         ensures { Spec.IsPlaceOf self.now result }
@@ -222,8 +222,8 @@ impl<'a> SalvageRows<'a> {
         })
     }
 
-    /// Whether all strips up to the one that is gone through lie wholly in the file, and no row of them
-    /// is lost so far.
+    /// Whether all strips up to the one that is gone through lie wholly in the file, and no row of
+    /// them is lost so far.
     pub fn is_clean(&self) -> bool
         ensures { result ≡ self.now.clean }
     {

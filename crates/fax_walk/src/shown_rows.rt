@@ -3,10 +3,10 @@ ghost use Rattle.std.specs.Prelude.{◌≡◌, ◌<◌, ◌≤◌, IfErr, IfOk, 
 ghost use Rattle.fax_files.specs.views.Page.{IsPageForm};
 ghost use Rattle.fax_files.specs.views.Tiff.{form_of};
 ghost use Rattle.fax_walk.specs.Salvaged.{PageRow};
-ghost use Rattle.fax_walk.specs.code.Salvage as Left;
+ghost use Rattle.fax_walk.specs.code.SalvageItems as Left;
 ghost use Rattle.fax_walk.specs.code.ShownRows as Spec;
 
-use crate::page::{row_for_exchange, set_exchanged};
+use crate::open_page::{row_for_exchange, set_exchanged};
 use crate::salvage_rows::{PagePart, PlaceInStrip, SalvageRows};
 use fax_bits::Memory;
 use fax_files::{PageForm, Strips};
@@ -47,8 +47,8 @@ impl<'a> ShownRows<'a> {
         Ok(ShownRows { rows, exchanged })
     }
 
-    /// Before row `row` of a page, after so many bits of its strip, with this row before it. It takes all
-    /// the memory that the page needs.
+    /// Before row `row` of a page, after so many bits of its strip, with this row before it. It
+    /// takes all the memory that the page needs.
     pub fn open_at(
         alloc: Global,
         form: PageForm,

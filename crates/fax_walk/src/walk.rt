@@ -9,8 +9,8 @@ ghost use Rattle.fax_walk.specs.Items.{RowItem};
 ghost use Rattle.fax_walk.specs.code.Stages.{IsRefusal};
 ghost use Rattle.fax_walk.specs.code.Walk as Spec;
 
+use crate::open_page::{OpenPage, open, open_after, open_inside};
 use crate::opening::{DuePage, OpenFault};
-use crate::page::{OpenPage, open, open_after, open_inside};
 use crate::{Begun, Cursor, End, LongCursor, WalkFault};
 use fax_bits::Memory;
 use fax_files::PageForm;
@@ -25,8 +25,8 @@ pub struct Place {
     pub row: u32,
 }
 
-/// A place inside a strip, which a walk lends: a cursor, how many bits of the strip stand before its
-/// row, and the row before it as it was coded, before any exchange of colours.
+/// A place inside a strip, which a walk lends: a cursor, how many bits of the strip stand before
+/// its row, and the row before it as it was coded, before any exchange of colours.
 #[derive(Clone, Copy)]
 pub struct PlaceInside<'a> {
     pub at: Cursor,
@@ -149,7 +149,7 @@ fn go_on<'a>(
     fax_files::laws::forms_are_whole();
     'pages: loop {
         if let Some(open) = page {
-            if open.next()? {
+            if open.next_row()? {
                 return Ok(());
             }
         }
@@ -262,7 +262,7 @@ impl<'a> Walk<'a> {
     {
         crate::laws::beginnings_have_one_tail();
         match &self.page {
-            Some(page) => page.read(),
+            Some(page) => page.rows_read(),
             None => 0,
         }
     }
@@ -282,7 +282,7 @@ impl<'a> Walk<'a> {
     ///
     /// As `next_row`.
     #[inline(always)]
-    fn advance(&mut self) -> Result<bool, WalkFault>
+    fn go_to_next(&mut self) -> Result<bool, WalkFault>
         ensures { Spec.IsAdvance self.old result self.new }
     {
         if let Some(end) = self.told {
@@ -316,7 +316,7 @@ impl<'a> Walk<'a> {
     pub fn next_row(&mut self) -> Result<Option<(Place, &Row)>, WalkFault>
         ensures* next { sem 𝓛 (WalkEndsAs self.entry (IsNext self.old result)) }
     {
-        if !self.advance()? {
+        if !self.go_to_next()? {
             return Ok(None);
         }
         let place = Place {

@@ -1,9 +1,9 @@
 //! What one look-up of the next bits finds: a run, a white run and the black one after it, a mode.
 
 use crate::codes::LONGEST_CODE;
-use crate::modes::{HORIZONTAL_CODE, HORIZONTAL_LEN, ModeCode, find_mode};
+use crate::mode_codes::{HORIZONTAL_CODE, HORIZONTAL_LEN, ModeCode, find_mode};
 use crate::pairs::{Pair, find_pair};
-use crate::runs::{RunCode, find_run_code};
+use crate::run_codes::{RunCode, find_run_code};
 use crate::verticals::{Verticals, find_verticals};
 use crate::{BitSource, Colour};
 
@@ -64,9 +64,10 @@ impl<'a> BitSource<'a> {
         Some(pair)
     }
 
-    /// Reads horizontal mode with a white run and the black one after it by one look-up, in a row of
-    /// `width` pels of which `total` stand before them (T.4, sections 4.1.1 and 4.2.1.3.2). Where
-    /// they go past the row's end, or where that look-up has no such pair, the source is as it was.
+    /// Reads horizontal mode with a white run and the black one after it by one look-up, in a row
+    /// of `width` pels of which `total` stand before them (T.4, sections 4.1.1 and 4.2.1.3.2).
+    /// Where they go past the row's end, or where that look-up has no such pair, the source is as
+    /// it was.
     #[inline(always)]
     // requires { total < 2 ^ 31 }
     pub fn horizontal_pair_within(&mut self, total: u32, width: u32) -> Option<Pair> {
@@ -141,8 +142,8 @@ impl<'a> BitSource<'a> {
         count
     }
 
-    /// Goes past zeros that are next, `least` of them or more, and the 1 after them, by one look-up,
-    /// and answers whether it finds them so. Else the source is as it was.
+    /// Goes past zeros that are next, `least` of them or more, and the 1 after them, by one
+    /// look-up, and answers whether it finds them so. Else the source is as it was.
     #[inline(always)]
     pub fn past_zeros_and_one(&mut self, least: u32) -> bool {
         // An EOL is so where it stands in thirty-two bits; fill that is longer goes by bytes.

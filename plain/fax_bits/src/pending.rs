@@ -70,8 +70,8 @@ impl PendingBits {
         })
     }
 
-    /// Goes past these bits in a source, where they stand next, and answers whether they do. Else the
-    /// source stays.
+    /// Goes past these bits in a source, where they stand next, and answers whether they do. Else
+    /// the source stays.
     #[inline(always)]
     pub(crate) fn take(self, source: &mut BitSource) -> bool {
         source.take(self.number as u32, self.count)

@@ -1,9 +1,9 @@
-//! The codes of runs and modes as they are written: put into a sink or after pending bits, or looked
-//! for in a source (ITU-T T.4, sections 4.1.1 and 4.2.1.3.2).
+//! The codes of runs and modes as they are written: put into a sink or after pending bits, or
+//! looked for in a source (ITU-T T.4, sections 4.1.1 and 4.2.1.3.2).
 
 use crate::codes::LONGEST_CODE;
 use crate::pairs::{SHORT_RUN, short_pair_code};
-use crate::runs::{TERMINATING_CODES, run_entry};
+use crate::run_codes::{TERMINATING_CODES, run_entry};
 use crate::{BitSink, BitSource, Colour, Memory, ModeCode, PendingBits};
 
 /// The codes of vertical modes, from a1 three pels left of b1 to three pels right of it (T.4,

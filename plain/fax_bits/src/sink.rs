@@ -2,7 +2,7 @@
 
 use kit_std::prelude::Vec;
 
-use crate::lanes::reverse_bits;
+use crate::bit_reversal::reverse_bits;
 use crate::{BitSource, FillOrder, Memory};
 use kit_std::alloc::Global;
 use kit_std::marker::Model;

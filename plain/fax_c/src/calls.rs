@@ -1,24 +1,19 @@
 //! The calls, over slices and structs of the caller.
 
-pub use crate::checking::FaxNote;
-pub use crate::checking::FaxReport;
-pub use crate::conversion::FaxConverted;
-pub use crate::conversion::FaxOptions;
 pub use crate::faults::FaxFault;
+pub use crate::file_conversion::FaxConverted;
+pub use crate::file_conversion::FaxOptions;
+pub use crate::file_report::FaxNote;
+pub use crate::file_report::FaxReport;
 pub use crate::forms::FaxForm;
 pub use crate::places::FaxPlace;
 pub use crate::rows::FaxRow;
-pub use crate::salvage::FaxLost;
+pub use crate::salvaged_raster::FaxLost;
 pub use crate::strip_form::FaxStrip;
 pub use crate::strip_report::FaxStripReport;
 pub use crate::told::FaxTold;
 pub use crate::writing::FaxWritten;
 use kit_std::alloc::Global;
-
-/// As the header says.
-pub fn faxpages_check(file: &[u8], notes: &mut [FaxNote], report: &mut FaxReport) -> u32 {
-    crate::checking::faxpages_check(Global, file, notes, report)
-}
 
 /// As the header says.
 pub fn faxpages_strip_code(
@@ -45,16 +40,6 @@ pub fn faxpages_strip_code_runs(
 }
 
 /// As the header says.
-pub fn faxpages_convert(
-    file: &[u8],
-    options: &FaxOptions,
-    out: &mut [u8],
-    converted: &mut FaxConverted,
-) -> u32 {
-    crate::conversion::faxpages_convert(Global, file, options, out, converted)
-}
-
-/// As the header says.
 pub fn faxpages_place_text(
     place: &FaxPlace,
     runs: &[u32],
@@ -75,8 +60,33 @@ pub fn faxpages_end_pages(file: &mut [u8], written: &mut FaxWritten) -> u32 {
 }
 
 /// As the header says.
+pub fn faxpages_convert(
+    file: &[u8],
+    options: &FaxOptions,
+    out: &mut [u8],
+    converted: &mut FaxConverted,
+) -> u32 {
+    crate::file_conversion::faxpages_convert(Global, file, options, out, converted)
+}
+
+/// As the header says.
+pub fn faxpages_check(file: &[u8], notes: &mut [FaxNote], report: &mut FaxReport) -> u32 {
+    crate::file_report::faxpages_check(Global, file, notes, report)
+}
+
+/// As the header says.
 pub fn faxpages_forms(file: &[u8], page: u32, forms: &mut [FaxForm], told: &mut FaxTold) -> u32 {
     crate::forms::faxpages_forms(file, page, forms, told)
+}
+
+/// As the header says.
+pub fn faxpages_version() -> u32 {
+    crate::library_version::faxpages_version()
+}
+
+/// As the header says.
+pub fn faxpages_version_text(text: &mut [u8]) -> usize {
+    crate::library_version::faxpages_version_text(text)
 }
 
 /// As the header says.
@@ -103,7 +113,55 @@ pub fn faxpages_page(
     stride: usize,
     told: &mut FaxTold,
 ) -> u32 {
-    crate::page::faxpages_page(Global, file, page, form, out, stride, told)
+    crate::page_raster::faxpages_page(Global, file, page, form, out, stride, told)
+}
+
+/// As the header says.
+pub fn faxpages_runs(
+    file: &[u8],
+    page: u32,
+    row: u32,
+    rows: &mut [FaxRow],
+    out: &mut [u32],
+    told: &mut FaxTold,
+) -> u32 {
+    crate::row_runs::faxpages_runs(Global, file, page, row, rows, out, told)
+}
+
+/// As the header says.
+pub fn faxpages_runs_from(
+    file: &[u8],
+    place: &mut FaxPlace,
+    runs: &mut [u32],
+    rows: &mut [FaxRow],
+    out: &mut [u32],
+    told: &mut FaxTold,
+) -> u32 {
+    crate::row_runs::faxpages_runs_from(Global, file, place, runs, rows, out, told)
+}
+
+/// As the header says.
+pub fn faxpages_changes(
+    file: &[u8],
+    page: u32,
+    row: u32,
+    rows: &mut [FaxRow],
+    out: &mut [u32],
+    told: &mut FaxTold,
+) -> u32 {
+    crate::row_runs::faxpages_changes(Global, file, page, row, rows, out, told)
+}
+
+/// As the header says.
+pub fn faxpages_changes_from(
+    file: &[u8],
+    place: &mut FaxPlace,
+    runs: &mut [u32],
+    rows: &mut [FaxRow],
+    out: &mut [u32],
+    told: &mut FaxTold,
+) -> u32 {
+    crate::row_runs::faxpages_changes_from(Global, file, place, runs, rows, out, told)
 }
 
 /// As the header says.
@@ -131,51 +189,16 @@ pub fn faxpages_rows_from(
 }
 
 /// As the header says.
-pub fn faxpages_runs(
-    file: &[u8],
-    page: u32,
-    row: u32,
-    rows: &mut [FaxRow],
-    out: &mut [u32],
-    told: &mut FaxTold,
-) -> u32 {
-    crate::runs::faxpages_runs(Global, file, page, row, rows, out, told)
-}
-
-/// As the header says.
-pub fn faxpages_runs_from(
+pub fn faxpages_salvage_from(
     file: &[u8],
     place: &mut FaxPlace,
     runs: &mut [u32],
-    rows: &mut [FaxRow],
-    out: &mut [u32],
+    out: &mut [u8],
+    stride: usize,
+    lost: &mut [FaxLost],
     told: &mut FaxTold,
 ) -> u32 {
-    crate::runs::faxpages_runs_from(Global, file, place, runs, rows, out, told)
-}
-
-/// As the header says.
-pub fn faxpages_changes(
-    file: &[u8],
-    page: u32,
-    row: u32,
-    rows: &mut [FaxRow],
-    out: &mut [u32],
-    told: &mut FaxTold,
-) -> u32 {
-    crate::runs::faxpages_changes(Global, file, page, row, rows, out, told)
-}
-
-/// As the header says.
-pub fn faxpages_changes_from(
-    file: &[u8],
-    place: &mut FaxPlace,
-    runs: &mut [u32],
-    rows: &mut [FaxRow],
-    out: &mut [u32],
-    told: &mut FaxTold,
-) -> u32 {
-    crate::runs::faxpages_changes_from(Global, file, place, runs, rows, out, told)
+    crate::salvage_from::faxpages_salvage_from(Global, file, place, runs, out, stride, lost, told)
 }
 
 /// As the header says.
@@ -188,7 +211,7 @@ pub fn faxpages_salvage(
     lost: &mut [FaxLost],
     told: &mut FaxTold,
 ) -> u32 {
-    crate::salvage::faxpages_salvage(Global, file, page, form, out, stride, lost, told)
+    crate::salvaged_raster::faxpages_salvage(Global, file, page, form, out, stride, lost, told)
 }
 
 /// As the header says.
@@ -200,20 +223,7 @@ pub fn faxpages_salvage_strip(
     lost: &mut [FaxLost],
     told: &mut FaxTold,
 ) -> u32 {
-    crate::salvage::faxpages_salvage_strip(Global, strip, form, out, stride, lost, told)
-}
-
-/// As the header says.
-pub fn faxpages_salvage_from(
-    file: &[u8],
-    place: &mut FaxPlace,
-    runs: &mut [u32],
-    out: &mut [u8],
-    stride: usize,
-    lost: &mut [FaxLost],
-    told: &mut FaxTold,
-) -> u32 {
-    crate::salvage_from::faxpages_salvage_from(Global, file, place, runs, out, stride, lost, told)
+    crate::salvaged_raster::faxpages_salvage_strip(Global, strip, form, out, stride, lost, told)
 }
 
 /// As the header says.
@@ -244,17 +254,7 @@ pub fn faxpages_strip_rows(
     stride: usize,
     told: &mut FaxTold,
 ) -> u32 {
-    crate::strips::faxpages_strip_rows(Global, strip, form, place, runs, out, stride, told)
-}
-
-/// As the header says.
-pub fn faxpages_version() -> u32 {
-    crate::version::faxpages_version()
-}
-
-/// As the header says.
-pub fn faxpages_version_text(text: &mut [u8]) -> usize {
-    crate::version::faxpages_version_text(text)
+    crate::strip_rows::faxpages_strip_rows(Global, strip, form, place, runs, out, stride, told)
 }
 
 /// As the header says.

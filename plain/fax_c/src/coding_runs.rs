@@ -10,8 +10,8 @@ use fax_page::{Memory, StripForm, StripWriter};
 use fax_rows::Row;
 use kit_std::alloc::Global;
 
-/// Takes the pels of row `i` of a table, whose runs stand apart, and answers whether there is such a
-/// row of this width.
+/// Takes the pels of row `i` of a table, whose runs stand apart, and answers whether there is such
+/// a row of this width.
 fn take_row(row: &mut Row, rows: &[FaxRow], runs: &[u32], i: usize) -> bool {
     if i >= rows.len() {
         return false;
@@ -24,8 +24,8 @@ fn take_row(row: &mut Row, rows: &[FaxRow], runs: &[u32], i: usize) -> bool {
     row.set_runs(&runs[at..at + len])
 }
 
-/// The rows of a table, whose runs stand apart, coded as a strip, or none where one is no row of its
-/// width.
+/// The rows of a table, whose runs stand apart, coded as a strip, or none where one is no row of
+/// its width.
 // requires limits { IsStripForm form }
 // requires some_k { 0 < k }
 fn code_rows(

@@ -2,9 +2,9 @@
 
 use kit_std::prelude::{str, String};
 
+use crate::caller_text::put_text;
 use crate::places::{FaxPlace, begun_at, tell_place};
 use crate::status;
-use crate::text::put_text;
 use fax_walk::{Begun, Cursor, LongCursor, LongFault};
 use kit_std::alloc::Global;
 

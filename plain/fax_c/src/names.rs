@@ -1,6 +1,6 @@
 //! The names of faults, statuses and notes.
 
-use crate::text::put_text;
+use crate::caller_text::put_text;
 use fax_files::{Cause, FileFault, PbmFault, StripFault};
 use fax_walk::NoteKind;
 

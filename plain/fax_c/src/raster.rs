@@ -17,7 +17,7 @@ fn clear(bytes: &mut [u8]) {
 /// Writes zeros from a place to another.
 // requires order { at ≤ to }
 // requires within { to ≤ length out.old }
-pub(crate) fn put_zeros(out: &mut [u8], at: usize, to: usize) {
+pub(crate) fn put_zeros_to(out: &mut [u8], at: usize, to: usize) {
     clear(&mut out[at..to]);
 }
 
@@ -36,7 +36,7 @@ pub(crate) fn put_packed(row: &Row, out: &mut [u8], at: usize) -> usize {
 pub(crate) fn put_in_stride(row: &Row, stride: usize, out: &mut [u8], at: usize) -> usize {
     let end = put_packed(row, out, at);
     let to = at + stride;
-    put_zeros(out, end, to);
+    put_zeros_to(out, end, to);
     to
 }
 

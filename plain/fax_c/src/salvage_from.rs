@@ -4,9 +4,9 @@ use crate::filled::{Filled, Stop};
 use crate::format::put_all_runs;
 use crate::places::{FaxPlace, MOST_RUNS};
 use crate::raster::{packed_len, put_in_stride};
-use crate::salvage::{FaxLost, longer, put_stretch};
+use crate::salvaged_raster::{FaxLost, longer, put_stretch};
 use crate::status;
-use crate::strips::{MOST_BYTES, row_before};
+use crate::strip_rows::{MOST_BYTES, row_before};
 use crate::told::FaxTold;
 use fax_files::PageForm;
 use fax_page::PlaceFault;
@@ -53,21 +53,21 @@ fn next_found(left: &mut RowsFrom, page: u32, row: u32) -> Ahead {
     }
 }
 
-/// Whether so many bytes, of which some are used, have no room for one more row, or a table that has
-/// room for so many stretches has none for one more.
+/// Whether so many bytes, of which some are used, have no room for one more row, or a table that
+/// has room for so many stretches has none for one more.
 // requires { used ≤ len }
 fn is_full(len: usize, used: usize, stride: usize, stretches: usize, room: usize) -> bool {
     len - used < stride || stretches >= room
 }
 
-/// Writes the rows that are found, one after another, and the stretches of those that are lost, as long
-/// as one more of each has room.
+/// Writes the rows that are found, one after another, and the stretches of those that are lost, as
+/// long as one more of each has room.
 // requires due { Walk.row_due left.old ≡ row }
 // requires within { row ≤ left.old.here.form.rows }
 // requires few { left.old.here.form.rows ≤ 1000000 }
 // requires short { Coded.packed_len left.old.here.form.width ≤ stride }
-// requires room { Spec.HasRoom (length out.old) 0 stride 0 (length lost.old) }
-fn fill_from(
+// requires room { Spec.HasRoomForBoth (length out.old) 0 stride 0 (length lost.old) }
+fn fill_left_from(
     left: &mut RowsFrom,
     page: u32,
     row: u32,
@@ -102,9 +102,10 @@ fn fill_from(
     }
 }
 
-/// Why nothing is looked for at a place: no row or no stretch has room, or the page has no row there.
+/// Why nothing is looked for at a place: no row or no stretch has room, or the page has no row
+/// there.
 // requires { 0 < form.now.rows_per_strip }
-fn stop_before(
+fn stop_before_left(
     form: &PageForm,
     place: &FaxPlace,
     stride: usize,
@@ -128,7 +129,13 @@ fn stop_before(
 // requires rows { rows ≡ left.now.here.form.rows }
 // requires cursor { cursor.row ≡ Walk.row_due left.now }
 // requires ends { Code.EndsOrGoesOn left.now }
-fn tell_after(left: &RowsFrom, rows: u32, cursor: Cursor, place: &mut FaxPlace, runs: &mut [u32]) {
+fn tell_left_after(
+    left: &RowsFrom,
+    rows: u32,
+    cursor: Cursor,
+    place: &mut FaxPlace,
+    runs: &mut [u32],
+) {
     *place = FaxPlace::at(cursor);
     if cursor.row == rows {
         return;
@@ -159,7 +166,7 @@ fn salvage_page(
 ) -> Filled {
     let cursor = place.cursor();
     let form = found.form();
-    if let Some(stop) = stop_before(&form, place, stride, out.len(), lost.len()) {
+    if let Some(stop) = stop_before_left(&form, place, stride, out.len(), lost.len()) {
         return Filled::nothing(cursor, stop);
     }
     let Some(before) = row_before(place, runs) else {
@@ -168,9 +175,9 @@ fn salvage_page(
     let bits = bits_before(place);
     match found.rows_from(alloc, place.row, bits, before) {
         Ok(mut left) => {
-            let filled = fill_from(&mut left, place.page, place.row, stride, out, lost);
+            let filled = fill_left_from(&mut left, place.page, place.row, stride, out, lost);
             left.rows_are_left();
-            tell_after(&left, form.rows, filled.cursor, place, runs);
+            tell_left_after(&left, form.rows, filled.cursor, place, runs);
             filled
         }
         Err(PlaceFault::Memory) => Filled::nothing(cursor, Stop::Memory),
@@ -178,8 +185,9 @@ fn salvage_page(
     }
 }
 
-/// Writes what is left of a file's page from a place on, as much as has room, and leaves there the place
-/// after it: the rows that are found, one after another, and the stretches of those that are lost.
+/// Writes what is left of a file's page from a place on, as much as has room, and leaves there the
+/// place after it: the rows that are found, one after another, and the stretches of those that are
+/// lost.
 pub fn faxpages_salvage_from(
     alloc: Global,
     file: &[u8],

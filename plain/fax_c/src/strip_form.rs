@@ -1,6 +1,6 @@
 //! The form of a strip with no file around it.
 
-use crate::conversion::order_of;
+use crate::file_conversion::order_of;
 use fax_page::{Coding, StripForm};
 
 /// The form of a strip.

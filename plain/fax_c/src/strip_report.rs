@@ -3,8 +3,8 @@
 use crate::faults::FaxFault;
 use crate::status;
 use crate::strip_form::FaxStrip;
-use crate::strips::readable_form;
-use crate::uncounted::{end_status, uncounted_form};
+use crate::strip_rows::readable_form;
+use crate::uncounted_strip::{end_status, uncounted_form};
 use fax_files::Cause;
 use fax_page::{NotesFault, NotesReader, RowsEnd, StripNotes, UncountedNotes, strip_notes};
 use kit_std::alloc::Global;

@@ -4,7 +4,7 @@ use kit_std::prelude::Vec;
 
 use crate::bytes::{put_bytes, put_four, two_at};
 use crate::coding::code_strip;
-use crate::conversion::order_of;
+use crate::file_conversion::order_of;
 use crate::forms::FaxForm;
 use crate::raster::holds_raster;
 use crate::status;

@@ -79,19 +79,19 @@ impl Limits {
 
 /// How a field is refused whose number is not taken.
 #[derive(Clone, Copy)]
-pub(crate) enum Refusal {
+pub(crate) enum FieldRefusal {
     OutOfLimits,
     Unsupported,
     BadField,
 }
 
-impl Refusal {
+impl FieldRefusal {
     /// The fault of a tag.
     fn fault(self, tag: u16) -> FileFault {
         match self {
-            Refusal::OutOfLimits => FileFault::OutOfLimits(tag),
-            Refusal::Unsupported => FileFault::Unsupported(tag),
-            Refusal::BadField => FileFault::BadField(tag),
+            FieldRefusal::OutOfLimits => FileFault::OutOfLimits(tag),
+            FieldRefusal::Unsupported => FileFault::Unsupported(tag),
+            FieldRefusal::BadField => FileFault::BadField(tag),
         }
     }
 }
@@ -153,7 +153,7 @@ impl<'d, 'a> Fields<'d, 'a> {
         tag: u16,
         absent: Option<u32>,
         limits: Limits,
-        refusal: Refusal,
+        refusal: FieldRefusal,
     ) -> Result<u32, FileFault> {
         let number = self.first_number(tag, absent)?;
         if !limits.allow(number) {

@@ -1,7 +1,7 @@
 //! The form of a page, from the fields of its directory (TIFF 6.0; RFC 2306).
 
 use crate::entries::Entry;
-use crate::fields::{Fields, Limits, Refusal};
+use crate::fields::{FieldRefusal, Fields, Limits};
 use crate::strips::Strips;
 use crate::tags::{
     BITS_PER_SAMPLE, COMPRESSION, FILL_ORDER, IMAGE_LENGTH, IMAGE_WIDTH,
@@ -43,7 +43,7 @@ pub(crate) fn read_page<'a>(fields: &Fields<'_, 'a>) -> Result<(PageForm, Strips
 /// The form that a page's fields say, in the order of their checks.
 fn read_form(fields: &Fields) -> Result<PageForm, FileFault> {
     use Limits::{AboveZero, Between};
-    use Refusal::{BadField, OutOfLimits, Unsupported};
+    use FieldRefusal::{BadField, OutOfLimits, Unsupported};
     let width = fields.scalar(IMAGE_WIDTH, None, Between(1, MAX_WIDTH), OutOfLimits)?;
     let rows = fields.scalar(IMAGE_LENGTH, None, Between(1, MAX_ROWS), OutOfLimits)?;
     fields.scalar(BITS_PER_SAMPLE, Some(1), Between(1, 1), Unsupported)?;
@@ -79,7 +79,7 @@ fn read_options(fields: &Fields, compression: u32) -> Result<u32, FileFault> {
     if compression == COMPRESSION_T6 {
         return Ok(0);
     }
-    fields.scalar(T4_OPTIONS, Some(0), Limits::Any, Refusal::BadField)
+    fields.scalar(T4_OPTIONS, Some(0), Limits::Any, FieldRefusal::BadField)
 }
 
 /// How the rows are coded, by Compression and T4Options.
@@ -109,7 +109,7 @@ fn page_resolution(fields: &Fields) -> Resolution {
     match (
         x,
         y,
-        fields.scalar(RESOLUTION_UNIT, Some(2), units, Refusal::Unsupported),
+        fields.scalar(RESOLUTION_UNIT, Some(2), units, FieldRefusal::Unsupported),
     ) {
         (Some(x), Some(y), Ok(unit)) => Resolution {
             x,

@@ -92,8 +92,8 @@ pub fn rows_stay_whatever_follows() {
     fax_bits::laws::codes_are_read_in_one_way::<fax_bits::Modes>();
 }
 
-/// A strip is read in pieces: the rows of its first bits, and then those of what is left of them and
-/// of the bits that follow, are the rows of all of them.
+/// A strip is read in pieces: the rows of its first bits, and then those of what is left of them
+/// and of the bits that follow, are the rows of all of them.
 pub fn strips_are_read_in_pieces() {
     rows_stay_whatever_follows();
 }
@@ -117,8 +117,8 @@ pub fn rows_before_a_fault_are_found() {
     strips_are_salvaged_in_one_way();
 }
 
-/// In MH and MR the row after a lost one is due at the next EOL, whatever bits that hold no EOL stand
-/// before it: so what is found after a lost row is the same whatever its bits were.
+/// In MH and MR the row after a lost one is due at the next EOL, whatever bits that hold no EOL
+/// stand before it: so what is found after a lost row is the same whatever its bits were.
 pub fn lost_bits_do_not_matter() {}
 
 /// A row that is due after one that is found or lost begins among the bits from that one on.
@@ -130,16 +130,17 @@ pub fn due_rows_stand_in_strips() {
 pub fn whole_strips_are_found() {}
 
 /// What is left of rows that nobody counted is found and lost in one way, from any row on, in any
-/// coding: one list and one end. It is what is left of the first rows of a strip with as many as there
-/// may be, and where the rows are read to an end mark, or to the end of the data, all are found.
+/// coding: one list and one end. It is what is left of the first rows of a strip with as many as
+/// there may be, and where the rows are read to an end mark, or to the end of the data, all are
+/// found.
 pub fn uncounted_rows_are_left_in_one_way() {
     strips_are_read_by_functions();
     lines_are_read_in_one_way();
     strips_are_salvaged_in_one_way();
 }
 
-/// What is left of a damaged strip, and of damaged rows that nobody counted, with their end, is what
-/// functions read of its bits (T.4, sections 4.1.2 and 4.2.2; T.6, section 2.2.1).
+/// What is left of a damaged strip, and of damaged rows that nobody counted, with their end, is
+/// what functions read of its bits (T.4, sections 4.1.2 and 4.2.2; T.6, section 2.2.1).
 pub fn damaged_strips_are_read_by_functions() {
     strips_are_read_by_functions();
 }

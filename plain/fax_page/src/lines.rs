@@ -91,8 +91,8 @@ pub(crate) fn stop(codes: &BitSource, cause: RowFault) -> StripFault {
     }
 }
 
-/// Goes past the codes of a row that is white as its reference row is, where they are seen to be next
-/// and T.4's choice, and answers whether they are. Else the source stays.
+/// Goes past the codes of a row that is white as its reference row is, where they are seen to be
+/// next and T.4's choice, and answers whether they are. Else the source stays.
 #[inline(always)]
 pub(crate) fn take_white(source: &mut BitSource, dimension: Dimension, reference: &Row) -> bool {
     match dimension {
@@ -138,7 +138,8 @@ pub(crate) fn line_fault(mut start: BitSource, form: StripForm, i: u32, why: Lin
     }
 }
 
-/// Whether fewer than eleven zeros stand before the next 1: no EOL begins there (T.4, section 4.1.2).
+/// Whether fewer than eleven zeros stand before the next 1: no EOL begins there (T.4, section
+/// 4.1.2).
 #[inline(always)]
 pub(crate) fn begins_below_eleven(source: &BitSource) -> bool {
     match source.zeros() {
@@ -161,8 +162,8 @@ fn first_eol(source: &mut BitSource) -> Option<u64> {
     None
 }
 
-/// Where the next EOL begins after row `i`, which begins at this source and is lost: after its own EOL
-/// and tag bit, if it has them. In MMR there is none.
+/// Where the next EOL begins after row `i`, which begins at this source and is lost: after its own
+/// EOL and tag bit, if it has them. In MMR there is none.
 pub(crate) fn next_eol(start: BitSource, coding: Coding, i: u32) -> Option<u64> {
     if let Coding::Mmr = coding {
         return None;

@@ -77,8 +77,8 @@ pub fn may_be_end_mark(source: &BitSource, coding: Coding) -> bool {
     }
 }
 
-/// How so many rows end that nobody counted, whose data go on at this source: where this fault is in
-/// the way of the next row, or none is, since they are as many as a strip has at most.
+/// How so many rows end that nobody counted, whose data go on at this source: where this fault is
+/// in the way of the next row, or none is, since they are as many as a strip has at most.
 #[cold]
 #[inline(never)]
 pub fn end_of_rows(

@@ -1,6 +1,6 @@
 //! What is left of rows that nobody counted, where they are damaged.
 
-use crate::salvage::{SalvageReader, Salvaged};
+use crate::salvage_reader::{SalvageReader, Salvaged};
 use crate::{MOST_ROWS, RowsEnd, StripFault, StripForm};
 use fax_rows::{Memory, Row};
 use kit_std::alloc::Global;
@@ -46,8 +46,8 @@ fn over_after(reader: &SalvageReader, salvaged: Salvaged) -> Option<StripFault> 
 }
 
 impl<'a> UncountedSalvage<'a> {
-    /// Before the first row of at most 4,294,967,295 bytes. It takes all the memory that rows of this
-    /// width need. How many rows the form says does not matter.
+    /// Before the first row of at most 4,294,967,295 bytes. It takes all the memory that rows of
+    /// this width need. How many rows the form says does not matter.
     ///
     /// # Errors
     ///
@@ -67,8 +67,8 @@ impl<'a> UncountedSalvage<'a> {
         })
     }
 
-    /// Goes before the first row of other bytes, at most 4,294,967,295, with rows of the same coding,
-    /// order and width. It takes no memory.
+    /// Goes before the first row of other bytes, at most 4,294,967,295, with rows of the same
+    /// coding, order and width. It takes no memory.
     // requires { length bytes.now ≤ 4294967295 }
     pub fn restart(&mut self, bytes: &'a [u8]) {
         self.reader.restart(bytes, MOST_ROWS);
@@ -82,7 +82,7 @@ impl<'a> UncountedSalvage<'a> {
     /// # Errors
     ///
     /// How the rows end, where none is due. Each later call answers the same.
-    pub fn advance(&mut self) -> Result<Salvaged, RowsEnd> {
+    pub fn next_salvaged(&mut self) -> Result<Salvaged, RowsEnd> {
         if let Some(fault) = self.over {
             return Err(RowsEnd::Fault(fault));
         }
@@ -90,7 +90,7 @@ impl<'a> UncountedSalvage<'a> {
             RowsEnd::TooMany => {}
             end => return Err(end),
         }
-        let Some(salvaged) = self.reader.advance() else {
+        let Some(salvaged) = self.reader.next_salvaged() else {
             return Err(RowsEnd::TooMany);
         };
         self.row += 1;
@@ -101,7 +101,7 @@ impl<'a> UncountedSalvage<'a> {
     /// Passes all rows that are left, and answers how they end. It takes no memory.
     pub fn pass_all(&mut self) -> RowsEnd {
         'rows: loop {
-            if let Err(end) = self.advance() {
+            if let Err(end) = self.next_salvaged() {
                 return end;
             }
         }

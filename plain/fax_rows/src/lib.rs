@@ -2,6 +2,7 @@
 //! T.6).
 #![forbid(unsafe_code)]
 
+mod changing_elements;
 mod lanes;
 pub mod laws;
 mod longest_runs;
@@ -9,23 +10,22 @@ mod one_dimensional;
 mod ones;
 mod packed;
 mod pels;
-mod places;
-mod put;
-mod rows;
+mod placed_rows;
+mod put_rows;
 mod runs;
 mod turns;
 mod two_dimensional;
 mod unpacked;
 mod white;
 
+pub use changing_elements::b1_b2;
 use fax_bits::CodeFault;
 pub use fax_bits::{BitSink, BitSource, Colour, FillOrder, Memory};
 pub use lanes::first_other;
 pub use longest_runs::LongestRuns;
 pub use one_dimensional::{read_1d, read_1d_choice};
 pub use pels::Row;
-pub use places::b1_b2;
-pub use put::{put_1d, put_2d};
+pub use put_rows::{put_1d, put_2d};
 use thiserror::Error;
 pub use two_dimensional::{read_2d, read_2d_choice};
 pub use white::{take_white_1d, take_white_2d};

@@ -8,7 +8,7 @@ use fax_bits::{BitSource, Colour};
 
 /// The runs of a row that are read so far, as places of change.
 #[derive(Clone, Copy)]
-struct Runs {
+struct RunsSoFar {
     /// The index after the last place that is put.
     end: usize,
     /// How many pels they have.
@@ -17,9 +17,9 @@ struct Runs {
     is_chosen: bool,
 }
 
-impl Runs {
-    /// Sees that a run after them may be one of the longest: it has pels, or is the first of its row.
-    /// Else the codes are not those that T.4 chooses (T.4, section 4.1.1).
+impl RunsSoFar {
+    /// Sees that a run after them may be one of the longest: it has pels, or is the first of its
+    /// row. Else the codes are not those that T.4 chooses (T.4, section 4.1.1).
     #[inline(always)]
     fn see(&mut self, colour: Colour, run: u32) {
         if run == 0 && (self.total > 0 || colour == Colour::Black) {
@@ -36,7 +36,7 @@ fn next_run(
     ahead: &mut BitSource,
     colour: Colour,
     width: u32,
-    runs: &mut Runs,
+    runs: &mut RunsSoFar,
 ) -> Result<u32, RowFault> {
     if let Some(pels) = ahead.run_within(colour, width - runs.total) {
         return Ok(pels);
@@ -51,12 +51,12 @@ fn next_run(
 // requires short { width < 2 ^ 16 }
 // requires unfinished { runs.old.total < width }
 // requires put { ArePut width places.old runs.old.end runs.old.total }
-fn read_on(
+fn put_next_run(
     ahead: &mut BitSource,
     places: &mut [u32],
     width: u32,
     colour: Colour,
-    runs: &mut Runs,
+    runs: &mut RunsSoFar,
 ) -> Result<(), RowFault> {
     let run = next_run(ahead, colour, width, runs)?;
     runs.see(colour, run);
@@ -70,12 +70,12 @@ fn read_on(
 // requires some { 0 < width }
 // requires short { width < 2 ^ 16 }
 // requires room { HasRoom width places.old }
-fn read_runs(source: &mut BitSource, places: &mut [u32], width: u32) -> Result<Runs, RowFault> {
+fn read_runs(source: &mut BitSource, places: &mut [u32], width: u32) -> Result<RunsSoFar, RowFault> {
     // One reader serves those who ask whether the codes are T.4's choice and those who do not: to
     // see it costs nothing where no run is empty.
     crate::laws::one_dimensional_rows_are_read_as_nothing_else();
     let mut ahead = source.again();
-    let mut runs = Runs {
+    let mut runs = RunsSoFar {
         end: 1,
         total: 0,
         is_chosen: true,
@@ -88,9 +88,9 @@ fn read_runs(source: &mut BitSource, places: &mut [u32], width: u32) -> Result<R
             runs.end = put_turn(places, next, runs.total);
             continue;
         }
-        read_on(&mut ahead, places, width, Colour::White, &mut runs)?;
+        put_next_run(&mut ahead, places, width, Colour::White, &mut runs)?;
         if runs.total < width {
-            read_on(&mut ahead, places, width, Colour::Black, &mut runs)?;
+            put_next_run(&mut ahead, places, width, Colour::Black, &mut runs)?;
         }
     }
     source.go_to(&ahead);

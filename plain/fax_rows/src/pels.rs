@@ -3,7 +3,7 @@
 use kit_std::prelude::{Vec, vec};
 
 use crate::longest_runs::{LongestRuns, are_longest, put_runs};
-use crate::rows::PlacedRow;
+use crate::placed_rows::PlacedRow;
 use crate::turns::{close, colour_after, copy_places, places_up_to, turn_first};
 use fax_bits::{Colour, Memory};
 use kit_std::alloc::Global;

@@ -3,18 +3,18 @@
 
 use crate::RowFault;
 use crate::pels::Row;
-use crate::rows::PlacedRow;
+use crate::placed_rows::PlacedRow;
 use crate::turns::close;
-use codes::{Stop, Unread};
 use due::read_on;
 use fax_bits::BitSource;
+use horizontal_runs::{RowStop, Unread};
 use modes::read_by_look_ups;
 use over_white::read_over_white;
 
 mod choices;
-mod codes;
 mod copied;
 mod due;
+mod horizontal_runs;
 mod modes;
 mod over_white;
 mod several;
@@ -42,7 +42,7 @@ fn read_modes<const CHOICE: bool>(
     source: &mut BitSource,
     reference: PlacedRow,
     places: &mut [u32],
-) -> Result<usize, Stop> {
+) -> Result<usize, RowStop> {
     // Each reader by look-ups hands out what is due where none finds the next code, with its place
     // and how far the row is read, and leaves the source as it was. `read_on` goes on from there to
     // the row's end by the tables, which know every fault. So no row is read twice but for its
@@ -57,7 +57,7 @@ fn read_modes<const CHOICE: bool>(
     match read {
         Ok(end) => Ok(end),
         Err(Unread::Due(pause)) => read_on::<CHOICE>(source, reference, places, pause),
-        Err(Unread::Stop(stop)) => Err(stop),
+        Err(Unread::Stopped(stop)) => Err(stop),
     }
 }
 
@@ -77,17 +77,17 @@ fn read_places<const CHOICE: bool>(
             end,
             is_chosen: CHOICE,
         }),
-        Err(Stop::Fault(fault)) => return Err(fault),
-        Err(Stop::Other) => {}
+        Err(RowStop::Fault(fault)) => return Err(fault),
+        Err(RowStop::Other) => {}
     }
     match read_modes::<false>(source, reference, places) {
         Ok(end) => Ok(ReadRow {
             end,
             is_chosen: false,
         }),
-        Err(Stop::Fault(fault)) => Err(fault),
+        Err(RowStop::Fault(fault)) => Err(fault),
         // No choice was asked for.
-        Err(Stop::Other) => unreachable!(),
+        Err(RowStop::Other) => unreachable!(),
     }
 }
 

@@ -1,5 +1,5 @@
-//! White rows after white ones, which are gone past by their few bits (ITU-T T.4, sections 4.1.1 and
-//! 4.2.1.3.3).
+//! White rows after white ones, which are gone past by their few bits (ITU-T T.4, sections 4.1.1
+//! and 4.2.1.3.3).
 
 use kit_std::prelude::prove;
 
@@ -24,8 +24,8 @@ pub fn take_white_1d(source: &mut BitSource, white: &Row) -> bool {
     source.take_run(Colour::White, white.width)
 }
 
-/// Goes past a row in two-dimensional coding that is white as its reference row is, where its code is
-/// next, and answers whether that is seen (T.4, section 4.2.1.3.3; T.6, section 2.2.4). Else the
+/// Goes past a row in two-dimensional coding that is white as its reference row is, where its code
+/// is next, and answers whether that is seen (T.4, section 4.2.1.3.3; T.6, section 2.2.4). Else the
 /// source stays. It takes no memory.
 #[inline(always)]
 pub fn take_white_2d(source: &mut BitSource, reference: &Row) -> bool {

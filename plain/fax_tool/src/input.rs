@@ -16,7 +16,7 @@ pub trait Input: Source {
     ///
     /// # Errors
     ///
-    /// `NotOpened` where there is no such file, or it cannot be opened. The source is then as it was,
-    /// but that it counts one more file that was not opened, apart from calls that failed.
+    /// `NotOpened` where there is no such file, or it cannot be opened. The source is then as it
+    /// was, but that it counts one more file that was not opened, apart from calls that failed.
     fn open(&mut self, name: &str) -> Result<(), NotOpened>;
 }

@@ -31,7 +31,7 @@ use kit_std::io::Stdin;
 use kit_std::process::ExitCode;
 use kit_std::{env, io};
 pub use streams::{FromRead, Sink, Source, StreamFault, ToWrite};
-pub use words::{Command, Job, Part, WordsFault, parse_words};
+pub use words::{Command, Job, Selection, WordsFault, parse_words};
 
 /// The most bytes of an input that are read (TIFF 6.0 has no limit; this one is the program's).
 const MOST_BYTES: u64 = MAX_FILE as u64;

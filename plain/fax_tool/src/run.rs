@@ -1,9 +1,9 @@
 //! A run of the program over its streams.
 
-use crate::commands::check::check;
-use crate::commands::convert::convert;
+use crate::commands::check::give_report;
+use crate::commands::convert::give_conversion;
 use crate::commands::print::{list, rows};
-use crate::commands::salvage::salvage;
+use crate::commands::remains::salvage;
 use crate::commands::version::version;
 use crate::refusal::Refusal;
 use crate::streams::transfer::{Interruptions, give_all};
@@ -56,8 +56,8 @@ fn carry_out<R: Source, W: Sink>(
     match command {
         Command::List(part) => list(alloc, part, input, out),
         Command::Rows(part) => rows(alloc, part, input, out),
-        Command::Convert(options) => convert(alloc, *options, input, out),
-        Command::Check => check(alloc, input, out),
+        Command::Convert(options) => give_conversion(alloc, *options, input, out),
+        Command::Check => give_report(alloc, input, out),
         Command::Salvage => salvage(alloc, input, out),
         Command::Version => {
             version(out)?;

@@ -31,8 +31,8 @@ pub trait Sink {
     fn give(&mut self, bytes: &[u8]) -> Result<usize, StreamFault>;
 }
 
-/// How many calls on a stream were interrupted, how many failed, and how many files were not opened.
-/// All stay at `u64::MAX`.
+/// How many calls on a stream were interrupted, how many failed, and how many files were not
+/// opened. All stay at `u64::MAX`.
 #[derive(Clone, Copy)]
 struct FaultCounts {
     interrupted: u64,

@@ -23,9 +23,9 @@ pub struct Job {
 #[derive(Debug)]
 pub enum Command {
     /// Prints the form of each page.
-    List(Part),
+    List(Selection),
     /// Prints the runs of each row.
-    Rows(Part),
+    Rows(Selection),
     /// Writes the pages in another form.
     Convert(Options),
     /// Prints what is worth a note.
@@ -40,7 +40,7 @@ pub enum Command {
 // It is lent and not copied, since it may hold a long cursor. What the walk needs of it is copied
 // before the input is read.
 #[derive(Debug)]
-pub struct Part {
+pub struct Selection {
     /// Where to begin: at page 0, row 0 where no cursor is named; where a long one is, at its row.
     pub cursor: Cursor,
     /// The most lines of pages or rows, or `None` for all.
@@ -52,7 +52,7 @@ pub struct Part {
     pub from: Option<LongCursor>,
 }
 
-impl Part {
+impl Selection {
     /// The cursor to begin at, of the long cursor where one is named.
     pub fn begin(&self) -> Cursor {
         match &self.from {
@@ -129,7 +129,8 @@ fn usage_for(words: &[&str]) -> &'static str {
 }
 
 impl WordsFault {
-    /// The text for the error stream, with its line ends, and the program's status, for these words.
+    /// The text for the error stream, with its line ends, and the program's status, for these
+    /// words.
     pub fn text(&self, words: &[&str]) -> (&'static str, u8) {
         match self {
             WordsFault::Usage => (usage_for(words), 2),
@@ -259,12 +260,12 @@ fn file_of(alloc: Global, matches: &ArgMatches) -> Result<Option<String>, AllocE
 
 /// The part of a file's pages that the words after `list` name.
 // requires { HasNumber (codes "max") most_lines (entries_of matches.now) }
-fn pages_of(matches: &ArgMatches) -> Result<Part, NotACursor> {
+fn pages_of(matches: &ArgMatches) -> Result<Selection, NotACursor> {
     let cursor = match matches.get_str("cursor") {
         Some(text) => Cursor::parse(text)?,
         None => Cursor { page: 0, row: 0 },
     };
-    Ok(Part {
+    Ok(Selection {
         cursor,
         max: matches.get_one::<u32>("max"),
         long: false,
@@ -275,7 +276,7 @@ fn pages_of(matches: &ArgMatches) -> Result<Part, NotACursor> {
 /// The part of a file's rows that the words after `rows` name, where the cursor may be a long one.
 // requires max { HasNumber (codes "max") most_lines (entries_of matches.now) }
 // requires long { HasFlag (codes "long") (entries_of matches.now) }
-fn rows_of(alloc: Global, matches: &ArgMatches) -> Result<Part, WordsFault> {
+fn rows_of(alloc: Global, matches: &ArgMatches) -> Result<Selection, WordsFault> {
     let (cursor, from) = match matches.get_str("cursor") {
         Some(text) => match Cursor::parse(text) {
             Ok(cursor) => (cursor, None),
@@ -286,7 +287,7 @@ fn rows_of(alloc: Global, matches: &ArgMatches) -> Result<Part, WordsFault> {
         },
         None => (Cursor { page: 0, row: 0 }, None),
     };
-    Ok(Part {
+    Ok(Selection {
         cursor,
         max: matches.get_one::<u32>("max"),
         long: matches.get_flag("long"),
@@ -395,8 +396,9 @@ fn job_of(alloc: Global, words: &[&str]) -> Result<Job, WordsFault> {
 /// # Errors
 ///
 /// `Usage` where the words are not those of a command, a request for help included, nor ask for the
-/// version, or `-o` names no target, or `--align` meets one that has no EOLs. `NotACursor` where the
-/// words are those of a command, but for the text of `--cursor`. `Memory` where a growth was refused.
+/// version, or `-o` names no target, or `--align` meets one that has no EOLs. `NotACursor` where
+/// the words are those of a command, but for the text of `--cursor`. `Memory` where a growth was
+/// refused.
 pub fn parse_words(alloc: Global, words: &[&str]) -> Result<Job, WordsFault> {
     if ask_for_version(words) {
         return Ok(Job {

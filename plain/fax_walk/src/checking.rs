@@ -207,7 +207,6 @@ fn check_page(
 fn check_pages(alloc: Global, tiff: Tiff) -> Result<Report, Memory> {
     // It does not go by a walk, which hands out rows and not their bits. What it counts are the
     // items of the same definition (`AreItems`).
-    fax_files::laws::files_have_one_chain();
     let mut chain = Chain::new(tiff);
     let mut report = Report {
         notes: Vec::new(alloc),

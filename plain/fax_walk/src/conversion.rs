@@ -148,7 +148,6 @@ fn put_last_row(
 /// Converts a TIFF file.
 // requires { Spec.IsTiff file.now }
 fn convert_file(alloc: Global, file: &[u8], options: &Options) -> Result<Parts, ConvertFault> {
-    fax_files::laws::files_have_one_chain();
     crate::laws::files_are_paged();
     crate::laws::form_tails_are_one();
     crate::laws::tails_go_on();

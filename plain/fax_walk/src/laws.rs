@@ -45,7 +45,6 @@ pub fn conversions_are_read_back() {
 pub fn answers_are_one() {
     fax_page::laws::strips_are_read_in_one_way();
     fax_page::laws::strips_are_noted_in_one_way();
-    fax_files::laws::files_have_one_chain();
     fax_files::laws::images_are_read_in_one_way();
     form_tails_are_one();
     tails_go_on();
@@ -71,9 +70,7 @@ pub fn beginnings_have_one_tail() {
 
 /// A cursor names one page of a file at most, and an item has the form of the page that its place
 /// names.
-pub fn cursors_name_one_page() {
-    fax_files::laws::files_have_one_chain();
-}
+pub fn cursors_name_one_page() {}
 
 /// Each file and each cursor has forms and an end, and one list of them only. From a page's first
 /// row it is the forms from that page on. What follows a form is the tail from the cursor after it.
@@ -105,7 +102,6 @@ pub fn tails_go_on() {
 /// hands out what follows that item and the same end, and prints what such a walk prints. Before
 /// its first row it reads again only the rows before its beginning in its strip.
 pub fn walks_hand_out_the_rest() {
-    fax_files::laws::files_have_one_chain();
     beginnings_have_one_tail();
     tails_go_on();
 }
@@ -130,14 +126,12 @@ pub fn walks_go_on() {
 /// stretches that are lost and of pages that are refused.
 pub fn files_are_salvaged_in_one_way() {
     fax_page::laws::strips_are_salvaged_in_one_way();
-    fax_files::laws::files_have_one_chain();
 }
 
-/// What is left of a page, or of a strip with no file around it, is one list of rows, found or lost;
-/// and what is left of a file has that of each page. From any place of a page on it is one list too,
-/// and from its first row on it is what is left of the page.
+/// What is left of a page, or of a strip with no file around it, is one list of rows, found or
+/// lost; and what is left of a file has that of each page. From any place of a page on it is one
+/// list too, and from its first row on it is what is left of the page.
 pub fn rows_are_left_in_one_way() {
     fax_page::laws::strips_are_salvaged_in_one_way();
     fax_page::laws::uncounted_rows_are_left_in_one_way();
-    fax_files::laws::files_have_one_chain();
 }

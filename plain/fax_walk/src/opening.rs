@@ -54,7 +54,6 @@ pub(crate) fn chain_before<'a>(file: &'a [u8], page: u32) -> Result<Chain<'a>, E
         Ok(tiff) => tiff,
         Err(fault) => return Err(End::of_file(0, 0, fault)),
     };
-    fax_files::laws::files_have_one_chain();
     let mut chain = Chain::new(tiff);
     for number in 0..page {
         match chain.next() {
@@ -71,7 +70,6 @@ impl<'a> DuePage<'a> {
     /// last one, or the fault in its place.
     // requires { Spec.IsFileChain chain }
     pub(crate) fn after(mut chain: Chain<'a>) -> Result<Option<Self>, End> {
-        fax_files::laws::files_have_one_chain();
         let page = chain.given();
         let directory = match chain.next() {
             Ok(Some(directory)) => directory,
@@ -93,7 +91,6 @@ impl<'a> DuePage<'a> {
     /// cursor names no place of the file.
     pub(crate) fn at(file: &'a [u8], cursor: Cursor) -> Result<Option<Self>, End> {
         let chain = chain_before(file, cursor.page)?;
-        fax_files::laws::files_have_one_chain();
         let Some(page) = DuePage::after(chain)? else {
             return if cursor.row == 0 {
                 Ok(None)

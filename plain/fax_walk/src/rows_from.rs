@@ -17,8 +17,8 @@ pub struct RowsFrom<'a> {
 impl<'a> Model for RowsFrom<'a> {}
 
 impl<'a> RowsFrom<'a> {
-    /// Before row `row` of a page, after so many bits of its strip, with this row before it. It takes all
-    /// the memory that the page needs.
+    /// Before row `row` of a page, after so many bits of its strip, with this row before it. It
+    /// takes all the memory that the page needs.
     // requires form { form_of strips.directory ≡ Ok form }
     // requires limits { IsPageForm form }
     // requires count { strips.count ≡ form.strips }
@@ -42,8 +42,8 @@ impl<'a> RowsFrom<'a> {
     }
 
     /// Where the row that is due is read in its strip, where the row before it is found; or `None`
-    /// where its strip begins with it, or the page has no more. Then what is left from that place on is
-    /// what is left now.
+    /// where its strip begins with it, or the page has no more. Then what is left from that place
+    /// on is what is left now.
     // requires { length self.now.file ≤ 536870911 }
     pub fn place(&self) -> Option<PlaceInStrip<'_>> {
         self.rows.place()

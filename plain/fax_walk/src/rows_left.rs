@@ -32,11 +32,11 @@ fn next_of(left: &mut Left) -> Option<PagePart> {
             its.rows_are_left();
             part
         }
-        Left::Strip(reader, _) => match reader.advance() {
+        Left::Strip(reader, _) => match reader.next_salvaged() {
             Some(salvaged) => Some(part_of(salvaged, true)),
             None => None,
         },
-        Left::Uncounted(reader, _, _) => match reader.advance() {
+        Left::Uncounted(reader, _, _) => match reader.next_salvaged() {
             Ok(salvaged) => Some(part_of(salvaged, true)),
             Err(_end) => None,
         },
@@ -82,13 +82,13 @@ impl<'a> PageLeft<'a> {
         })
     }
 
-    /// Before row `row`, after so many of the bits that the file has of its strip, with this row before
-    /// it. It takes all the memory that the page needs.
+    /// Before row `row`, after so many of the bits that the file has of its strip, with this row
+    /// before it. It takes all the memory that the page needs.
     ///
     /// # Errors
     ///
-    /// `Outside` where the file has fewer bits of the strip, or no row of the page's width has the runs
-    /// of the row before. `Memory` where a growth was refused.
+    /// `Outside` where the file has fewer bits of the strip, or no row of the page's width has the
+    /// runs of the row before. `Memory` where a growth was refused.
     // requires { row < self.here.form.rows }
     pub fn rows_from(
         self,
@@ -101,9 +101,9 @@ impl<'a> PageLeft<'a> {
     }
 }
 
-/// Goes through the rows of a page, or of a strip with no file around it, and tells of each whether it
-/// is found or lost. Contracts see what the rows are left of, how many were passed, how many they are,
-/// and the row that was found last.
+/// Goes through the rows of a page, or of a strip with no file around it, and tells of each whether
+/// it is found or lost. Contracts see what the rows are left of, how many were passed, how many
+/// they are, and the row that was found last.
 pub struct RowsLeft<'a> {
     left: Left<'a>,
 }
@@ -137,8 +137,8 @@ impl<'a> RowsLeft<'a> {
     }
 
     /// Before the first of the rows in at most 4,294,967,295 bytes that nobody counted, with their
-    /// number and their end. How many rows the form says does not matter. It takes all the memory that
-    /// rows of this width need, and goes through the rows once to count them.
+    /// number and their end. How many rows the form says does not matter. It takes all the memory
+    /// that rows of this width need, and goes through the rows once to count them.
     ///
     /// # Errors
     ///

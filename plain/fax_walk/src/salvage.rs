@@ -55,7 +55,6 @@ enum NextPage<'a> {
 #[inline(never)]
 // requires { IsFileChain chain.now }
 fn next_page<'a>(alloc: Global, chain: &Chain<'a>) -> Result<NextPage<'a>, Memory> {
-    fax_files::laws::files_have_one_chain();
     let number = chain.given();
     let mut chain = chain.again();
     let directory = match chain.next() {
@@ -72,8 +71,8 @@ fn next_page<'a>(alloc: Global, chain: &Chain<'a>) -> Result<NextPage<'a>, Memor
     }
 }
 
-/// Leaves the page that is gone through, if one is, and answers whether it lies wholly in the file, and
-/// no row of it is lost.
+/// Leaves the page that is gone through, if one is, and answers whether it lies wholly in the file,
+/// and no row of it is lost.
 fn leave(page: &mut Option<SalvagePage>) -> bool {
     let clean = match page {
         None => true,
@@ -83,8 +82,8 @@ fn leave(page: &mut Option<SalvagePage>) -> bool {
     clean
 }
 
-/// Hands out what is next on the page that is gone through, or `None` where nothing is left of it, or
-/// no page was entered.
+/// Hands out what is next on the page that is gone through, or `None` where nothing is left of it,
+/// or no page was entered.
 #[inline(always)]
 fn item_of_page(page: &mut Option<SalvagePage>) -> Option<SalvageItem> {
     match page {
@@ -118,7 +117,6 @@ impl<'a> Model for Salvage<'a> {}
 impl<'a> Salvage<'a> {
     /// Before the first page of a file, from any bytes. It takes no memory.
     pub fn begin(alloc: Global, file: &'a [u8]) -> Self {
-        fax_files::laws::files_have_one_chain();
         match Tiff::read_header(file) {
             Ok(tiff) => Salvage {
                 alloc,
@@ -143,13 +141,13 @@ impl<'a> Salvage<'a> {
     ///
     /// # Errors
     ///
-    /// `Memory` where a growth was refused. Then nothing was handed out, and it may be called again.
+    /// `Memory` where a growth was refused. Then nothing was handed out, and it may be called
+    /// again.
     #[inline(always)]
     pub fn next_item(&mut self) -> Result<Option<SalvageItem>, Memory> {
         fax_bits::laws::bits_stand_by_place();
         fax_page::laws::lines_are_read_in_one_way();
         fax_page::laws::strips_are_salvaged_in_one_way();
-        fax_files::laws::files_have_one_chain();
         crate::laws::files_are_salvaged_in_one_way();
         'pages: loop {
             if let Some(item) = item_of_page(&mut self.page) {
@@ -157,7 +155,7 @@ impl<'a> Salvage<'a> {
                 return Ok(Some(item));
             }
             let clean = leave(&mut self.page);
-            self.whole = self.whole && clean;
+            self.whole &= clean;
             let Some(chain) = &self.chain else {
                 return Ok(None);
             };
@@ -182,8 +180,8 @@ impl<'a> Salvage<'a> {
         }
     }
 
-    /// Whether nothing of the file is lost, once all was handed out: then its rows end properly. Before
-    /// that, whether nothing of the pages that were left is lost.
+    /// Whether nothing of the file is lost, once all was handed out: then its rows end properly.
+    /// Before that, whether nothing of the pages that were left is lost.
     pub fn is_whole(&self) -> bool {
         self.whole
     }

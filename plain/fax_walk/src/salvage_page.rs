@@ -1,7 +1,7 @@
 //! What is left of a page: rows, and stretches of rows that are lost.
 
 use crate::Place;
-use crate::page::{row_for_exchange, set_exchanged};
+use crate::open_page::{row_for_exchange, set_exchanged};
 use crate::salvage::{SalvageItem, Stretch};
 use crate::salvage_rows::{PagePart, SalvageRows};
 use fax_bits::Memory;
@@ -10,8 +10,8 @@ use fax_rows::Row;
 use kit_std::alloc::Global;
 use kit_std::marker::Model;
 
-/// The stretch of lost rows that ends before a row of a page, with so many rows more, which are lost
-/// for this cause.
+/// The stretch of lost rows that ends before a row of a page, with so many rows more, which are
+/// lost for this cause.
 // requires { Spec.HasRoom lost rows }
 fn longer(lost: Option<Stretch>, page: u32, row: u32, rows: u32, cause: Cause) -> Stretch {
     match lost {
@@ -28,9 +28,9 @@ fn longer(lost: Option<Stretch>, page: u32, row: u32, rows: u32, cause: Cause) -
     }
 }
 
-/// A page that is gone through. Contracts see its number, how far its rows are gone through, the rows
-/// that are lost before the one that is due, whether a row that is found waits to be handed out, and
-/// the row that was found last, as it is handed out.
+/// A page that is gone through. Contracts see its number, how far its rows are gone through, the
+/// rows that are lost before the one that is due, whether a row that is found waits to be handed
+/// out, and the row that was found last, as it is handed out.
 pub(crate) struct SalvagePage<'a> {
     page: u32,
     form: PageForm,
@@ -118,8 +118,8 @@ impl<'a> SalvagePage<'a> {
         Some(SalvageItem::Lost(stretch))
     }
 
-    /// Whether all strips up to the one that is gone through lie wholly in the file, and no row of them
-    /// is lost so far.
+    /// Whether all strips up to the one that is gone through lie wholly in the file, and no row of
+    /// them is lost so far.
     pub fn is_clean(&self) -> bool {
         self.rows.is_clean()
     }

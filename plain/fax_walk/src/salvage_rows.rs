@@ -7,8 +7,8 @@ use fax_rows::Row;
 use kit_std::alloc::Global;
 use kit_std::marker::Model;
 
-/// What became of the next row of a page, or of a strip with no file around it, and of those that are
-/// lost with it.
+/// What became of the next row of a page, or of a strip with no file around it, and of those that
+/// are lost with it.
 #[derive(Clone, Copy, Debug, PartialEq, Eq)]
 pub enum PagePart {
     /// The row is found.
@@ -44,8 +44,8 @@ fn cause_of(fault: StripFault, whole: bool) -> Cause {
     }
 }
 
-/// What became of the next row of a page, by what became of it in its strip, which lies wholly in the
-/// file or does not.
+/// What became of the next row of a page, by what became of it in its strip, which lies wholly in
+/// the file or does not.
 pub(crate) fn part_of(salvaged: Salvaged, whole: bool) -> PagePart {
     match salvaged {
         Salvaged::Found => PagePart::Found,
@@ -132,8 +132,8 @@ impl<'a> SalvageRows<'a> {
         })
     }
 
-    /// Goes before the first row of the next strip, if there is one, where the one before it is gone
-    /// through.
+    /// Goes before the first row of the next strip, if there is one, where the one before it is
+    /// gone through.
     fn enter_strip(&mut self) {
         fax_page::laws::whole_strips_are_found();
         if self.reader.row() < self.form.strip_form(self.strip).rows
@@ -155,15 +155,15 @@ impl<'a> SalvageRows<'a> {
         fax_page::laws::whole_strips_are_found();
         fax_page::laws::due_rows_stand_in_strips();
         self.enter_strip();
-        let Some(salvaged) = self.reader.advance() else {
+        let Some(salvaged) = self.reader.next_salvaged() else {
             return None;
         };
         self.clean = self.clean && is_found(salvaged);
         Some(part_of(salvaged, self.whole))
     }
 
-    /// Where the row that is due is read in its strip, or `None` where the strip is gone through: then
-    /// the next one begins with that row, if the page has more.
+    /// Where the row that is due is read in its strip, or `None` where the strip is gone through:
+    /// then the next one begins with that row, if the page has more.
     // requires { length self.now.directory.file ≤ 536870911 }
     pub fn place(&self) -> Option<PlaceInStrip<'_>> {
         fax_bits::laws::bits_stand_by_place();
@@ -178,8 +178,8 @@ impl<'a> SalvageRows<'a> {
         })
     }
 
-    /// Whether all strips up to the one that is gone through lie wholly in the file, and no row of them
-    /// is lost so far.
+    /// Whether all strips up to the one that is gone through lie wholly in the file, and no row of
+    /// them is lost so far.
     pub fn is_clean(&self) -> bool {
         self.clean
     }

@@ -1,6 +1,6 @@
 //! The rows of a page that are left, as they are handed out.
 
-use crate::page::{row_for_exchange, set_exchanged};
+use crate::open_page::{row_for_exchange, set_exchanged};
 use crate::salvage_rows::{PagePart, PlaceInStrip, SalvageRows};
 use fax_bits::Memory;
 use fax_files::{PageForm, Strips};
@@ -29,8 +29,8 @@ impl<'a> ShownRows<'a> {
         Ok(ShownRows { rows, exchanged })
     }
 
-    /// Before row `row` of a page, after so many bits of its strip, with this row before it. It takes all
-    /// the memory that the page needs.
+    /// Before row `row` of a page, after so many bits of its strip, with this row before it. It
+    /// takes all the memory that the page needs.
     // requires form { form_of strips.directory ≡ Ok form }
     // requires limits { IsPageForm form }
     // requires count { strips.count ≡ form.strips }

@@ -1,7 +1,7 @@
 //! The walk over a file's rows, in order of page and then of row.
 
+use crate::open_page::{OpenPage, open, open_after, open_inside};
 use crate::opening::{DuePage, OpenFault};
-use crate::page::{OpenPage, open, open_after, open_inside};
 use crate::{Begun, Cursor, End, LongCursor, WalkFault};
 use fax_bits::Memory;
 use fax_files::PageForm;
@@ -16,8 +16,8 @@ pub struct Place {
     pub row: u32,
 }
 
-/// A place inside a strip, which a walk lends: a cursor, how many bits of the strip stand before its
-/// row, and the row before it as it was coded, before any exchange of colours.
+/// A place inside a strip, which a walk lends: a cursor, how many bits of the strip stand before
+/// its row, and the row before it as it was coded, before any exchange of colours.
 #[derive(Clone, Copy)]
 pub struct PlaceInside<'a> {
     pub at: Cursor,
@@ -113,7 +113,7 @@ fn go_on<'a>(
     fax_files::laws::forms_are_whole();
     'pages: loop {
         if let Some(open) = page {
-            if open.next()? {
+            if open.next_row()? {
                 return Ok(());
             }
         }
@@ -203,7 +203,7 @@ impl<'a> Walk<'a> {
     pub fn rows_read(&self) -> u64 {
         crate::laws::beginnings_have_one_tail();
         match &self.page {
-            Some(page) => page.read(),
+            Some(page) => page.rows_read(),
             None => 0,
         }
     }
@@ -221,7 +221,7 @@ impl<'a> Walk<'a> {
     ///
     /// As `next_row`.
     #[inline(always)]
-    fn advance(&mut self) -> Result<bool, WalkFault> {
+    fn go_to_next(&mut self) -> Result<bool, WalkFault> {
         if let Some(end) = self.told {
             return end.answer();
         }
@@ -251,7 +251,7 @@ impl<'a> Walk<'a> {
     /// the rows, `CursorOutside` where the walk began at no place of the file, from then on.
     #[inline(always)]
     pub fn next_row(&mut self) -> Result<Option<(Place, &Row)>, WalkFault> {
-        if !self.advance()? {
+        if !self.go_to_next()? {
             return Ok(None);
         }
         let place = Place {

@@ -21,27 +21,6 @@ use fax_c::calls::{
 ///
 /// The header says what the caller owes.
 #[no_mangle]
-pub unsafe extern "C" fn faxpages_check(
-    file: *const u8,
-    file_len: usize,
-    notes: *mut FaxNote,
-    notes_len: usize,
-    report: *mut FaxReport,
-) -> u32 {
-    // SAFETY: as above.
-    unsafe {
-        calls::faxpages_check(
-            kit_std::c::items(file, file_len),
-            kit_std::c::items_mut(notes, notes_len),
-            &mut *report,
-        )
-    }
-}
-
-/// # Safety
-///
-/// The header says what the caller owes.
-#[no_mangle]
 pub unsafe extern "C" fn faxpages_strip_code(
     form: *const FaxStrip,
     k: u32,
@@ -89,29 +68,6 @@ pub unsafe extern "C" fn faxpages_strip_code_runs(
             kit_std::c::items(runs, runs_len),
             kit_std::c::items_mut(out, out_len),
             &mut *len,
-        )
-    }
-}
-
-/// # Safety
-///
-/// The header says what the caller owes.
-#[no_mangle]
-pub unsafe extern "C" fn faxpages_convert(
-    file: *const u8,
-    file_len: usize,
-    options: *const FaxOptions,
-    out: *mut u8,
-    out_len: usize,
-    converted: *mut FaxConverted,
-) -> u32 {
-    // SAFETY: as above.
-    unsafe {
-        calls::faxpages_convert(
-            kit_std::c::items(file, file_len),
-            &*options,
-            kit_std::c::items_mut(out, out_len),
-            &mut *converted,
         )
     }
 }
@@ -179,6 +135,50 @@ pub unsafe extern "C" fn faxpages_end_pages(
 ///
 /// The header says what the caller owes.
 #[no_mangle]
+pub unsafe extern "C" fn faxpages_convert(
+    file: *const u8,
+    file_len: usize,
+    options: *const FaxOptions,
+    out: *mut u8,
+    out_len: usize,
+    converted: *mut FaxConverted,
+) -> u32 {
+    // SAFETY: as above.
+    unsafe {
+        calls::faxpages_convert(
+            kit_std::c::items(file, file_len),
+            &*options,
+            kit_std::c::items_mut(out, out_len),
+            &mut *converted,
+        )
+    }
+}
+
+/// # Safety
+///
+/// The header says what the caller owes.
+#[no_mangle]
+pub unsafe extern "C" fn faxpages_check(
+    file: *const u8,
+    file_len: usize,
+    notes: *mut FaxNote,
+    notes_len: usize,
+    report: *mut FaxReport,
+) -> u32 {
+    // SAFETY: as above.
+    unsafe {
+        calls::faxpages_check(
+            kit_std::c::items(file, file_len),
+            kit_std::c::items_mut(notes, notes_len),
+            &mut *report,
+        )
+    }
+}
+
+/// # Safety
+///
+/// The header says what the caller owes.
+#[no_mangle]
 pub unsafe extern "C" fn faxpages_forms(
     file: *const u8,
     file_len: usize,
@@ -195,6 +195,22 @@ pub unsafe extern "C" fn faxpages_forms(
             kit_std::c::items_mut(forms, forms_len),
             &mut *told,
         )
+    }
+}
+
+#[no_mangle]
+pub extern "C" fn faxpages_version() -> u32 {
+    calls::faxpages_version()
+}
+
+/// # Safety
+///
+/// The header says what the caller owes.
+#[no_mangle]
+pub unsafe extern "C" fn faxpages_version_text(text: *mut u8, text_len: usize) -> usize {
+    // SAFETY: as above.
+    unsafe {
+        calls::faxpages_version_text(kit_std::c::items_mut(text, text_len))
     }
 }
 
@@ -257,63 +273,6 @@ pub unsafe extern "C" fn faxpages_page(
             &mut *form,
             kit_std::c::items_mut(out, out_len),
             stride,
-            &mut *told,
-        )
-    }
-}
-
-/// # Safety
-///
-/// The header says what the caller owes.
-#[no_mangle]
-pub unsafe extern "C" fn faxpages_rows(
-    file: *const u8,
-    file_len: usize,
-    page: u32,
-    row: u32,
-    rows: *mut FaxRow,
-    rows_len: usize,
-    out: *mut u8,
-    out_len: usize,
-    told: *mut FaxTold,
-) -> u32 {
-    // SAFETY: as above.
-    unsafe {
-        calls::faxpages_rows(
-            kit_std::c::items(file, file_len),
-            page,
-            row,
-            kit_std::c::items_mut(rows, rows_len),
-            kit_std::c::items_mut(out, out_len),
-            &mut *told,
-        )
-    }
-}
-
-/// # Safety
-///
-/// The header says what the caller owes.
-#[no_mangle]
-pub unsafe extern "C" fn faxpages_rows_from(
-    file: *const u8,
-    file_len: usize,
-    place: *mut FaxPlace,
-    runs: *mut u32,
-    runs_len: usize,
-    rows: *mut FaxRow,
-    rows_len: usize,
-    out: *mut u8,
-    out_len: usize,
-    told: *mut FaxTold,
-) -> u32 {
-    // SAFETY: as above.
-    unsafe {
-        calls::faxpages_rows_from(
-            kit_std::c::items(file, file_len),
-            &mut *place,
-            kit_std::c::items_mut(runs, runs_len),
-            kit_std::c::items_mut(rows, rows_len),
-            kit_std::c::items_mut(out, out_len),
             &mut *told,
         )
     }
@@ -437,6 +396,94 @@ pub unsafe extern "C" fn faxpages_changes_from(
 ///
 /// The header says what the caller owes.
 #[no_mangle]
+pub unsafe extern "C" fn faxpages_rows(
+    file: *const u8,
+    file_len: usize,
+    page: u32,
+    row: u32,
+    rows: *mut FaxRow,
+    rows_len: usize,
+    out: *mut u8,
+    out_len: usize,
+    told: *mut FaxTold,
+) -> u32 {
+    // SAFETY: as above.
+    unsafe {
+        calls::faxpages_rows(
+            kit_std::c::items(file, file_len),
+            page,
+            row,
+            kit_std::c::items_mut(rows, rows_len),
+            kit_std::c::items_mut(out, out_len),
+            &mut *told,
+        )
+    }
+}
+
+/// # Safety
+///
+/// The header says what the caller owes.
+#[no_mangle]
+pub unsafe extern "C" fn faxpages_rows_from(
+    file: *const u8,
+    file_len: usize,
+    place: *mut FaxPlace,
+    runs: *mut u32,
+    runs_len: usize,
+    rows: *mut FaxRow,
+    rows_len: usize,
+    out: *mut u8,
+    out_len: usize,
+    told: *mut FaxTold,
+) -> u32 {
+    // SAFETY: as above.
+    unsafe {
+        calls::faxpages_rows_from(
+            kit_std::c::items(file, file_len),
+            &mut *place,
+            kit_std::c::items_mut(runs, runs_len),
+            kit_std::c::items_mut(rows, rows_len),
+            kit_std::c::items_mut(out, out_len),
+            &mut *told,
+        )
+    }
+}
+
+/// # Safety
+///
+/// The header says what the caller owes.
+#[no_mangle]
+pub unsafe extern "C" fn faxpages_salvage_from(
+    file: *const u8,
+    file_len: usize,
+    place: *mut FaxPlace,
+    runs: *mut u32,
+    runs_len: usize,
+    out: *mut u8,
+    out_len: usize,
+    stride: usize,
+    lost: *mut FaxLost,
+    lost_len: usize,
+    told: *mut FaxTold,
+) -> u32 {
+    // SAFETY: as above.
+    unsafe {
+        calls::faxpages_salvage_from(
+            kit_std::c::items(file, file_len),
+            &mut *place,
+            kit_std::c::items_mut(runs, runs_len),
+            kit_std::c::items_mut(out, out_len),
+            stride,
+            kit_std::c::items_mut(lost, lost_len),
+            &mut *told,
+        )
+    }
+}
+
+/// # Safety
+///
+/// The header says what the caller owes.
+#[no_mangle]
 pub unsafe extern "C" fn faxpages_salvage(
     file: *const u8,
     file_len: usize,
@@ -483,37 +530,6 @@ pub unsafe extern "C" fn faxpages_salvage_strip(
         calls::faxpages_salvage_strip(
             kit_std::c::items(strip, strip_len),
             &*form,
-            kit_std::c::items_mut(out, out_len),
-            stride,
-            kit_std::c::items_mut(lost, lost_len),
-            &mut *told,
-        )
-    }
-}
-
-/// # Safety
-///
-/// The header says what the caller owes.
-#[no_mangle]
-pub unsafe extern "C" fn faxpages_salvage_from(
-    file: *const u8,
-    file_len: usize,
-    place: *mut FaxPlace,
-    runs: *mut u32,
-    runs_len: usize,
-    out: *mut u8,
-    out_len: usize,
-    stride: usize,
-    lost: *mut FaxLost,
-    lost_len: usize,
-    told: *mut FaxTold,
-) -> u32 {
-    // SAFETY: as above.
-    unsafe {
-        calls::faxpages_salvage_from(
-            kit_std::c::items(file, file_len),
-            &mut *place,
-            kit_std::c::items_mut(runs, runs_len),
             kit_std::c::items_mut(out, out_len),
             stride,
             kit_std::c::items_mut(lost, lost_len),
@@ -595,22 +611,6 @@ pub unsafe extern "C" fn faxpages_strip_rows(
             stride,
             &mut *told,
         )
-    }
-}
-
-#[no_mangle]
-pub extern "C" fn faxpages_version() -> u32 {
-    calls::faxpages_version()
-}
-
-/// # Safety
-///
-/// The header says what the caller owes.
-#[no_mangle]
-pub unsafe extern "C" fn faxpages_version_text(text: *mut u8, text_len: usize) -> usize {
-    // SAFETY: as above.
-    unsafe {
-        calls::faxpages_version_text(kit_std::c::items_mut(text, text_len))
     }
 }
 

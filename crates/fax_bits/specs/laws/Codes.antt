@@ -10,8 +10,8 @@ use Rattle.std.specs.Prelude.{length, replicate, slice_index_or, All, ◌⊎◌}
 use Rattle.fax_bits.specs.declared.codes.CodeEntry.{CodeEntry}
 use Rattle.fax_bits.specs.declared.Colour.{Colour}
 use Rattle.fax_bits.specs.declared.FillOrder.TheVariants.{MsbFirst}
-use Rattle.fax_bits.specs.declared.modes.ModeCode.{ModeCode}
-use Rattle.fax_bits.specs.declared.runs.RunCode.TheVariants.{Terminating, MakeUp}
+use Rattle.fax_bits.specs.declared.mode_codes.ModeCode.{ModeCode}
+use Rattle.fax_bits.specs.declared.run_codes.RunCode.TheVariants.{Terminating, MakeUp}
 use Rattle.fax_bits.specs.Bits.{byte_bits, bits}
 use Rattle.fax_bits.specs.Written.{run_bits, mode_bits}
 use Rattle.fax_bits.specs.Bits.{bits_number, packed}

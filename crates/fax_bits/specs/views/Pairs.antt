@@ -1,6 +1,6 @@
 -- A white run and the black one after it, as they are read, and any two runs as they are written.
 use Rattle.std.specs.Prelude.{◌≡◌, ℕ, ◌<◌, Bool, List, ◌++◌}
-use Rattle.fax_bits.specs.declared.modes.ModeCode.TheVariants.{Horizontal}
+use Rattle.fax_bits.specs.declared.mode_codes.ModeCode.TheVariants.{Horizontal}
 use Rattle.fax_bits.specs.declared.pairs.Pair.{Pair}
 use Rattle.fax_bits.specs.Bits.{Colour, White, Black}
 use Rattle.fax_bits.specs.Codes.{IsRun, Takes}

@@ -3,7 +3,7 @@ use Rattle.std.specs.Prelude.{◌≡◌, ℕ, ◌<◌, ◌%◌, Bool, false, Lis
 use Rattle.std.specs.Prelude.{replicate, flat_map}
 use Rattle.fax_bits.specs.declared.FillOrder.{FillOrder}
 use Rattle.fax_bits.specs.declared.Colour.{Colour}
-use Rattle.fax_bits.specs.declared.runs.RunCode.{RunCode}
+use Rattle.fax_bits.specs.declared.run_codes.RunCode.{RunCode}
 use Rattle.fax_bits.specs.Written.{run_code_bits}
 
 -- the bits that were put, and the order in which bytes hold them (TIFF 6.0, FillOrder)

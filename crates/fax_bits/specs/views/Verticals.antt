@@ -1,7 +1,7 @@
 -- Vertical modes one after another, as they are read.
 use Rattle.std.specs.Prelude.{◌≡◌, ℕ, ◌<◌, ◌≤◌, ℤ, pos, ◌-ℤ◌, Bool, List, All, length, map, take}
-use Rattle.fax_bits.specs.declared.modes.ModeCode.{ModeCode}
-use Rattle.fax_bits.specs.declared.modes.ModeCode.TheVariants.{Vertical}
+use Rattle.fax_bits.specs.declared.mode_codes.ModeCode.{ModeCode}
+use Rattle.fax_bits.specs.declared.mode_codes.ModeCode.TheVariants.{Vertical}
 use Rattle.fax_bits.specs.declared.verticals.Verticals.{Verticals}
 use Rattle.fax_bits.specs.Codes.{Spells}
 use Rattle.fax_bits.specs.Tables.{modes}

@@ -13,10 +13,10 @@ use Rattle.fax_c.specs.declared.filled.Filled.{Filled}
 use Rattle.fax_c.specs.declared.filled.Stop.{Stop}
 use Rattle.fax_c.specs.declared.filled.Stop.TheVariants.{Ended, NoRoom}
 use Rattle.fax_c.specs.declared.places.FaxPlace.{FaxPlace}
-use Rattle.fax_c.specs.declared.salvage.FaxLost.{FaxLost}
+use Rattle.fax_c.specs.declared.salvaged_raster.FaxLost.{FaxLost}
 use Rattle.fax_c.specs.declared.salvage_from.Ahead.{Ahead}
-use Rattle.fax_c.specs.Salvaged.{found_of, lost_from}
-use Rattle.fax_c.specs.code.Salvaged.{stretch_lost}
+use Rattle.fax_c.specs.SalvagedRaster.{found_of, lost_from}
+use Rattle.fax_c.specs.code.SalvagedRaster.{stretch_lost}
 use Rattle.fax_c.specs.views.Places.{cursor_of, place_at}
 use Rattle.fax_c.specs.views.SalvagedFrom.{AreFirstWritten, EndsFound, HasRoomFor, IsPlaceOn}
 

@@ -10,7 +10,7 @@ use Rattle.fax_files.specs.views.Writing.{empty_file}
 use Rattle.fax_c.specs.declared.forms.FaxForm.{FaxForm}
 use Rattle.fax_c.specs.declared.writing.FaxWritten.{FaxWritten}
 use Rattle.fax_c.specs.Raster.{AskedRaster, page_strips}
-use Rattle.fax_c.specs.views.Written.{IsFormGiven, file_so_far}
+use Rattle.fax_c.specs.views.PageByPage.{IsFormGiven, file_so_far}
 
 -- where the link of a page stands to whose directory a link leads
 abbrev pub next_link : List ℕ → ℕ → ℕ

@@ -14,10 +14,10 @@ use Rattle.fax_c.specs.declared.filled.Filled.{Filled}
 use Rattle.fax_c.specs.declared.filled.Stop.{Stop}
 use Rattle.fax_c.specs.declared.filled.Stop.TheVariants.{Done, Ended, Memory, NoRoom}
 use Rattle.fax_c.specs.declared.places.FaxPlace.{FaxPlace}
-use Rattle.fax_c.specs.declared.salvage.FaxLost.{FaxLost}
+use Rattle.fax_c.specs.declared.salvaged_raster.FaxLost.{FaxLost}
 use Rattle.fax_c.specs.declared.told.FaxTold.{FaxTold}
 use Rattle.fax_c.specs.Raster.{padded_row}
-use Rattle.fax_c.specs.Salvaged.{found_of, lost_from}
+use Rattle.fax_c.specs.SalvagedRaster.{found_of, lost_from}
 use Rattle.fax_c.specs.Told.{IsTold, none_filled_at}
 use Rattle.fax_c.specs.views.Places.{HasRuns, cursor_of, most_runs, place_at}
 
@@ -26,8 +26,8 @@ abbrev pub most_bytes : ℕ
 most_bytes = 536870911
 
 -- so many bytes, of which some are used, have room for a row more, and a table for a stretch more
-abbrev pub HasRoom : ℕ → ℕ → ℕ → ℕ → ℕ → Type 0
-HasRoom len used stride stretches room = (stride ≤ len - used) × (stretches < room)
+abbrev pub HasRoomForBoth : ℕ → ℕ → ℕ → ℕ → ℕ → Type 0
+HasRoomForBoth len used stride stretches room = (stride ≤ len - used) × (stretches < room)
 
 -- or one of both has not
 abbrev pub IsFull : ℕ → ℕ → ℕ → ℕ → ℕ → Type 0
@@ -35,7 +35,7 @@ IsFull len used stride stretches room = (len - used < stride) ⊎ (room ≤ stre
 
 -- a row of a width has room, and a stretch
 abbrev pub HasRoomFor : ℕ → ℕ → ℕ → ℕ → Type 0
-HasRoomFor width stride len room = (packed_len width ≤ stride) × HasRoom len 0 stride 0 room
+HasRoomFor width stride len room = (packed_len width ≤ stride) × HasRoomForBoth len 0 stride 0 room
 
 -- a place of the caller's is row i of strip s of a page, read so: at the strip's beginning, where
 -- it has no runs; else after its bits, and over the row with its runs
@@ -87,9 +87,9 @@ pub record AreFirstWritten (page r stride : ℕ) (rows rest : List PageRow) (old
 
 -- the place after the rows that were written, from which on this is left, and no run but its own is
 -- changed: a place of the page, or the one after its last row
-abbrev pub IsPlaceAfter : List ℕ → FilePage → List PageRow → Cursor → FaxPlace → List ℕ → List ℕ
+abbrev pub IsPlaceAfterLeft : List ℕ → FilePage → List PageRow → Cursor → FaxPlace → List ℕ → List ℕ
     → Type 0
-IsPlaceAfter file here rest cursor place old_runs runs =
+IsPlaceAfterLeft file here rest cursor place old_runs runs =
     (cursor_of place ≡ cursor) × (drop place.runs runs ≡ drop place.runs old_runs)
     × (((cursor.row ≡ here.form.rows) × (place ≡ place_at cursor) × (rest ≡ []))
     ⊎ ((s : ℕ) × (i : ℕ) × (at : Inner) × IsPlaceOn file here place runs s i at
@@ -126,7 +126,7 @@ WritesFrom file here stride old filled new =
     × (s : ℕ) × (i : ℕ) × (at : Inner) × IsPlaceOn file here old.place old.runs s i at
     × (rows : List PageRow) × (rest : List PageRow) × AreRowsFrom file here s i at rows
     × AreFirstWritten old.place.page old.place.row stride rows rest old.raster old.lost filled
-    new.raster new.lost × IsPlaceAfter file here rest filled.cursor new.place old.runs new.runs)
+    new.raster new.lost × IsPlaceAfterLeft file here rest filled.cursor new.place old.runs new.runs)
     ⊎ (WritesNone file here stride old.place old.runs (length old.raster) (length old.lost)
     filled.stop × (filled ≡ none_filled_at (cursor_of old.place) filled.stop) × (new ≡ old))
 

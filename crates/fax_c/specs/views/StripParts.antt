@@ -19,8 +19,8 @@ use Rattle.fax_c.specs.declared.told.FaxTold.{FaxTold}
 use Rattle.fax_c.specs.Raster.{padded_row}
 use Rattle.fax_c.specs.Told.{no_fault}
 use Rattle.fax_c.specs.views.Places.{most_runs}
-use Rattle.fax_c.specs.views.Strips.{AskedStrip, HasRoom, IsDueAt, IsPlaceAfter, IsReadableIn}
-use Rattle.fax_c.specs.views.Strips.{ReadsTo, StripMemory, StripPlace, TellsStripRows}
+use Rattle.fax_c.specs.views.BareStrips.{AskedStrip, HasRoom, IsDueAt, IsPlaceAfter, IsReadableIn}
+use Rattle.fax_c.specs.views.BareStrips.{ReadsTo, StripMemory, StripPlace, TellsStripRows}
 
 -- the rows from one place of a strip to another are written and told, each in so many bytes, and
 -- are the same whatever bytes follow; the place is the one after them, and no fault is told

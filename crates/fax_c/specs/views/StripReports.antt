@@ -18,7 +18,7 @@ use Rattle.fax_c.specs.declared.strip_form.FaxStrip.{FaxStrip}
 use Rattle.fax_c.specs.declared.strip_report.FaxStripReport.{FaxStripReport}
 use Rattle.fax_c.specs.Numbers.{bool_number}
 use Rattle.fax_c.specs.Told.{end_fault, end_status, fault_of_cause, no_fault}
-use Rattle.fax_c.specs.views.Strips.{IsReadable, IsReadableUncounted}
+use Rattle.fax_c.specs.views.BareStrips.{IsReadable, IsReadableUncounted}
 
 -- all rows were read, with these notes
 abbrev pub report_of_notes : ℕ → StripNotes → FaxStripReport

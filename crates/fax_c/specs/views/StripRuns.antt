@@ -8,7 +8,7 @@ use Rattle.fax_page.specs.Strip.{coded_strip}
 use Rattle.fax_c.specs.declared.rows.FaxRow.{FaxRow}
 use Rattle.fax_c.specs.declared.strip_form.FaxStrip.{FaxStrip}
 use Rattle.fax_c.specs.views.PlaceTexts.{IsTextTold}
-use Rattle.fax_c.specs.views.Strips.{IsStripFormGiven}
+use Rattle.fax_c.specs.views.BareStrips.{IsStripFormGiven}
 
 -- row i of a table has these pels, so many of them: its runs lie where the table says
 abbrev pub IsRowAt : ℕ → List FaxRow → List ℕ → ℕ → List Colour → Type 0
@@ -23,8 +23,8 @@ AreRowsAt width table runs i (row ∷ rows) =
     IsRowAt width table runs i row × AreRowsAt width table runs (i + 1) rows
 
 -- these are the first rows of a table, as many as the form says
-abbrev pub AreRowsOf : StripForm → List FaxRow → List ℕ → List (List Colour) → Type 0
-AreRowsOf form table runs rows =
+abbrev pub AreRowsInTable : StripForm → List FaxRow → List ℕ → List (List Colour) → Type 0
+AreRowsInTable form table runs rows =
     (length rows ≡ form.rows) × AreRowsAt form.width table runs 0 rows
 
 -- these numbers are a form and a k
@@ -44,9 +44,9 @@ pub record AskedRuns : Type 0 where
 abbrev pub TellsStripOfRuns : AskedRuns → List ℕ → List ℕ → ℕ → ℕ → Type 0
 TellsStripOfRuns asked old new len status =
     ((form : StripForm) × IsFormWith asked.form asked.k form
-    × (((rows : List (List Colour)) × AreRowsOf form asked.table asked.runs rows
+    × (((rows : List (List Colour)) × AreRowsInTable form asked.table asked.runs rows
     × IsTextTold (coded_strip form asked.k rows) old new len status)
     ⊎ ((status ≡ 4) × (len ≡ 0) × (new ≡ old))))
     ⊎ ((status ≡ 7) × (len ≡ 0) × (new ≡ old)
     × ((form : StripForm) (rows : List (List Colour)) → IsFormWith asked.form asked.k form
-    → AreRowsOf form asked.table asked.runs rows → ⊥))
+    → AreRowsInTable form asked.table asked.runs rows → ⊥))

@@ -8,8 +8,8 @@ use Rattle.fax_files.specs.Directory.{values_place, ◌>>=◌}
 use Rattle.fax_files.specs.declared.FileFault.TheVariants as Fault
 use Rattle.fax_files.specs.declared.fields.Limits.{Limits}
 use Rattle.fax_files.specs.declared.fields.Limits.TheVariants.{Between, AboveZero, Any}
-use Rattle.fax_files.specs.declared.fields.Refusal.{Refusal}
-use Rattle.fax_files.specs.declared.fields.Refusal.TheVariants as Refused
+use Rattle.fax_files.specs.declared.fields.FieldRefusal.{FieldRefusal}
+use Rattle.fax_files.specs.declared.fields.FieldRefusal.TheVariants as Refused
 use Rattle.fax_files.specs.declared.tags.TheConstants as Tags
 use Rattle.fax_files.specs.Page.{Mmr, PageForm, Resolution, is_between, most_pels, most_rows}
 use Rattle.fax_files.specs.Page.{rational_of, resolution_of}
@@ -34,7 +34,7 @@ test_of (Between low high) = is_between low high
 test_of AboveZero = nat_lt 0
 test_of Any = λ _. true
 
-abbrev pub fault_of : Refusal → ℕ → FileFault
+abbrev pub fault_of : FieldRefusal → ℕ → FileFault
 fault_of Refused.OutOfLimits = Fault.OutOfLimits
 fault_of Refused.Unsupported = Fault.Unsupported
 fault_of Refused.BadField = Fault.BadField

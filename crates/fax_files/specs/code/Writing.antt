@@ -5,10 +5,10 @@ use Rattle.fax_files.specs.declared.PageForm.{PageForm}
 use Rattle.fax_files.specs.declared.written.Layout.{Layout}
 use Rattle.fax_files.specs.declared.tags.TheConstants as Tags
 use Rattle.fax_files.specs.Layout.{four}
-use Rattle.fax_files.specs.code.Parts.{to_offsets, long_field}
+use Rattle.fax_files.specs.code.PageParts.{to_offsets, long_field}
 use Rattle.fax_files.specs.Layout.{WrittenField, fields_with}
 use Rattle.fax_files.specs.Layout.{offsets_from}
-use Rattle.fax_files.specs.code.Parts.{fields_bytes, values_bytes, lengths_of}
+use Rattle.fax_files.specs.code.PageParts.{fields_bytes, values_bytes, lengths_of}
 use Rattle.fax_files.specs.Directory.{max_file}
 
 -- the fields of a page where it is laid out so

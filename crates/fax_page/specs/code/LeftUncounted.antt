@@ -3,8 +3,8 @@ use Rattle.std.specs.Prelude.{◌≡◌, ◌≢◌, ◌≤◌, ◌⊎◌, ◌+�
 use Rattle.std.specs.Prelude.{Option, Some, None}
 use Rattle.fax_page.specs.declared.StripFault.{StripFault}
 use Rattle.fax_page.specs.declared.StripFault.TheVariants.{MissingEol}
-use Rattle.fax_page.specs.declared.salvage.Salvaged.{Salvaged}
-use Rattle.fax_page.specs.declared.salvage.Salvaged.TheVariants.{Found, Lost, Unended}
+use Rattle.fax_page.specs.declared.salvage_reader.Salvaged.{Salvaged}
+use Rattle.fax_page.specs.declared.salvage_reader.Salvaged.TheVariants.{Found, Lost, Unended}
 use Rattle.fax_page.specs.Strip.{most_rows}
 use Rattle.fax_page.specs.Salvage.{SalvagedRow}
 use Rattle.fax_page.specs.Uncounted.{RowsEnd}

@@ -43,7 +43,7 @@ pub record ReadsRowByRow : Type 0 where
 
 -- a reader that reads rows one after another, from any place on, reads the lines from there, up to
 -- their end; a fault leaves it before the row that could not be read, over the same reference
-pub record ReadsOn : Type 0 where
+pub record StripsAreReadOn : Type 0 where
   pub begins : (start : StripState) → HasReadFrom start [] start
   pub goes_on : (start : StripState) (rows : List (List Colour)) (old new : StripState)
       → HasReadFrom start rows old → ReadsRow old new

@@ -7,7 +7,7 @@ use Rattle.fax_page.specs.Lines.{Coding, Mmr, StripFault, StripForm}
 use Rattle.fax_page.specs.Salvage.{AreSalvaged, SalvagedRow, after_eol, found, next_due, unended}
 use Rattle.fax_page.specs.declared.StripFault.TheVariants.{MissingEol}
 use Rattle.fax_page.specs.Strip.{AreLines, end_of_line}
-use Rattle.fax_page.specs.declared.salvage.Salvaged.{Salvaged}
+use Rattle.fax_page.specs.declared.salvage_reader.Salvaged.{Salvaged}
 use Rattle.fax_page.specs.views.Salvage.{IsSalvageStep, SalvageState}
 
 -- from row i on each row is found or lost in one way, and all rows of the strip are

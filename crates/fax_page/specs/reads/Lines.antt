@@ -10,7 +10,7 @@ use Rattle.fax_page.specs.declared.Dimension.TheVariants.{OneDimensional, TwoDim
 use Rattle.fax_page.specs.declared.StripFault.{StripFault}
 use Rattle.fax_page.specs.declared.StripForm.{StripForm}
 use Rattle.fax_page.specs.Lines.{NextOne, next_one, not_there, read_start, strip_fault, white_row}
-use Rattle.fax_rows.specs.reads.Codes.{◌>>=◌, after_front, named}
+use Rattle.fax_rows.specs.reads.CodeReading.{◌>>=◌, after_front, map_fault}
 use Rattle.fax_rows.specs.reads.Rows.{read_one_dimensional, read_two_dimensional}
 
 -- eleven zeros where a row's first code is due are an end marker; after fewer, and nothing more,
@@ -24,10 +24,10 @@ abbrev pub check_first : List Bool → Result (Unit {0}) StripFault
 check_first b = first_bits (after_front (replicate 11 false) b) (next_one 0 b)
 
 -- the codes of a row, coded so
-abbrev pub read_row : Dimension → ℕ → List Colour → List Bool
+abbrev pub read_row_codes : Dimension → ℕ → List Colour → List Bool
     → Result (List Colour × List Bool) RowFault
-read_row OneDimensional width reference b = read_one_dimensional width b
-read_row TwoDimensional width reference b = read_two_dimensional reference b
+read_row_codes OneDimensional width reference b = read_one_dimensional width b
+read_row_codes TwoDimensional width reference b = read_two_dimensional reference b
 
 -- row i of a strip over its reference
 abbrev pub read_line : StripForm → ℕ → List Colour → List Bool
@@ -35,7 +35,7 @@ abbrev pub read_line : StripForm → ℕ → List Colour → List Bool
 read_line form i reference b =
     read_start form.coding i b
     >>= λ start. check_first start.1
-    >>= λ _. named strip_fault (read_row start.0 form.width reference start.1)
+    >>= λ _. map_fault strip_fault (read_row_codes start.0 form.width reference start.1)
 
 -- n rows from row i on, each over the row before it: those that are there, the fault in the way of
 -- the next, and the bits that are left

@@ -4,8 +4,8 @@ use Rattle.std.specs.Prelude.{length, Result, Ok, Err, MatchOption}
 use Rattle.fax_bits.specs.declared.Colour.{Colour}
 use Rattle.fax_page.specs.declared.StripForm.{StripForm}
 use Rattle.fax_page.specs.declared.StripFault.{StripFault}
-use Rattle.fax_page.specs.declared.salvage.Salvaged.{Salvaged}
-use Rattle.fax_page.specs.declared.salvage.Salvaged.TheVariants.{Found, Lost, Unended}
+use Rattle.fax_page.specs.declared.salvage_reader.Salvaged.{Salvaged}
+use Rattle.fax_page.specs.declared.salvage_reader.Salvaged.TheVariants.{Found, Lost, Unended}
 use Rattle.fax_page.specs.Salvage.{SalvagedRow, found, lost, unended}
 use Rattle.fax_page.specs.Uncounted.{Fault, RowsEnd, uncounted}
 use Rattle.fax_page.specs.LeftUncounted.{AreLeftUncounted}

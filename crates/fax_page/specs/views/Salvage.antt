@@ -10,8 +10,8 @@ use Rattle.fax_page.specs.views.Reader.{IsBefore}
 use Rattle.fax_page.specs.declared.StripForm.{StripForm}
 use Rattle.fax_page.specs.declared.StripFault.{StripFault}
 use Rattle.fax_page.specs.declared.StripFault.TheVariants.{MissingEol}
-use Rattle.fax_page.specs.declared.salvage.Salvaged.{Salvaged}
-use Rattle.fax_page.specs.declared.salvage.Salvaged.TheVariants.{Found, Lost, Unended}
+use Rattle.fax_page.specs.declared.salvage_reader.Salvaged.{Salvaged}
+use Rattle.fax_page.specs.declared.salvage_reader.Salvaged.TheVariants.{Found, Lost, Unended}
 use Rattle.fax_page.specs.Lines.{in_code, next_one, read_start, white_row}
 use Rattle.fax_page.specs.Salvage.{sought_from, IsReadOver, IsEolDue, IsLostFor, next_due}
 

@@ -62,8 +62,8 @@ HasBytes coding order bytes rows left =
     read_strip (form coding 8 (length rows)) (bits order bytes) ≡ reading rows None left
 
 -- the bits are one row in MH of so many pels of one colour, and no more
-abbrev pub IsRun : ℕ → List ℕ → Colour → Type 0
-IsRun width text colour =
+abbrev pub IsLongRun : ℕ → List ℕ → Colour → Type 0
+IsLongRun width text colour =
     read_strip (form Mh width 1) (spelled text)
     ≡ record { rows = replicate width colour ∷ []; end = None; left = [] }
 
@@ -174,14 +174,14 @@ pub record AreStripsOfMh : Type 0 where
 
 -- long runs: make-up codes, in any number and order, and then a terminating code
 pub record AreLongRuns : Type 0 where
-  pub white_63 : IsRun 63 (codes "00110100") White
-  pub white_64 : IsRun 64 (codes "11011 00110101") White
-  pub white_72 : IsRun 72 (codes "11011 10011") White
-  pub white_128 : IsRun 128 (codes "10010 00110101") White
-  pub two_make_up_codes : IsRun 128 (codes "11011 11011 00110101") White
-  pub shorter_one_first : IsRun 192 (codes "11011 10010 00110101") White
-  pub black_64 : IsRun 64 (codes "00110101 0000001111 0000110111") Black
-  pub black_128 : IsRun 128 (codes "00110101 000011001000 0000110111") Black
+  pub white_63 : IsLongRun 63 (codes "00110100") White
+  pub white_64 : IsLongRun 64 (codes "11011 00110101") White
+  pub white_72 : IsLongRun 72 (codes "11011 10011") White
+  pub white_128 : IsLongRun 128 (codes "10010 00110101") White
+  pub two_make_up_codes : IsLongRun 128 (codes "11011 11011 00110101") White
+  pub shorter_one_first : IsLongRun 192 (codes "11011 10010 00110101") White
+  pub black_64 : IsLongRun 64 (codes "00110101 0000001111 0000110111") Black
+  pub black_128 : IsLongRun 128 (codes "00110101 000011001000 0000110111") Black
 
 -- whole strips in MR
 pub record AreStripsOfMr : Type 0 where
@@ -259,7 +259,7 @@ pub record AreEnds : Type 0 where
       None ≡ Marked
 
 -- all of them
-pub record AreRead : Type 0 where
+pub record AreStripsRead : Type 0 where
   pub faults_of_mh : AreFaultsOfMh
   pub faults_of_mr : AreFaultsOfMr
   pub faults_of_mmr : AreFaultsOfMmr

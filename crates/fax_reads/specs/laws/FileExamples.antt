@@ -60,8 +60,8 @@ abbrev pub directory : List WrittenField → ℕ → List ℕ
 directory fields next = two (length fields) ++ flat_map field_bytes fields ++ four next
 
 -- a file of a directory with these fields, and the bytes after it
-abbrev pub file_of : List WrittenField → List ℕ → List ℕ
-file_of fields more = header_to 8 ++ directory fields 0 ++ more
+abbrev pub worked_file : List WrittenField → List ℕ → List ℕ
+worked_file fields more = header_to 8 ++ directory fields 0 ++ more
 
 -- the bits of a strip: a row in MMR that is its reference row, and then zeros
 abbrev pub same_row : List ℕ
@@ -69,61 +69,61 @@ same_row = 0x80 ∷ []
 
 -- a file of a page with one field more, or with another field
 abbrev pub page_and : WrittenField → List ℕ
-page_and new = file_of (new ∷ page_fields) []
+page_and new = worked_file (new ∷ page_fields) []
 
 abbrev pub page_with : WrittenField → List ℕ
-page_with new = file_of (with new page_fields) same_row
+page_with new = worked_file (with new page_fields) same_row
 
 abbrev pub page_without : ℕ → List ℕ
-page_without tag = file_of (without tag page_fields) []
+page_without tag = worked_file (without tag page_fields) []
 
 -- the file of a page, and of a page that is followed by a directory at this offset
 abbrev pub page_before : ℕ → List ℕ
 page_before next = header_to 8 ++ directory page_fields next ++ same_row
 
 -- the page and the number of a row, and its pels
-abbrev pub shown : RowItem → ℕ × ℕ × List Colour
-shown item = (item.page, item.row, item.pels)
+abbrev pub row_and_place : RowItem → ℕ × ℕ × List Colour
+row_and_place item = (item.page, item.row, item.pels)
 
 -- row r of page p, with pels that a text spells
-abbrev pub row_at : ℕ → ℕ → List ℕ → ℕ × ℕ × List Colour
-row_at p r text = (p, r, pels text)
+abbrev pub spelled_row : ℕ → ℕ → List ℕ → ℕ × ℕ × List Colour
+spelled_row p r text = (p, r, pels text)
 
 abbrev pub white_at : ℕ → ℕ → ℕ × ℕ × List Colour
-white_at p r = row_at p r (codes "WWWWWWWW")
+white_at p r = spelled_row p r (codes "WWWWWWWW")
 
 -- the rows of a file are these, and this is their end
 pub record HasRows (file : List ℕ) (rows : List (ℕ × ℕ × List Colour)) (end : End) : Type 0 where
   pub items : List RowItem
   pub are : AreItems file items end
-  pub rows_are : map shown items ≡ rows
+  pub rows_are : map row_and_place items ≡ rows
 
 -- the pages of a file have these forms, and this is their end
 pub record HasForms (file : List ℕ) (forms : List FormItem) (end : End) : Type 0 where
   pub are : AreForms file forms end
 
 -- a file has no row and no form, for this fault of its first page
-pub record IsRefused (file : List ℕ) (fault : FileFault) : Type 0 where
+pub record IsFileRefused (file : List ℕ) (fault : FileFault) : Type 0 where
   pub rows : AreItems file [] (Fault 0 0 (File fault))
   pub forms : AreForms file [] (Fault 0 0 (File fault))
 
 -- faults of a header
 pub record AreFaultsOfHeaders : Type 0 where
-  pub no_bytes : IsRefused [] ShortHeader
-  pub seven_bytes : IsRefused (take 7 (header_to 8)) ShortHeader
-  pub no_order : IsRefused (two 0 ++ two 42 ++ four 8) ByteOrder
-  pub mixed_order : IsRefused (codes "IM" ++ two 42 ++ four 8) ByteOrder
-  pub bigtiff : IsRefused (codes "II" ++ two 43 ++ four 8) Magic
-  pub other_order : IsRefused (codes "MM" ++ two 42 ++ four 8) Magic
-  pub no_directory : IsRefused (header_to 0) NoDirectory
+  pub no_bytes : IsFileRefused [] ShortHeader
+  pub seven_bytes : IsFileRefused (take 7 (header_to 8)) ShortHeader
+  pub no_order : IsFileRefused (two 0 ++ two 42 ++ four 8) ByteOrder
+  pub mixed_order : IsFileRefused (codes "IM" ++ two 42 ++ four 8) ByteOrder
+  pub bigtiff : IsFileRefused (codes "II" ++ two 43 ++ four 8) Magic
+  pub other_order : IsFileRefused (codes "MM" ++ two 42 ++ four 8) Magic
+  pub no_directory : IsFileRefused (header_to 0) NoDirectory
 
 -- faults of the chain of directories
 pub record AreFaultsOfChains : Type 0 where
-  pub directory_at_the_end : IsRefused (header_to 8) DirectoryOutside
-  pub directory_past_the_end : IsRefused (header_to 1000) DirectoryOutside
-  pub count_is_cut : IsRefused (header_to 8 ++ 0 ∷ []) DirectoryOutside
-  pub entries_are_cut : IsRefused (header_to 8 ++ two 1 ++ four 0) DirectoryOutside
-  pub next_offset_is_cut : IsRefused (header_to 8 ++ two 0 ++ take 3 (four 0)) DirectoryOutside
+  pub directory_at_the_end : IsFileRefused (header_to 8) DirectoryOutside
+  pub directory_past_the_end : IsFileRefused (header_to 1000) DirectoryOutside
+  pub count_is_cut : IsFileRefused (header_to 8 ++ 0 ∷ []) DirectoryOutside
+  pub entries_are_cut : IsFileRefused (header_to 8 ++ two 1 ++ four 0) DirectoryOutside
+  pub next_offset_is_cut : IsFileRefused (header_to 8 ++ two 0 ++ take 3 (four 0)) DirectoryOutside
   pub next_is_outside : HasRows (page_before 1000) (white_at 0 0 ∷ [])
       (Fault 1 0 (File DirectoryOutside))
   pub loop : HasRows (page_before 8) (white_at 0 0 ∷ []) (Fault 1 0 (File DirectoryLoop))
@@ -133,46 +133,48 @@ pub record AreFaultsOfChains : Type 0 where
 -- fields that are missing, which have another type, no value or values outside the file, which have
 -- a value that no fax page has, or one that is out of limits
 pub record AreFaultsOfFields : Type 0 where
-  pub no_fields : IsRefused (file_of [] []) (MissingField 256)
-  pub no_width : IsRefused (page_without 256) (MissingField 256)
-  pub no_length : IsRefused (page_without 257) (MissingField 257)
-  pub no_compression : IsRefused (page_without 259) (MissingField 259)
-  pub no_interpretation : IsRefused (page_without 262) (MissingField 262)
-  pub no_offsets : IsRefused (page_without 273) (MissingField 273)
-  pub no_byte_counts : IsRefused (page_without 279) (MissingField 279)
-  pub width_of_another_type : IsRefused (page_with (field_of 256 1 1 (four 8))) (BadField 256)
-  pub width_without_a_value : IsRefused (page_with (field_of 256 3 0 (four 8))) (BadField 256)
-  pub lengths_outside : IsRefused (page_with (field_of 257 3 3 (four 1000))) (BadField 257)
-  pub strips_of_no_rows : IsRefused (page_and (short 278 0)) (BadField 278)
-  pub bits_of_another_type : IsRefused (page_and (field_of 258 5 1 (four 8))) (BadField 258)
-  pub compression_of_another_type : IsRefused (page_with (field_of 259 1 1 (four 4))) (BadField 259)
-  pub interpretation_of_another_type : IsRefused (page_with (field_of 262 1 1 (four 0)))
+  pub no_fields : IsFileRefused (worked_file [] []) (MissingField 256)
+  pub no_width : IsFileRefused (page_without 256) (MissingField 256)
+  pub no_length : IsFileRefused (page_without 257) (MissingField 257)
+  pub no_compression : IsFileRefused (page_without 259) (MissingField 259)
+  pub no_interpretation : IsFileRefused (page_without 262) (MissingField 262)
+  pub no_offsets : IsFileRefused (page_without 273) (MissingField 273)
+  pub no_byte_counts : IsFileRefused (page_without 279) (MissingField 279)
+  pub width_of_another_type : IsFileRefused (page_with (field_of 256 1 1 (four 8))) (BadField 256)
+  pub width_without_a_value : IsFileRefused (page_with (field_of 256 3 0 (four 8))) (BadField 256)
+  pub lengths_outside : IsFileRefused (page_with (field_of 257 3 3 (four 1000))) (BadField 257)
+  pub strips_of_no_rows : IsFileRefused (page_and (short 278 0)) (BadField 278)
+  pub bits_of_another_type : IsFileRefused (page_and (field_of 258 5 1 (four 8))) (BadField 258)
+  pub compression_of_another_type : IsFileRefused (page_with (field_of 259 1 1 (four 4)))
+      (BadField 259)
+  pub interpretation_of_another_type : IsFileRefused (page_with (field_of 262 1 1 (four 0)))
       (BadField 262)
-  pub order_of_another_type : IsRefused (page_and (field_of 266 1 1 (four 1))) (BadField 266)
-  pub samples_of_another_type : IsRefused (page_and (field_of 277 1 1 (four 1))) (BadField 277)
-  pub options_of_another_type : IsRefused
-      (file_of (field_of 292 5 1 (four 8) ∷ with (short 259 3) page_fields) []) (BadField 292)
-  pub too_few_offsets : IsRefused (file_of (short 278 1 ∷ with (short 257 2) page_fields) [])
-      (BadField 273)
-  pub byte_counts_of_another_type : IsRefused (page_with (field_of 279 5 1 (four 8))) (BadField 279)
-  pub grey : IsRefused (page_and (short 258 8)) (Unsupported 258)
-  pub not_compressed : IsRefused (page_with (short 259 1)) (Unsupported 259)
-  pub lzw : IsRefused (page_with (short 259 5)) (Unsupported 259)
-  pub rgb : IsRefused (page_with (short 262 2)) (Unsupported 262)
-  pub order_of_0 : IsRefused (page_and (short 266 0)) (Unsupported 266)
-  pub third_order : IsRefused (page_and (short 266 3)) (Unsupported 266)
-  pub three_samples : IsRefused (page_and (short 277 3)) (Unsupported 277)
-  pub no_pels : IsRefused (page_with (short 256 0)) (OutOfLimits 256)
-  pub too_wide : IsRefused (page_with (long 256 65536)) (OutOfLimits 256)
-  pub no_rows : IsRefused (page_with (short 257 0)) (OutOfLimits 257)
-  pub too_long : IsRefused (page_with (long 257 1000001)) (OutOfLimits 257)
-  pub first_fault : IsRefused (file_of (with (short 259 5) (without 257 page_fields)) [])
+  pub order_of_another_type : IsFileRefused (page_and (field_of 266 1 1 (four 1))) (BadField 266)
+  pub samples_of_another_type : IsFileRefused (page_and (field_of 277 1 1 (four 1))) (BadField 277)
+  pub options_of_another_type : IsFileRefused
+      (worked_file (field_of 292 5 1 (four 8) ∷ with (short 259 3) page_fields) []) (BadField 292)
+  pub too_few_offsets : IsFileRefused
+      (worked_file (short 278 1 ∷ with (short 257 2) page_fields) []) (BadField 273)
+  pub byte_counts_of_another_type : IsFileRefused (page_with (field_of 279 5 1 (four 8)))
+      (BadField 279)
+  pub grey : IsFileRefused (page_and (short 258 8)) (Unsupported 258)
+  pub not_compressed : IsFileRefused (page_with (short 259 1)) (Unsupported 259)
+  pub lzw : IsFileRefused (page_with (short 259 5)) (Unsupported 259)
+  pub rgb : IsFileRefused (page_with (short 262 2)) (Unsupported 262)
+  pub order_of_0 : IsFileRefused (page_and (short 266 0)) (Unsupported 266)
+  pub third_order : IsFileRefused (page_and (short 266 3)) (Unsupported 266)
+  pub three_samples : IsFileRefused (page_and (short 277 3)) (Unsupported 277)
+  pub no_pels : IsFileRefused (page_with (short 256 0)) (OutOfLimits 256)
+  pub too_wide : IsFileRefused (page_with (long 256 65536)) (OutOfLimits 256)
+  pub no_rows : IsFileRefused (page_with (short 257 0)) (OutOfLimits 257)
+  pub too_long : IsFileRefused (page_with (long 257 1000001)) (OutOfLimits 257)
+  pub first_fault : IsFileRefused (worked_file (with (short 259 5) (without 257 page_fields)) [])
       (MissingField 257)
 
 -- two strips of a row each, the first of which is the byte after the directory
 abbrev pub two_strips : ℕ → List ℕ
 two_strips second =
-    file_of (short 278 1 ∷ with (short 257 2) (with (both 273 98 second)
+    worked_file (short 278 1 ∷ with (short 257 2) (with (both 273 98 second)
     (with (both 279 1 1) page_fields))) same_row
 
 -- strips that lie outside the file, and strips with a fault in the way of a row
@@ -184,7 +186,7 @@ pub record AreFaultsOfStrips : Type 0 where
   pub no_bytes : HasRows (page_with (short 279 0)) [] (Fault 0 0 (Strip DataEnds))
   pub second_row : HasRows (page_with (short 257 2)) (white_at 0 0 ∷ [])
       (Fault 0 1 (Strip DataEnds))
-  pub no_code : HasRows (file_of page_fields (0x01 ∷ [])) [] (Fault 0 0 (Strip BadCode))
+  pub no_code : HasRows (worked_file page_fields (0x01 ∷ [])) [] (Fault 0 0 (Strip BadCode))
 
 -- the number of a digit, where 97 is the letter a
 abbrev pub digit : ℕ → ℕ
@@ -213,18 +215,18 @@ pub record AreWholeFiles : Type 0 where
   pub two_pages : HasRows (page_before 87 ++ directory page_fields 0)
       (white_at 0 0 ∷ white_at 1 0 ∷ []) Proper
   pub strips : HasRows (two_strips 98) (white_at 0 0 ∷ white_at 0 1 ∷ []) Proper
-  pub exchanged : HasRows (page_with (short 262 1)) (row_at 0 0 (codes "BBBBBBBB") ∷ []) Proper
-  pub lowest_bit_first : HasRows (file_of (short 266 2 ∷ with (short 273 98) page_fields)
+  pub exchanged : HasRows (page_with (short 262 1)) (spelled_row 0 0 (codes "BBBBBBBB") ∷ []) Proper
+  pub lowest_bit_first : HasRows (worked_file (short 266 2 ∷ with (short 273 98) page_fields)
       (0x01 ∷ []))
       (white_at 0 0 ∷ []) Proper
-  pub one_dimensional : HasRows (file_of (with (short 259 3) page_fields) (0x98 ∷ []))
+  pub one_dimensional : HasRows (worked_file (with (short 259 3) page_fields) (0x98 ∷ []))
       (white_at 0 0 ∷ []) Proper
   pub two_dimensional : HasRows
-      (file_of (short 292 1 ∷ with (short 259 3) (with (short 273 98)
+      (worked_file (short 292 1 ∷ with (short 259 3) (with (short 273 98)
       (with (short 279 2) page_fields))) (0x00 ∷ 0x14 ∷ []))
       (white_at 0 0 ∷ []) Proper
   pub first_entry_counts : HasRows
-      (file_of (with (short 273 98) page_fields ++ short 256 9 ∷ []) same_row)
+      (worked_file (with (short 273 98) page_fields ++ short 256 9 ∷ []) same_row)
       (white_at 0 0 ∷ []) Proper
 
 -- the file samples/one-mh-page.tif
@@ -242,7 +244,7 @@ sample =
 -- it has one page of one row
 pub record IsSampleRead : Type 0 where
   pub bytes : length sample ≡ 226
-  pub rows : HasRows sample (row_at 0 0 (codes "WWWBBWWW") ∷ []) Proper
+  pub rows : HasRows sample (spelled_row 0 0 (codes "WWWBBWWW") ∷ []) Proper
   pub forms : HasForms sample
       (record {
         page = 0;

@@ -7,7 +7,7 @@ use Rattle.fax_walk.specs.declared.end.End.{End}
 use Rattle.fax_walk.specs.Pages.{AreForms, FormItem, IsForm, IsFormTail, NextItem}
 use Rattle.fax_walk.specs.Items.{AreItems, IsRow, IsTailFrom, RowItem, RowPlace}
 use Rattle.fax_reads.specs.Files.{read_row, read_form, read_rows, read_forms}
-use Rattle.fax_reads.specs.Tails.{read_tail, read_form_tail}
+use Rattle.fax_reads.specs.TailReading.{read_tail, read_form_tail}
 
 -- the row at a place, the form of a page, and all rows and all forms with their end
 pub record FilesAreReadByFunctions : Type 0 where

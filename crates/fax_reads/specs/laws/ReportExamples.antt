@@ -10,7 +10,8 @@ use Rattle.fax_walk.specs.declared.checking.Report.{Report}
 use Rattle.fax_walk.specs.Pages.{File}
 use Rattle.fax_walk.specs.Report.{IsReport}
 use Rattle.fax_reads.specs.Reports.{ReportRead}
-use Rattle.fax_reads.specs.laws.FileExamples.{file_of, page_before, page_fields, page_with, short}
+use Rattle.fax_reads.specs.laws.FileExamples.{worked_file, page_before, page_fields, page_with}
+use Rattle.fax_reads.specs.laws.FileExamples.{short}
 use Rattle.fax_reads.specs.laws.FileExamples.{with, without}
 use Rattle.fax_reads.specs.laws.Reports.{parts_of}
 
@@ -19,8 +20,8 @@ abbrev pub HasReport : List ℕ → ReportRead → Type 0
 HasReport file read = (report : Report) → IsReport file report ↔ (read ≡ parts_of report)
 
 -- one page of one row was read, and these are the notes
-abbrev pub one_row : List Note → ReportRead
-one_row notes = record { notes = notes; pages = 1; rows = 1; fault = None }
+abbrev pub one_row_report : List Note → ReportRead
+one_row_report notes = record { notes = notes; pages = 1; rows = 1; fault = None }
 
 -- a note on the first page, or on the first strip of it
 abbrev pub note : Option ℕ → NoteKind → List Note
@@ -28,13 +29,13 @@ note strip kind = record { page = 0; strip = strip; kind = kind } ∷ []
 
 -- the page with other bytes as its strip, in MMR and in MH
 abbrev pub mmr : List ℕ → List ℕ
-mmr bytes = file_of (with (short 279 (length bytes)) page_fields) bytes
+mmr bytes = worked_file (with (short 279 (length bytes)) page_fields) bytes
 
 abbrev pub mh_fields : List ℕ → List WrittenField
 mh_fields bytes = with (short 259 3) (with (short 279 (length bytes)) page_fields)
 
 abbrev pub mh : List ℕ → List ℕ
-mh bytes = file_of (mh_fields bytes) bytes
+mh bytes = worked_file (mh_fields bytes) bytes
 
 -- eight white pels in MH, and nothing more
 abbrev pub eight_white : List ℕ
@@ -42,23 +43,24 @@ eight_white = 0x98 ∷ []
 
 pub record AreReportsRead : Type 0 where
   -- nothing is noted
-  pub row_alone : HasReport (mh eight_white) (one_row [])
-  pub end_of_block : HasReport (mmr (0x80 ∷ 0x08 ∷ 0x00 ∷ 0x80 ∷ [])) (one_row [])
+  pub row_alone : HasReport (mh eight_white) (one_row_report [])
+  pub end_of_block : HasReport (mmr (0x80 ∷ 0x08 ∷ 0x00 ∷ 0x80 ∷ [])) (one_row_report [])
   -- N1 to N5
-  pub no_end_of_block : HasReport (page_before 0) (one_row (note (Some 0) Kind.NoEndOfBlock))
+  pub no_end_of_block : HasReport (page_before 0) (one_row_report (note (Some 0) Kind.NoEndOfBlock))
   pub six_eols : HasReport
       (mh (0x98 ∷ 0x00 ∷ 0x80 ∷ 0x08 ∷ 0x00 ∷ 0x80 ∷ 0x08 ∷ 0x00 ∷ 0x80 ∷ 0x08 ∷ []))
-      (one_row (note (Some 0) Kind.ReturnToControl))
-  pub one_after_the_row : HasReport (mh (0x99 ∷ [])) (one_row (note (Some 0) Kind.DataAfterEnd))
+      (one_row_report (note (Some 0) Kind.ReturnToControl))
+  pub one_after_the_row : HasReport (mh (0x99 ∷ []))
+      (one_row_report (note (Some 0) Kind.DataAfterEnd))
   -- four white pels, no black one, and four white ones
   pub row_in_parts : HasReport (mh (0xb0 ∷ 0xde ∷ 0xc0 ∷ []))
-      (one_row (note (Some 0) Kind.NotT4Choice))
+      (one_row_report (note (Some 0) Kind.NotT4Choice))
   pub last_field_first : HasReport
-      (file_of (short 279 1 ∷ without 279 (mh_fields eight_white)) eight_white)
-      (one_row (note None Kind.EntriesOutOfOrder))
+      (worked_file (short 279 1 ∷ without 279 (mh_fields eight_white)) eight_white)
+      (one_row_report (note None Kind.EntriesOutOfOrder))
   -- horizontal mode in MMR where T.4 chooses vertical mode
   pub two_notes : HasReport (mmr (0x33 ∷ 0x0d ∷ 0xc0 ∷ []))
-      (one_row (note (Some 0) Kind.NoEndOfBlock ++ note (Some 0) Kind.NotT4Choice))
+      (one_row_report (note (Some 0) Kind.NoEndOfBlock ++ note (Some 0) Kind.NotT4Choice))
   -- faults
   pub loop : HasReport (page_before 8) (record {
     notes = note (Some 0) Kind.NoEndOfBlock;

@@ -4,7 +4,7 @@ use Rattle.fax_bits.specs.declared.Colour.{Colour}
 use Rattle.fax_page.specs.declared.StripFault.TheVariants.{DataEnds, OutOfRow}
 use Rattle.fax_walk.specs.declared.end.End.TheVariants.{Proper, Fault}
 use Rattle.fax_walk.specs.Pages.{Strip}
-use Rattle.fax_reads.specs.laws.FileExamples.{HasRows, row_at, spelled_bytes}
+use Rattle.fax_reads.specs.laws.FileExamples.{HasRows, spelled_row, spelled_bytes}
 
 -- the file samples/make-up-code.tif
 abbrev pub make_up_code : List ℕ
@@ -146,9 +146,9 @@ picture =
     ∷ []
 
 -- rows of page p, from row r on
-abbrev pub rows_from : ℕ → ℕ → List (List ℕ) → List (ℕ × ℕ × List Colour)
-rows_from p r [] = []
-rows_from p r (text ∷ texts) = row_at p r text ∷ rows_from p (r + 1) texts
+abbrev pub spelled_rows : ℕ → ℕ → List (List ℕ) → List (ℕ × ℕ × List Colour)
+spelled_rows p r [] = []
+spelled_rows p r (text ∷ texts) = spelled_row p r text ∷ spelled_rows p (r + 1) texts
 
 -- three rows in two-dimensional coding
 abbrev pub three_rows : List (List ℕ)
@@ -156,17 +156,17 @@ three_rows = codes "WWWBBWWW" ∷ codes "BBBBBBWW" ∷ codes "WWWWWWWW" ∷ []
 
 -- each sample has its rows
 pub record AreSamplesRead : Type 0 where
-  pub run_of_64 : HasRows make_up_code (row_at 0 0 (replicate 64 87) ∷ []) Proper
-  pub control : HasRows return_to_control (row_at 0 0 (codes "WWWBBWWW") ∷ []) Proper
-  pub black : HasRows row_begins_black (row_at 0 0 (codes "BBBBBBBB") ∷ []) Proper
-  pub missing : HasRows second_row_missing (row_at 0 0 (codes "WWWBBWWW") ∷ [])
+  pub run_of_64 : HasRows make_up_code (spelled_row 0 0 (replicate 64 87) ∷ []) Proper
+  pub control : HasRows return_to_control (spelled_row 0 0 (codes "WWWBBWWW") ∷ []) Proper
+  pub black : HasRows row_begins_black (spelled_row 0 0 (codes "BBBBBBBB") ∷ []) Proper
+  pub missing : HasRows second_row_missing (spelled_row 0 0 (codes "WWWBBWWW") ∷ [])
       (Fault 0 1 (Strip DataEnds))
-  pub mmr_rows : HasRows three_mmr_rows (rows_from 0 0 three_rows) Proper
+  pub mmr_rows : HasRows three_mmr_rows (spelled_rows 0 0 three_rows) Proper
   pub pages : HasRows three_pages
-      (row_at 0 0 (codes "WWWBBWWW") ∷ rows_from 1 0 three_rows
-      ++ row_at 2 0 (codes "WWWBBWWW") ∷ [])
+      (spelled_row 0 0 (codes "WWWBBWWW") ∷ spelled_rows 1 0 three_rows
+      ++ spelled_row 2 0 (codes "WWWBBWWW") ∷ [])
       (Fault 2 1 (Strip DataEnds))
   pub damaged : HasRows damaged_fourth_page
-      (rows_from 0 0 picture ++ rows_from 1 0 picture ++ rows_from 2 0 picture
-      ++ rows_from 3 0 (take 5 picture))
+      (spelled_rows 0 0 picture ++ spelled_rows 1 0 picture ++ spelled_rows 2 0 picture
+      ++ spelled_rows 3 0 (take 5 picture))
       (Fault 3 5 (Strip OutOfRow))

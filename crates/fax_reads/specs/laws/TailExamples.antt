@@ -11,15 +11,16 @@ use Rattle.fax_walk.specs.declared.end.End.{End}
 use Rattle.fax_walk.specs.declared.end.End.TheVariants.{Proper, Fault, Outside}
 use Rattle.fax_walk.specs.Pages.{File, FormItem, IsFormTail, Strip}
 use Rattle.fax_walk.specs.Items.{IsTailFrom, RowItem}
-use Rattle.fax_reads.specs.laws.FileExamples.{directory, file_of, page_before, page_fields, row_at}
-use Rattle.fax_reads.specs.laws.FileExamples.{short, shown, two_strips, white_at, with}
+use Rattle.fax_reads.specs.laws.FileExamples.{directory, worked_file, page_before, page_fields}
+use Rattle.fax_reads.specs.laws.FileExamples.{spelled_row}
+use Rattle.fax_reads.specs.laws.FileExamples.{short, row_and_place, two_strips, white_at, with}
 
 -- two pages of one row, and a page of two rows in one strip of a byte
 abbrev pub two_pages : List ℕ
 two_pages = page_before 87 ++ directory page_fields 0
 
 abbrev pub two_rows : ℕ → List ℕ
-two_rows byte = file_of (with (short 257 2) page_fields) (byte ∷ [])
+two_rows byte = worked_file (with (short 257 2) page_fields) (byte ∷ [])
 
 -- the cursor `1:P:R`, and the place inside a strip `2:P:R:B:n,n,..`
 abbrev pub cursor : ℕ → ℕ → Cursor
@@ -36,7 +37,7 @@ pub record HasTail (file : List ℕ) (begun : Begun) (rows : List (ℕ × ℕ ×
     : Type 0 where
   pub items : List RowItem
   pub are : IsTailFrom file begun items end
-  pub rows_are : map shown items ≡ rows
+  pub rows_are : map row_and_place items ≡ rows
 
 -- a reader of pages that begins at a cursor hands out the forms of these pages, and then this end
 pub record HasFormTail (file : List ℕ) (at : Cursor) (pages : List ℕ) (end : End) : Type 0 where
@@ -65,7 +66,7 @@ pub record AreTailsOfCursors : Type 0 where
 pub record AreTailsOfPlaces : Type 0 where
   pub second_row : HasTail (two_rows 0xc0) (inside 0 1 1 (8 ∷ [])) (white_at 0 1 ∷ []) Proper
   pub over_its_runs : HasTail (two_rows 0xf0) (inside 0 1 1 (3 ∷ 2 ∷ 3 ∷ []))
-      (row_at 0 1 (codes "WWWBBWWW") ∷ []) Proper
+      (spelled_row 0 1 (codes "WWWBBWWW") ∷ []) Proper
   pub after_no_bits : HasTail (two_rows 0x01) (inside 0 1 0 (8 ∷ [])) []
       (Fault 0 1 (Strip BadCode))
   pub after_all_bits : HasTail (two_rows 0xc0) (inside 0 1 9 (8 ∷ [])) [] Outside

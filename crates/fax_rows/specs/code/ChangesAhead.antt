@@ -3,11 +3,11 @@ use Rattle.std.specs.Prelude.{◌≡◌, ℕ, ◌+◌, ◌-◌, ◌<◌, Bool, L
 use Rattle.std.specs.Prelude.{slice_index}
 use Rattle.fax_bits.specs.declared.Colour.{Colour}
 use Rattle.fax_bits.specs.declared.Colour.TheVariants.{Black}
-use Rattle.fax_bits.specs.declared.modes.ModeCode.{ModeCode}
+use Rattle.fax_bits.specs.declared.mode_codes.ModeCode.{ModeCode}
 use Rattle.fax_bits.specs.Written.{run_bits, mode_bits}
-use Rattle.fax_rows.specs.declared.put.ChangesAhead.{ChangesAhead}
-use Rattle.fax_rows.specs.declared.put.WrittenTo.{WrittenTo}
-use Rattle.fax_rows.specs.declared.rows.RowPair.{RowPair}
+use Rattle.fax_rows.specs.declared.put_rows.ChangesAhead.{ChangesAhead}
+use Rattle.fax_rows.specs.declared.put_rows.WrittenTo.{WrittenTo}
+use Rattle.fax_rows.specs.declared.placed_rows.RowPair.{RowPair}
 use Rattle.fax_rows.specs.code.Choice.{places, colour_of, chosen_mode, run_pair_bits, next_a0}
 use Rattle.fax_rows.specs.Rows.{other, next_change, b1, b2}
 use Rattle.fax_rows.specs.code.PlacedRow.{placed_pels, IsB1At}

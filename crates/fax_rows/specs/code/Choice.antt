@@ -1,7 +1,7 @@
 -- The step that T.4 chooses, by its places and its mode.
 use Rattle.std.specs.Prelude.{ℕ, ◌-◌, pos, ◌-ℤ◌, nat_abs, Bool, nat_lt, nat_le, if◌then◌else◌}
 use Rattle.std.specs.Prelude.{List, [], ◌++◌, Option, Some, None, unwrap_or}
-use Rattle.fax_bits.specs.declared.modes.ModeCode.TheVariants.{Pass, Horizontal, Vertical}
+use Rattle.fax_bits.specs.declared.mode_codes.ModeCode.TheVariants.{Pass, Horizontal, Vertical}
 use Rattle.fax_bits.specs.Written.{run_bits}
 use Rattle.fax_rows.specs.Rows.{Colour, White, ModeCode, other, pel, next_change, b1, b2}
 

@@ -2,14 +2,14 @@
 use Rattle.std.specs.Prelude.{◌≡◌, ℕ, ◌+◌, ◌≤◌, ◌++◌, Bool, List, Option, None, Some, IfSome}
 use Rattle.std.specs.Prelude.{IsTrue, ⊤, length}
 use Rattle.fax_bits.specs.declared.Colour.{Colour}
-use Rattle.fax_bits.specs.declared.modes.ModeCode.TheVariants.{Horizontal}
+use Rattle.fax_bits.specs.declared.mode_codes.ModeCode.TheVariants.{Horizontal}
 use Rattle.fax_bits.specs.Codes.{Takes, IsRun}
 use Rattle.fax_bits.specs.Tables.{modes}
 use Rattle.fax_bits.specs.Written.{run_bits}
-use Rattle.fax_rows.specs.declared.rows.PlacedRow.{PlacedRow}
-use Rattle.fax_rows.specs.declared.two_dimensional.codes.Due.{Due}
-use Rattle.fax_rows.specs.declared.two_dimensional.codes.Due.TheVariants.{Mode, Runs}
-use Rattle.fax_rows.specs.declared.two_dimensional.codes.TwoRuns.{TwoRuns}
+use Rattle.fax_rows.specs.declared.placed_rows.PlacedRow.{PlacedRow}
+use Rattle.fax_rows.specs.declared.two_dimensional.horizontal_runs.Due.{Due}
+use Rattle.fax_rows.specs.declared.two_dimensional.horizontal_runs.Due.TheVariants.{Mode, Runs}
+use Rattle.fax_rows.specs.declared.two_dimensional.horizontal_runs.TwoRuns.{TwoRuns}
 use Rattle.fax_rows.specs.declared.two_dimensional.steps.PlacedReached.{PlacedReached}
 use Rattle.fax_rows.specs.Rows.{other}
 use Rattle.fax_rows.specs.code.Chosen.{AreTwoRuns}

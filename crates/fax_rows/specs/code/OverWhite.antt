@@ -1,10 +1,10 @@
 -- A row in two-dimensional coding that is read over a white reference row.
 use Rattle.std.specs.Prelude.{ℕ, ◌<◌, ◌==◌, if◌then◌else◌, Bool, List, None, Some, true, pos}
 use Rattle.fax_bits.specs.declared.Colour.TheVariants.{White}
-use Rattle.fax_bits.specs.declared.modes.ModeCode.TheVariants.{Horizontal, Vertical}
+use Rattle.fax_bits.specs.declared.mode_codes.ModeCode.TheVariants.{Horizontal, Vertical}
 use Rattle.fax_bits.specs.Codes.{Takes}
 use Rattle.fax_bits.specs.Tables.{modes}
-use Rattle.fax_rows.specs.declared.two_dimensional.codes.TwoRuns.{TwoRuns}
+use Rattle.fax_rows.specs.declared.two_dimensional.horizontal_runs.TwoRuns.{TwoRuns}
 use Rattle.fax_rows.specs.declared.two_dimensional.over_white.ReachedOverWhite.{ReachedOverWhite}
 use Rattle.fax_rows.specs.declared.two_dimensional.over_white.StepOverWhite.{StepOverWhite}
 use Rattle.fax_rows.specs.declared.two_dimensional.over_white.StepOverWhite.TheVariants.{Runs, End}

@@ -5,7 +5,7 @@ use Rattle.fax_bits.specs.declared.Colour.TheVariants.{Black}
 use Rattle.fax_rows.specs.declared.two_dimensional.steps.PlacedReached.{PlacedReached}
 use Rattle.fax_rows.specs.Rows.{Position, IsHorizontalStep, beginning}
 use Rattle.fax_rows.specs.code.Reached.{reached_pel, position_of}
-use Rattle.fax_rows.specs.declared.rows.PlacedRow.{PlacedRow}
+use Rattle.fax_rows.specs.declared.placed_rows.PlacedRow.{PlacedRow}
 use Rattle.fax_rows.specs.code.Chosen.{GoesOn, GoesOnAsChosen, IsChosenPair}
 use Rattle.fax_rows.specs.code.PlacedRow.{placed_pels, IsB1At}
 use Rattle.fax_rows.specs.code.Turns.{turned, pels_by, IsAscending}

@@ -1,6 +1,6 @@
 -- A row in two-dimensional coding that is read into places of change.
 use Rattle.std.specs.Prelude.{◌≡◌, ℕ, ◌++◌, Bool, List, IsTrue}
-use Rattle.fax_rows.specs.declared.rows.PlacedRow.{PlacedRow}
+use Rattle.fax_rows.specs.declared.placed_rows.PlacedRow.{PlacedRow}
 use Rattle.fax_rows.specs.Coded.{two_dimensional_bits}
 use Rattle.fax_rows.specs.Rows.{IsTwoDimensionalRow}
 use Rattle.fax_rows.specs.code.PlacedRow.{placed_pels}

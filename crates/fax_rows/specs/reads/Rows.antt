@@ -9,21 +9,21 @@ use Rattle.fax_bits.specs.Tables.{run_table, modes}
 use Rattle.fax_bits.specs.declared.Colour.{Colour}
 use Rattle.fax_bits.specs.declared.Colour.TheVariants.{White}
 use Rattle.fax_bits.specs.declared.codes.CodeEntry.{CodeEntry}
-use Rattle.fax_bits.specs.declared.modes.ModeCode.{ModeCode}
-use Rattle.fax_bits.specs.declared.modes.ModeCode.TheVariants as mode
-use Rattle.fax_bits.specs.declared.runs.RunCode.{RunCode}
-use Rattle.fax_bits.specs.declared.runs.RunCode.TheVariants as run
+use Rattle.fax_bits.specs.declared.mode_codes.ModeCode.{ModeCode}
+use Rattle.fax_bits.specs.declared.mode_codes.ModeCode.TheVariants as mode
+use Rattle.fax_bits.specs.declared.run_codes.RunCode.{RunCode}
+use Rattle.fax_bits.specs.declared.run_codes.RunCode.TheVariants as run
 use Rattle.fax_rows.specs.Rows.{Position, a0_number, b1, b2, beginning}
 use Rattle.fax_rows.specs.Rows.{coloured_up_to, first_pel, other}
 use Rattle.fax_rows.specs.Faults.{row_fault}
 use Rattle.fax_rows.specs.declared.RowFault.{RowFault}
 use Rattle.fax_rows.specs.declared.RowFault.TheVariants.{DataEnds, Extension, RunTooLong, OutOfRow}
-use Rattle.fax_rows.specs.reads.Codes.{◌>>=◌, named, read_code}
+use Rattle.fax_rows.specs.reads.CodeReading.{◌>>=◌, map_fault, read_code}
 
 -- a code of a table, or the row's fault
 abbrev pub row_code : {M : Type 0} → List (CodeEntry M) → List Bool
     → Result (M × List Bool) RowFault
-row_code table b = named row_fault (read_code table b)
+row_code table b = map_fault row_fault (read_code table b)
 
 -- a place that is not after the row's end
 abbrev pub within : ℕ → ℕ → Result ℕ RowFault
@@ -65,8 +65,8 @@ is_in_row reference at a1 =
     int_lt (a0_number at) a1 && int_le a1 (pos (length reference))
 
 -- vertical mode, with a1 at this place
-abbrev pub vertical : List Colour → Position → ℤ → Result Position RowFault
-vertical reference at a1 =
+abbrev pub vertical_step : List Colour → Position → ℤ → Result Position RowFault
+vertical_step reference at a1 =
     if is_in_row reference at a1
     then Ok (record (coloured_up_to at (nat_abs a1)) { colour = other at.colour })
     else Err OutOfRow
@@ -99,7 +99,7 @@ abbrev pub by_mode : List Colour → Position → ModeCode × List Bool
 by_mode reference at (mode.Pass, b) =
     Ok (coloured_up_to at (b2 reference at.a0 at.colour), b)
 by_mode reference at (mode.Vertical d, b) =
-    vertical reference at (pos (b1 reference at.a0 at.colour) +ℤ d) >>= λ new. Ok (new, b)
+    vertical_step reference at (pos (b1 reference at.a0 at.colour) +ℤ d) >>= λ new. Ok (new, b)
 by_mode reference at (mode.Horizontal, b) = horizontal reference at b
 by_mode reference at (mode.Extension, b) = Err Extension
 

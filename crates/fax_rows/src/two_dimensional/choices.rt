@@ -4,9 +4,9 @@ ghost use Rattle.fax_rows.specs.Rows.{b1, b2, is_right_of};
 ghost use Rattle.fax_rows.specs.code.PlacedRow.{placed_pels, IsB1At};
 ghost use Rattle.fax_rows.specs.code.Reached.{reached_pel};
 
-use super::codes::TwoRuns;
+use super::horizontal_runs::TwoRuns;
 use super::steps::PlacedReached;
-use crate::rows::PlacedRow;
+use crate::placed_rows::PlacedRow;
 
 /// Whether T.4 chooses vertical mode where a1 is reached by it: b2 is not left of a1 (T.4, section
 /// 4.2.1.3.3).

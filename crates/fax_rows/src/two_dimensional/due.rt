@@ -15,15 +15,15 @@ ghost use Rattle.fax_rows.specs.code.PlacedRow.{placed_pels};
 ghost use Rattle.fax_rows.specs.code.Put.{HasRoom};
 ghost use Rattle.fax_rows.specs.code.RowFaults.{IsHorizontalFault};
 ghost use Rattle.fax_rows.specs.code.Reached.{position_of, reached_pel};
-ghost use Rattle.fax_rows.specs.code.Stop.{IsStopOf, IsStepStop, IsRowStop};
+ghost use Rattle.fax_rows.specs.code.RowStop.{IsStopOf, IsStepStop, IsRowStop};
 ghost use Rattle.fax_rows.specs.code.ReadRow.{IsReadRow};
 ghost use Rattle.fax_rows.specs.code.Turns.{alternate};
 
-use super::codes::{Due, Stop, Unread, last_two_runs};
+use super::horizontal_runs::{Due, RowStop, Unread, last_two_runs};
 use super::modes::{by_mode, past_runs};
 use super::steps::{PlacedReached, Reached};
 use crate::RowFault;
-use crate::rows::PlacedRow;
+use crate::placed_rows::PlacedRow;
 use crate::turns::colour_after;
 use fax_bits::{BitSource, CodeFault, ModeCode, Modes, read_code};
 
@@ -78,14 +78,15 @@ fn last_mode(source: &mut BitSource) -> Result<ModeCode, CodeFault>
     read_code::<Modes>(source)
 }
 
-/// Horizontal mode with runs by their tables: the first of them where it is not read, and the second.
+/// Horizontal mode with runs by their tables: the first of them where it is not read, and the
+/// second.
 fn last_horizontal<const CHOICE: bool>(
     source: &mut BitSource,
     reference: PlacedRow,
     places: &mut [u32],
     at: PlacedReached,
     first: Option<u32>,
-) -> Result<PlacedReached, Stop>
+) -> Result<PlacedReached, RowStop>
     requires inside { IsReadInside reference places.old at }
     requires fits { IfSome first (λ n. reached_pel at.reached + n ≤ reference.width) }
     ensures read { (b : List Bool) → AreRunsDue at.reached.colour b first source.old.left
@@ -111,7 +112,7 @@ fn read_due<const CHOICE: bool>(
     places: &mut [u32],
     at: PlacedReached,
     due: Due,
-) -> Result<PlacedReached, Stop>
+) -> Result<PlacedReached, RowStop>
     requires inside { IsReadInside reference places.old at }
     requires within { IsDueWithin reference.width (reached_pel at.reached) due }
     ensures read { (b : List Bool) → IsDue at.reached.colour b due source.old.left
@@ -132,7 +133,7 @@ fn read_due<const CHOICE: bool>(
                 }
                 Err(Unread::Stopped(stop)) => Err(stop),
             },
-            Err(fault) => Err(Stop::Fault(RowFault::from(fault))),
+            Err(fault) => Err(RowStop::Fault(RowFault::from(fault))),
         },
         Due::Runs(first) => last_horizontal::<CHOICE>(source, reference, places, at, first),
     }
@@ -147,7 +148,7 @@ pub(super) fn read_on<const CHOICE: bool>(
     reference: PlacedRow,
     places: &mut [u32],
     pause: Pause,
-) -> Result<usize, Stop>
+) -> Result<usize, RowStop>
     requires pause { IsPause CHOICE reference source.old places.old pause }
     ensures read { IfOk result (λ end. IsReadRow CHOICE reference.entry source.old.left places.new
         end source.new.left) }

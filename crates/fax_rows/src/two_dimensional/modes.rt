@@ -9,25 +9,25 @@ ghost use Rattle.fax_rows.specs.Rows.{b2};
 ghost use Rattle.fax_rows.specs.Rows as Spec;
 ghost use Rattle.fax_rows.specs.Faults as Fault;
 ghost use Rattle.fax_rows.specs.declared.RowFault.TheVariants.{OutOfRow};
-ghost use Rattle.fax_rows.specs.declared.two_dimensional.codes.Due.TheVariants.{Runs};
+ghost use Rattle.fax_rows.specs.declared.two_dimensional.horizontal_runs.Due.TheVariants.{Runs};
 ghost use Rattle.fax_rows.specs.code.Due.{AreReadRuns, AreRunsDueAt, IsDueAt};
 ghost use Rattle.fax_rows.specs.code.Pause.{IsPause};
 ghost use Rattle.fax_rows.specs.code.Seen.{b2_from};
 ghost use Rattle.fax_rows.specs.code.PlacedRow.{placed_pels};
-ghost use Rattle.fax_rows.specs.code.Stop.{IsStopOf, IsStepStop, IsRowStop, IsUnreadFor};
+ghost use Rattle.fax_rows.specs.code.RowStop.{IsStopOf, IsStepStop, IsRowStop, IsUnreadFor};
 ghost use Rattle.fax_rows.specs.code.ReadRow.{IsReadRow};
 ghost use Rattle.fax_rows.specs.code.Put.{HasRoom};
 ghost use Rattle.fax_rows.specs.code.Reached.{reached_pel};
 ghost use Rattle.fax_rows.specs.code.PlacedReached.{placed_position, IsReadTo, IsReadInside, IsReadOn, IsPairReadOn};
 
 use super::choices::{chooses_a1, chooses_b2, chooses_runs, is_taken};
-use super::codes::{Due, Stop, TwoRuns, Unread, two_runs};
 use super::copied::under_several;
 use super::due::Pause;
+use super::horizontal_runs::{Due, RowStop, TwoRuns, Unread, two_runs};
 use super::several::several;
 use super::steps::{PlacedReached, after_runs, left_of_b1, right_of_b1, under_b1, under_b2};
 use crate::RowFault;
-use crate::rows::PlacedRow;
+use crate::placed_rows::PlacedRow;
 use crate::turns::colour_after;
 use fax_bits::{BitSource, ModeCode};
 
@@ -39,7 +39,7 @@ pub(super) fn past_runs<const CHOICE: bool>(
     places: &mut [u32],
     at: PlacedReached,
     runs: TwoRuns,
-) -> Result<PlacedReached, Stop>
+) -> Result<PlacedReached, RowStop>
     requires inside { IsReadInside reference places.old at }
     requires within { reached_pel at.reached + runs.first + runs.second ≤ reference.width }
     ensures read { (b rest : List Bool)
@@ -51,7 +51,7 @@ pub(super) fn past_runs<const CHOICE: bool>(
 {
     let chosen = chooses_runs::<CHOICE>(reference, at, runs);
     if !is_taken::<CHOICE>(chosen) {
-        return Err(Stop::Other);
+        return Err(RowStop::Other);
     }
     Ok(after_runs(reference, places, at, runs.first, runs.second))
 }
@@ -93,7 +93,7 @@ pub(super) fn vertical<const CHOICE: bool>(
     places: &mut [u32],
     at: PlacedReached,
     d: i8,
-) -> Result<PlacedReached, Stop>
+) -> Result<PlacedReached, RowStop>
     requires inside { IsReadInside reference places.old at }
     ensures ok { IfOk result (λ next. Spec.IsVerticalStep (placed_pels reference.entry)
         (placed_position reference.entry.width places.old at) d
@@ -106,7 +106,7 @@ pub(super) fn vertical<const CHOICE: bool>(
         (placed_position reference.entry.width places.old at) d → ⊥) × (fault ≡ OutOfRow)) stop) }
     ensures room { HasRoom reference.entry.width places.new }
 {
-    let out = Stop::Fault(RowFault::OutOfRow);
+    let out = RowStop::Fault(RowFault::OutOfRow);
     if d < 0 {
         return left_of_b1(reference, places, at, d).ok_or(out);
     }
@@ -118,7 +118,7 @@ pub(super) fn vertical<const CHOICE: bool>(
     if is_taken::<CHOICE>(chosen) {
         Ok(next)
     } else {
-        Err(Stop::Other)
+        Err(RowStop::Other)
     }
 }
 
@@ -128,7 +128,7 @@ pub(super) fn pass<const CHOICE: bool>(
     reference: PlacedRow,
     places: &[u32],
     at: PlacedReached,
-) -> Result<PlacedReached, Stop>
+) -> Result<PlacedReached, RowStop>
     requires inside { IsReadInside reference places.now at }
     ensures ok { let from = placed_position reference.entry.width places.now at in
         IfOk result (λ next. placed_position reference.entry.width places.now next
@@ -143,7 +143,7 @@ pub(super) fn pass<const CHOICE: bool>(
     if is_taken::<CHOICE>(chosen) {
         Ok(next)
     } else {
-        Err(Stop::Other)
+        Err(RowStop::Other)
     }
 }
 
@@ -174,13 +174,13 @@ pub(super) fn by_mode<const CHOICE: bool, const SEVERAL: bool>(
         ModeCode::Vertical(d) => Ok(vertical::<CHOICE>(reference, places, at, d)?),
         ModeCode::Pass => Ok(pass::<CHOICE>(reference, places, at)?),
         ModeCode::Horizontal => horizontal::<CHOICE, SEVERAL>(source, reference, places, at),
-        ModeCode::Extension => Err(Unread::Stopped(Stop::Fault(RowFault::Extension))),
+        ModeCode::Extension => Err(Unread::Stopped(RowStop::Fault(RowFault::Extension))),
     }
 }
 
-/// Reads one mode by a look-up, and goes on by what it says; where a1 is under b1 it reads more such
-/// modes too (T.4, section 4.2.1.3.3). With `SEVERAL` it reads several vertical modes by one look-up
-/// where it can.
+/// Reads one mode by a look-up, and goes on by what it says; where a1 is under b1 it reads more
+/// such modes too (T.4, section 4.2.1.3.3). With `SEVERAL` it reads several vertical modes by one
+/// look-up where it can.
 #[inline(always)]
 fn next_steps<const CHOICE: bool, const SEVERAL: bool>(
     source: &mut BitSource,

@@ -5,7 +5,7 @@ ghost use Rattle.std.specs.Prelude.{IfOk, IfErr, IfSome, OnErr};
 ghost use Rattle.fax_bits.specs.views.Source.{KeepsEnd};
 ghost use Rattle.fax_bits.specs.declared.Colour.TheVariants.{White};
 ghost use Rattle.fax_rows.specs.Rows.{a0_number};
-ghost use Rattle.fax_rows.specs.declared.two_dimensional.codes.Due.TheVariants.{Mode};
+ghost use Rattle.fax_rows.specs.declared.two_dimensional.horizontal_runs.Due.TheVariants.{Mode};
 ghost use Rattle.fax_rows.specs.code.Due.{AreReadRuns};
 ghost use Rattle.fax_rows.specs.code.Reached.{position_of};
 ghost use Rattle.fax_rows.specs.code.OverWhite.{placed_over_white, HavePels, IsStepOverWhite};
@@ -13,13 +13,13 @@ ghost use Rattle.fax_rows.specs.code.Pause.{IsPause};
 ghost use Rattle.fax_rows.specs.code.PlacedReached.{IsReadInside, IsPairReadOn};
 ghost use Rattle.fax_rows.specs.code.Put.{HasRoom};
 ghost use Rattle.fax_rows.specs.code.ReadRow.{IsReadRow};
-ghost use Rattle.fax_rows.specs.code.Stop.{IsRowStop, IsUnreadFor};
+ghost use Rattle.fax_rows.specs.code.RowStop.{IsRowStop, IsUnreadFor};
 
 use super::choices::is_taken;
-use super::codes::{Due, Stop, TwoRuns, Unread, run_by_run};
 use super::due::Pause;
+use super::horizontal_runs::{Due, RowStop, TwoRuns, Unread, run_by_run};
 use super::steps::{PlacedReached, Reached, under_b1};
-use crate::rows::PlacedRow;
+use crate::placed_rows::PlacedRow;
 use crate::turns::put_turn;
 use fax_bits::{BitSource, Colour, ModeCode};
 
@@ -208,7 +208,7 @@ pub(super) fn read_over_white<const CHOICE: bool>(
         match next_step::<CHOICE>(&mut ahead, at.first_pel, reference.width) {
             Some(StepOverWhite::Runs(runs)) => {
                 let Some(next) = past_two_runs::<CHOICE>(reference, places, at, runs) else {
-                    return Err(Unread::Stopped(Stop::Other));
+                    return Err(Unread::Stopped(RowStop::Other));
                 };
                 at = next;
             }

@@ -12,7 +12,7 @@ ghost use Rattle.fax_rows.specs.code.Several.{AreFour};
 ghost use Rattle.fax_rows.specs.code.PlacedReached.{IsReadInside, IsReadOn};
 
 use super::steps::{PlacedReached, Reached};
-use crate::rows::PlacedRow;
+use crate::placed_rows::PlacedRow;
 use crate::turns::colour_after;
 use fax_bits::{BitSource, Verticals};
 use std::simd::prelude::*;

@@ -13,7 +13,7 @@ ghost use Rattle.fax_rows.specs.code.Reached.{reached_pel, position_of};
 ghost use Rattle.fax_rows.specs.code.Put.{HasRoom};
 ghost use Rattle.fax_rows.specs.code.PlacedReached.{placed_position, IsReadTo, IsReadInside};
 
-use crate::rows::PlacedRow;
+use crate::placed_rows::PlacedRow;
 use crate::runs::other;
 use crate::turns::{put_turn, turn_after};
 use fax_bits::Colour;

@@ -1,5 +1,5 @@
--- How clap reads the words of a flat command: one without subcommands, of options that take one value, of flags that
--- have no letter, and of words at places, each of which takes one.
+-- How clap reads the words of a flat command: one without subcommands, of options that take one
+-- value, of flags that have no letter, and of words at places, each of which takes one.
 use Rattle.std.specs.Prelude.{◌≡◌, ◌⊎◌, ◌+◌, ℕ, Bool, true, false, List, [], ◌∷◌, Option, Some, None, min, drop, length}
 use Rattle.std.specs.Prelude.{encode_utf8, if◌then◌else◌, option_and_then, slice_get}
 use Rattle.std.specs.Str.{bytes_eq, chars}
@@ -84,7 +84,8 @@ module _ (s : Shape) where
   placed None word rows next = None
   placed (Some a) word rows next = option_and_then next (taken a (word ∷ []) rows)
 
-  -- what a word says, and the words after it: whether `--` was there, what waits, the place and the rows
+  -- what a word says, and the words after it: whether `--` was there, what waits, the place and the
+  -- rows
   abbrev pub Rest : Type 0
   Rest = Bool → Option Rule → ℕ → List Row → Option (List Row)
 

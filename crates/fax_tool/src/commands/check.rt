@@ -90,7 +90,7 @@ fn fault_line(report: &Report) -> Option<ErrorLine>
 
 /// Reads the input whole and writes what is worth a note in it, how many pages were read wholly,
 /// and how many rows.
-pub fn check<R: Source, W: Sink>(
+pub fn give_report<R: Source, W: Sink>(
     alloc: Global,
     input: &mut R,
     out: &mut W,

@@ -83,7 +83,7 @@ fn give_parts<W: Sink>(out: &mut W, block: &[u8], output: &Parts) -> Result<(), 
 
 /// Reads the input whole and writes its pages as the options say. Where it is refused nothing is
 /// written.
-pub fn convert<R: Source, W: Sink>(
+pub fn give_conversion<R: Source, W: Sink>(
     alloc: Global,
     options: Options,
     input: &mut R,

@@ -16,13 +16,13 @@ ghost use Rattle.fax_walk.specs.declared.begun.Begun.TheVariants.{At};
 ghost use Rattle.fax_walk.specs.declared.end.End.{End as TheEnd};
 ghost use Rattle.fax_tool.specs.declared.words.Command.TheVariants.{List as Forms, Rows};
 
-use crate::commands::lines::Lines;
+use crate::commands::printed_lines::Lines;
 use crate::refusal::Refusal;
 use crate::streams::transfer::{Interruptions, give_all, read_whole};
 use crate::streams::{Sink, Source};
 use crate::text::collected::Collected;
 use crate::text::fault::{ErrorLine, end_line};
-use crate::words::Part;
+use crate::words::Selection;
 use arrayvec::ArrayString;
 use fax_bits::Memory;
 use fax_walk::{Begun, Cursor, End, Pages, Walk};
@@ -316,7 +316,7 @@ fn read_or_stop<R: Source, W: Sink>(
 }
 
 /// What the rows of a part begin with. Where memory is refused it writes where to go on: there.
-fn begin_or_stop<W: Sink>(part: &Part, out: &mut W) -> Result<Begun, Refusal>
+fn begin_or_stop<W: Sink>(part: &Selection, out: &mut W) -> Result<Begun, Refusal>
     requires { W.counts out.old ≡ no_faults }
     ensures ok { IfOk result (λ begun. begun ≡ begun_of part.now) }
     ensures unwritten { OnOk result (out.new ≡ out.old) }
@@ -339,7 +339,7 @@ fn begin_or_stop<W: Sink>(part: &Part, out: &mut W) -> Result<Begun, Refusal>
 /// for it and there is one.
 pub fn rows<R: Source, W: Sink>(
     alloc: Global,
-    part: &Part,
+    part: &Selection,
     input: &mut R,
     out: &mut W,
 ) -> Result<Option<ErrorLine>, Refusal>
@@ -364,7 +364,7 @@ pub fn rows<R: Source, W: Sink>(
 /// then `end`, or `next` with the place of the page that was due.
 pub fn list<R: Source, W: Sink>(
     alloc: Global,
-    part: &Part,
+    part: &Selection,
     input: &mut R,
     out: &mut W,
 ) -> Result<Option<ErrorLine>, Refusal>

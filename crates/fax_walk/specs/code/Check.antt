@@ -12,7 +12,7 @@ use Rattle.fax_walk.specs.declared.checking.PageRead.{PageRead}
 use Rattle.fax_walk.specs.declared.end.End.{End}
 use Rattle.fax_walk.specs.declared.end.End.TheVariants.{Fault}
 use Rattle.fax_walk.specs.Pages.{read_page, page_with_form, ends_as}
-use Rattle.fax_walk.specs.code.Places.{first_on}
+use Rattle.fax_walk.specs.code.RowPlaces.{first_on}
 use Rattle.fax_walk.specs.laws.InOrder.{LeadTo}
 use Rattle.fax_walk.specs.Items.{RowItem, RowPlace, first_at, IsRow}
 use Rattle.fax_walk.specs.Report.{IsNoted}

@@ -12,8 +12,8 @@ use Rattle.fax_walk.specs.declared.salvage_rows.PagePart.{PagePart}
 use Rattle.fax_walk.specs.declared.salvage_rows.PagePart.TheVariants.{Found, Lost}
 use Rattle.fax_walk.specs.Salvaged.{PageRow, strip_row}
 use Rattle.fax_walk.specs.code.Opening.{page_with}
-use Rattle.fax_walk.specs.code.Salvage.{AreRowsLeft, row_due}
-use Rattle.fax_walk.specs.views.RowsLeft.{LeftOf, of_page, of_strip, of_uncounted, AreRowsOf}
+use Rattle.fax_walk.specs.code.SalvageItems.{AreRowsLeft, row_due}
+use Rattle.fax_walk.specs.views.RowsLeft.{LeftOf, of_page, of_strip, of_uncounted, AreLeftOf}
 use Rattle.fax_walk.specs.views.RowsLeft.{RowsView}
 
 -- what is gone through
@@ -70,7 +70,7 @@ AreLeftNow (Uncounted reader bytes count) rows =
 -- of rows that nobody counted there are so many
 abbrev pub IsCountOf : LeftOf → ℕ → Type 0
 IsCountOf (of_uncounted form b) count =
-    (rows : List PageRow) → AreRowsOf (of_uncounted form b) rows → length rows ≡ count
+    (rows : List PageRow) → AreLeftOf (of_uncounted form b) rows → length rows ≡ count
 IsCountOf its count = ⊤
 
 -- what is left follows the rows that were passed
@@ -78,7 +78,7 @@ pub record IsGoneOver (left : Left) : Type 0 where
   pub within : row_of left ≤ rows_of left
   pub counted : IsCountOf (its_of left) (rows_of left)
   pub passed : (rows : List PageRow) → AreLeftNow left rows
-      → (done : List PageRow) × (length done ≡ row_of left) × AreRowsOf (its_of left) (done ++ rows)
+      → (done : List PageRow) × (length done ≡ row_of left) × AreLeftOf (its_of left) (done ++ rows)
 
 -- these rows are passed
 pub record GoesOver (old : Left) (over : List PageRow) (new : Left) : Type 0 where

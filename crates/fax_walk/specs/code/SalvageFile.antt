@@ -10,7 +10,7 @@ use Rattle.fax_files.specs.views.Chain.{chain_of}
 use Rattle.fax_files.specs.Page.{most_rows, page}
 use Rattle.fax_files.specs.views.Chain.{ChainState}
 use Rattle.fax_files.specs.views.Page.{IsPageForm}
-use Rattle.fax_files.specs.views.Tiff.{TiffDirectory, directory_of}
+use Rattle.fax_files.specs.views.Tiff.{directory_of}
 use Rattle.fax_walk.specs.declared.salvage.NextPage.{NextPage}
 use Rattle.fax_walk.specs.declared.salvage.NextPage.TheVariants.{Broken, Ends, Refused, Entered}
 use Rattle.fax_walk.specs.Pages.{read_page, PageForm, Proper}

@@ -12,10 +12,10 @@ use Rattle.fax_walk.specs.Pages.{Cause, PageForm}
 use Rattle.fax_walk.specs.Items.{exchanged}
 use Rattle.fax_walk.specs.Salvaged.{PageRow, LeftItem, row_found, rows_lost}
 use Rattle.fax_walk.specs.Salvaged.{page_items}
-use Rattle.fax_walk.specs.code.Salvage.{AreRowsLeft, AreWholeBefore, IsBeforeRows}
-use Rattle.fax_walk.specs.code.Salvage.{RowsState, StaysOnPage, row_due}
+use Rattle.fax_walk.specs.code.SalvageItems.{AreRowsLeft, AreWholeBefore, IsBeforeRows}
+use Rattle.fax_walk.specs.code.SalvageItems.{RowsState, StaysOnPage, row_due}
 use Rattle.fax_walk.specs.code.Stages.{IsRoomFor}
-use Rattle.fax_walk.specs.views.Salvage.{item_of}
+use Rattle.fax_walk.specs.views.SalvageItems.{item_of}
 
 -- how far a page is gone through: its number, its rows, those that are lost before the one that is
 -- due, whether the row before that one is found and waits, and the row that was found last

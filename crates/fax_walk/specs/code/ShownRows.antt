@@ -4,7 +4,7 @@ use Rattle.fax_rows.specs.Rows.{Colour}
 use Rattle.fax_files.specs.views.Page.{IsPageForm}
 use Rattle.fax_walk.specs.declared.salvage_rows.PagePart.{PagePart}
 use Rattle.fax_walk.specs.Items.{exchanged}
-use Rattle.fax_walk.specs.code.Salvage.{RowsState, IsPart, row_due}
+use Rattle.fax_walk.specs.code.SalvageItems.{RowsState, IsPart, row_due}
 use Rattle.fax_walk.specs.code.Stages.{IsRoomFor}
 
 -- the rows of a page that are gone through, and the row that was found last, as it is handed out

@@ -22,10 +22,10 @@ use Rattle.fax_walk.specs.Pages.{LongPlace}
 use Rattle.fax_walk.specs.laws.InOrder.{LeadTo}
 use Rattle.fax_walk.specs.Pages.{read_page}
 use Rattle.fax_walk.specs.Items.{RowItem, RowPlace, IsInnerOn, IsRow, first_at, place_after}
-use Rattle.fax_walk.specs.code.Places.{IsInner}
+use Rattle.fax_walk.specs.code.RowPlaces.{IsInner}
 use Rattle.fax_walk.specs.Items.{inner_at}
-use Rattle.fax_walk.specs.code.Places.{strip_at}
-use Rattle.fax_walk.specs.code.Places.{place_on}
+use Rattle.fax_walk.specs.code.RowPlaces.{strip_at}
+use Rattle.fax_walk.specs.code.RowPlaces.{place_on}
 use Rattle.fax_walk.specs.code.Opening.{IsFilePage, PageDue, page_with}
 use Rattle.fax_walk.specs.Pages.{goes_on, ends_as}
 

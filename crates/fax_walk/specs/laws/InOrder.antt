@@ -11,9 +11,9 @@ LeadTo {S} next at (item ∷ items) to =
     (place : S) × next at (goes_on item place) × LeadTo next place items to
 
 -- no end was told yet, or it was, and nothing is left but that end
-abbrev pub IsTold : {A : Type 0} → Option End → List A → End → Type 0
-IsTold None items end = Unit {0}
-IsTold (Some told) items end = (items ≡ []) × (end ≡ told)
+abbrev pub AgreesWithTold : {A : Type 0} → Option End → List A → End → Type 0
+AgreesWithTold None items end = Unit {0}
+AgreesWithTold (Some told) items end = (items ≡ []) × (end ≡ told)
 
 -- what is left where so many items were handed out, and this end was told, if one was
 pub record IsLeftOf {A : Type 0} (tail : List A → End → Type 0) (given : ℕ) (told : Option End)
@@ -22,4 +22,4 @@ pub record IsLeftOf {A : Type 0} (tail : List A → End → Type 0) (given : ℕ
   pub is : tail all end
   pub within : given ≤ length all
   pub rest : items ≡ drop given all
-  pub is_told : IsTold told items end
+  pub is_told : AgreesWithTold told items end

@@ -16,7 +16,7 @@ use Rattle.fax_walk.specs.declared.end.WalkFault.TheVariants.{Memory, AtRow, Cur
 use Rattle.fax_walk.specs.declared.walk.Place.{Place}
 use Rattle.fax_walk.specs.Pages.{End, Fault, LongPlace, Outside, Proper, start}
 use Rattle.fax_walk.specs.Items.{AreItems, RowItem, cursor_after, long_after}
-use Rattle.fax_walk.specs.laws.InOrder.{IsTold}
+use Rattle.fax_walk.specs.laws.InOrder.{AgreesWithTold}
 use Rattle.fax_walk.specs.laws.Left.{IsLeft}
 use Rattle.fax_walk.specs.views.Walk.{AreBeforeIt, AreRead, IsCursorOf, IsLent, IsLongOf, IsNext}
 use Rattle.fax_walk.specs.views.Walk.{WalkView, walk_from}
@@ -74,7 +74,7 @@ pub record StandsAfter (items : List RowItem) (end : End) (n : ℕ) (walk : Walk
   pub printed : IsPrinted items began walk.begun
   pub count : n ≡ began + walk.given
   pub within : n ≤ length items
-  pub told : IsTold walk.told (drop n items) end
+  pub told : AgreesWithTold walk.told (drop n items) end
 
 -- the rows end here: all items were handed out, and this is their end, which the walk has told now
 pub record EndsThere (items : List RowItem) (end : End) (n : ℕ) (told : End)

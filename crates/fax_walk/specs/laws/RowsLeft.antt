@@ -6,13 +6,13 @@ use Rattle.fax_walk.specs.Items.{Inner, before}
 use Rattle.fax_walk.specs.Pages.{FilePage, read_page}
 use Rattle.fax_walk.specs.Salvaged.{AreRowsFrom, AreRowsOfPage, IsSalvaged, LeftItem, PageRow}
 use Rattle.fax_walk.specs.Salvaged.{page_items}
-use Rattle.fax_walk.specs.views.RowsLeft.{LeftOf, AreRowsOf}
+use Rattle.fax_walk.specs.views.RowsLeft.{LeftOf, AreLeftOf}
 
 -- the rows that are left of a page or a strip are one list
 pub record AreLeftOneWay (its : LeftOf) : Type 0 where
   pub rows : List PageRow
-  pub are : AreRowsOf its rows
-  pub one : (others : List PageRow) → AreRowsOf its others → others ≡ rows
+  pub are : AreLeftOf its rows
+  pub one : (others : List PageRow) → AreLeftOf its others → others ≡ rows
 
 -- what is handed out of page p of a file stands together in what is handed out of the file
 abbrev pub PagesAreLeft : Type 0

@@ -26,10 +26,10 @@ AreRowsUncounted form b rows end =
     (own : List SalvagedRow) × IsLeftUncounted form b own end × (rows ≡ map strip_row own)
 
 -- the rows that are left of it, found or lost
-abbrev pub AreRowsOf : LeftOf → List PageRow → Type 0
-AreRowsOf (of_page file here) rows = AreRowsOfPage file here rows
-AreRowsOf (of_strip form b) rows = AreRowsOfStrip form b rows
-AreRowsOf (of_uncounted form b) rows = (end : RowsEnd) × AreRowsUncounted form b rows end
+abbrev pub AreLeftOf : LeftOf → List PageRow → Type 0
+AreLeftOf (of_page file here) rows = AreRowsOfPage file here rows
+AreLeftOf (of_strip form b) rows = AreRowsOfStrip form b rows
+AreLeftOf (of_uncounted form b) rows = (end : RowsEnd) × AreRowsUncounted form b rows end
 
 -- a page that was found in a file
 pub record FoundPage : Type 0 where
@@ -70,13 +70,13 @@ pub record IsUncountedStart (form : StripForm) (b : List Bool) (view : RowsView)
 pub record PassesRows (old : RowsView) (over : List PageRow) (new : RowsView) : Type 0 where
   pub next : new.row ≡ old.row + length over
   pub within : new.row ≤ old.rows
-  pub rows_are : (all : List PageRow) → AreRowsOf old.its all
+  pub rows_are : (all : List PageRow) → AreLeftOf old.its all
       → drop old.row all ≡ over ++ drop new.row all
 
 -- what became of the next rows; or all were passed
 abbrev pub PassesPart : RowsView → Option PagePart → RowsView → Type 0
 PassesPart old None new =
-    (old.row ≡ old.rows) × ((all : List PageRow) → AreRowsOf old.its all → length all ≡ old.row)
+    (old.row ≡ old.rows) × ((all : List PageRow) → AreLeftOf old.its all → length all ≡ old.row)
 PassesPart old (Some Found) new = PassesRows old (Ok new.last ∷ []) new
 PassesPart old (Some (Lost rows cause)) new =
     (0 < rows) × PassesRows old (replicate rows (Err cause)) new

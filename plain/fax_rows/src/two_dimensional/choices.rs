@@ -1,8 +1,8 @@
 //! Which steps T.4 chooses (ITU-T T.4, section 4.2.1.3.3).
 
-use super::codes::TwoRuns;
+use super::horizontal_runs::TwoRuns;
 use super::steps::PlacedReached;
-use crate::rows::PlacedRow;
+use crate::placed_rows::PlacedRow;
 
 /// Whether T.4 chooses vertical mode where a1 is reached by it: b2 is not left of a1 (T.4, section
 /// 4.2.1.3.3).

@@ -2,7 +2,7 @@
 //! places are copied from the reference row (ITU-T T.4, section 4.2.1.3.2).
 
 use super::steps::{PlacedReached, Reached, under_b1};
-use crate::rows::PlacedRow;
+use crate::placed_rows::PlacedRow;
 use crate::turns::colour_after;
 use fax_bits::BitSource;
 

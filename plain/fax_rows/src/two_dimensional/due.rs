@@ -1,11 +1,11 @@
 //! A row in two-dimensional coding, read on from where no look-up finds the next code (ITU-T T.4,
 //! section 4.2.1.3.2).
 
-use super::codes::{Due, Stop, Unread, last_two_runs};
+use super::horizontal_runs::{Due, RowStop, Unread, last_two_runs};
 use super::modes::{by_mode, past_runs};
 use super::steps::{PlacedReached, Reached};
 use crate::RowFault;
-use crate::rows::PlacedRow;
+use crate::placed_rows::PlacedRow;
 use crate::turns::colour_after;
 use fax_bits::{BitSource, CodeFault, ModeCode, Modes, read_code};
 
@@ -51,7 +51,8 @@ fn last_mode(source: &mut BitSource) -> Result<ModeCode, CodeFault> {
     read_code::<Modes>(source)
 }
 
-/// Horizontal mode with runs by their tables: the first of them where it is not read, and the second.
+/// Horizontal mode with runs by their tables: the first of them where it is not read, and the
+/// second.
 // requires inside { IsReadInside reference places.old at }
 // requires fits { IfSome first (λ n. reached_pel at.reached + n ≤ reference.width) }
 fn last_horizontal<const CHOICE: bool>(
@@ -60,7 +61,7 @@ fn last_horizontal<const CHOICE: bool>(
     places: &mut [u32],
     at: PlacedReached,
     first: Option<u32>,
-) -> Result<PlacedReached, Stop> {
+) -> Result<PlacedReached, RowStop> {
     let from = at.reached.first_pel();
     let colour = colour_after(at.b1);
     let runs = last_two_runs::<CHOICE>(source, colour, reference.width, from, first)?;
@@ -76,7 +77,7 @@ fn read_due<const CHOICE: bool>(
     places: &mut [u32],
     at: PlacedReached,
     due: Due,
-) -> Result<PlacedReached, Stop> {
+) -> Result<PlacedReached, RowStop> {
     match due {
         Due::Mode => match last_mode(source) {
             Ok(mode) => match by_mode::<CHOICE, false>(source, reference, places, at, mode) {
@@ -84,9 +85,9 @@ fn read_due<const CHOICE: bool>(
                 Err(Unread::Due(first)) => {
                     last_horizontal::<CHOICE>(source, reference, places, at, first)
                 }
-                Err(Unread::Stop(stop)) => Err(stop),
+                Err(Unread::Stopped(stop)) => Err(stop),
             },
-            Err(fault) => Err(Stop::Fault(RowFault::from(fault))),
+            Err(fault) => Err(RowStop::Fault(RowFault::from(fault))),
         },
         Due::Runs(first) => last_horizontal::<CHOICE>(source, reference, places, at, first),
     }
@@ -102,7 +103,7 @@ pub(super) fn read_on<const CHOICE: bool>(
     reference: PlacedRow,
     places: &mut [u32],
     pause: Pause,
-) -> Result<usize, Stop> {
+) -> Result<usize, RowStop> {
     let mut ahead = source.again();
     ahead.skip_to(pause.place);
     let mut at = read_due::<CHOICE>(&mut ahead, reference, places, pause.reached(), pause.due)?;

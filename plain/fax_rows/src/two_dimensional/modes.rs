@@ -2,13 +2,13 @@
 //! 4.2.1.3.3). The bits ahead stand in a value.
 
 use super::choices::{chooses_a1, chooses_b2, chooses_runs, is_taken};
-use super::codes::{Due, Stop, TwoRuns, Unread, two_runs};
 use super::copied::under_several;
 use super::due::Pause;
+use super::horizontal_runs::{Due, RowStop, TwoRuns, Unread, two_runs};
 use super::several::several;
 use super::steps::{PlacedReached, after_runs, left_of_b1, right_of_b1, under_b1, under_b2};
 use crate::RowFault;
-use crate::rows::PlacedRow;
+use crate::placed_rows::PlacedRow;
 use crate::turns::colour_after;
 use fax_bits::{BitSource, ModeCode};
 
@@ -22,10 +22,10 @@ pub(super) fn past_runs<const CHOICE: bool>(
     places: &mut [u32],
     at: PlacedReached,
     runs: TwoRuns,
-) -> Result<PlacedReached, Stop> {
+) -> Result<PlacedReached, RowStop> {
     let chosen = chooses_runs::<CHOICE>(reference, at, runs);
     if !is_taken::<CHOICE>(chosen) {
-        return Err(Stop::Other);
+        return Err(RowStop::Other);
     }
     Ok(after_runs(reference, places, at, runs.first, runs.second))
 }
@@ -59,8 +59,8 @@ pub(super) fn vertical<const CHOICE: bool>(
     places: &mut [u32],
     at: PlacedReached,
     d: i8,
-) -> Result<PlacedReached, Stop> {
-    let out = Stop::Fault(RowFault::OutOfRow);
+) -> Result<PlacedReached, RowStop> {
+    let out = RowStop::Fault(RowFault::OutOfRow);
     if d < 0 {
         return left_of_b1(reference, places, at, d).ok_or(out);
     }
@@ -72,7 +72,7 @@ pub(super) fn vertical<const CHOICE: bool>(
     if is_taken::<CHOICE>(chosen) {
         Ok(next)
     } else {
-        Err(Stop::Other)
+        Err(RowStop::Other)
     }
 }
 
@@ -83,13 +83,13 @@ pub(super) fn pass<const CHOICE: bool>(
     reference: PlacedRow,
     places: &[u32],
     at: PlacedReached,
-) -> Result<PlacedReached, Stop> {
+) -> Result<PlacedReached, RowStop> {
     let next = under_b2(reference, places, at);
     let chosen = chooses_b2::<CHOICE>(reference, next);
     if is_taken::<CHOICE>(chosen) {
         Ok(next)
     } else {
-        Err(Stop::Other)
+        Err(RowStop::Other)
     }
 }
 
@@ -109,13 +109,13 @@ pub(super) fn by_mode<const CHOICE: bool, const SEVERAL: bool>(
         ModeCode::Vertical(d) => Ok(vertical::<CHOICE>(reference, places, at, d)?),
         ModeCode::Pass => Ok(pass::<CHOICE>(reference, places, at)?),
         ModeCode::Horizontal => horizontal::<CHOICE, SEVERAL>(source, reference, places, at),
-        ModeCode::Extension => Err(Unread::Stop(Stop::Fault(RowFault::Extension))),
+        ModeCode::Extension => Err(Unread::Stopped(RowStop::Fault(RowFault::Extension))),
     }
 }
 
-/// Reads one mode by a look-up, and goes on by what it says; where a1 is under b1 it reads more such
-/// modes too (T.4, section 4.2.1.3.3). With `SEVERAL` it reads several vertical modes by one look-up
-/// where it can.
+/// Reads one mode by a look-up, and goes on by what it says; where a1 is under b1 it reads more
+/// such modes too (T.4, section 4.2.1.3.3). With `SEVERAL` it reads several vertical modes by one
+/// look-up where it can.
 #[inline(always)]
 // requires inside { IsReadInside reference places.old at }
 fn next_steps<const CHOICE: bool, const SEVERAL: bool>(
@@ -133,7 +133,7 @@ fn next_steps<const CHOICE: bool, const SEVERAL: bool>(
     match by_mode::<CHOICE, SEVERAL>(source, reference, places, at, mode) {
         Ok(next) => Ok(next),
         Err(Unread::Due(first)) => Err(Unread::Due(Due::Runs(first))),
-        Err(Unread::Stop(stop)) => Err(Unread::Stop(stop)),
+        Err(Unread::Stopped(stop)) => Err(Unread::Stopped(stop)),
     }
 }
 
@@ -165,7 +165,7 @@ pub(super) fn read_by_look_ups<const CHOICE: bool, const SEVERAL: bool>(
                     b1: at.b1,
                 }));
             }
-            Err(Unread::Stop(stop)) => return Err(Unread::Stop(stop)),
+            Err(Unread::Stopped(stop)) => return Err(Unread::Stopped(stop)),
         }
     }
     source.go_to(&ahead);

@@ -2,10 +2,10 @@
 //! on, and a1 under the row's end (ITU-T T.4, section 4.2.1.3.3).
 
 use super::choices::is_taken;
-use super::codes::{Due, Stop, TwoRuns, Unread, run_by_run};
 use super::due::Pause;
+use super::horizontal_runs::{Due, RowStop, TwoRuns, Unread, run_by_run};
 use super::steps::{PlacedReached, Reached, under_b1};
-use crate::rows::PlacedRow;
+use crate::placed_rows::PlacedRow;
 use crate::turns::put_turn;
 use fax_bits::{BitSource, Colour, ModeCode};
 
@@ -158,7 +158,7 @@ pub(super) fn read_over_white<const CHOICE: bool>(
         match next_step::<CHOICE>(&mut ahead, at.first_pel, reference.width) {
             Some(StepOverWhite::Runs(runs)) => {
                 let Some(next) = past_two_runs::<CHOICE>(reference, places, at, runs) else {
-                    return Err(Unread::Stop(Stop::Other));
+                    return Err(Unread::Stopped(RowStop::Other));
                 };
                 at = next;
             }

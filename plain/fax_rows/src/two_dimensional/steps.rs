@@ -1,7 +1,7 @@
 //! Steps of two-dimensional coding over a reference row, after their codes (ITU-T T.4, section
 //! 4.2.1.3.2).
 
-use crate::rows::PlacedRow;
+use crate::placed_rows::PlacedRow;
 use crate::runs::other;
 use crate::turns::{put_turn, turn_after};
 use fax_bits::Colour;

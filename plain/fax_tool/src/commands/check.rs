@@ -72,7 +72,7 @@ fn fault_line(report: &Report) -> Option<ErrorLine> {
 // requires input_counts { R.counts input.old ≡ no_faults }
 // requires taken { R.taken input.old ≡ 0 }
 // requires counts { W.counts out.old ≡ no_faults }
-pub fn check<R: Source, W: Sink>(
+pub fn give_report<R: Source, W: Sink>(
     alloc: Global,
     input: &mut R,
     out: &mut W,

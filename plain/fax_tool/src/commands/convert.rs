@@ -62,7 +62,7 @@ fn give_parts<W: Sink>(out: &mut W, block: &[u8], output: &Parts) -> Result<(), 
 // requires input_counts { R.counts input.old ≡ no_faults }
 // requires taken { R.taken input.old ≡ 0 }
 // requires counts { W.counts out.old ≡ no_faults }
-pub fn convert<R: Source, W: Sink>(
+pub fn give_conversion<R: Source, W: Sink>(
     alloc: Global,
     options: Options,
     input: &mut R,

@@ -2,13 +2,13 @@
 
 use kit_std::prelude::{String, Vec};
 
-use crate::commands::lines::Lines;
+use crate::commands::printed_lines::Lines;
 use crate::refusal::Refusal;
 use crate::streams::transfer::{Interruptions, give_all, read_whole};
 use crate::streams::{Sink, Source};
 use crate::text::collected::Collected;
 use crate::text::fault::{ErrorLine, end_line};
-use crate::words::Part;
+use crate::words::Selection;
 use arrayvec::ArrayString;
 use fax_bits::Memory;
 use fax_walk::{Begun, Cursor, End, Pages, Walk};
@@ -225,7 +225,7 @@ fn read_or_stop<R: Source, W: Sink>(
 
 /// What the rows of a part begin with. Where memory is refused it writes where to go on: there.
 // requires { W.counts out.old ≡ no_faults }
-fn begin_or_stop<W: Sink>(part: &Part, out: &mut W) -> Result<Begun, Refusal> {
+fn begin_or_stop<W: Sink>(part: &Selection, out: &mut W) -> Result<Begun, Refusal> {
     match part.begun() {
         Ok(begun) => Ok(begun),
         Err(Memory) => {
@@ -244,7 +244,7 @@ fn begin_or_stop<W: Sink>(part: &Part, out: &mut W) -> Result<Begun, Refusal> {
 // requires counts { W.counts out.old ≡ no_faults }
 pub fn rows<R: Source, W: Sink>(
     alloc: Global,
-    part: &Part,
+    part: &Selection,
     input: &mut R,
     out: &mut W,
 ) -> Result<Option<ErrorLine>, Refusal> {
@@ -262,7 +262,7 @@ pub fn rows<R: Source, W: Sink>(
 // requires counts { W.counts out.old ≡ no_faults }
 pub fn list<R: Source, W: Sink>(
     alloc: Global,
-    part: &Part,
+    part: &Selection,
     input: &mut R,
     out: &mut W,
 ) -> Result<Option<ErrorLine>, Refusal> {

@@ -99,8 +99,8 @@ impl Texts {
         }
     }
 
-    /// Writes a blank and a number at a place, and answers where they end. Eleven bytes from there on
-    /// may be written over.
+    /// Writes a blank and a number at a place, and answers where they end. Eleven bytes from there
+    /// on may be written over.
     #[inline(always)]
     // requires { at + 11 ≤ length bytes.old }
     pub fn write_number(&mut self, bytes: &mut [u8], at: usize, number: u32) -> usize {

@@ -139,7 +139,7 @@ fn salvaged(form: StripForm, bytes: &str) -> Result<String, WrongLine> {
     let mut text = String::new();
     for turn in 0..2 {
         for _ in 0..form.rows {
-            let Some(salvaged) = reader.advance() else {
+            let Some(salvaged) = reader.next_salvaged() else {
                 break;
             };
             text.push_str(&part(salvaged, reader.reference())?);
@@ -163,7 +163,7 @@ fn salvaged_uncounted(form: StripForm, bytes: &str) -> Result<String, WrongLine>
     reader.restart(&bytes);
     let mut text = String::new();
     for _ in 0..rows {
-        let Ok(salvaged) = reader.advance() else {
+        let Ok(salvaged) = reader.next_salvaged() else {
             break;
         };
         text.push_str(&part(salvaged, reader.reference())?);

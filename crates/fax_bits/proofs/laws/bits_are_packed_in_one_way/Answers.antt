@@ -1,4 +1,4 @@
-use Rattle.fax_bits.proofs.PackedLemmas.{packed-padded, packed-only}
+use Rattle.fax_bits.proofs.PackedByteLemmas.{packed-padded, packed-only}
 use Rattle.fax_bits.proofs.laws.bits_are_packed_in_one_way.Goals as goal
 
 pub returns : goal.returns

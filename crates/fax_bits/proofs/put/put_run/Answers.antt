@@ -1,6 +1,6 @@
 use Rattle.std.proofs.Common.{◌≡◌, ◌∙◌, ◌/◌, replicate, subst, arith}
 use Rattle.std.proofs.lemmas.Result.{on_ok_weaker}
-use Rattle.fax_bits.specs.declared.runs.RunCode.TheVariants.{MakeUp}
+use Rattle.fax_bits.specs.declared.run_codes.RunCode.TheVariants.{MakeUp}
 use Rattle.fax_bits.specs.views.Sink.{Appends}
 use Rattle.fax_bits.proofs.PutLemmas.{Put, put-prefix, first_codes, put-rest, on_err-of}
 use Rattle.fax_bits.proofs.put.put_run.Goals as goal

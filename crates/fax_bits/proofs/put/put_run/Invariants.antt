@@ -1,5 +1,5 @@
 use Rattle.std.proofs.Common.{replicate}
-use Rattle.fax_bits.specs.declared.runs.RunCode.TheVariants.{MakeUp}
+use Rattle.fax_bits.specs.declared.run_codes.RunCode.TheVariants.{MakeUp}
 use Rattle.fax_bits.proofs.PutLemmas.{Put}
 use Rattle.fax_bits.proofs.put.put_run.Given as goal
 

@@ -1,5 +1,5 @@
 use Rattle.std.proofs.Common.{arith}
-use Rattle.fax_c.proofs.EndingLemmas.{one_left}
+use Rattle.fax_c.proofs.TotalLemmas.{one_left}
 use Rattle.fax_c.proofs.ending.are_pages.Goals as goal
 
 pub returns-in_default-clause-none : goal.returns-in_default-clause-none

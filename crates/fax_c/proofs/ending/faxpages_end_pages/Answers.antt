@@ -1,4 +1,4 @@
-use Rattle.fax_c.proofs.EndingLemmas.{ends_whole}
+use Rattle.fax_c.proofs.TotalLemmas.{ends_whole}
 use Rattle.fax_c.proofs.ending.faxpages_end_pages.Goals as goal
 
 pub returns-clause-whole : goal.returns-clause-whole

@@ -1,6 +1,6 @@
 use Rattle.std.proofs.Common.{◌≡◌, ◌+◌, ◌-◌, ◌≤◌, arith, ap, length}
 use Rattle.fax_c.specs.views.Ended.{next_link}
-use Rattle.fax_c.proofs.EndingLemmas.{one_left, still_pages, total_len}
+use Rattle.fax_c.proofs.TotalLemmas.{one_left, still_pages, total_len}
 use Rattle.fax_c.proofs.ending.put_totals.Goals as goal
 
 pub loop-preserved : goal.loop-preserved

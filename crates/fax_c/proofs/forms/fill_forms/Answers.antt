@@ -1,7 +1,7 @@
 use Rattle.std.proofs.Common.{List, ◌+◌, ◌∙◌, ap, arith, set, subst, sym}
 use Rattle.fax_c.specs.declared.forms.FaxForm.{FaxForm}
 use Rattle.fax_c.specs.Forms.{form_numbers}
-use Rattle.fax_c.proofs.FormLemmas.{AreFormsWritten, all_asked, ended, none_written, one_more}
+use Rattle.fax_c.proofs.FormsWrittenLemmas.{AreFormsWritten, all_asked, ended, none_written, one_more}
 use Rattle.fax_c.proofs.forms.fill_forms.Goals as goal
 
 pub loop-count-init : goal.loop-count-init

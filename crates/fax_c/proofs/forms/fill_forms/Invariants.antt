@@ -1,6 +1,6 @@
 use Rattle.std.proofs.Common.{◌-◌, length}
 use Rattle.fax_walk.specs.laws.Tails.{CursorsHaveOneFormTail}
-use Rattle.fax_c.proofs.FormLemmas.{AreFormsWritten}
+use Rattle.fax_c.proofs.FormsWrittenLemmas.{AreFormsWritten}
 use Rattle.fax_c.proofs.forms.fill_forms.Given as goal
 
 abbrev pub invariant-loop-count : goal.invariant-loop-count

@@ -1,4 +1,4 @@
-use Rattle.fax_c.proofs.FormLemmas.{no_page, no_row}
+use Rattle.fax_c.proofs.FormsWrittenLemmas.{no_page, no_row}
 use Rattle.fax_c.proofs.rows.end_without_page.Goals as goal
 
 pub returns-in-Err-clause-end : goal.returns-in-Err-clause-end

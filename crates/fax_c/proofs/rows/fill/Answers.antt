@@ -1,5 +1,5 @@
 use Rattle.std.proofs.Common.{◌∙◌, Err, ap, arith, refl, sym}
-use Rattle.fax_c.proofs.FillLemmas.{all_asked, none_written, one_more, stopped, walk_stopped}
+use Rattle.fax_c.proofs.RowsWrittenLemmas.{all_asked, none_written, one_more, stopped, walk_stopped}
 use Rattle.fax_c.proofs.PlaceLemmas.{after_of, kept_on}
 use Rattle.fax_c.proofs.rows.fill.Goals as goal
 

@@ -1,7 +1,7 @@
 use Rattle.std.proofs.Common.{◌≡◌, ◌-◌, length}
 use Rattle.fax_walk.specs.laws.Tails.{BeginningsHaveOneTail}
 use Rattle.fax_c.specs.views.Places.{KeepsRuns}
-use Rattle.fax_c.proofs.FillLemmas.{AreRowsWritten}
+use Rattle.fax_c.proofs.RowsWrittenLemmas.{AreRowsWritten}
 use Rattle.fax_c.proofs.rows.fill.Given as goal
 
 abbrev pub invariant-loop-count : goal.invariant-loop-count

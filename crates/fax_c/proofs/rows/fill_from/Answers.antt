@@ -1,5 +1,5 @@
 use Rattle.std.proofs.Common.{◌∙◌, inl, refl}
-use Rattle.fax_c.proofs.FillLemmas.{refused_at_once}
+use Rattle.fax_c.proofs.RowsWrittenLemmas.{refused_at_once}
 use Rattle.fax_c.proofs.PlaceLemmas.{begun_cursor-begun_of, stays, takes_runs}
 use Rattle.fax_c.specs.views.Places.{place_begun}
 use Rattle.fax_c.proofs.rows.fill_from.Goals as goal

@@ -28,10 +28,10 @@ returns-in-Ok c =
     begun.inner in
     let left = c.rows_are_left.ensures in
     all_from c.args.found.file here c.args.stride place c.args.runs.now c.args.out.now c.args.lost.now c.in-Ok.left
-    c.fill_from-filled.new.left c.fill_from-filled.result c.bits_before-bits.result c.in-Some-row_before.before
-    c.tell_after.new.place c.tell_after.new.runs c.fill_from-filled.new.out c.fill_from-filled.new.lost begun.s begun.i
-    begun.at left.0 due.0 its begun.rows_are begun.file_is begun.here_is c.fill_from-filled.ensures left.1
-    c.tell_after.ensures
+    c.fill_left_from-filled.new.left c.fill_left_from-filled.result c.bits_before-bits.result
+    c.in-Some-row_before.before c.tell_left_after.new.place c.tell_left_after.new.runs c.fill_left_from-filled.new.out
+    c.fill_left_from-filled.new.lost begun.s begun.i begun.at left.0 due.0 its begun.rows_are begun.file_is
+    begun.here_is c.fill_left_from-filled.ensures left.1 c.tell_left_after.ensures
 
 pub returns-in-Err-Outside : goal.returns-in-Err-Outside
 returns-in-Err-Outside c =

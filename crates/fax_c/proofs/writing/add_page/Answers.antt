@@ -1,7 +1,7 @@
 use Rattle.std.proofs.Common.{◌∙◌, ◌+◌, Err, List, ℕ, ap, arith, drop, inl, inr, length, refl, sym, take}
 use Rattle.fax_files.specs.views.Writing.{contents}
 use Rattle.fax_c.specs.Raster.{page_strips}
-use Rattle.fax_c.proofs.WritingLemmas.{page_added, page_len, strips_are_counted, told_is}
+use Rattle.fax_c.proofs.AddPageLemmas.{page_added, page_len, strips_are_counted, told_is}
 use Rattle.fax_c.proofs.writing.add_page.Goals as goal
 
 pub write_page-requires-clause-strips : goal.write_page-requires-clause-strips

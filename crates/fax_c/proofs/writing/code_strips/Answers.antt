@@ -1,5 +1,5 @@
 use Rattle.std.proofs.Common.{rules}
-use Rattle.fax_c.proofs.WritingLemmas.{strip_more, the_strip}
+use Rattle.fax_c.proofs.AddPageLemmas.{strip_more, the_strip}
 use Rattle.fax_c.proofs.writing.code_strips.Goals as goal
 
 pub loop-s-preserved : goal.loop-s-preserved

@@ -1,7 +1,7 @@
 use Rattle.std.proofs.Common.{◌≡◌, map}
 use Rattle.std.specs.List.{range_with_len}
 use Rattle.fax_files.specs.views.Writing.{contents}
-use Rattle.fax_c.proofs.WritingLemmas.{the_strip}
+use Rattle.fax_c.proofs.AddPageLemmas.{the_strip}
 use Rattle.fax_c.proofs.writing.code_strips.Given as goal
 
 -- the strips so far are coded

@@ -1,7 +1,7 @@
 use Rattle.std.proofs.Common.{◌≡◌, ◌%◌, [], ◌++◌, length, refl, sym, ◌∙◌, append-nil, arith}
 use Rattle.std.specs.Prelude.{replicate}
 use Rattle.fax_files.specs.Layout.{offsets_from, array_bytes}
-use Rattle.fax_files.specs.code.Parts.{lengths_of}
+use Rattle.fax_files.specs.code.PageParts.{lengths_of}
 use Rattle.fax_files.specs.views.Writing.{contents}
 use Rattle.fax_files.proofs.WrittenStripLemmas.{length-offsets_from, length-lengths_of}
 use Rattle.fax_files.proofs.WritingLemmas.{tail_put, length-contents, array_of_many, array_of_one}

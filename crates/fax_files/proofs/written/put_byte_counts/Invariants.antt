@@ -1,5 +1,5 @@
 use Rattle.std.proofs.Common.{◌≡◌, ◌++◌, take}
-use Rattle.fax_files.specs.code.Parts.{longs, lengths_of}
+use Rattle.fax_files.specs.code.PageParts.{longs, lengths_of}
 use Rattle.fax_files.specs.views.Writing.{contents}
 use Rattle.fax_files.proofs.written.put_byte_counts.Given as goal
 

@@ -1,6 +1,6 @@
 use Rattle.std.proofs.Common.{◌≡◌, ◌+◌, ◌++◌, length, take}
 use Rattle.fax_files.specs.Layout.{offsets_from}
-use Rattle.fax_files.specs.code.Parts.{longs, joined_strips}
+use Rattle.fax_files.specs.code.PageParts.{longs, joined_strips}
 use Rattle.fax_files.specs.views.Writing.{contents}
 use Rattle.fax_files.proofs.written.put_offsets.Given as goal
 

@@ -1,5 +1,5 @@
 use Rattle.std.proofs.Common.{◌≡◌, ◌++◌, take}
-use Rattle.fax_files.specs.code.Parts.{joined_strips}
+use Rattle.fax_files.specs.code.PageParts.{joined_strips}
 use Rattle.fax_files.specs.views.Writing.{contents}
 use Rattle.fax_files.proofs.written.put_strips.Given as goal
 

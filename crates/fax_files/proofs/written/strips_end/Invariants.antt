@@ -1,6 +1,6 @@
 use Rattle.std.proofs.Common.{◌≡◌, ◌+◌, ◌≤◌, length, take}
 use Rattle.fax_files.specs.Directory.{max_file}
-use Rattle.fax_files.specs.code.Parts.{joined_strips}
+use Rattle.fax_files.specs.code.PageParts.{joined_strips}
 use Rattle.fax_files.specs.views.Writing.{contents}
 use Rattle.fax_files.proofs.written.strips_end.Given as goal
 

@@ -6,7 +6,7 @@ use Rattle.fax_rows.proofs.ChosenRunLemmas.{runs_end}
 use Rattle.fax_rows.proofs.PairReadLemmas.{none_read, read_on, pair_read_on, white_read}
 use Rattle.fax_rows.proofs.PlacedReadLemmas.{more_room, put_on}
 use Rattle.fax_rows.proofs.RowLemmas.{row_done}
-use Rattle.fax_rows.proofs.StopLemmas.{row_stops}
+use Rattle.fax_rows.proofs.RowStopLemmas.{row_stops}
 use Rattle.fax_rows.proofs.TurnLemmas.{length-pels_by}
 use Rattle.fax_rows.proofs.one_dimensional.read_runs.Goals as goal
 
@@ -40,29 +40,29 @@ loop-runs-preserved-in-Some c =
       same_end = omega (arith, c.in-Some.ensures.same_end, so_far.same_end);
     }
 
-pub returns-in_err-read_on-clause-err : goal.returns-in_err-read_on-clause-err
-returns-in_err-read_on-clause-err c =
+pub returns-in_err-put_next_run-clause-err : goal.returns-in_err-put_next_run-clause-err
+returns-in_err-put_next_run-clause-err c =
     let so_far = c.loop-runs.invariant in
     let read = white_read so_far.read (so_far.white c.loop-runs-test.true) (c.in_default.ensures.unchanged refl) in
     let left = c.from_residual in
     let p = err_from_is_err_and left.result left.ensures.1 in
-    rw (p.1, p.2) (row_stops read c.loop-runs-test.true c.in_err-read_on.ensures.err)
+    rw (p.1, p.2) (row_stops read c.loop-runs-test.true c.in_err-put_next_run.ensures.err)
 
-pub returns-in_err-read_on-2-clause-err : goal.returns-in_err-read_on-2-clause-err
-returns-in_err-read_on-2-clause-err c =
+pub returns-in_err-put_next_run-2-clause-err : goal.returns-in_err-put_next_run-2-clause-err
+returns-in_err-put_next_run-2-clause-err c =
     let so_far = c.loop-runs.invariant in
-    let first = c.in_ok-read_on.ensures in
+    let first = c.in_ok-put_next_run.ensures in
     let white = white_read so_far.read (so_far.white c.loop-runs-test.true) (c.in_default.ensures.unchanged refl) in
     let read = read_on white c.loop-runs-test.true first.run first.right first.put.within first.turned first.chosen in
-    let left = c.from_residual-in_err-read_on-2 in
+    let left = c.from_residual-in_err-put_next_run-2 in
     let p = err_from_is_err_and left.result left.ensures.1 in
-    rw (p.1, p.2) (row_stops read c.if-runs-width.true c.in_err-read_on-2.ensures.err)
+    rw (p.1, p.2) (row_stops read c.if-runs-width.true c.in_err-put_next_run-2.ensures.err)
 
 pub loop-runs-preserved-in-Continue-branch-2 : goal.loop-runs-preserved-in-Continue-branch-2
 loop-runs-preserved-in-Continue-branch-2 c =
     let so_far = c.loop-runs.invariant in
-    let first = c.in_ok-read_on.ensures in
-    let second = c.in_ok-read_on-2.ensures in
+    let first = c.in_ok-put_next_run.ensures in
+    let second = c.in_ok-put_next_run-2.ensures in
     let same = c.in_default.ensures.unchanged refl in
     let white = white_read so_far.read (so_far.white c.loop-runs-test.true) same in
     let read = read_on white c.loop-runs-test.true first.run first.right first.put.within first.turned first.chosen in
@@ -83,7 +83,7 @@ loop-runs-preserved-in-Continue-branch-2 c =
 pub loop-runs-preserved : goal.loop-runs-preserved
 loop-runs-preserved c =
     let so_far = c.loop-runs.invariant in
-    let first = c.in_ok-read_on.ensures in
+    let first = c.in_ok-put_next_run.ensures in
     let same = c.in_default.ensures.unchanged refl in
     record {
       colour = Black;

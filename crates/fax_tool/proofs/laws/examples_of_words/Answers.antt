@@ -1,4 +1,4 @@
-use Rattle.fax_tool.proofs.ExampleLemmas.{are_not_taken, are_read}
+use Rattle.fax_tool.proofs.WordExampleLemmas.{are_not_taken, are_read}
 use Rattle.fax_tool.proofs.laws.examples_of_words.Goals as goal
 
 pub returns : goal.returns

@@ -1,4 +1,4 @@
-use Rattle.fax_tool.proofs.RunLemmas.{cut_runs_are_read_on, runs_go_on as all_go_on}
+use Rattle.fax_tool.proofs.CutRunLemmas.{cut_runs_are_read_on, runs_go_on as all_go_on}
 use Rattle.fax_tool.proofs.laws.runs_go_on.Goals as goal
 
 pub returns-clause-runs : goal.returns-clause-runs

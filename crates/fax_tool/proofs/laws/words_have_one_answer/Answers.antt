@@ -1,4 +1,4 @@
-use Rattle.fax_tool.proofs.AnswerLemmas.{words_have_one_answer}
+use Rattle.fax_tool.proofs.WordAnswerLemmas.{words_have_one_answer}
 use Rattle.fax_tool.proofs.laws.words_have_one_answer.Goals as goal
 
 pub returns : goal.returns

@@ -12,13 +12,13 @@ use Rattle.clap.specs.declared.error.Error.{Error}
 use Rattle.clap.specs.declared.error.kind.ErrorKind.TheVariants.{OutOfMemory}
 use Rattle.fax_tool.specs.Grammar.{Text, texts}
 use Rattle.fax_tool.specs.code.CommandLine.{faxpages_app}
-use Rattle.fax_tool.specs.code.Entries.{IsCommandFault, entries_of, given_by}
+use Rattle.fax_tool.specs.code.CommandEntries.{IsCommandFault, entries_of, given_by}
 use Rattle.fax_tool.specs.Job.{IsJobFault, target_of}
 use Rattle.fax_tool.specs.declared.words.WordsFault.{WordsFault}
 use Rattle.fax_tool.specs.declared.words.WordsFault.TheVariants.{NotACursor, Usage}
 use Rattle.fax_tool.proofs.AgreeLemmas.{command_agrees}
-use Rattle.fax_tool.proofs.EntryLemmas.{taken_entries}
-use Rattle.fax_tool.proofs.ReadLemmas.{AreTaken, IsReadAs, command_of, taken_is_read, untaken_is_unread}
+use Rattle.fax_tool.proofs.CommandEntryLemmas.{taken_entries}
+use Rattle.fax_tool.proofs.WordReadLemmas.{AreTaken, IsReadAs, command_of, taken_is_read, untaken_is_unread}
 use Rattle.fax_tool.proofs.words.job_of.Goals as goal
 use Rattle.fax_tool.proofs.words.job_of.Goals.{In-Some}
 

@@ -2,7 +2,7 @@ use Rattle.std.proofs.Common.{◌≡◌, ◌∙◌, ◌<◌, ⊎_elim, ap, codes
 use Rattle.std.specs.Prelude.{Some, unwrap_or}
 use Rattle.clap.specs.Matches.{found_of}
 use Rattle.fax_walk.specs.declared.options.Target.TheVariants.{Mmr, Pbm}
-use Rattle.fax_tool.specs.code.Entries.{entries_of, given_by}
+use Rattle.fax_tool.specs.code.CommandEntries.{entries_of, given_by}
 use Rattle.fax_tool.specs.Job.{is_set, number_in, target_in}
 use Rattle.fax_tool.proofs.EntryReadLemmas.{flag_read, in_range, in_range_or, u32_read}
 use Rattle.fax_tool.proofs.words.options_of.Goals as goal

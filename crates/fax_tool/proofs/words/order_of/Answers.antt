@@ -3,7 +3,7 @@ use Rattle.std.specs.Prelude.{unwrap_or}
 use Rattle.std.proofs.lemmas.Bool.{ne_eqb}
 use Rattle.clap.specs.Matches.{found_of}
 use Rattle.fax_bits.specs.declared.FillOrder.TheVariants.{LsbFirst, MsbFirst}
-use Rattle.fax_tool.specs.code.Entries.{entries_of, given_by}
+use Rattle.fax_tool.specs.code.CommandEntries.{entries_of, given_by}
 use Rattle.fax_tool.specs.Job.{number_in, order_by}
 use Rattle.fax_tool.proofs.EntryReadLemmas.{u32_read}
 use Rattle.fax_tool.proofs.words.order_of.Goals as goal

@@ -3,7 +3,7 @@ use Rattle.std.specs.Prelude.{None}
 use Rattle.clap.specs.Matches.{found_of}
 use Rattle.clap.specs.Walk.{Text, first_of}
 use Rattle.fax_walk.specs.Pages.{cursor_text}
-use Rattle.fax_tool.specs.code.Entries.{entries_of}
+use Rattle.fax_tool.specs.code.CommandEntries.{entries_of}
 use Rattle.fax_tool.specs.Text.{At}
 use Rattle.fax_tool.proofs.BeginLemmas.{Begins}
 use Rattle.fax_tool.proofs.EntryReadLemmas.{u32_read}

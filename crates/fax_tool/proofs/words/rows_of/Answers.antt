@@ -2,7 +2,7 @@ use Rattle.std.proofs.Common.{ap, codes, lit<, refl, subst, sym, Option}
 use Rattle.clap.specs.Matches.{found_of}
 use Rattle.clap.specs.Walk.{Text, first_of}
 use Rattle.fax_walk.specs.Pages.{LongPlace}
-use Rattle.fax_tool.specs.code.Entries.{entries_of}
+use Rattle.fax_tool.specs.code.CommandEntries.{entries_of}
 use Rattle.fax_tool.proofs.BeginLemmas.{Begins}
 use Rattle.fax_tool.proofs.EntryReadLemmas.{flag_read, u32_read}
 use Rattle.fax_tool.proofs.GetterLemmas.{long_err, none_given, text_given}

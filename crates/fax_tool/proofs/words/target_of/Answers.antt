@@ -1,7 +1,7 @@
 use Rattle.std.proofs.Common.{◌≡◌, ◌∙◌, ap, codes, sym}
 use Rattle.std.specs.Prelude.{option_and_then}
 use Rattle.clap.specs.Matches.{found_of}
-use Rattle.fax_tool.specs.code.Entries.{entries_of, given_by}
+use Rattle.fax_tool.specs.code.CommandEntries.{entries_of, given_by}
 use Rattle.fax_tool.specs.Job.{target_in, target_of}
 use Rattle.fax_tool.proofs.GetterLemmas.{no_target, none_given, text_given}
 use Rattle.fax_tool.proofs.words.target_of.Goals as goal

@@ -1,4 +1,4 @@
-use Rattle.fax_walk.proofs.SourceLemmas.{paged}
+use Rattle.fax_walk.proofs.SourcePageLemmas.{paged}
 use Rattle.fax_walk.proofs.laws.files_are_paged.Goals as goal
 
 pub returns : goal.returns

@@ -1,4 +1,4 @@
-use Rattle.fax_walk.proofs.WrittenLemmas.{written_files_are_walked}
+use Rattle.fax_walk.proofs.WalkedFileLemmas.{written_files_are_walked}
 use Rattle.fax_walk.proofs.laws.written_files_are_walked.Goals as goal
 
 pub returns : goal.returns

@@ -1,5 +1,4 @@
-use Rattle.std.proofs.Common.{Ok, Err, refl, ap, ◌∙◌}
-use Rattle.fax_walk.specs.declared.end.End.TheVariants.{Proper}
+use Rattle.std.proofs.Common.{Ok, refl, ap, ◌∙◌}
 use Rattle.fax_walk.proofs.pages.page_after.Goals as goal
 
 pub returns-in-Err-clause-err : goal.returns-in-Err-clause-err

@@ -1,5 +1,5 @@
 use Rattle.std.specs.Prelude.{pos}
-use Rattle.fax_bits.specs.declared.modes.ModeCode.TheVariants.{Vertical}
+use Rattle.fax_bits.specs.declared.mode_codes.ModeCode.TheVariants.{Vertical}
 use Rattle.fax_bits.specs.Tables.{modes}
 use Rattle.fax_bits.proofs.LookUpLemmas.{begins_more, code_begins, code_taken}
 use Rattle.std.proofs.Common.{◌/◌, ◌^◌, inl, refl, arith}

@@ -1,12 +1,12 @@
 use Rattle.std.proofs.Common.{List, ℕ, inl, inr, subst}
-use Rattle.fax_bits.specs.declared.modes.ModeCode.TheVariants.{Horizontal}
+use Rattle.fax_bits.specs.declared.mode_codes.ModeCode.TheVariants.{Horizontal}
 use Rattle.fax_rows.specs.declared.RowFault.{RowFault}
 use Rattle.fax_rows.specs.code.PlacedReached.{placed_position}
 use Rattle.fax_rows.specs.code.PlacedRow.{placed_pels}
 use Rattle.fax_rows.specs.code.RowFaults.{IsHorizontalFault}
 use Rattle.fax_rows.proofs.ChosenStepLemmas.{map_ok}
 use Rattle.fax_rows.proofs.ReadOnLemmas.{pair_read}
-use Rattle.fax_rows.proofs.StopLemmas.{stops_as}
+use Rattle.fax_rows.proofs.RowStopLemmas.{stops_as}
 use Rattle.fax_rows.proofs.two_dimensional.due.read_due.Goals as goal
 
 pub returns-in-Runs-clause-read : goal.returns-in-Runs-clause-read

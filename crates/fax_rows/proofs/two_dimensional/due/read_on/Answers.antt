@@ -6,7 +6,7 @@ use Rattle.fax_rows.specs.code.Due.{IsDue}
 use Rattle.fax_rows.proofs.PlacedB1Lemmas.{length-placed_pels}
 use Rattle.fax_rows.proofs.GoesOnLemmas.{rest_there}
 use Rattle.fax_rows.proofs.ReadRowLemmas.{read_further, row_done}
-use Rattle.fax_rows.proofs.StopLemmas.{row_stop}
+use Rattle.fax_rows.proofs.RowStopLemmas.{row_stop}
 use Rattle.fax_rows.proofs.two_dimensional.due.read_on.Goals as goal
 
 pub returns-in_err-at-clause-stop : goal.returns-in_err-at-clause-stop

@@ -1,6 +1,6 @@
 use Rattle.std.proofs.Common.{length, length-append, refl, ap, arith}
 use Rattle.std.proofs.lemmas.Int.{ints}
-use Rattle.fax_rows.proofs.StopLemmas.{row_stop}
+use Rattle.fax_rows.proofs.RowStopLemmas.{row_stop}
 use Rattle.fax_rows.proofs.GoesOnLemmas.{due_leaves, goes_on_leaves, leaves_more}
 use Rattle.fax_rows.proofs.ReadRowLemmas.{nothing_so_far, read_further, row_done}
 use Rattle.fax_rows.proofs.two_dimensional.modes.read_by_look_ups.Goals as goal
@@ -24,7 +24,8 @@ returns-clause-read g c =
 
 pub returns-in-Err-Stopped-clause-stop : goal.returns-in-Err-Stopped-clause-stop
 returns-in-Err-Stopped-clause-stop g c =
-    row_stop c.loop-ahead.invariant.read (omega arith) _ (rw c.in-Err-Stopped.field-0-is at c.in-Err-Stopped.ensures.stop)
+    row_stop c.loop-ahead.invariant.read (omega arith) _
+    (rw c.in-Err-Stopped.field-0-is at c.in-Err-Stopped.ensures.stop)
 
 pub returns-in-Err-Due-clause-stop : goal.returns-in-Err-Due-clause-stop
 returns-in-Err-Due-clause-stop g c =

@@ -2,7 +2,7 @@ use Rattle.std.proofs.Common.{ℕ, take, arith, length-set}
 use Rattle.std.specs.Prelude.{codes, flat_map}
 use Rattle.fax_rows.specs.Rows.{runs_of}
 use Rattle.fax_tool.specs.Text.{and_number, row_line_of}
-use Rattle.fax_tool.proofs.NumberLemmas.{line_is, one, three}
+use Rattle.fax_tool.proofs.NumberTextLemmas.{line_is, one, three}
 use Rattle.fax_tool.proofs.text.row_line.write_line.Goals as goal
 
 pub returns-clause-written : goal.returns-clause-written

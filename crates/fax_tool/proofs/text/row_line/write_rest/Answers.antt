@@ -1,6 +1,6 @@
 use Rattle.std.proofs.Common.{length, ap, ◌∙◌, take, arith}
 use Rattle.fax_tool.proofs.RunTextLemmas.{next_run}
-use Rattle.fax_tool.proofs.NumberLemmas.{length_short}
+use Rattle.fax_tool.proofs.NumberTextLemmas.{length_short}
 use Rattle.fax_tool.proofs.text.row_line.write_rest.Goals as goal
 
 pub loop-run-preserved : goal.loop-run-preserved

@@ -1,5 +1,5 @@
 use Rattle.std.proofs.Common.{arith}
-use Rattle.fax_tool.proofs.NumberLemmas.{length_long}
+use Rattle.fax_tool.proofs.NumberTextLemmas.{length_long}
 use Rattle.fax_tool.proofs.RememberedLemmas.{numbers_put}
 use Rattle.fax_tool.proofs.text.remembered.Texts.write_number.Goals as goal
 

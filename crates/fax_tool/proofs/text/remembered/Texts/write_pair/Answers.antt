@@ -1,5 +1,5 @@
 use Rattle.std.proofs.Common.{arith}
-use Rattle.fax_tool.proofs.NumberLemmas.{length_short}
+use Rattle.fax_tool.proofs.NumberTextLemmas.{length_short}
 use Rattle.fax_tool.proofs.RememberedLemmas.{pairs_put}
 use Rattle.fax_tool.proofs.text.remembered.Texts.write_pair.Goals as goal
 

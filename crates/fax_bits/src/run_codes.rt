@@ -1,0 +1,234 @@
+//! The codes of runs (ITU-T T.4, tables 2, 3a and 3b).
+ghost use Rattle.std.specs.Prelude.{◌≡◌, ◌<◌, ◌≤◌, ◌^◌, Some, IfSome, MatchOption, slice_get};
+ghost use Rattle.fax_bits.specs.Bits.{code_bits};
+ghost use Rattle.fax_bits.specs.views.Codes.{HasCodeAhead};
+ghost use Rattle.fax_bits.specs.Codes.{HasNoCode};
+ghost use Rattle.fax_bits.specs.Tables.{run_table};
+ghost use Rattle.fax_bits.specs.code.Codes.{run_meaning};
+ghost use Rattle.fax_bits.specs.code.CodePlaces.{place_of};
+
+use crate::Colour;
+use crate::codes::{CodeEntry, CodeTable, LONGEST_CODE, within};
+use crate::indexes::{BLACK_LONG, BLACK_SHORT, WHITE_LONG, WHITE_SHORT};
+
+/// What a code of a run table means (T.4, section 4.1.1).
+#[derive(Clone, Copy, Debug, PartialEq, Eq)]
+pub enum RunCode {
+    /// Ends a run: this many pels, 0 to 63.
+    Terminating(u16),
+    /// Goes on with a run: this many pels, 64 to 2560.
+    MakeUp(u16),
+    /// The prefix of codes that T.4 leaves to extensions.
+    Extension,
+}
+
+/// How many entries a run table has: 64 terminating codes, 27 make-up codes of its own, 13 that
+/// both colours share, and the extension prefix.
+const RUN_ENTRIES: usize = 105;
+
+/// How many of them are terminating codes, which stand first.
+pub(crate) const TERMINATING_CODES: u16 = 64;
+
+/// Where the extension prefix stands, after all codes of runs.
+const EXTENSION: usize = RUN_ENTRIES - 1;
+
+/// The most pels that one make-up code means, 2560 (T.4, table 3b).
+pub const LONGEST_MAKE_UP: u32 = 64 * (EXTENSION as u32 - TERMINATING_CODES as u32);
+
+// The codes in the order of their meaning, which `meaning_at` gives, as numbers: without the zeros
+// that they begin with. Then their lengths in bits.
+
+const WHITE_CODES: [u16; RUN_ENTRIES] = [
+    0b110101, 0b111, 0b111, 0b1000, 0b1011, 0b1100, 0b1110, 0b1111, 0b10011, 0b10100, 0b111,
+    0b1000, 0b1000, 0b11, 0b110100, 0b110101, 0b101010, 0b101011, 0b100111, 0b1100, 0b1000,
+    0b10111, 0b11, 0b100, 0b101000, 0b101011, 0b10011, 0b100100, 0b11000, 0b10, 0b11, 0b11010,
+    0b11011, 0b10010, 0b10011, 0b10100, 0b10101, 0b10110, 0b10111, 0b101000, 0b101001, 0b101010,
+    0b101011, 0b101100, 0b101101, 0b100, 0b101, 0b1010, 0b1011, 0b1010010, 0b1010011, 0b1010100,
+    0b1010101, 0b100100, 0b100101, 0b1011000, 0b1011001, 0b1011010, 0b1011011, 0b1001010,
+    0b1001011, 0b110010, 0b110011, 0b110100, 0b11011, 0b10010, 0b10111, 0b110111, 0b110110,
+    0b110111, 0b1100100, 0b1100101, 0b1101000, 0b1100111, 0b11001100, 0b11001101, 0b11010010,
+    0b11010011, 0b11010100, 0b11010101, 0b11010110, 0b11010111, 0b11011000, 0b11011001, 0b11011010,
+    0b11011011, 0b10011000, 0b10011001, 0b10011010, 0b11000, 0b10011011, 0b1000, 0b1100, 0b1101,
+    0b10010, 0b10011, 0b10100, 0b10101, 0b10110, 0b10111, 0b11100, 0b11101, 0b11110, 0b11111, 0b1,
+];
+
+const WHITE_LENS: [u8; RUN_ENTRIES] = [
+    8, 6, 4, 4, 4, 4, 4, 4, 5, 5, 5, 5, 6, 6, 6, 6, 6, 6, 7, 7, 7, 7, 7, 7, 7, 7, 7, 7, 7, 8, 8, 8,
+    8, 8, 8, 8, 8, 8, 8, 8, 8, 8, 8, 8, 8, 8, 8, 8, 8, 8, 8, 8, 8, 8, 8, 8, 8, 8, 8, 8, 8, 8, 8, 8,
+    5, 5, 6, 7, 8, 8, 8, 8, 8, 8, 9, 9, 9, 9, 9, 9, 9, 9, 9, 9, 9, 9, 9, 9, 9, 6, 9, 11, 11, 11,
+    12, 12, 12, 12, 12, 12, 12, 12, 12, 12, 9,
+];
+
+const BLACK_CODES: [u16; RUN_ENTRIES] = [
+    0b110111, 0b10, 0b11, 0b10, 0b11, 0b11, 0b10, 0b11, 0b101, 0b100, 0b100, 0b101, 0b111, 0b100,
+    0b111, 0b11000, 0b10111, 0b11000, 0b1000, 0b1100111, 0b1101000, 0b1101100, 0b110111, 0b101000,
+    0b10111, 0b11000, 0b11001010, 0b11001011, 0b11001100, 0b11001101, 0b1101000, 0b1101001,
+    0b1101010, 0b1101011, 0b11010010, 0b11010011, 0b11010100, 0b11010101, 0b11010110, 0b11010111,
+    0b1101100, 0b1101101, 0b11011010, 0b11011011, 0b1010100, 0b1010101, 0b1010110, 0b1010111,
+    0b1100100, 0b1100101, 0b1010010, 0b1010011, 0b100100, 0b110111, 0b111000, 0b100111, 0b101000,
+    0b1011000, 0b1011001, 0b101011, 0b101100, 0b1011010, 0b1100110, 0b1100111, 0b1111, 0b11001000,
+    0b11001001, 0b1011011, 0b110011, 0b110100, 0b110101, 0b1101100, 0b1101101, 0b1001010,
+    0b1001011, 0b1001100, 0b1001101, 0b1110010, 0b1110011, 0b1110100, 0b1110101, 0b1110110,
+    0b1110111, 0b1010010, 0b1010011, 0b1010100, 0b1010101, 0b1011010, 0b1011011, 0b1100100,
+    0b1100101, 0b1000, 0b1100, 0b1101, 0b10010, 0b10011, 0b10100, 0b10101, 0b10110, 0b10111,
+    0b11100, 0b11101, 0b11110, 0b11111, 0b1,
+];
+
+const BLACK_LENS: [u8; RUN_ENTRIES] = [
+    10, 3, 2, 2, 3, 4, 4, 5, 6, 6, 7, 7, 7, 8, 8, 9, 10, 10, 10, 11, 11, 11, 11, 11, 11, 11, 12,
+    12, 12, 12, 12, 12, 12, 12, 12, 12, 12, 12, 12, 12, 12, 12, 12, 12, 12, 12, 12, 12, 12, 12, 12,
+    12, 12, 12, 12, 12, 12, 12, 12, 12, 12, 12, 12, 12, 10, 12, 12, 12, 12, 12, 12, 13, 13, 13, 13,
+    13, 13, 13, 13, 13, 13, 13, 13, 13, 13, 13, 13, 13, 13, 13, 13, 11, 11, 11, 12, 12, 12, 12, 12,
+    12, 12, 12, 12, 12, 9,
+];
+
+/// The codes of white runs.
+pub struct WhiteRuns;
+
+impl CodeTable for WhiteRuns {
+    ghost use Rattle.fax_bits.specs.declared.Colour.TheVariants.{White};
+    ghost use Rattle.fax_bits.specs.Tables.{white_runs};
+    ghost use Rattle.fax_bits.specs.code.TableLaws as Laws;
+
+    type Meaning = RunCode;
+
+    ghost COUNT = { 105 };
+
+    const COUNT: usize = RUN_ENTRIES;
+
+    ghost table = { white_runs };
+
+    fn entry(i: usize) -> CodeEntry<RunCode> {
+        run_entry(Colour::White, i)
+    }
+
+    fn find(window: u32, n: u32) -> Option<(u32, RunCode)> {
+        find_run(Colour::White, window, n)
+    }
+
+    ghost counted = { Laws.length-run_table White };
+
+    ghost short_codes = { Laws.run_table_has_short_codes White };
+
+    ghost prefix_free = { Laws.run_table_is_prefix_free White };
+}
+
+/// The codes of black runs.
+pub struct BlackRuns;
+
+impl CodeTable for BlackRuns {
+    ghost use Rattle.fax_bits.specs.declared.Colour.TheVariants.{Black};
+    ghost use Rattle.fax_bits.specs.Tables.{black_runs};
+    ghost use Rattle.fax_bits.specs.code.TableLaws as Laws;
+
+    type Meaning = RunCode;
+
+    ghost COUNT = { 105 };
+
+    const COUNT: usize = RUN_ENTRIES;
+
+    ghost table = { black_runs };
+
+    fn entry(i: usize) -> CodeEntry<RunCode> {
+        run_entry(Colour::Black, i)
+    }
+
+    fn find(window: u32, n: u32) -> Option<(u32, RunCode)> {
+        find_run(Colour::Black, window, n)
+    }
+
+    ghost counted = { Laws.length-run_table Black };
+
+    ghost short_codes = { Laws.run_table_has_short_codes Black };
+
+    ghost prefix_free = { Laws.run_table_is_prefix_free Black };
+}
+
+/// The entry at a place of the run table of a colour.
+#[inline(always)]
+pub(crate) fn run_entry(colour: Colour, i: usize) -> CodeEntry<RunCode>
+    requires { i < 105 }
+    ensures found { slice_get (run_table colour) i ≡ Some result }
+{
+    let (code, len) = match colour {
+        Colour::White => (WHITE_CODES[i], WHITE_LENS[i]),
+        Colour::Black => (BLACK_CODES[i], BLACK_LENS[i]),
+    };
+    CodeEntry {
+        code,
+        len,
+        meaning: meaning_at(i as u16),
+    }
+}
+
+/// What `find` of the run table of a colour says.
+fn find_run(colour: Colour, window: u32, n: u32) -> Option<(u32, RunCode)>
+    requires few { n ≤ LONGEST_CODE }
+    requires fits { window < 2 ^ n }
+    ensures { MatchOption result (HasNoCode (run_table colour) (code_bits n window))
+        (λ found. HasCodeAhead (run_table colour) (code_bits n window) found.0 found.1) }
+{
+    let place = run_place(colour, window << (LONGEST_CODE - n));
+    if place < RUN_ENTRIES {
+        within(run_entry(colour, place), n)
+    } else {
+        None
+    }
+}
+
+/// The place of the code that begins thirteen bits in the run table of a colour, or the number of
+/// codes where none does.
+#[inline(always)]
+fn run_place(colour: Colour, bits: u32) -> usize
+    requires { bits < 2 ^ LONGEST_CODE }
+    ensures { result ≡ place_of (run_table colour) LONGEST_CODE bits }
+{
+    let at = bits as usize;
+    match colour {
+        Colour::White if at < 64 => usize::from(WHITE_LONG[at]),
+        Colour::White => usize::from(WHITE_SHORT[at >> 4]),
+        Colour::Black if at < 512 => usize::from(BLACK_LONG[at]),
+        Colour::Black => usize::from(BLACK_SHORT[at >> 7]),
+    }
+}
+
+/// The length and the meaning of the code for a run of the colour that begins thirteen bits, but
+/// for the extension. `None` where no such code does. Short codes are looked up first.
+#[inline(always)]
+pub(crate) fn find_run_code(colour: Colour, bits: u32) -> Option<(u32, RunCode)>
+    requires { bits < 2 ^ LONGEST_CODE }
+    ensures { IfSome result
+        (λ found. HasCodeAhead (run_table colour) (code_bits LONGEST_CODE bits) found.0 found.1) }
+{
+    // The array of the long codes has numbers of sixteen bits and that of the short ones of eight,
+    // so that the compiler does not load from either by one address, which it would compute at each
+    // code.
+    let at = bits as usize;
+    let short = match colour {
+        Colour::White => WHITE_SHORT[at >> 4],
+        Colour::Black => BLACK_SHORT[at >> 7],
+    };
+    let mut place = usize::from(short);
+    if place >= EXTENSION {
+        place = run_place(colour, bits);
+        if place >= EXTENSION {
+            return None;
+        }
+    }
+    let entry = run_entry(colour, place);
+    Some((u32::from(entry.len), entry.meaning))
+}
+
+/// What the code at a place of a run table means.
+fn meaning_at(i: u16) -> RunCode
+    requires { i < 105 }
+    ensures { result ≡ run_meaning i }
+{
+    if i < TERMINATING_CODES {
+        RunCode::Terminating(i)
+    } else if usize::from(i) < EXTENSION {
+        RunCode::MakeUp(64 * (i - TERMINATING_CODES + 1))
+    } else {
+        RunCode::Extension
+    }
+}

@@ -1,5 +1,0 @@
-use Rattle.fax_c.proofs.NoteLemmas.{AreFirstPut}
-use Rattle.fax_c.proofs.checking.put_notes.Given as goal
-
-abbrev pub invariant-loop-i : goal.invariant-loop-i
-invariant-loop-i l = AreFirstPut l.found l.i l.initial.notes l.notes

@@ -1,0 +1,46 @@
+use Rattle.std.proofs.Common.{◌∙◌, List, ℕ, ap, inl, inr, refl, subst}
+use Rattle.fax_walk.specs.views.RowsLeft.{LeftOf, AreLeftOf, of_page}
+use Rattle.fax_c.specs.Forms.{form_numbers}
+use Rattle.fax_c.proofs.salvaged_raster.faxpages_salvage.Goals as goal
+
+pub returns-in-Ok-rows : goal.returns-in-Ok-rows
+returns-in-Ok-rows c =
+    let here = c.in-Ok.found.here in
+    let there = c.in-Ok.ensures.ok in
+    let start = c.in-Ok-rows.ensures in
+    let (rows, are, count, written) = c.fill_left.ensures in
+    let of_its = subst (λ (its : LeftOf). AreLeftOf its rows) start.its_is are in (
+      c.fill_left.result,
+      c.tell-in-Ok-rows.ensures,
+      inl (
+        here,
+        there.there,
+        c.of.ensures ∙ ap form_numbers c.form-its.ensures.form,
+        inl (
+          rw c.form-its.ensures.form at c.if-not-holds_rows.ensures.some refl,
+          rows,
+          subst (λ (file : List ℕ). AreLeftOf (of_page file here) rows) there.file_is of_its,
+          count ∙ start.rows_are,
+          written,
+        ),
+      ),
+    )
+
+pub returns-in-Err-rows : goal.returns-in-Err-rows
+returns-in-Err-rows c = (
+  c.nothing-in-Err-rows.result,
+  c.tell-in-Err-rows.ensures,
+  inl (
+    c.in-Ok.found.here,
+    c.in-Ok.ensures.ok.there,
+    c.of.ensures ∙ ap form_numbers c.form-its.ensures.form,
+    inr (
+      refl,
+      refl,
+      inr (
+        c.nothing-in-Err-rows.ensures,
+        rw c.form-its.ensures.form at c.if-not-holds_rows.ensures.some refl,
+      ),
+    ),
+  ),
+)

@@ -1,0 +1,112 @@
+//! The two rows of a strip that is read: a row and the row before it.
+
+use crate::lines::{LineStop, read_codes, read_start, take_white};
+use crate::{Dimension, RowBefore, StripForm};
+use fax_rows::{BitSource, Memory, Row, RowFault};
+use kit_std::alloc::Global;
+use kit_std::marker::Model;
+
+/// Whether some row of this width is the one before a place.
+// requires some { 0 < width }
+pub(crate) fn is_row(before: RowBefore, width: u32) -> bool {
+    match before {
+        RowBefore::White => true,
+        RowBefore::Runs(runs) => Row::has_runs(runs, width),
+    }
+}
+
+/// Two rows of one width that take turns: one is the reference, and the next row is read to the
+/// other, which is the reference then. Neither is moved. Contracts see the reference.
+// There are two in MH too, where the row before is not looked at: one form of reader for all
+// codings, at the price of a second row in memory. Which of them is the reference is one bit.
+pub(crate) struct RowsInTurn {
+    first: Row,
+    second: Row,
+    /// Whether the second one is the reference.
+    is_turned: bool,
+}
+
+impl Model for RowsInTurn {}
+
+impl RowsInTurn {
+    /// Before the first row, whose reference is white.
+    // requires some { 0 < width }
+    // requires short { width < 65536 }
+    pub fn new(alloc: Global, width: u32) -> Result<Self, Memory> {
+        let first = Row::white(alloc, width)?;
+        let second = Row::white(alloc, width)?;
+        Ok(RowsInTurn {
+            first,
+            second,
+            is_turned: false,
+        })
+    }
+
+    /// The reference of the next row.
+    #[inline(always)]
+    pub fn reference(&self) -> &Row {
+        if self.is_turned {
+            &self.second
+        } else {
+            &self.first
+        }
+    }
+
+    /// Goes before a first row again.
+    pub fn whiten_reference(&mut self) {
+        self.is_turned = false;
+        self.first.whiten();
+    }
+
+    /// Takes the pels of a row of the same width as the reference.
+    // requires { length row.now ≡ length self.old }
+    pub fn set_reference(&mut self, row: &Row) {
+        self.is_turned = false;
+        self.first.set_from(row);
+    }
+
+    /// Goes after this row, which is the reference then, and answers whether there is one. Where
+    /// there is none, nothing is said of the reference.
+    pub fn begin_after(&mut self, before: RowBefore) -> bool {
+        self.is_turned = false;
+        match before {
+            RowBefore::White => {
+                self.first.whiten();
+                true
+            }
+            RowBefore::Runs(runs) => self.first.set_runs(runs),
+        }
+    }
+
+    /// Reads the codes of a row that is coded so, which is the reference then. Where it cannot be
+    /// read, the reference stays.
+    #[inline(always)]
+    fn read_codes(&mut self, source: &mut BitSource, dimension: Dimension) -> Result<(), RowFault> {
+        if self.is_turned {
+            read_codes(source, dimension, &self.second, &mut self.first)?;
+        } else {
+            read_codes(source, dimension, &self.first, &mut self.second)?;
+        }
+        self.is_turned = !self.is_turned;
+        Ok(())
+    }
+
+    /// Reads row `i` of a strip, which is the reference then. Where it cannot be read, the
+    /// reference stays. A white row after a white one is gone past, and nothing is put.
+    #[inline(always)]
+    // requires width { length self.old ≡ form.width }
+    // requires some_pels { 0 < form.width }
+    pub fn read(&mut self, source: &mut BitSource, form: StripForm, i: u32) -> Result<(), LineStop> {
+        let dimension = match read_start(source, form.coding, i) {
+            Ok(dimension) => dimension,
+            Err(fault) => return Err(LineStop::Start(fault)),
+        };
+        if take_white(source, dimension, self.reference()) {
+            return Ok(());
+        }
+        match self.read_codes(source, dimension) {
+            Ok(()) => Ok(()),
+            Err(cause) => Err(LineStop::Codes(cause)),
+        }
+    }
+}

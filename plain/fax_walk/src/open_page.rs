@@ -1,0 +1,305 @@
+//! A page whose rows are read, strip by strip.
+
+use crate::opening::{DuePage, OpenFault};
+use crate::{Cursor, End, LongCursor, PlaceInside};
+use fax_bits::Memory;
+use fax_files::{Cause, Chain, FileFault, PageForm, Strips};
+use fax_page::{RowBefore, StripForm, StripReader};
+use fax_rows::Row;
+use kit_std::alloc::Global;
+use kit_std::marker::Model;
+
+/// A page whose rows are read, strip by strip.
+pub(crate) struct OpenPage<'a> {
+    page: u32,
+    /// The chain after the page's directory.
+    chain: Chain<'a>,
+    form: PageForm,
+    strips: Strips<'a>,
+    /// The first row that is handed out. Those before it in its strip are read for it alone.
+    first: u32,
+    /// The number of the strip that is read.
+    number: u32,
+    strip: StripReader<'a>,
+    /// Where colours are exchanged, if they are: the row that was read last, as it is handed out.
+    exchanged: Option<Row>,
+    /// How many rows the walk read before it opened the page.
+    before: u64,
+}
+
+impl<'a> Model for OpenPage<'a> {}
+
+/// A row for colours that are exchanged, where they are.
+// requires { IsPageForm form.now }
+pub(crate) fn row_for_exchange(alloc: Global, form: &PageForm) -> Result<Option<Row>, Memory> {
+    if form.exchanged {
+        Ok(Some(Row::white(alloc, form.width)?))
+    } else {
+        Ok(None)
+    }
+}
+
+/// Takes the pels of another row of the same width, with their colours exchanged.
+#[inline(never)]
+// requires { length from.now ≡ length row.old }
+pub(crate) fn set_exchanged(row: &mut Row, from: &Row) {
+    row.set_from(from);
+    row.exchange();
+}
+
+/// Opens a page that is due, at the strip that holds the first row that is handed out. So many
+/// rows were read before.
+// requires there { first < due.form.rows }
+// requires few { before ≤ due.page * most_rows }
+pub(crate) fn open<'a>(
+    alloc: Global,
+    due: DuePage<'a>,
+    first: u32,
+    before: u64,
+) -> Result<OpenPage<'a>, OpenFault> {
+    let form = due.form;
+    let strips = due.strips;
+    let number = first / form.rows_per_strip;
+    let row = number * form.rows_per_strip;
+    let bytes = match strips.bytes(number) {
+        Ok(bytes) => bytes,
+        Err(fault) => return Err(OpenFault::Ended(End::of_file(due.page, row, fault))),
+    };
+    let strip = StripReader::new(alloc, bytes, form.strip_form(number))?;
+    let exchanged = row_for_exchange(alloc, &form)?;
+    Ok(OpenPage {
+        page: due.page,
+        chain: due.chain,
+        form,
+        strips,
+        first,
+        number,
+        strip,
+        exchanged,
+        before,
+    })
+}
+
+/// Opens the page after the directories that a chain has handed out, at its first row. So many
+/// rows were read before.
+// requires chain { IsFileChain chain.now }
+// requires few { before ≤ chain.now.given * most_rows }
+pub(crate) fn open_after<'a>(
+    alloc: Global,
+    chain: &Chain<'a>,
+    before: u64,
+) -> Result<OpenPage<'a>, OpenFault> {
+    match DuePage::after(chain.again())? {
+        Some(due) => open(alloc, due, 0, before),
+        None => Err(OpenFault::Ended(End::Proper)),
+    }
+}
+
+/// A reader of a strip from a place inside it on, before this row of the strip.
+// requires count { length bytes.now ≤ 4294967295 }
+// requires limits { IsStripForm form }
+// requires row { row < form.rows }
+fn strip_at<'a>(
+    alloc: Global,
+    bytes: &'a [u8],
+    form: StripForm,
+    row: u32,
+    place: &LongCursor,
+) -> Result<StripReader<'a>, OpenFault> {
+    let before = RowBefore::Runs(&place.runs);
+    Ok(StripReader::inside(alloc, bytes, form, row, place.bits, before)?)
+}
+
+/// Opens a page that is due at a place inside a strip of it.
+// requires { due.page ≡ place.now.at.page }
+pub(crate) fn open_inside<'a>(
+    alloc: Global,
+    due: DuePage<'a>,
+    place: &LongCursor,
+) -> Result<OpenPage<'a>, OpenFault> {
+    fax_files::laws::forms_are_whole();
+    let form = due.form;
+    let row = place.at.row;
+    if row >= form.rows || row % form.rows_per_strip == 0 {
+        return Err(OpenFault::Ended(End::Outside));
+    }
+    let strips = due.strips;
+    let number = row / form.rows_per_strip;
+    let strip_row = number * form.rows_per_strip;
+    let bytes = match strips.bytes(number) {
+        Ok(bytes) => bytes,
+        Err(fault) => {
+            return Err(OpenFault::Ended(End::of_file(due.page, strip_row, fault)));
+        }
+    };
+    let strip = strip_at(
+        alloc,
+        bytes,
+        form.strip_form(number),
+        row - strip_row,
+        place,
+    )?;
+    let exchanged = row_for_exchange(alloc, &form)?;
+    Ok(OpenPage {
+        page: due.page,
+        chain: due.chain,
+        form,
+        strips,
+        first: row,
+        number,
+        strip,
+        exchanged,
+        before: 0,
+    })
+}
+
+impl<'a> OpenPage<'a> {
+    /// Opens the page after this one, all rows of which are read.
+    // requires { row_of self.now ≡ self.now.form.rows }
+    pub(crate) fn open_next(&self, alloc: Global) -> Result<OpenPage<'a>, OpenFault> {
+        open_after(alloc, &self.chain, self.rows_read())
+    }
+
+    /// The number of the row that is due, or how many rows the page has, once all are read.
+    fn due(&self) -> u32 {
+        self.number * self.form.rows_per_strip + self.strip.row()
+    }
+
+    /// Whether all rows of the page are read.
+    fn is_read(&self) -> bool {
+        self.due() == self.form.rows
+    }
+
+    /// The place of the row that is due, or the one after the last row.
+    pub(crate) fn cursor(&self) -> Cursor {
+        Cursor {
+            page: self.page,
+            row: self.due(),
+        }
+    }
+
+    /// How many rows the walk has read.
+    pub(crate) fn rows_read(&self) -> u64 {
+        self.before + self.strip.rows_read()
+    }
+
+    /// The place inside the strip after the row that was read last, if the strip goes on after
+    /// it, and its bits have a number of 32 bits.
+    pub(crate) fn lend_place(&self) -> Option<PlaceInside<'_>> {
+        let place = self.strip.bit_place();
+        let row = self.strip.row();
+        if row == 0 || row == self.form.strip_form(self.number).rows {
+            return None;
+        }
+        let Ok(bits) = u32::try_from(place) else {
+            return None;
+        };
+        Some(PlaceInside {
+            at: self.cursor(),
+            bits,
+            reference: self.strip.reference(),
+        })
+    }
+
+    /// The same, with the runs of the row before it.
+    ///
+    /// # Errors
+    ///
+    /// `Memory` where a growth was refused.
+    pub(crate) fn long_cursor(&self, alloc: Global) -> Result<Option<LongCursor>, Memory> {
+        let Some(place) = self.lend_place() else {
+            return Ok(None);
+        };
+        Ok(Some(LongCursor {
+            at: place.at,
+            bits: place.bits,
+            runs: place.reference.runs(alloc)?,
+        }))
+    }
+
+    /// Goes to the next strip, and answers whether it lies in the file.
+    #[cold]
+    #[inline(never)]
+    // requires open { Spec.IsOpen self.old }
+    // requires all_read { self.old.strip.row ≡ self.old.strip.form.rows }
+    // requires due { row_of self.old < self.old.form.rows }
+    fn next_strip(&mut self) -> bool {
+        // It stands apart, so that the step from row to row is short enough to be written out in
+        // its callers.
+        let number = self.number + 1;
+        match self.strips.bytes(number) {
+            Ok(bytes) => {
+                let form = self.form.strip_form(number);
+                self.strip.restart(bytes, form.rows);
+                self.number = number;
+                true
+            }
+            Err(_outside) => false,
+        }
+    }
+
+    /// Exchanges the colours of the row that was read, where they are exchanged.
+    #[inline(always)]
+    fn show_exchanged(&mut self) {
+        if let Some(row) = &mut self.exchanged {
+            set_exchanged(row, self.strip.reference());
+        }
+    }
+
+    /// Reads the row that is due, and answers whether there was one, or how the rows end there.
+    #[inline(always)]
+    // requires { Spec.IsOpen self.old }
+    fn read_due(&mut self) -> Result<bool, End> {
+        'strips: loop {
+            match self.strip.advance() {
+                Ok(true) => {
+                    self.show_exchanged();
+                    return Ok(true);
+                }
+                // Only here it is asked whether the page is read, and not at each row.
+                Ok(false) if self.is_read() => return Ok(false),
+                Ok(false) => {
+                    if !self.next_strip() {
+                        let outside = FileFault::StripOutside;
+                        return Err(End::of_file(self.page, self.due(), outside));
+                    }
+                }
+                Err(fault) => {
+                    return Err(End::Fault {
+                        page: self.page,
+                        row: self.due(),
+                        cause: Cause::Strip(fault),
+                    });
+                }
+            }
+        }
+    }
+
+    /// Reads on to the next row that is handed out, and answers whether there was one, or how the
+    /// rows end before it.
+    #[inline(always)]
+    // requires { Spec.IsOpen self.old }
+    pub(crate) fn next_row(&mut self) -> Result<bool, End> {
+        'rows: loop {
+            if !self.read_due()? {
+                return Ok(false);
+            }
+            if self.due() > self.first {
+                return Ok(true);
+            }
+        }
+    }
+
+    /// The page's form.
+    pub(crate) fn form(&self) -> &PageForm {
+        &self.form
+    }
+
+    /// The row that was read last, as it is handed out.
+    pub(crate) fn row(&self) -> &Row {
+        match &self.exchanged {
+            Some(row) => row,
+            None => self.strip.reference(),
+        }
+    }
+}
