@@ -43,7 +43,7 @@ no_fault_of_codes cause is = grind arith
 none_in_codes : (dimension : Dimension) (width : ℕ) (reference : List Colour) (codes : List Bool)
     → IsStopInCodes dimension width reference codes MissingEol → ⊥
 none_in_codes dimension width reference codes (inl (after, is, marker)) = cc
-none_in_codes dimension width reference codes (inr (inl (zeros, few, is, ends))) = cc
+none_in_codes dimension width reference codes (inr (inl (n, few, is, ends))) = cc
 none_in_codes dimension width reference codes (inr (inr (below, cause, in_codes, is))) = no_fault_of_codes cause is
 
 lacks_eol : (form : StripForm) (i : ℕ) (row : List Colour) (rest : List Bool) → IsCause form i row rest MissingEol
@@ -144,11 +144,11 @@ at_eol : (zeros n : ℕ) (rest : List Bool) → 11 ≤ zeros + n
 at_eol zeros n rest enough = at_one zeros n rest ∙ (grind (arith, nat_tests))
 
 -- the bits before it hold none
-past_lost : (zeros : ℕ) (gone rest : List Bool) → after_eol zeros gone ≡ None
-    → after_eol zeros (gone ++ end_of_line ++ rest) ≡ Some rest
-past_lost zeros [] rest none = at_eol zeros 11 rest (omega arith)
-past_lost zeros (false ∷ gone) rest none = past_lost (suc zeros) gone rest none
-past_lost zeros (true ∷ gone) rest none = grind (arith, past_lost 0 gone rest)
+past_lost : (n : ℕ) (gone rest : List Bool) → after_eol n gone ≡ None
+    → after_eol n (gone ++ end_of_line ++ rest) ≡ Some rest
+past_lost n [] rest none = at_eol n 11 rest (omega arith)
+past_lost n (false ∷ gone) rest none = past_lost (suc n) gone rest none
+past_lost n (true ∷ gone) rest none = grind (arith, past_lost 0 gone rest)
 
 pub lost_bits_do_not_matter : LostBitsDoNotMatter
 lost_bits_do_not_matter Mh gone rest other none =

@@ -33,9 +33,9 @@ pub data NextOne : Type 0 where
   not_there : NextOne
 
 abbrev pub next_one : ℕ → List Bool → NextOne
-next_one zeros [] = not_there
-next_one zeros (false ∷ b) = next_one (suc zeros) b
-next_one zeros (true ∷ b) = if nat_le 11 zeros then ends_line b else in_code
+next_one n [] = not_there
+next_one n (false ∷ b) = next_one (suc n) b
+next_one n (true ∷ b) = if nat_le 11 n then ends_line b else in_code
 
 -- what stands before the codes of row i of a strip: in MH an EOL, in MR an EOL and a tag bit,
 -- nothing in MMR. How the row is coded, and its codes, or the fault (T.4, sections 4.1.2 and 4.2.2;
