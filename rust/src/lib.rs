@@ -34,10 +34,11 @@
 //!
 //! # What is proved
 //!
-//! The text of the functions that read, check and write faxes is proved; this crate around them is tested. By default
-//! they are built as plain Rust, by a rustc that is not proved, and what comes out is tested against the proved
-//! library. With the feature `proved`, on x86-64 Linux, the library that was proved and built is linked in their place:
-//! `libfaxpages.a`, which `./install` and the package `libfaxpages-dev` put where it is found.
+//! The text of the functions that read, check and write faxes is proved; this crate around them, which packs the rows of
+//! an iterator and finds their runs, is tested. By default they are built as plain Rust, by a rustc that is not proved,
+//! and what comes out is tested against the proved library. With the feature `proved`, on x86-64 Linux, the library that
+//! was proved and built is linked in their place: `libfaxpages.a`, which `./install` and the package `libfaxpages-dev`
+//! put where it is found.
 #![forbid(unsafe_code)]
 #![deny(missing_docs)]
 #![deny(clippy::must_use_candidate)]
@@ -46,11 +47,14 @@ mod calls;
 mod cursor;
 mod edges;
 mod error;
+mod format;
+mod packed;
 mod page;
 mod receiving;
 mod rows;
 mod salvaged;
 mod strip;
+mod strip_file;
 mod words;
 mod writer;
 
@@ -625,7 +629,7 @@ pub fn convert(file: &[u8], options: &Options) -> Result<Vec<u8>, Error> {
     }
 }
 
-/// The version of the calls, as 10900 for 1.9.0: of the plain sources, or of the archive that is linked.
+/// The version of the calls, as 11000 for 1.10.0: of the plain sources, or of the archive that is linked.
 #[must_use]
 pub fn version() -> u32 {
     calls::faxpages_version()

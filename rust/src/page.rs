@@ -2,7 +2,8 @@
 
 use crate::calls;
 use crate::error::{fault_of, refused, Error};
-use crate::rows::{Reader, Row, ROWS};
+use crate::format::Packed;
+use crate::rows::{Reader, ROWS};
 use crate::{filled, form_of, Cursor, Fax, Form, Forms};
 use std::iter::FusedIterator;
 use std::ops::Range;
@@ -94,7 +95,7 @@ pub(crate) fn read_into(file: &[u8], page: u32, out: &mut [u8], stride: usize) -
 /// A reader of rows over pages, and those of them that are not taken yet.
 #[derive(Debug)]
 struct Taken<'a> {
-    reader: Reader<'a, Row>,
+    reader: Reader<'a, Packed>,
     ready: Range<usize>,
     ended: Option<Option<Error>>,
 }

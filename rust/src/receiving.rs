@@ -1,7 +1,8 @@
 //! Strips that come in pieces.
 
 use crate::error::{fault_of, Error};
-use crate::rows::{format::Format, Row, RowFormat, RowRuns};
+use crate::format::Format;
+use crate::rows::{Row, RowFormat, RowRuns};
 use crate::strip::{Ended, Reading};
 use crate::{Coding, StripForm};
 use std::mem;

@@ -2,18 +2,17 @@
 
 use crate::calls::{self, FaxPlace, FaxRow};
 use crate::error::{stopped, Error};
+use crate::format::{Call, Format};
+use crate::packed::put_runs;
 use crate::Cursor;
 use std::fmt;
 use std::iter::FusedIterator;
 use std::mem::size_of;
-use std::num::NonZeroU64;
 use std::ops::Range;
 
 /// How many rows are read at a time, and how many bytes of them.
 pub(crate) const ROWS: usize = 8192;
 const BYTES: usize = 1 << 20;
-/// For how many runs there is room in a row at first: few rows have more.
-const RUNS_RESERVED: usize = 64;
 /// In a file of very many pages more bytes are read at a time, this many for each page before them: each call follows
 /// the directories up to its page.
 const BYTES_A_PAGE: usize = 256;
@@ -60,54 +59,6 @@ impl Row {
     }
 }
 
-/// Calls a function for each change of colour of a packed row, with the pels since the one before it, or since the
-/// beginning: white stands before the first pel, and what stands after the last is not looked at. Returns the pels after
-/// the last change. 64 pels are looked at together, and each that has another colour than the one before it is found by
-/// a count of zeros.
-#[inline(always)]
-fn each_change(packed: &[u8], width: u32, mut changed: impl FnMut(u32)) -> u32 {
-    let (mut before, mut since) = (0, 0);
-    let mut look_at = |word: u64, pels: u32| {
-        let mut changes = (word ^ (word >> 1 | before << 63)) & !(u64::MAX >> 1 >> (pels - 1));
-        let mut left = pels;
-        before = word & 1;
-        while let Some(next) = NonZeroU64::new(changes) {
-            let zeros = next.leading_zeros();
-            changed(since + zeros);
-            (since, left) = (0, left - zeros);
-            changes = (changes << zeros) & (u64::MAX >> 1);
-        }
-        since += left;
-    };
-    let (words, rest) = packed.split_at((width as usize / 64 * 8).min(packed.len() / 8 * 8));
-    for word in words.chunks_exact(8) {
-        look_at(u64::from_be_bytes(word.try_into().unwrap_or_default()), 64);
-    }
-    let pels = (width as usize - 8 * words.len()).min(8 * rest.len());
-    if pels > 0 {
-        let word = rest.iter().take(8).rev().fold(0, |word, byte| word >> 8 | u64::from(*byte) << 56);
-        look_at(word, pels as u32);
-    }
-    // Where bytes are lacking, the pels there have no other colour.
-    since + (width - 8 * words.len() as u32 - pels as u32)
-}
-
-/// Appends the runs of a packed row.
-fn put_runs(runs: &mut Vec<u32>, packed: &[u8], width: u32) {
-    runs.reserve(RUNS_RESERVED.min(width as usize + 1));
-    let last = each_change(packed, width, |run| runs.push(run));
-    runs.push(last);
-}
-
-/// Appends the changing elements of a packed row.
-fn put_changes(found: &mut Vec<u32>, packed: &[u8], width: u32) {
-    let mut pel = 0;
-    each_change(packed, width, |run| {
-        pel += run;
-        found.push(pel);
-    });
-}
-
 /// A row by its runs.
 #[derive(Clone, Debug, PartialEq, Eq, Hash)]
 pub struct RowRuns {
@@ -136,136 +87,42 @@ pub struct RowChanges {
 }
 
 /// How rows are handed out: [`Row`], [`RowRuns`] or [`RowChanges`].
-pub trait RowFormat: format::Format {}
+pub trait RowFormat: Format {}
 
 impl RowFormat for Row {}
 impl RowFormat for RowRuns {}
 impl RowFormat for RowChanges {}
 
-pub(crate) mod format {
-    use super::{put_changes, put_runs, Row, RowChanges, RowRuns};
-    use crate::calls::{self, FaxRow};
-    use std::fmt;
-
-    /// How a call hands out a row.
-    pub trait Format: Sized {
-        /// The type of its numbers.
-        type Number: Copy + Default + fmt::Debug;
-        /// The call.
-        const CALL: calls::RowsFrom<Self::Number>;
-        /// The most numbers of a row.
-        const MOST: usize;
-
-        /// No row, without memory.
-        const NONE: Self;
-
-        /// Becomes the row of these numbers, in the memory that it has.
-        fn put(&mut self, row: &FaxRow, numbers: &[Self::Number]);
-
-        /// Becomes the row of these packed bytes.
-        fn put_packed(&mut self, row: &FaxRow, packed: &[u8]);
-    }
-
-    impl Format for Row {
-        type Number = u8;
-        const CALL: calls::RowsFrom<u8> = calls::faxpages_rows_from;
-        const MOST: usize = calls::ROW_BYTES;
-
-        const NONE: Row = Row { page: 0, number: 0, width: 0, packed: Vec::new() };
-
-        fn put(&mut self, row: &FaxRow, packed: &[u8]) {
-            (self.page, self.number, self.width) = (row.page, row.row, row.width);
-            self.packed.clear();
-            self.packed.extend_from_slice(packed);
-        }
-
-        fn put_packed(&mut self, row: &FaxRow, packed: &[u8]) {
-            self.put(row, packed);
-        }
-    }
-
-    impl Format for RowRuns {
-        type Number = u32;
-        const CALL: calls::RowsFrom<u32> = calls::faxpages_runs_from;
-        const MOST: usize = calls::RUNS;
-
-        const NONE: RowRuns = RowRuns { page: 0, number: 0, width: 0, runs: Vec::new() };
-
-        fn put(&mut self, row: &FaxRow, runs: &[u32]) {
-            (self.page, self.number, self.width) = (row.page, row.row, row.width);
-            self.runs.clear();
-            self.runs.extend_from_slice(runs);
-        }
-
-        fn put_packed(&mut self, row: &FaxRow, packed: &[u8]) {
-            self.put(row, &[]);
-            put_runs(&mut self.runs, packed, row.width);
-        }
-    }
-
-    impl Format for RowChanges {
-        type Number = u32;
-        const CALL: calls::RowsFrom<u32> = calls::faxpages_changes_from;
-        const MOST: usize = calls::RUNS;
-
-        const NONE: RowChanges = RowChanges { page: 0, number: 0, width: 0, changes: Vec::new() };
-
-        fn put(&mut self, row: &FaxRow, changes: &[u32]) {
-            (self.page, self.number, self.width) = (row.page, row.row, row.width);
-            self.changes.clear();
-            self.changes.extend_from_slice(changes);
-        }
-
-        fn put_packed(&mut self, row: &FaxRow, packed: &[u8]) {
-            self.put(row, &[]);
-            put_changes(&mut self.changes, packed, row.width);
-        }
-    }
-}
-
 /// A file, the place to go on at, and the rows before it that were read last.
-pub(crate) struct Reader<'a, T: RowFormat> {
+pub(crate) struct Reader<'a, C: Call> {
     file: &'a [u8],
     place: FaxPlace,
     runs: Vec<u32>,
     table: Vec<FaxRow>,
-    out: Vec<T::Number>,
+    out: Vec<C::Number>,
 }
 
-impl<'a, T: RowFormat> Reader<'a, T> {
+impl<'a, C: Call> Reader<'a, C> {
     /// A reader of this many rows at a time.
     pub(crate) fn new(file: &'a [u8], cursor: &Cursor, most: usize) -> Self {
         let (place, runs) = cursor.place();
         let most = most.min(ROWS);
-        let room = most.saturating_mul(T::MOST).min(BYTES / size_of::<T::Number>());
-        Reader { file, place, runs, table: vec![calls::ROW; most], out: vec![T::Number::default(); room] }
+        let room = most.saturating_mul(C::MOST).min(BYTES / size_of::<C::Number>());
+        Reader { file, place, runs, table: vec![calls::ROW; most], out: vec![C::Number::default(); room] }
     }
 
     /// Reads the next rows, at most this many. Returns how many there are, and if they ended, the error.
     pub(crate) fn read(&mut self, most: usize) -> (usize, Option<Option<Error>>) {
         let mut told = calls::TOLD;
-        let room = MOST_BYTES.min(BYTES_A_PAGE.saturating_mul(self.place.page as usize)) / size_of::<T::Number>();
+        let room = MOST_BYTES.min(BYTES_A_PAGE.saturating_mul(self.place.page as usize)) / size_of::<C::Number>();
         if self.table.len() == ROWS && room > self.out.len() {
-            self.out.resize(room, T::Number::default());
+            self.out.resize(room, C::Number::default());
         }
         let most = self.table.len().min(most);
         let (table, out) = (&mut self.table[..most], &mut self.out);
-        let status = (T::CALL)(self.file, &mut self.place, &mut self.runs, table, out, &mut told);
+        let status = (C::CALL)(self.file, &mut self.place, &mut self.runs, table, out, &mut told);
         let goes_on = status == calls::DONE || status == calls::NO_ROOM;
         (told.count, (!goes_on).then(|| stopped(status, &told.fault)))
-    }
-
-    /// A row of those that were read last.
-    fn row(&self, number: usize) -> T {
-        let mut row = T::NONE;
-        self.put(number, &mut row);
-        row
-    }
-
-    /// The same in the place of another row.
-    fn put(&self, number: usize, place: &mut T) {
-        let row = &self.table[number];
-        place.put(row, &self.out[row.at..][..row.len as usize]);
     }
 
     fn cursor(&self) -> Cursor {
@@ -273,7 +130,7 @@ impl<'a, T: RowFormat> Reader<'a, T> {
     }
 
     /// The numbers of those of them in a range, which stand one after another.
-    pub(crate) fn numbers(&self, range: Range<usize>) -> &[T::Number] {
+    pub(crate) fn numbers(&self, range: Range<usize>) -> &[C::Number] {
         let rows = &self.table[range];
         match (rows.first(), rows.last()) {
             (Some(first), Some(last)) => &self.out[first.at..last.at + last.len as usize],
@@ -282,7 +139,24 @@ impl<'a, T: RowFormat> Reader<'a, T> {
     }
 }
 
-impl<T: RowFormat> fmt::Debug for Reader<'_, T> {
+impl<C: Call<Number = u32>> Reader<'_, C> {
+    /// A row of those that were read last.
+    #[inline(always)]
+    fn row<T: RowFormat<Call = C>>(&self, number: usize) -> T {
+        let mut row = T::NONE;
+        self.put(number, &mut row);
+        row
+    }
+
+    /// The same in the place of another row.
+    #[inline(always)]
+    fn put<T: RowFormat<Call = C>>(&self, number: usize, place: &mut T) {
+        let row = &self.table[number];
+        place.put(row, &self.out[row.at..][..row.len as usize]);
+    }
+}
+
+impl<C: Call> fmt::Debug for Reader<'_, C> {
     fn fmt(&self, f: &mut fmt::Formatter<'_>) -> fmt::Result {
         f.debug_struct("Reader").field("cursor", &self.cursor()).finish_non_exhaustive()
     }
@@ -294,7 +168,7 @@ impl<T: RowFormat> fmt::Debug for Reader<'_, T> {
 #[must_use = "an iterator reads nothing before it is asked"]
 #[derive(Debug)]
 pub struct Rows<'a, T: RowFormat = Row> {
-    reader: Reader<'a, T>,
+    reader: Reader<'a, T::Call>,
     /// Where the rows that were read last begin.
     begin: Cursor,
     /// Those of them that are not handed out yet.
@@ -333,8 +207,19 @@ impl<'a, T: RowFormat> Rows<'a, T> {
     }
 
     /// Which of the rows that were read last is next, or the error that ended them.
+    #[inline(always)]
     fn next_number(&mut self) -> Option<Result<usize, Error>> {
-        if self.ready.is_empty() && self.ended.is_none() {
+        match self.ready.next() {
+            Some(number) => Some(Ok(number)),
+            None => self.read_on(),
+        }
+    }
+
+    /// The same where none of them is left.
+    #[cold]
+    #[inline(never)]
+    fn read_on(&mut self) -> Option<Result<usize, Error>> {
+        if self.ended.is_none() {
             self.begin = self.reader.cursor();
             let (count, ended) = self.reader.read(ROWS);
             (self.ready, self.ended) = (0..count, ended);
@@ -368,7 +253,7 @@ impl<'a, T: RowFormat> Rows<'a, T> {
         if self.ready.start == 0 {
             return self.begin.clone();
         }
-        let mut reader = Reader::<T>::new(self.reader.file, &self.begin, self.ready.start);
+        let mut reader = Reader::<T::Call>::new(self.reader.file, &self.begin, self.ready.start);
         let due = &self.reader.table[self.ready.start];
         match reader.read_all(self.ready.start) {
             Ok(()) => reader.cursor(),
@@ -377,7 +262,7 @@ impl<'a, T: RowFormat> Rows<'a, T> {
     }
 }
 
-impl<T: RowFormat> Reader<'_, T> {
+impl<C: Call> Reader<'_, C> {
     /// Reads exactly this many rows, and drops them.
     fn read_all(&mut self, mut due: usize) -> Result<(), ()> {
         while due > 0 {
@@ -394,6 +279,7 @@ impl<T: RowFormat> Reader<'_, T> {
 impl<T: RowFormat> Iterator for Rows<'_, T> {
     type Item = Result<T, Error>;
 
+    #[inline(always)]
     fn next(&mut self) -> Option<Self::Item> {
         Some(self.next_number()?.map(|number| self.reader.row(number)))
     }
@@ -403,7 +289,7 @@ impl<T: RowFormat> FusedIterator for Rows<'_, T> {}
 
 /// At most this many rows from a cursor on, and the cursor after them; an error if no row was read before it.
 pub(crate) fn read<T: RowFormat>(file: &[u8], cursor: &Cursor, most: usize) -> Result<(Vec<T>, Cursor), Error> {
-    let mut reader = Reader::<T>::new(file, cursor, most);
+    let mut reader = Reader::<T::Call>::new(file, cursor, most);
     let mut found = Vec::new();
     while found.len() < most {
         let (count, ended) = reader.read(most - found.len());

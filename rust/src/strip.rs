@@ -4,6 +4,7 @@ use crate::calls::{self, FaxFault, FaxPlace, RUNS};
 use crate::error::{fault_of, refused, Error, Invalid};
 use crate::rows::{Row, RowChanges, RowFormat, RowRuns};
 use crate::salvaged::{salvaged, salvaged_uncounted, Salvaged};
+use crate::strip_file::{StripFile, LEAST};
 use crate::writer::{invalid_raster, invalid_rows};
 use crate::{filled, Coding, FillOrder, Note, NoteKind, USUAL_K};
 use std::fmt;
@@ -11,11 +12,11 @@ use std::iter::FusedIterator;
 use std::ops::Range;
 
 /// The most rows of a strip.
-const MOST_ROWS: u32 = 1_000_000;
-/// How many bytes of rows are read at a time.
-const BYTES: usize = 1 << 17;
+pub(crate) const MOST_ROWS: u32 = 1_000_000;
+/// How many bytes of packed rows are read at a time: most rows come as changing elements.
+const BYTES: usize = 1 << 14;
 /// The most bytes of a strip.
-const MOST_BYTES: usize = 536_870_911;
+pub(crate) const MOST_BYTES: usize = 536_870_911;
 
 /// The form of a strip. A later version may have more fields: write `..StripForm::new(..)` after those that you name.
 #[derive(Clone, Copy, Debug, PartialEq, Eq, Hash)]
@@ -86,6 +87,9 @@ pub(crate) struct Reading {
     out: Vec<u8>,
     first: u32,
     ready: Range<usize>,
+    /// A file of the strip, and whether they were read of that.
+    file: StripFile,
+    of_file: bool,
 }
 
 /// How a call over a strip ended.
@@ -102,7 +106,8 @@ pub(crate) enum Ended {
 
 impl Reading {
     pub(crate) fn new(form: StripForm) -> Self {
-        Reading { form, place: calls::PLACE, runs: vec![0; RUNS], out: Vec::new(), first: 0, ready: 0..0 }
+        let (runs, file) = (vec![0; RUNS], StripFile::new(LEAST));
+        Reading { form, place: calls::PLACE, runs, out: Vec::new(), first: 0, ready: 0..0, file, of_file: false }
     }
 
     /// Whether a row was read that is not handed out yet.
@@ -111,11 +116,16 @@ impl Reading {
     }
 
     /// Puts the next of these rows in the place of another. Returns whether there is one.
+    #[inline(always)]
     pub(crate) fn take<T: RowFormat>(&mut self, row: &mut T) -> bool {
         let Some(at) = self.ready.next() else { return false };
         let (width, stride) = (self.form.width, self.form.stride());
         let told = calls::FaxRow { row: self.first + at as u32, width, ..calls::ROW };
-        row.put_packed(&told, &self.out[at * stride..][..stride]);
+        if self.of_file {
+            row.put_changes(&told, self.file.changes(at));
+        } else {
+            row.put_packed(&told, &self.out[at * stride..][..stride]);
+        }
         true
     }
 
@@ -123,6 +133,11 @@ impl Reading {
     /// whatever they are.
     pub(crate) fn read(&mut self, strip: &[u8], more: bool) -> Result<Ended, Error> {
         let (stride, rows, first) = (self.form.stride().max(1), self.form.rows.unwrap_or(u32::MAX), self.place.row);
+        let count = self.file.read(strip, &self.form, &mut self.place, &mut self.runs);
+        (self.first, self.ready, self.of_file) = (first, 0..count, count > 0);
+        if self.of_file {
+            return Ok(Ended::GoesOn);
+        }
         // A row has at least one bit.
         let bits = strip.len().saturating_mul(8).saturating_sub(self.place.bits as usize) + 1;
         let most = bits.min(rows.saturating_sub(first) as usize).max(1);
@@ -137,7 +152,7 @@ impl Reading {
         } else {
             calls::faxpages_strip_rows(strip, &given, place, runs, out, stride, &mut told)
         };
-        (self.first, self.ready) = (first, 0..told.count);
+        self.ready = 0..told.count;
         match status {
             calls::DONE if self.place.row < rows => Ok(Ended::GoesOn),
             calls::DONE | calls::END | calls::DATA_END => Ok(Ended::Rows),
@@ -340,8 +355,23 @@ impl<'a, T: RowFormat> StripRows<'a, T> {
     }
 
     /// Puts the next row in the place of another.
+    #[inline(always)]
     fn put_next(&mut self, row: &mut T) -> Option<Result<(), Error>> {
-        if !self.reading.is_ready() && self.ended.is_none() {
+        if !self.reading.is_ready() {
+            self.read_on();
+        }
+        if self.reading.take(row) {
+            self.rows += 1;
+            return Some(Ok(()));
+        }
+        self.ended.as_mut()?.take().map(Err)
+    }
+
+    /// Reads the next rows, if they have not ended.
+    #[cold]
+    #[inline(never)]
+    fn read_on(&mut self) {
+        if self.ended.is_none() {
             self.ended = match self.reading.read(self.strip, false) {
                 Ok(Ended::GoesOn | Ended::Awaits) => None,
                 Ok(Ended::Rows) => Some(None),
@@ -349,11 +379,6 @@ impl<'a, T: RowFormat> StripRows<'a, T> {
                 Err(error) => Some(Some(error)),
             };
         }
-        if self.reading.take(row) {
-            self.rows += 1;
-            return Some(Ok(()));
-        }
-        self.ended.as_mut()?.take().map(Err)
     }
 
     /// How many rows are lacking after those that were handed out; none where the form says no number.
@@ -477,5 +502,89 @@ fn coded(
             calls::NO_OPTIONS => return Err(invalid().into()),
             status => return Err(refused(status, &calls::NO_FAULT)),
         }
+    }
+}
+
+#[cfg(test)]
+mod tests {
+    use super::{calls, code_strip, Coding, Ended, FillOrder, Reading, Row, RowChanges, RowRuns, StripFile, StripForm};
+    use crate::format::Format;
+    use crate::strip_file::LEAST;
+
+    /// Numbers that look drawn: the same each time.
+    fn below(drawn: &mut u64, most: u64) -> u64 {
+        *drawn = drawn.wrapping_mul(6_364_136_223_846_793_005).wrapping_add(1_442_695_040_888_963_407);
+        (*drawn >> 33) % most
+    }
+
+    /// A drawn strip of rows like the one above them, often damaged or cut, and a form in which it is read.
+    fn drawn_strip(drawn: &mut u64) -> (StripForm, Vec<u8>) {
+        let width = [8, 131, 1728, 6000][below(drawn, 4) as usize];
+        let coding = [Coding::Mh, Coding::Mr, Coding::Mmr][below(drawn, 3) as usize];
+        let order = [FillOrder::MsbFirst, FillOrder::LsbFirst][below(drawn, 2) as usize];
+        let (most, aligned) = (if width < 999 { 900 } else { 120 }, coding != Coding::Mmr && below(drawn, 2) == 0);
+        let rows = 1 + below(drawn, most);
+        let form = StripForm { order, aligned, rows: Some(rows as u32), ..StripForm::new(width, coding) };
+        let (stride, mut raster) = (form.stride(), vec![0; rows as usize * form.stride()]);
+        let alike = [2, 50, 50, 50][below(drawn, 4) as usize];
+        for at in stride..raster.len() {
+            let other = below(drawn, alike) == 0;
+            raster[at] = if other { below(drawn, 256) as u8 } else { raster[at - stride] };
+        }
+        let mut strip = code_strip(&form, 3, &raster, stride).unwrap();
+        for _ in 0..[0, 0, 1, 3][below(drawn, 4) as usize] {
+            let at = below(drawn, strip.len() as u64) as usize;
+            strip[at] ^= 1 << below(drawn, 8);
+        }
+        let (len, rows) = (strip.len(), rows as u32);
+        strip.truncate([len, len, len, below(drawn, len as u64 + 1) as usize][below(drawn, 4) as usize]);
+        let rows = [None, Some(1), Some(rows), Some(rows + 9)][below(drawn, 4) as usize];
+        (StripForm { rows, ..form }, strip)
+    }
+
+    type Told = (Vec<(Row, RowRuns, RowChanges)>, String, (u32, u32, Vec<u32>));
+
+    /// All rows of a strip in each format, how they end, and the place after them.
+    fn told(form: StripForm, strip: &[u8], more: bool, least: usize) -> (usize, Told) {
+        let mut reading = Reading::new(form);
+        reading.file = StripFile::new(least);
+        let (mut rows, mut of_file) = (Vec::new(), 0);
+        loop {
+            let ended = reading.read(strip, more);
+            of_file += if reading.of_file { reading.ready.len() } else { 0 };
+            while let Some(at) = reading.ready.clone().next() {
+                let mut row = (Row::NONE, RowRuns::NONE, RowChanges::NONE);
+                reading.take(&mut row.0);
+                reading.ready.start = at;
+                reading.take(&mut row.1);
+                reading.ready.start = at;
+                reading.take(&mut row.2);
+                rows.push(row);
+            }
+            let ended = match ended {
+                Ok(Ended::GoesOn) => continue,
+                Ok(Ended::Awaits) => "more".to_string(),
+                Ok(Ended::Rows) => "rows".to_string(),
+                Ok(Ended::Fault(calls::FaxFault { number, page, row, .. })) => format!("{number} {page} {row}"),
+                Err(error) => error.to_string(),
+            };
+            let (place, runs) = (reading.place, &reading.runs[..reading.place.runs as usize]);
+            return (of_file, (rows, ended, (place.row, place.bits, runs.to_vec())));
+        }
+    }
+
+    #[test]
+    fn a_file_of_a_strip_has_its_rows() {
+        let (mut drawn, mut counts, mut ends) = (5, [0; 2], std::collections::HashSet::new());
+        for number in 0..50 {
+            let (form, strip) = drawn_strip(&mut drawn);
+            let (of_file, by_file) = told(form, &strip, number % 2 == 1, LEAST);
+            let (none, by_calls) = told(form, &strip, number % 2 == 1, usize::MAX);
+            assert!(by_file == by_calls, "strip {number}: {form:?}, {:?}, {:?}", by_file.1, by_calls.1);
+            counts = [counts[0] + of_file, counts[1] + by_calls.0.len()];
+            ends.insert(by_calls.1);
+            assert_eq!(none, 0);
+        }
+        assert!(counts[0] + 100 > counts[1] && ends.len() > 9, "{counts:?}, {ends:?}");
     }
 }

@@ -87,6 +87,24 @@ fn each_way_has_the_same_runs() {
     }
 }
 
+/// Pages come packed from the library, and rows as changing elements, which the crate packs.
+#[test]
+fn rows_are_packed_as_pages_are() {
+    for width in (1u32..200).chain([448, 449, 520, 1728, 1735, 2432, 65_535]) {
+        let (coding, rows) = ([Coding::Mh, Coding::Mr, Coding::Mmr][width as usize % 3], if width < 999 { 24 } else { 9 });
+        let (strip, file, _) = coded(coding, width, rows);
+        let fax = Fax::new(&file);
+        let packed: Vec<u8> = fax.rows().flat_map(|row| row.unwrap().packed).collect();
+        assert_eq!(packed, fax.page(0).unwrap().packed, "{width} pels");
+        let form = StripForm { rows: Some(rows), ..StripForm::new(width, coding) };
+        let (mut lent, mut of_strip) = (Strip::new(&strip, form).rows(), Vec::new());
+        while let Some(row) = lent.next_row() {
+            of_strip.extend_from_slice(&row.unwrap().packed);
+        }
+        assert_eq!(packed, of_strip, "{width} pels");
+    }
+}
+
 #[test]
 fn what_is_lent_is_what_is_owned() {
     let (bytes, file, wanted) = coded(Coding::Mr, 1728, 30);

@@ -13,11 +13,15 @@ from tests import TOP
 
 HERE = os.path.dirname(os.path.abspath(__file__))
 REGISTRY = "/usr/share/cargo/registry"
-# What the others are compared with, and the ways that hand out the same runs, or packed rows. Rows of strips come packed
-# from the library, and are made runs by words: no call hands out their runs.
+# What the others are compared with, and how many times as many instructions a way may take, in the mean and at most.
+# Packed rows of strips that are asked for their runs may take more: a strip is read by more calls than a file, and the
+# first bytes of what is left of it are copied for each (docs/TRIED.md).
 RUNS = "fax.runs"
-WAYS = ["row.runs", "strip.runs", "strip.next_row", "reader.next_runs", "fax.rows", "fax.next_row"]
-MEAN, MOST = 2.0, 2.4
+MEAN, MEAN_OF_PACKED, MOST = 1.3, 1.36, 1.48
+# The ways that hand out the same runs, and with those that hand out packed rows, each with the bound of its mean.
+OF_RUNS = {"row.runs": MEAN, "fax.next_row.runs": MEAN, "strip.runs": MEAN, "strip.next_row": MEAN, "reader.next_runs": MEAN,
+           "strip.row.runs": MEAN_OF_PACKED, "reader.lend_row.runs": MEAN_OF_PACKED}
+WAYS = {**OF_RUNS, "fax.rows": MEAN, "fax.next_row": MEAN}
 CODINGS = ["mh", "mr", "mmr"]
 
 
@@ -60,19 +64,20 @@ def mean(numbers: list[float]) -> float:
 
 def compare(room: str, files: dict[tuple[str, str, int], str], pages: list[str],
             instructions: Callable[[list[str]], int]) -> int:
-    """Prints how many times as many instructions as fax.runs() each way takes; answers how many bounds do not hold."""
-    program, means, most = build(os.path.join(room, "crate")), list[float](), 0.0
+    """Prints how many times as many instructions as fax.runs() each way takes; answers how many bounds do not hold: those
+    of means are one, and that of the most another."""
+    program, too_many, most = build(os.path.join(room, "crate")), False, 0.0
     ratios: dict[str, list[float]] = {way: [] for way in WAYS}
     for page in pages:
         for coding in CODINGS:
             words = [files[page, coding, 1], strip_of(files[page, coding, 1])]
-            assert len({told(program, [way, *words]) for way in (RUNS, *WAYS[:4])}) == 1, words
+            assert len({told(program, [way, *words]) for way in (RUNS, *OF_RUNS)}) == 1, words
             base, *taken = [instructions([program, way, *words]) for way in ("nothing", RUNS, *WAYS)]
             for way, count in zip(WAYS, taken[1:]):
                 ratios[way].append((count - base) / (taken[0] - base))
-    print(f"{'the crate':16} ratio to {RUNS}, least, most")
+    print(f"{'the crate':20} ratio to {RUNS}, least, most")
     for way, numbers in ratios.items():
-        print(f"{way:16} {mean(numbers):6.3f} {min(numbers):6.3f} {max(numbers):6.3f}", flush=True)
-        means.append(mean(numbers))
+        print(f"{way:20} {mean(numbers):6.3f} {min(numbers):6.3f} {max(numbers):6.3f}", flush=True)
+        too_many = too_many or mean(numbers) > WAYS[way]
         most = max(most, *numbers)
-    return (max(means) > MEAN) + (most > MOST)
+    return too_many + (most > MOST)

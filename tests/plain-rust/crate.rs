@@ -22,6 +22,13 @@ fn main() -> Result<(), faxpages::Error> {
                 count += row?.packed.len();
             }
         }
+        "strip.row.runs" => strip.rows().try_for_each(|row| row.map(|row| count += row.runs().len()))?,
+        "fax.next_row.runs" => {
+            let mut rows = fax.rows();
+            while let Some(row) = rows.next_row() {
+                count += row?.runs().len();
+            }
+        }
         "strip.next_row" => {
             let mut rows = strip.runs();
             while let Some(row) = rows.next_row() {
@@ -34,6 +41,17 @@ fn main() -> Result<(), faxpages::Error> {
                 reader.feed(piece);
                 while let Some(row) = reader.next_runs() {
                     count += row?.runs.len();
+                }
+            }
+            reader.close();
+            assert!(reader.is_ended());
+        }
+        "reader.lend_row.runs" => {
+            let mut reader = StripReader::new(form);
+            for piece in bytes.chunks(4096) {
+                reader.feed(piece);
+                while let Some(row) = reader.lend_row() {
+                    count += row?.runs().len();
                 }
             }
             reader.close();
