@@ -3,10 +3,14 @@ not; and runs that end at once."""
 
 from __future__ import annotations
 
+import errno
 import functools
+import itertools
 import os
 import random
 import signal
+import stat
+from typing import Callable, Set
 from unittest import mock
 
 from tests.archive.drawn import contents, going, playing
@@ -176,4 +180,34 @@ def killed(room: Room, *_given: object) -> None:
         playing.run(["table"], room("modelled killed"), playing.Trouble())
 
 
-PARTS: list[Part] = [rotted, changed, renamed, one_vanishes, going_on, unknown, killed_amid, killed]
+def refusing(call: Callable[[int, int], None], turns: Set[int]) -> Callable[[int, int], None]:
+    """A call that the system refuses at these turns of it."""
+    count = itertools.count(1)
+
+    def instead(file: int, mode: int) -> None:
+        if next(count) in turns:
+            raise OSError(errno.EACCES, os.strerror(errno.EACCES))
+        call(file, mode)
+    return instead
+
+
+def refused_amid(room: Room, *_given: object) -> None:
+    """A copy into which its owner may not write is so again after its mark is changed, also where that is refused once."""
+    from faxpages.archive import _marks as marks
+
+    for turns, wanted in (({2}, (0o444, False)), ({2, 3}, (0o644, True))):
+        path = room(f"modelled refused {len(turns)}")
+        file = os.open(path, os.O_WRONLY | os.O_CREAT, 0o644)
+        os.fchmod(file, 0o444)
+        said = False
+        with mock.patch.object(os, "fchmod", refusing(os.fchmod, turns)):
+            try:
+                marks._writable(file, mock.Mock(side_effect=[PermissionError, None]))
+            except OSError:
+                said = True
+        os.close(file)
+        room.claim(f"refused at {turns}: the mode, and whether it is said",
+                   (stat.S_IMODE(os.stat(path).st_mode), said), wanted)
+
+
+PARTS: list[Part] = [rotted, changed, renamed, one_vanishes, going_on, unknown, killed_amid, refused_amid, killed]

@@ -122,7 +122,7 @@ def _remove(file: int, attribute: str) -> None:
 
 def _writable(file: int, change: Callable[[], None]) -> None:
     """Changes a mark, also where the file's owner may not write into it: the system asks for that. A run that is killed
-    just then leaves that the owner may."""
+    just then, or to which the system refuses twice to take that away, leaves that the owner may."""
     try:
         change()
     except PermissionError:
@@ -131,7 +131,15 @@ def _writable(file: int, change: Callable[[], None]) -> None:
         try:
             change()
         finally:
-            os.fchmod(file, mode)
+            _once_more(lambda: os.fchmod(file, mode))
+
+
+def _once_more(change: Callable[[], None]) -> None:
+    """Changes what may not stay as it is: where the system refuses it, it is asked a second time."""
+    try:
+        change()
+    except OSError:
+        change()
 
 
 def _beside(place: Place) -> bytes:
