@@ -44,11 +44,9 @@ digest_of() {
     sha256sum | cut -c -64
 }
 
-# One SHA-256 over the paths and the contents of the sources. The two scripts of tools/ count by the paths that they had
-# before 1.7, and so what was proved and built then is still of these sources.
+# One SHA-256 over the paths and the contents of the sources.
 sources_digest() {
-    find_sources -print0 | LC_ALL=C sort -z | (cd -- "$root" && xargs -0 sha256sum --) |
-        sed 's|  tools/build-|  share/build-|' | digest_of
+    find_sources -print0 | LC_ALL=C sort -z | (cd -- "$root" && xargs -0 sha256sum --) | digest_of
 }
 
 # The text that stands beside what was built: these lines, and their digest.

@@ -42,8 +42,8 @@ len_patched bytes link n inside = grind (arith, length-append, length-take-le, l
 
 pub len_with_page : (old : Written) (total k : ℕ) (form : PageForm) (strips : List (List ℕ))
     → old.link + 4 ≤ length old.bytes
-    → length (with_page old total k form strips).bytes ≡ length old.bytes + length
-    (page_bytes (length old.bytes) total k form strips)
+    → length (with_page old total k form strips).bytes
+    ≡ length old.bytes + length (page_bytes (length old.bytes) total k form strips)
 unfolding with_page
 len_with_page old total k form strips inside = grind (arith, length-append, len_patched)
 
@@ -82,20 +82,12 @@ page_added written old mid new form strips page directory start link writing sta
     let W = file_so_far written old in
     let begin : start ≡ length W.bytes = start_is ∙ is.start in
     let linked : link ≡ W.link = link_is ∙ is.link in
-    let bytes_are : page ≡ page_bytes (length W.bytes) written.total written.added form strips =
-    page_is ∙ ap (λ n. page_bytes n written.total written.added form strips) begin in
-    let place_is : directory ≡ directory_place (length W.bytes) strips =
-    directory_is ∙ ap (λ n. directory_place n strips) begin in
+    let bytes_are = rw begin at page_is in
+    let place_is = rw begin at directory_is in
     let all : start + length page ≡ length (with_page W written.total written.added form strips).bytes =
-    omega (
-      arith,
-      begin,
-      ap (λ (l : List ℕ). length l) bytes_are,
-      len_with_page W written.total written.added form
-          strips is.inside,
-    ) in
+    rw (begin, bytes_are) (sym (len_with_page W written.total written.added form strips is.inside)) in
     let after : drop (start + length page) mid ≡ drop (start + length page) old =
-    sym (drop-drop (length page) start mid) ∙ ap (drop (length page)) rest ∙ drop-drop (length page) start old in
+    rw (← drop-drop (length page) start mid, rest, drop-drop) in
     (new_is ∙ rw (after, all, front, linked, place_is, bytes_are) refl, all, ap (λ n. n + 194) place_is)
 
 pub strips_are_counted : (form : PageForm) (k stride : ℕ) (raster : List ℕ) (strips : List (Vec ℕ Global))

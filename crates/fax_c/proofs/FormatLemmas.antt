@@ -1,5 +1,5 @@
 -- The runs and the changing elements of a row, written at a place.
-use Rattle.std.proofs.Common.{◌≡◌, ℕ, ◌+◌, ◌<◌, ◌≤◌, List, [], ◌∷◌, ◌++◌, length, set, take, drop, Bool, ap, sym, ◌∙◌}
+use Rattle.std.proofs.Common.{◌≡◌, ℕ, ◌+◌, ◌<◌, ◌≤◌, List, [], ◌∷◌, ◌++◌, length, set, take, drop, Bool, sym, ◌∙◌}
 use Rattle.std.proofs.Common.{append_assoc, arith, length-append}
 use Rattle.std.specs.List.{filter}
 use Rattle.std.proofs.lemmas.List.{length-take-le}
@@ -24,28 +24,19 @@ pub record AreRunsPut (all left : List ℕ) (at to : ℕ) (old now : List ℕ) :
   pub now_is : now ≡ (take at old ++ front) ++ drop to old
 
 pub one_put : (all left rest : List ℕ) (at to run : ℕ) (old now : List ℕ) → AreRunsPut all left at to old now
-    → left ≡ run ∷ rest
-    → AreRunsPut all rest at (to + 1) old (set now to run)
+    → left ≡ run ∷ rest → AreRunsPut all rest at (to + 1) old (set now to run)
 one_put all left rest at to run old now so_far is =
     let front = so_far.front in
     let begin = take at old ++ front in
-    let all_is : all ≡ front ++ run ∷ rest = so_far.all_is ∙ ap (λ l. front ++ l) is in
-    let len_all : length all ≡ length front + length (run ∷ rest) =
-    ap length all_is ∙ length-append front (run ∷ rest) in
+    let all_is : all ≡ front ++ run ∷ rest = rw is at so_far.all_is in
+    let len_all : length all ≡ length front + length (run ∷ rest) = rw all_is (length-append front (run ∷ rest)) in
     let within : at ≤ length old = omega (arith, so_far.room) in
-    let len : length begin ≡ to = omega (
-      arith,
-      length-append (take at old) front,
-      length-take-le at old within,
-      so_far.to_is,
-    ) in
+    let len : length begin ≡ to = rw (length-append, length-take-le at old within) (sym so_far.to_is) in
     let below : to < length old = omega (arith, len_all, so_far.room, so_far.to_is) in
     record {
       front = front ++ run ∷ [];
       all_is = all_is ∙ sym (append_assoc front (run ∷ []) rest);
       to_is = omega (arith, so_far.to_is, length-append front (run ∷ []));
       room = so_far.room;
-      now_is =
-          one_set begin old now to run len below so_far.now_is
-          ∙ ap (λ l. l ++ drop (to + 1) old) (append_assoc (take at old) front (run ∷ []));
+      now_is = rw (← append_assoc (take at old) front _) (one_set begin old now to run len below so_far.now_is);
     }

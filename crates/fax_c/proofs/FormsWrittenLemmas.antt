@@ -1,6 +1,6 @@
 -- Forms that are written one after another.
 use Rattle.std.proofs.Common.{◌≡◌, ℕ, ◌+◌, ◌<◌, ◌≤◌, List, [], ◌∷◌, ◌++◌, length, set, map, take, drop, refl, ap, sym}
-use Rattle.std.proofs.Common.{◌∙◌, subst}
+use Rattle.std.proofs.Common.{◌∙◌}
 use Rattle.std.proofs.Common.{arith, inl, inr}
 use Rattle.std.proofs.lemmas.Grind.{common_steps}
 use Rattle.std.specs.Prelude.{Err, Some, slice_get}
@@ -17,7 +17,8 @@ use Rattle.fax_walk.specs.laws.Tails.{CursorsHaveOneFormTail}
 use Rattle.fax_c.specs.declared.filled.Stop.TheVariants.{Done, Ended}
 use Rattle.fax_c.specs.declared.forms.FaxForm.{FaxForm}
 use Rattle.fax_c.specs.code.CallSteps.{end_at_row}
-use Rattle.fax_c.specs.Forms.{AreFormsFilled, cursor_after_pages, form_numbers}
+use Rattle.fax_c.specs.Forms.{AreFormsFilled, StopsAfterForms, cursor_after_pages, form_numbers}
+use Rattle.fax_c.specs.declared.filled.Stop.{Stop}
 use Rattle.fax_walk.proofs.PageLawLemmas.{by_page, form_tail_of_page}
 use Rattle.fax_c.proofs.ListLemmas.{one_set, take_at}
 use Rattle.fax_c.proofs.ItemLemmas.{end_is, number_is}
@@ -32,8 +33,8 @@ pages-push from [] item = refl
 pages-push from (first ∷ items) item = pages-push (record { page = first.page + 1; row = 0 }) items item
 
 -- so many forms of a reader are written
-pub record AreFormsWritten (file : List ℕ) (from : Cursor) (pages : PagesView) (count : ℕ) (old forms : List FaxForm) :
-    Type 0 where
+pub record AreFormsWritten (file : List ℕ) (from : Cursor) (pages : PagesView) (count : ℕ) (old forms : List FaxForm)
+    : Type 0 where
   pub items : List FormItem
   pub end : End
   pub tail : IsFormTail file from items end
@@ -60,9 +61,8 @@ none_written pages old one none =
       written = refl;
     }
 
-module _ (file : List ℕ) (from : Cursor) (pages : PagesView) (count : ℕ) (old forms : List FaxForm)
-    (law : CursorsHaveOneFormTail)
-    (so_far : AreFormsWritten file from pages count old forms) where
+module _ {file : List ℕ} {from : Cursor} {pages : PagesView} {count : ℕ} {old forms : List FaxForm}
+    (law : CursorsHaveOneFormTail) (so_far : AreFormsWritten file from pages count old forms) where
   one_here : IsOne (IsFormTail pages.file pages.begun)
   one_here = law pages.file pages.begun
 
@@ -77,23 +77,18 @@ module _ (file : List ℕ) (from : Cursor) (pages : PagesView) (count : ℕ) (ol
   cursor_is at (inl (none, is)) = grind arith
   cursor_is at (inr (before, item, given, number, is)) =
       let count_is : count ≡ before + 1 = sym so_far.given ∙ given in
-      rw (count_is, is)
-      (sym (ap (cursor_after_pages from) (take_at so_far.items before item (item_is before item number))
-      ∙ pages-push from (take before so_far.items) item))
+      rw (count_is, is, take_at so_far.items before item (item_is before item number), pages-push)
 
   pub one_more : (new : PagesView) (item : FormItem) → count < length old → HandsOutPage pages item new
       → AreFormsWritten file from new (count + 1) old (set forms count (form_numbers item.form))
   one_more new item below hands =
-      let there = item_is pages.given item hands.0.number in
-      let here : slice_get so_far.items count ≡ Some item = subst (λ n. slice_get so_far.items n ≡ Some item)
-      so_far.given there in
+      let here : slice_get so_far.items count ≡ Some item =
+      rw so_far.given at (item_is pages.given item hands.0.number) in
       let inside = slice_get_within so_far.items count item here in
       let front = forms_of (take count so_far.items) in
-      let len : length front ≡ count =
-      length-map (take count so_far.items) (λ i. form_numbers i.form) ∙ length-take-le count so_far.items so_far.few in
+      let len : length front ≡ count = rw (length-map, length-take-le count so_far.items so_far.few) in
       let all : forms_of (take (count + 1) so_far.items) ≡ front ++ form_numbers item.form ∷ [] =
-      ap forms_of (take_at so_far.items count item here) ∙ map-append (λ i. form_numbers i.form)
-      (take count so_far.items) (item ∷ []) in
+      rw (take_at so_far.items count item here, map-append) in
       record {
         items = so_far.items;
         end = so_far.end;
@@ -103,32 +98,14 @@ module _ (file : List ℕ) (from : Cursor) (pages : PagesView) (count : ℕ) (ol
         given = ap (λ (p : PagesView). p.given) hands.0.new_is ∙ ap (λ n. n + 1) so_far.given;
         few = omega (arith, inside);
         asked = omega (arith, below);
-        written =
-            one_set front old forms count (form_numbers item.form) len below so_far.written
-            ∙ ap (λ (l : List FaxForm). l ++ drop (count + 1) old) (sym all);
+        written = rw all (one_set front old forms count (form_numbers item.form) len below so_far.written);
       }
 
-  pub ended : (end : End) (new : PagesView) (at : Cursor) → count < length old → HasEndedAs IsFormTail pages end new
-      → IsCursorOfPages pages at
-      → AreFormsFilled file from old (record { cursor = at; count = count; used = 0; stop = Ended end }) forms
-  ended end new at below ends is =
-      let are = end_is (IsFormTail pages.file pages.begun) one_here so_far.items so_far.end tail_here pages.given end
-      ends.0 in
-      record {
-        items = so_far.items;
-        end = so_far.end;
-        tail = so_far.tail;
-        few = so_far.few;
-        asked = so_far.asked;
-        written = so_far.written;
-        cursor = cursor_is at is;
-        none_used = refl;
-        stops = (below, sym so_far.given ∙ are.0, are.1);
-      }
-
-  pub all_asked : (at : Cursor) → length old ≤ count → IsCursorOfPages pages at
-      → AreFormsFilled file from old (record { cursor = at; count = count; used = 0; stop = Done }) forms
-  all_asked at all is = record {
+  -- the forms so far are all, where there is a reason
+  filled : (stop : Stop) (at : Cursor) → IsCursorOfPages pages at
+      → StopsAfterForms so_far.items so_far.end (length old) count stop
+      → AreFormsFilled file from old (record { cursor = at; count = count; used = 0; stop = stop }) forms
+  filled stop at is why = record {
     items = so_far.items;
     end = so_far.end;
     tail = so_far.tail;
@@ -137,8 +114,20 @@ module _ (file : List ℕ) (from : Cursor) (pages : PagesView) (count : ℕ) (ol
     written = so_far.written;
     cursor = cursor_is at is;
     none_used = refl;
-    stops = omega (arith, so_far.asked, all);
+    stops = why;
   }
+
+  pub ended : (end : End) (new : PagesView) (at : Cursor) → count < length old → HasEndedAs IsFormTail pages end new
+      → IsCursorOfPages pages at
+      → AreFormsFilled file from old (record { cursor = at; count = count; used = 0; stop = Ended end }) forms
+  ended end new at below ends is =
+      let are = end_is (IsFormTail pages.file pages.begun) one_here so_far.items so_far.end tail_here pages.given end
+      ends.0 in
+      filled (Ended end) at is (below, sym so_far.given ∙ are.0, are.1)
+
+  pub all_asked : (at : Cursor) → length old ≤ count → IsCursorOfPages pages at
+      → AreFormsFilled file from old (record { cursor = at; count = count; used = 0; stop = Done }) forms
+  all_asked at all is = filled Done at is (omega (arith, so_far.asked, all))
 
 -- a file has no page with this number, and ends so there
 no_form : (file : List ℕ) (page : ℕ) (end : End) → IsForm file page (ends_as end)
@@ -146,8 +135,8 @@ no_form : (file : List ℕ) (page : ℕ) (end : End) → IsForm file page (ends_
 no_form file page end is = by_page file (record { page = page; row = 0 }) is (λ here page is. absurd (cc is))
     (λ none page is. let same : end ≡ none = cc is in rw same page)
 
-pub no_page : (file : List ℕ) (page : ℕ) (end : End) → EndsAfter (IsFormTail file (record { page = page; row = 0 })) 0
-    end
+pub no_page : (file : List ℕ) (page : ℕ) (end : End)
+    → EndsAfter (IsFormTail file (record { page = page; row = 0 })) 0 end
     → read_page file (record { page = page; row = 0 }) ≡ Err end
 no_page file page end ([], tail, none) = no_form file page end ((form_tail_of_page file page [] end).0 tail)
 no_page file page end (item ∷ all, tail, none) = absurd (omega (arith, none))

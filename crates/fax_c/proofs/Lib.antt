@@ -12,7 +12,7 @@ pub mod RefusalLemmas
 pub mod PaddedLemmas
 pub mod StripLemmas
 pub mod AddPageLemmas
-pub mod TotalLemmas
+pub mod PagesEndedLemmas
 pub mod RunRowLemmas
 pub mod PartLemmas
 pub mod SalvagedLemmas

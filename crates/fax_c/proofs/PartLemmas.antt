@@ -1,8 +1,8 @@
 -- What is told of the first bytes of a strip holds of all bytes, whatever follows.
-use Rattle.std.proofs.Common.{◌≡◌, ℕ, ◌+◌, ◌-◌, ◌*◌, ◌<◌, ◌≤◌, List, [], ◌∷◌, ◌++◌, length, drop}
+use Rattle.std.proofs.Common.{◌≡◌, ℕ, ◌+◌, ◌-◌, ◌*◌, ◌≤◌, List, [], ◌∷◌, ◌++◌, length, drop}
 use Rattle.std.proofs.Common.{Bool, refl, ap, sym, ◌∙◌}
 use Rattle.std.proofs.Common.{subst, arith, inl, inr, Option, Some, None, length-append}
-use Rattle.std.specs.Prelude.{◌⊎◌, flat_map}
+use Rattle.std.specs.Prelude.{◌⊎◌}
 use Rattle.std.proofs.lemmas.List.{drop-append-le}
 use Rattle.std.proofs.lemmas.Grind.{flat_map-append}
 use Rattle.std.proofs.lemmas.Bool.{cases_lt}
@@ -16,16 +16,14 @@ use Rattle.fax_page.specs.declared.RowsEnd.{RowsEnd}
 use Rattle.fax_page.specs.declared.RowsEnd.TheVariants as ends
 use Rattle.fax_page.specs.declared.StripFault.{StripFault}
 use Rattle.fax_page.specs.declared.StripForm.{StripForm}
-use Rattle.fax_page.specs.Lines.{IsCause, IsLine}
+use Rattle.fax_page.specs.Lines.{IsCause}
 use Rattle.fax_page.specs.Strip.{AreLines, HasEndMark}
 use Rattle.fax_page.specs.Uncounted.{EndsSo, HasDataEnd, MayHaveEndMark}
-use Rattle.fax_page.specs.declared.StripFault.TheVariants.{BadCode, DataEnds, EndMarker, Extension, MissingEol}
-use Rattle.fax_page.specs.declared.StripFault.TheVariants.{OutOfRow, RunTooLong}
+use Rattle.fax_page.specs.declared.StripFault.TheVariants.{EndMarker}
 use Rattle.fax_page.proofs.MarkLemmas.{mark_may_follow}
 use Rattle.fax_page.specs.laws.Following.{EndsStayWhateverFollows, StaysWhateverFollows}
 use Rattle.fax_walk.specs.declared.cursor.Cursor.{Cursor}
 use Rattle.fax_c.specs.declared.filled.Filled.{Filled}
-use Rattle.fax_c.specs.Raster.{padded_row}
 use Rattle.fax_c.specs.declared.filled.Stop.{Stop}
 use Rattle.fax_c.specs.declared.places.FaxPlace.{FaxPlace}
 use Rattle.fax_c.specs.declared.strip_form.FaxStrip.{FaxStrip}
@@ -60,12 +58,7 @@ mark_within coding n b mark =
 -- a fault is an end marker or another
 marker_or_not : (fault : StripFault) → (fault ≡ EndMarker) ⊎ (fault ≡ EndMarker → ⊥)
 marker_or_not EndMarker = inl refl
-marker_or_not DataEnds = inr (λ is. cc)
-marker_or_not BadCode = inr (λ is. cc)
-marker_or_not Extension = inr (λ is. cc)
-marker_or_not RunTooLong = inr (λ is. cc)
-marker_or_not OutOfRow = inr (λ is. cc)
-marker_or_not MissingEol = inr (λ is. cc)
+marker_or_not other = inr (λ is. cc)
 
 -- what of the strip stopped its rows
 met_is : (page row : ℕ) (stop : Stop) (met other : Option StripFault) → stop ≡ stop_in_strip page row met
@@ -109,32 +102,21 @@ module _ (form : StripForm) (strip : List ℕ) (stride : ℕ) (place : FaxPlace)
   none_by : (runs : List ℕ) (room : ℕ) (met : Option StripFault) → met_in_strip stop ≡ Some met
       → ReadsNone form strip stride place runs room stop
       → HasRoom form stride room × (place.row ≡ form.rows) × (met ≡ None)
-  none_by runs room met by (inl (is, none)) = let no = ap met_in_strip (sym is) ∙ by in cc
-  none_by runs room met by (inr (has, inl (is, row))) = let end = ap met_in_strip (sym is) ∙ by in (has, row, cc)
-  none_by runs room met by (inr (has, inr (inl (is, other, none)))) = let no = ap met_in_strip (sym is) ∙ by in cc
-  none_by runs room met by (inr (has, inr (inr (is, at, due)))) = let no = ap met_in_strip (sym is) ∙ by in cc
+  none_by runs room met by none = grind arith
 
   -- a stop that may change, where nothing is read, is a place ahead
   ahead_by : (runs : List ℕ) (room : ℕ) → StopMayChange form strip place stop
       → ReadsNone form strip stride place runs room stop → HasRoom form stride room × IsAhead form strip place
-  ahead_by runs room changes (inl (is, none)) = absurd (subst (StopMayChange form strip place) is changes)
-  ahead_by runs room changes (inr (has, inl (is, row))) = absurd (subst (StopMayChange form strip place) is changes)
-  ahead_by runs room changes (inr (has, inr (inl (is, other, none)))) =
-      (has, subst (StopMayChange form strip place) is changes)
-  ahead_by runs room changes (inr (has, inr (inr (is, at, due)))) =
-      absurd (subst (StopMayChange form strip place) is changes)
+  ahead_by runs room changes none = grind arith
 
   -- and one that may change after rows is the end of the data in the next one
   unsettled_by : (given : FaxStrip) (to : StripPlace) (page left : ℕ) → StopMayChange form strip place stop
       → StopsAt form (bits form.order strip) to page stride left stop
       → (stride ≤ left) × IsUnsettled given form strip to
-  unsettled_by given to page left changes (inl (is, full)) = absurd (subst (StopMayChange form strip place) is changes)
-  unsettled_by given to page left changes (inr (room, None, is, lines)) =
-      absurd (subst (StopMayChange form strip place) is changes)
+  unsettled_by given to page left changes (inl (is, full)) = absurd (rw is at changes)
+  unsettled_by given to page left changes (inr (room, None, is, lines)) = absurd (rw is at changes)
   unsettled_by given to page left changes (inr (room, Some fault, is, lines)) =
-      let cause = subst (λ f. IsCause form to.row to.reference (drop to.bits (bits form.order strip)) f)
-      (subst (StopMayChange form strip place) is changes) lines.2 in
-      (room, inl (lines.1, cause))
+      (room, inl (lines.1, rw (rw is at changes) at lines.2))
 
 module _ (stays : (form : StripForm) (i : ℕ) (reference : List Colour) → StaysWhateverFollows form i reference)
     (end_stays : EndsStayWhateverFollows)
@@ -170,9 +152,7 @@ module _ (stays : (form : StripForm) (i : ℕ) (reference : List Colour) → Sta
         after,
         omega (arith, inside, longer_bits),
         due,
-        subst (λ b. IsLine form from.row from.reference b row (drop after whole)) (sym (from_place from.bits within))
-            (subst (λ c. IsLine form from.row from.reference (drop from.bits all ++ rest) row c)
-            (sym (from_place after inside)) stay),
+        rw (from_place from.bits within, from_place after inside) stay,
         reads_stay (record { row = from.row + 1; bits = after; reference = row }) rows to inside reads,
       )
 
@@ -184,17 +164,8 @@ module _ (stays : (form : StripForm) (i : ℕ) (reference : List Colour) → Sta
       inr (room, None, is, (refl, lines.1))
   stop_stays place to page stride left stop within stay (inr (room, Some fault, is, lines)) =
       let cause = (stays form to.row to.reference).fault (drop to.bits all) rest fault
-      (λ ends. stay (subst (StopMayChange form strip place) (sym is) ends)) lines.2 in
-      inr (
-        room,
-        Some fault,
-        is,
-        (
-          refl,
-          lines.1,
-          subst (λ b. IsCause form to.row to.reference b fault) (sym (from_place to.bits within)) cause,
-        ),
-      )
+      (λ ends. stay (rw is ends)) lines.2 in
+      inr (room, Some fault, is, (refl, lines.1, rw (from_place to.bits within) cause))
 
   none_stays : (stride : ℕ) (place : FaxPlace) (runs : List ℕ) (room : ℕ) (stop : Stop)
       → length (strip ++ more) ≤ 536870911 → (StopMayChange form strip place stop → ⊥)
@@ -208,11 +179,8 @@ module _ (stays : (form : StripForm) (i : ℕ) (reference : List Colour) → Sta
       other,
       λ at due.
           elim (cases_lt (8 * length strip) place.bits) [
-            | inl beyond ↦ stay (subst (StopMayChange form strip place) (sym is) (
-              subst (λ n. n < form.rows) due.0.row due.1,
-              beyond,
-              omega (arith, due.0.bits, due.2, few),
-            ))
+            | inl beyond ↦
+                stay (rw is (omega (arith, due.0.row, due.1), beyond, omega (arith, due.0.bits, due.2, few)))
             | inr within ↦ none at (due.0, due.1, omega (arith, due.0.bits, within))
           ],
     )),
@@ -243,14 +211,9 @@ module _ (stays : (form : StripForm) (i : ℕ) (reference : List Colour) → Sta
         },
         after,
       )
-  reads_on_stays stride old filled new few stay (inr (none, count, used, cursor, same)) = inr (
-    none_stays stride old.place old.runs (length old.raster) filled.stop few
-        (subst (λ (m : StripMemory). StopMayChange form strip m.place filled.stop → ⊥) same stay) none,
-    count,
-    used,
-    cursor,
-    same,
-  )
+  reads_on_stays stride old filled new few stay (inr (none, count, used, cursor, same)) =
+      let still = none_stays stride old.place old.runs (length old.raster) filled.stop few (rw same at stay) none in
+      inr (still, count, used, cursor, same)
 
   -- the fault that stops rows, at the place after them
   record HasCause (place : FaxPlace) (fault : StripFault) : Type 0 where
@@ -281,8 +244,8 @@ module _ (stays : (form : StripForm) (i : ℕ) (reference : List Colour) → Sta
   within_or_marked : (n : ℕ) → (MayHaveEndMark form.coding (drop n all) → ⊥) → n ≤ length all
   within_or_marked n unmarked =
       elim (cases_lt (length all) n) [
-        | inl beyond ↦ absurd (unmarked (subst (MayHaveEndMark form.coding)
-            (sym (drop_of_length-le all (omega (arith, beyond)))) (mark_may_follow form.coding)))
+        | inl beyond ↦
+            absurd (unmarked (rw (drop_of_length-le all {i = n} (omega (arith, beyond))) (mark_may_follow form.coding)))
         | inr within ↦ within
       ]
 
@@ -292,8 +255,8 @@ module _ (stays : (form : StripForm) (i : ℕ) (reference : List Colour) → Sta
       → (HasEndMark form.coding (drop place.bits whole) → ⊥) × (HasDataEnd place.row (drop place.bits whole) → ⊥)
   unmarked_stays place unmarked no_end =
       let from = from_place place.bits (within_or_marked place.bits unmarked) in (
-        λ mark. unmarked (rest, subst (HasEndMark form.coding) from mark),
-        λ ends. no_end (end_stays.fill place.row (drop place.bits all) rest (subst (HasDataEnd place.row) from ends)),
+        λ mark. unmarked (rest, rw from at mark),
+        λ ends. no_end (end_stays.fill place.row (drop place.bits all) rest (rw from at ends)),
       )
 
   ends_so_stays : (place : FaxPlace) (met : Option StripFault) (end : RowsEnd)
@@ -302,8 +265,7 @@ module _ (stays : (form : StripForm) (i : ℕ) (reference : List Colour) → Sta
       → EndsSo form.coding place.row (drop place.bits all) met end
       → EndsSo form.coding place.row (drop place.bits whole) met end
   ends_so_stays place met ends.Marked known stay so =
-      let within = mark_within form.coding place.bits all so in
-      subst (λ b. EndsSo form.coding place.row b met ends.Marked) (sym (from_place place.bits within))
+      rw (from_place place.bits (mark_within form.coding place.bits all so))
       (end_stays.mark form.coding place.row (drop place.bits all) rest met so)
   ends_so_stays place met ends.DataEnd known stay so = absurd (stay tt)
   ends_so_stays place met (ends.Fault fault) known stay so = elim (marker_or_not fault) [
@@ -312,10 +274,9 @@ module _ (stays : (form : StripForm) (i : ℕ) (reference : List Colour) → Sta
         (none.0, none.1, so.2)
     | inr other ↦
         let there = known fault so.2 in
-        subst (λ b. EndsSo form.coding place.row b met (ends.Fault fault)) (sym (from_place place.bits there.within))
-        (subst (λ m. EndsSo form.coding place.row (drop place.bits all ++ rest) m (ends.Fault fault)) (sym so.2)
+        rw (from_place place.bits there.within, so.2)
         (end_stays.fault form there.i place.row there.reference (drop place.bits all) rest fault
-        (λ is. stay (inl is)) other there.cause))
+        (λ is. stay (inl is)) other there.cause)
   ]
   ends_so_stays place met ends.TooMany known stay so =
       let none = unmarked_stays place stay so.1 in (none.0, none.1, so.2)
@@ -327,14 +288,10 @@ module _ (stays : (form : StripForm) (i : ℕ) (reference : List Colour) → Sta
       → IsEndAt given form strip new.place filled.stop end
       → IsEndAt given form (strip ++ more) new.place filled.stop end
   end_at_stays given stride old filled new None reads stay at = at
-  end_at_stays given stride old filled new (Some end) reads stay (uncounted, met, by, so) = (
-    uncounted,
-    met,
-    by,
-    ends_so_stays new.place met end
-        (λ fault is. cause_there stride old filled new fault (by ∙ ap Some is) reads)
-        (λ changes. stay (inr changes)) so,
-  )
+  end_at_stays given stride old filled new (Some end) reads stay (uncounted, met, by, so) =
+      let known : (fault : StripFault) → met ≡ Some fault → HasCause new.place fault =
+      λ fault is. cause_there stride old filled new fault (by ∙ ap Some is) reads in
+      (uncounted, met, by, ends_so_stays new.place met end known (λ changes. stay (inr changes)) so)
 
 module _ (stays : (form : StripForm) (i : ℕ) (reference : List Colour) → StaysWhateverFollows form i reference)
     (end_stays : EndsStayWhateverFollows) (stand : AreBitsByPlace)
@@ -356,18 +313,11 @@ module _ (stays : (form : StripForm) (i : ℕ) (reference : List Colour) → Sta
   settled stay is = inl (
     inl (form, readable, room_of_runs, filled, reads, end, at, is),
     λ more few.
-        inl (
-          form,
-          readable_more more few,
-          room_of_runs,
-          filled,
-          reads_on_stays stays end_stays stand form asked.strip more asked.stride old filled new few
-              (λ changes. stay (inl changes)) reads,
-          end,
-          end_at_stays stays end_stays stand form asked.strip more asked.form asked.stride old filled new end reads stay
-              at,
-          is,
-        ),
+        let its = reads_on_stays stays end_stays stand form asked.strip more asked.stride old filled new few
+        (λ changes. stay (inl changes)) reads in
+        let ends = end_at_stays stays end_stays stand form asked.strip more asked.form asked.stride old filled new end
+        reads stay at in
+        inl (form, readable_more more few, room_of_runs, filled, its, end, ends, is),
   )
 
   abbrev all_bits : List Bool
@@ -400,10 +350,8 @@ module _ (stays : (form : StripForm) (i : ℕ) (reference : List Colour) → Sta
       let found = ends_open end changes at in
       let lines = lines_by form all_bits to old.place.page asked.stride (length old.raster - filled.used) filled.stop
       found.met found.by stops in
-      let so = subst (λ n. EndsSo form.coding to.row (drop n all_bits) found.met found.its) (sym bits_are)
-      (subst (λ n. EndsSo form.coding n (drop new.place.bits all_bits) found.met found.its) (sym row) found.so) in
-      let changes = subst (λ n. MayChange form.coding (drop n all_bits) found.its) (sym bits_are) found.changes in
-      (lines.0, inr (found.uncounted, found.met, found.its, lines.1, so, changes))
+      let so : EndsSo form.coding to.row (drop to.bits all_bits) found.met found.its = rw (row, bits_are) found.so in
+      (lines.0, inr (found.uncounted, found.met, found.its, lines.1, so, rw bits_are found.changes))
 
   -- and why it is not where nothing is read
   unsettled_at : MayGoOn form asked.strip new.place filled.stop end → new ≡ old
@@ -411,7 +359,7 @@ module _ (stays : (form : StripForm) (i : ℕ) (reference : List Colour) → Sta
       → HasRoom form asked.stride (length old.raster) × IsUnsettledAt asked.form form asked.strip old.place
   unsettled_at (inl changes) same none =
       let ahead = ahead_by form asked.strip asked.stride old.place filled.stop old.runs (length old.raster)
-      (subst (λ (m : StripMemory). StopMayChange form asked.strip m.place filled.stop) same changes) none in
+      (rw same at changes) none in
       (ahead.0, inl ahead.1)
   unsettled_at (inr changes) same none =
       let found = ends_open end changes at in
@@ -419,16 +367,10 @@ module _ (stays : (form : StripForm) (i : ℕ) (reference : List Colour) → Sta
       found.by none in
       let so = subst
       (λ (m : StripMemory). EndsSo form.coding m.place.row (drop m.place.bits all_bits) found.met found.its) same
-      found.so in (
-        last.0,
-        inr (
-          found.uncounted,
-          last.1,
-          found.its,
-          subst (λ m. EndsSo form.coding old.place.row (drop old.place.bits all_bits) m found.its) last.2 so,
-          subst (λ (m : StripMemory). MayChange form.coding (drop m.place.bits all_bits) found.its) same found.changes,
-        ),
-      )
+      found.so in
+      let changes = subst (λ (m : StripMemory). MayChange form.coding (drop m.place.bits all_bits) found.its) same
+      found.changes in
+      (last.0, inr (found.uncounted, last.1, found.its, rw last.2 at so, changes))
 
   awaits : IsMoreTold filled told status → MayGoOn form asked.strip new.place filled.stop end
       → ReadsOn form asked.strip asked.stride old filled new → AwaitsMore form asked old new told
@@ -443,16 +385,13 @@ module _ (stays : (form : StripForm) (i : ℕ) (reference : List Colour) → Sta
             reads_stay stays end_stays stand form asked.strip more from read.rows to within read.read;
         count = is.count ∙ read.count;
         used = is.used ∙ read.used;
-        written = subst (λ n. new.raster ≡ flat_map (padded_row asked.stride) read.rows ++ drop n old.raster)
-            (sym is.used) read.written;
+        written = rw is.used read.written;
         page = is.page ∙ ap (λ (at : Cursor). at.page) read.cursor;
         row = is.row ∙ ap (λ (at : Cursor). at.row) read.cursor;
-        place_is = subst (λ n. IsPlaceAfter form.width n old.place old.runs new.place new.runs to) (sym is.count) after;
+        place_is = rw is.count after;
       } in
       let why = unsettled to found read.stops there.0 there.1 in
-      let has_room : asked.stride ≤ length old.raster - told.used =
-      subst (λ n. asked.stride ≤ length old.raster - n) (sym is.used) why.0 in
-      (room, is.fault, inl (to, part, has_room, why.1))
+      (room, is.fault, inl (to, part, rw is.used why.0, why.1))
   awaits is found (inr (none, count, used, cursor, same)) =
       let why = unsettled_at found same none in
       let nothing : IsNothingRead old new told = record {

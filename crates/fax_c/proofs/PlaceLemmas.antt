@@ -1,9 +1,9 @@
 -- The place after rows that were written.
-use Rattle.std.proofs.Common.{◌≡◌, ℕ, ◌+◌, ◌-◌, ◌<◌, ◌≤◌, List, length, take, drop, inl, inr, ap, refl, sym}
-use Rattle.std.proofs.Common.{subst, ◌∙◌, arith, length-append, length-drop}
+use Rattle.std.proofs.Common.{◌≡◌, ℕ, ◌+◌, ◌-◌, ◌<◌, ◌≤◌, List, length, take, drop, inl, inr, ap, refl}
+use Rattle.std.proofs.Common.{◌∙◌, arith, length-append, length-drop}
 use Rattle.std.specs.Prelude.{Some, None}
 use Rattle.std.proofs.lemmas.List.{take_at, drop_at, drop-drop}
-use Rattle.fax_rows.specs.Rows.{Colour, other, runs_of}
+use Rattle.fax_rows.specs.Rows.{Colour, runs_of}
 use Rattle.fax_walk.specs.declared.begun.Begun.{Begun}
 use Rattle.fax_walk.specs.declared.cursor.Cursor.{Cursor}
 use Rattle.fax_walk.specs.declared.walk.PlaceInside.{PlaceInside}
@@ -20,36 +20,24 @@ use Rattle.fax_walk.proofs.ShortLemmas.{some_run}
 kept_past : (n m : ℕ) (runs old : List ℕ) → n ≤ m → drop n runs ≡ drop n old → drop m runs ≡ drop m old
 kept_past n m runs old before same =
     let more : m ≡ n + (m - n) = omega (arith, before) in
-    ap (λ k. drop k runs) more ∙ sym (drop-drop (m - n) n runs) ∙ ap (drop (m - n)) same ∙ drop-drop (m - n) n old
-    ∙ sym (ap (λ k. drop k old) more)
+    rw (more, ← drop-drop (m - n) n runs, ← drop-drop (m - n) n old, same)
 
 -- a place that is lent, and whose runs are written, is told
 pub inside_told : (walk : WalkView) (lent : PlaceInside) (count : ℕ) (old : FaxPlace) (old_runs runs : List ℕ)
     → IsLongOf walk (place_inside (Some lent)) → length (runs_of lent.reference.now) ≤ most_runs
-    → IsPutAt (runs_of lent.reference.now) old_runs 0 (Some count) runs
-    → IsInsideTold walk old old_runs (record { page = lent.at.page; row = lent.at.row; bits = lent.bits; runs = count })
-    runs
+    → IsPutAt (runs_of lent.reference.now) old_runs 0 (Some count) runs → IsInsideTold walk old old_runs
+    (record { page = lent.at.page; row = lent.at.row; bits = lent.bits; runs = count }) runs
 inside_told walk lent count old old_runs runs long few (count_is, within, runs_are) =
     let numbers = runs_of lent.reference.now in
     let some = some_run Colour.White 0 lent.reference.now in
-    let same : take count runs ≡ numbers = ap (take count) runs_are
-    ∙ take_at numbers (drop count old_runs) count (omega (arith, count_is)) in
-    let rest : drop count runs ≡ drop count old_runs = ap (drop count) runs_are
-    ∙ drop_at numbers (drop count old_runs) count (omega (arith, count_is)) in
-    let len : length runs ≡ length old_runs =
-    omega (
-      arith,
-      ap (λ (l : List ℕ). length l) runs_are,
-      length-append numbers (drop count old_runs),
-      length-drop count
-          old_runs,
-      count_is,
-      within,
-    ) in (
+    let same : take count runs ≡ numbers = rw runs_are (take_at numbers (drop count old_runs) count (omega arith)) in
+    let rest : drop count runs ≡ drop count old_runs =
+    rw runs_are (drop_at numbers (drop count old_runs) count (omega arith)) in
+    let len : length runs ≡ length old_runs = rw (runs_are, length-append, length-drop) (omega arith) in (
       (kept_past count most_runs runs old_runs (omega (arith, few, count_is)) rest, len),
       inr (
         (omega (arith, count_is, some), omega (arith, within, len)),
-        subst (λ ns. IsLongOf walk (Some (record { at = lent.at; bits = lent.bits; runs = ns }))) (sym same) long,
+        rw same long,
       ),
     )
 
@@ -78,22 +66,16 @@ stays file place runs cursor (some, within) = grind arith
 
 -- the place after the rows that a walk has handed out is told
 pub after_told : (walk : WalkView) (cursor : Cursor) (count : ℕ) (old place : FaxPlace) (old_runs runs : List ℕ)
-    → walk.given ≡ count
-    → old ≡ place_at cursor → IsInsideTold walk old old_runs place runs
+    → walk.given ≡ count → old ≡ place_at cursor → IsInsideTold walk old old_runs place runs
     → IsAfterRows walk.file walk.begun cursor count place runs
 after_told walk cursor count old place old_runs runs given at (kept, told) =
-    subst (λ n. IsAfterRows walk.file walk.begun cursor n place runs) given
-    (elim told [
-      | inl (same, why) ↦ inr (same ∙ at, why)
-      | inr (has, long) ↦ inl (has, long)
-    ])
+    rw (← given) (elim told [ inl (same, why) ↦ inr (same ∙ at, why) | inr (has, long) ↦ inl (has, long) ])
 
 -- a place is the one after the rows of the same walk, however it is named
-pub after_of : (file other : List ℕ) (begun another : Begun) (cursor : Cursor) (count : ℕ) (place : FaxPlace)
-    (runs : List ℕ)
-    → file ≡ other → begun ≡ another → IsAfterRows file begun cursor count place runs
+pub after_of : {file other : List ℕ} {begun another : Begun} (cursor : Cursor) (count : ℕ) (place : FaxPlace)
+    (runs : List ℕ) → file ≡ other → begun ≡ another → IsAfterRows file begun cursor count place runs
     → IsAfterRows other another cursor count place runs
-after_of file other begun another cursor count place runs same begins is = rw (same, begins) at is
+after_of cursor count place runs same begins is = rw (same, begins) at is
 
 -- what one step keeps, and then the next
 pub kept_on : (first middle last : List ℕ) → KeepsRuns first middle → KeepsRuns middle last → KeepsRuns first last

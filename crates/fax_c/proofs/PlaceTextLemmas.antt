@@ -1,5 +1,5 @@
 -- The texts of places are UTF-8, and what they are read as.
-use Rattle.std.proofs.Common.{◌≡◌, ℕ, ◌^◌, ◌<◌, List, [], ◌∷◌, ◌++◌, length, inl, inr, subst, sym, ◌∙◌, arith}
+use Rattle.std.proofs.Common.{◌≡◌, ℕ, ◌^◌, ◌<◌, List, [], ◌∷◌, ◌++◌, inl, inr, subst, sym, ◌∙◌, arith}
 use Rattle.std.specs.Prelude.{codes, decimal, flat_map}
 use Rattle.std.specs.List.{All}
 use Rattle.std.specs.Str.{IsUtf8}
@@ -11,7 +11,6 @@ use Rattle.fax_walk.specs.declared.cursor.Cursor.{Cursor}
 use Rattle.fax_walk.specs.Pages.{IsCursor, IsLongCursor, LongPlace, cursor_text, long_cursor_text, runs_text}
 use Rattle.fax_walk.specs.laws.Cursors.{TextsNameOne}
 use Rattle.fax_c.specs.declared.places.FaxPlace.{FaxPlace}
-use Rattle.fax_c.specs.views.Places.{most_runs}
 use Rattle.fax_c.specs.views.PlaceTexts.{NamesNoPlace, ReadsPlace}
 use Rattle.fax_c.specs.code.CallSteps.{IsPlaceTold}
 
@@ -40,37 +39,28 @@ with_number text n utf8 short =
 
 pub cursor_text_utf8 : (at : Cursor) → IsCursor at → IsUtf8 (cursor_text at)
 cursor_text_utf8 at is =
-    let begin = IsUtf8-append (codes "1:") (decimal at.page) first_kind (decimal_utf8 at.page is.page) in
-    with_number (codes "1:" ++ decimal at.page) at.row begin is.row
+    with_number _ at.row (IsUtf8-append _ _ first_kind (decimal_utf8 at.page is.page)) is.row
 
 more_runs_utf8 : (runs : List ℕ) → All (λ run. run < 2 ^ 32) runs
     → IsUtf8 (flat_map (λ run. codes "," ++ decimal run) runs)
 more_runs_utf8 [] all = IsUtf8-nil
 more_runs_utf8 (run ∷ runs) all =
-    IsUtf8-append (codes "," ++ decimal run) (flat_map (λ run. codes "," ++ decimal run) runs)
-    (IsUtf8-append (codes ",") (decimal run) (one_utf8 44 (omega arith))
-    (decimal_utf8 run (All-head (λ n. n < 2 ^ 32) run runs all)))
+    let first = decimal_utf8 run (All-head (λ n. n < 2 ^ 32) run runs all) in
+    IsUtf8-append _ _ (IsUtf8-append _ _ (one_utf8 44 (omega arith)) first)
     (more_runs_utf8 runs (All-tail (λ n. n < 2 ^ 32) run runs all))
 
 runs_text_utf8 : (runs : List ℕ) → All (λ run. run < 2 ^ 32) runs → IsUtf8 (runs_text runs)
 runs_text_utf8 [] all = IsUtf8-nil
 runs_text_utf8 (run ∷ runs) all =
-    IsUtf8-append (decimal run) (flat_map (λ run. codes "," ++ decimal run) runs)
-    (decimal_utf8 run (All-head (λ n. n < 2 ^ 32) run runs all))
+    IsUtf8-append _ _ (decimal_utf8 run (All-head (λ n. n < 2 ^ 32) run runs all))
     (more_runs_utf8 runs (All-tail (λ n. n < 2 ^ 32) run runs all))
 
 pub long_cursor_text_utf8 : (place : LongPlace) → IsLongCursor place → IsUtf8 (long_cursor_text place)
 long_cursor_text_utf8 place is =
-    let begin = IsUtf8-append (codes "2:") (decimal place.at.page) second_kind
-    (decimal_utf8 place.at.page is.cursor.page) in
-    let row = with_number (codes "2:" ++ decimal place.at.page) place.at.row begin is.cursor.row in
-    let bits = with_number (codes "2:" ++ decimal place.at.page ++ codes ":" ++ decimal place.at.row) place.bits row
-    is.bits in
-    let colons = IsUtf8-append (codes "2:" ++ decimal place.at.page ++ codes ":" ++ decimal place.at.row ++ codes ":"
-    ++ decimal place.bits) (codes ":") bits colon in
-    IsUtf8-append (codes "2:" ++ decimal place.at.page ++ codes ":" ++ decimal place.at.row ++ codes ":"
-    ++ decimal place.bits ++ codes ":") (runs_text place.runs) colons
-    (runs_text_utf8 place.runs is.runs)
+    let begin = IsUtf8-append _ _ second_kind (decimal_utf8 place.at.page is.cursor.page) in
+    let row = with_number _ place.at.row begin is.cursor.row in
+    let bits = with_number _ place.bits row is.bits in
+    IsUtf8-append _ _ (IsUtf8-append _ _ bits colon) (runs_text_utf8 place.runs is.runs)
 
 -- bytes that are no UTF-8 are the text of no place
 pub no_text : (text : List ℕ) → (IsUtf8 text → ⊥) → NamesNoPlace text
@@ -81,23 +71,15 @@ no_text text not = (
 
 -- the place inside a strip that a text names is told, or it is not, and why
 pub place_read : (text : List ℕ) (found : LongPlace) (old place : FaxPlace) (old_runs runs : List ℕ) (status : ℕ)
-    → TextsNameOne
-    → IsLongCursor found → text ≡ long_cursor_text found → IsPlaceTold found old old_runs status place runs
+    → TextsNameOne → IsLongCursor found → text ≡ long_cursor_text found
+    → IsPlaceTold found old old_runs status place runs
     → ReadsPlace text old old_runs place runs status
 place_read text found old place old_runs runs status names is text_is (inl (done, has, few, same, kept)) = grind arith
 place_read text found old place old_runs runs status names is text_is
     (inr (same, same_runs, inl (no_room, longer, few))) = grind arith
 place_read text found old place old_runs runs status names is text_is (inr (same, same_runs, inr (status_is, many))) =
-    inr (
-      same,
-      same_runs,
-      inr (inl (
-        status_is,
-        (
-          λ at at_is other_text. names.apart at found (sym other_text ∙ text_is),
-          λ other other_is other_text.
-              subst (λ (p : LongPlace). most_runs < length p.runs) (names.places found other is other_is
-              (sym text_is ∙ other_text)) many,
-        ),
-      )),
-    )
+    let none : NamesNoPlace text = (
+      λ at at_is other_text. names.apart at found (sym other_text ∙ text_is),
+      λ other other_is other_text. rw (names.places found other is other_is (sym text_is ∙ other_text)) at many,
+    ) in
+    inr (same, same_runs, inr (inl (status_is, none)))

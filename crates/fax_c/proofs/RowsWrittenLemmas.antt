@@ -1,7 +1,7 @@
 -- Rows that are written one after another.
 use Rattle.std.proofs.Common.{◌≡◌, ℕ, suc, ◌+◌, ◌<◌, ◌≤◌, List, [], ◌∷◌, ◌++◌, length, set, take, drop, refl, ap, sym}
-use Rattle.std.proofs.Common.{◌∙◌, subst}
-use Rattle.std.proofs.Common.{append_assoc, append-nil, arith, inl, inr, length-append, Ok, Err}
+use Rattle.std.proofs.Common.{◌∙◌}
+use Rattle.std.proofs.Common.{append_assoc, append-nil, arith, zero-add, inl, inr, length-append, Ok, Err}
 use Rattle.std.specs.Prelude.{Some, slice_get}
 use Rattle.std.proofs.lemmas.List.{length-drop, length-take-le}
 use Rattle.std.proofs.lemmas.Option.{slice_get_within}
@@ -9,17 +9,16 @@ use Rattle.fax_rows.specs.Rows.{Colour}
 use Rattle.fax_walk.specs.declared.begun.Begun.{Begun}
 use Rattle.fax_walk.specs.declared.cursor.Cursor.{Cursor}
 use Rattle.fax_walk.specs.declared.end.End.{End}
-use Rattle.fax_walk.specs.Pages.{read_page}
 use Rattle.fax_walk.specs.Items.{RowItem, IsTailFrom, begun_cursor, cursor_after}
 use Rattle.fax_walk.specs.views.InOrder.{IsNumber}
-use Rattle.fax_walk.specs.views.Walk.{EntersPage, HasPage, WalkView, IsCursorOf}
+use Rattle.fax_walk.specs.views.Walk.{HasPage, WalkView, IsCursorOf}
 use Rattle.fax_walk.specs.laws.Tails.{BeginningsHaveOneTail}
 use Rattle.fax_c.specs.declared.filled.Stop.{Stop}
 use Rattle.fax_c.specs.declared.filled.Stop.TheVariants.{Done, Ended, Memory, NoRoom}
 use Rattle.fax_c.specs.declared.rows.FaxRow.{FaxRow}
 use Rattle.fax_c.specs.views.Filled.{AreRowsFilled, StopsAfterRows, TakesRuns, all_numbers, cursor_after_rows, row_at}
 use Rattle.fax_c.specs.views.Filled.{rows_at}
-use Rattle.fax_c.specs.code.CallSteps.{IsPut, IsPutAt, IsPutTo, IsRefusedAt, IsWalkAfter}
+use Rattle.fax_c.specs.code.CallSteps.{IsPut, IsPutTo, IsRefusedAt, IsWalkAfter}
 use Rattle.fax_c.proofs.ListLemmas.{more_put, one_set, take_at}
 use Rattle.fax_c.proofs.ItemLemmas.{end_is, number_is}
 
@@ -33,12 +32,7 @@ rows-push : {N : Type 0} (numbers : List Colour → List N) (at : ℕ) (items : 
     ++ row_at numbers (at + length (all_numbers numbers items)) item ∷ []
 rows-push numbers at [] item = let none : at + 0 ≡ at = omega arith in rw none refl
 rows-push numbers at (first ∷ items) item =
-    let next = at + length (numbers first.pels) in
-    let place : next + length (all_numbers numbers items) ≡ at + length (all_numbers numbers (first ∷ items)) =
-    omega (arith, length-append (numbers first.pels) (all_numbers numbers items)) in
-    ap (λ (l : List FaxRow). row_at numbers at first ∷ l)
-    (rows-push numbers next items item
-    ∙ ap (λ n. rows_at numbers next items ++ row_at numbers n item ∷ []) place)
+    grind (arith, length-append, rows-push numbers (at + length (numbers first.pels)) items item)
 
 length-rows_at : {N : Type 0} (numbers : List Colour → List N) (at : ℕ) (items : List RowItem)
     → length (rows_at numbers at items) ≡ length items
@@ -52,8 +46,7 @@ cursor-push from (first ∷ items) item = cursor-push (cursor_after first) items
 
 -- so many rows of a walk are written, in so many numbers
 pub record AreRowsWritten {N : Type 0} (numbers : List Colour → List N) (file : List ℕ) (begun : Begun)
-    (walk : WalkView) (count used : ℕ)
-    (old_rows rows : List FaxRow) (old out : List N) : Type 0 where
+    (walk : WalkView) (count used : ℕ) (old_rows rows : List FaxRow) (old out : List N) : Type 0 where
   pub items : List RowItem
   pub end : End
   pub tail : IsTailFrom file begun items end
@@ -88,9 +81,8 @@ none_written numbers walk rows out one none =
       written = refl;
     }
 
-module _ {N : Type 0} (numbers : List Colour → List N) (file : List ℕ) (begun : Begun) (walk : WalkView)
-    (count used : ℕ)
-    (old_rows rows : List FaxRow) (old out : List N) (law : BeginningsHaveOneTail)
+module _ {N : Type 0} {numbers : List Colour → List N} {file : List ℕ} {begun : Begun} {walk : WalkView}
+    {count used : ℕ} {old_rows rows : List FaxRow} {old out : List N} (law : BeginningsHaveOneTail)
     (so_far : AreRowsWritten numbers file begun walk count used old_rows rows old out) where
   tail_here : IsTailFrom walk.file walk.begun so_far.items so_far.end
   tail_here = grind arith
@@ -102,16 +94,14 @@ module _ {N : Type 0} (numbers : List Colour → List N) (file : List ℕ) (begu
 
   next_is : (item : RowItem) → IsNumber (IsTailFrom walk.file walk.begun) walk.given item
       → slice_get so_far.items count ≡ Some item
-  next_is item number = subst (λ n. slice_get so_far.items n ≡ Some item) so_far.given (item_is walk.given item number)
+  next_is item number = rw so_far.given at (item_is walk.given item number)
 
   pub cursor_is : (at : Cursor) → IsCursorOf walk at → at ≡ cursor_after_rows (begun_cursor begun)
       (take count so_far.items)
   cursor_is at (inl (none, is)) = grind arith
   cursor_is at (inr (before, item, given, number, is)) =
       let count_is : count ≡ before + 1 = sym so_far.given ∙ given in
-      rw (count_is, is)
-      (sym (ap (cursor_after_rows (begun_cursor begun)) (take_at so_far.items before item (item_is before item number))
-      ∙ cursor-push (begun_cursor begun) (take before so_far.items) item))
+      rw (count_is, is, take_at so_far.items before item (item_is before item number), cursor-push)
 
   pub one_more : (row : FaxRow) (new : WalkView) (new_out : List N) → count < length old_rows
       → IsPut numbers walk out used (Ok row) new new_out
@@ -123,29 +113,16 @@ module _ {N : Type 0} (numbers : List Colour → List N) (file : List ℕ) (begu
       let front = all_numbers numbers items in
       let more = numbers item.pels in
       let len : row.len ≡ length more = ap (λ (r : FaxRow). r.len) row_is in
-      let to_is : used + row.len ≡ used + length more = ap (λ n. used + n) len in
       let all : all_numbers numbers (take (count + 1) so_far.items) ≡ front ++ more =
-      ap (all_numbers numbers) (take_at so_far.items count item here) ∙ numbers-push numbers items item in
+      rw (take_at so_far.items count item here) (numbers-push numbers items item) in
       let written : new_out ≡ (front ++ more) ++ drop (used + length more) old =
       more_put front old out more new_out used (used + length more) (sym so_far.used_is) so_far.written refl put.2 in
       let count_is : length (rows_at numbers 0 items) ≡ count =
-      length-rows_at numbers 0 items ∙ length-take-le count so_far.items so_far.few in
-      let place : row_at numbers (0 + length front) item ≡ row =
-      let zero_more : 0 + length front ≡ used = omega (arith, so_far.used_is) in rw zero_more (sym row_is) in
+      rw (length-rows_at, length-take-le count so_far.items so_far.few) in
       let rows_are : rows_at numbers 0 (take (count + 1) so_far.items) ≡ rows_at numbers 0 items ++ row ∷ [] =
-      ap (rows_at numbers 0) (take_at so_far.items count item here) ∙ rows-push numbers 0 items item
-      ∙ ap (λ (r : FaxRow). rows_at numbers 0 items ++ r ∷ []) place in
+      rw (take_at so_far.items count item here, rows-push, zero-add, ← so_far.used_is, row_is) in
       let same_len : length new_out ≡ length old =
-      omega (
-        arith,
-        ap (λ (l : List N). length l) written,
-        length-append (front ++ more) (drop (used + length more) old),
-        length-append front more,
-        length-drop (used + length more) old,
-        so_far.used_is,
-        put.1,
-        so_far.same_len,
-      ) in
+      rw (written, length-append, length-append, length-drop) (omega (arith, so_far.used_is, put.1, so_far.same_len)) in
       record {
         items = so_far.items;
         end = so_far.end;
@@ -155,15 +132,11 @@ module _ {N : Type 0} (numbers : List Colour → List N) (file : List ℕ) (begu
         given = ap (λ (w : WalkView). w.given) hands.new_is ∙ ap (λ n. n + 1) so_far.given;
         few = omega (arith, inside);
         asked = omega (arith, below);
-        used_is = to_is ∙ ap (λ n. n + length more) so_far.used_is ∙ sym (length-append front more)
-            ∙ ap (λ (l : List N). length l) (sym all);
+        used_is = rw (all, length-append, len, ← so_far.used_is);
         room = omega (arith, len, put.1, same_len, so_far.same_len);
         same_len = same_len;
-        lie =
-            one_set (rows_at numbers 0 items) old_rows rows count row count_is below so_far.lie
-            ∙ ap (λ (l : List FaxRow). l ++ drop (count + 1) old_rows) (sym rows_are);
-        written = written ∙ ap (λ (l : List N). l ++ drop (used + length more) old) (sym all)
-            ∙ ap (λ n. all_numbers numbers (take (count + 1) so_far.items) ++ drop n old) (sym to_is);
+        lie = rw rows_are (one_set (rows_at numbers 0 items) old_rows rows count row count_is below so_far.lie);
+        written = rw (all, len) written;
       }
 
   -- the same of a row that no table has
@@ -172,11 +145,7 @@ module _ {N : Type 0} (numbers : List Colour → List N) (file : List ℕ) (begu
       → AreRowsWritten numbers file begun new (count + 1) to old_rows (set rows count (row_at numbers used put.0)) old
       new_out
   put_row to new new_out below (item, hands, put) =
-      let there : IsPutAt (numbers item.pels) out used (Some (used + length (numbers item.pels))) new_out =
-      subst (λ n. IsPutAt (numbers item.pels) out used (Some n) new_out) put.0 put in
-      subst (λ n. AreRowsWritten numbers file begun new (count + 1) n old_rows
-      (set rows count (row_at numbers used item)) old new_out) (sym put.0)
-      (one_more (row_at numbers used item) new new_out below (item, hands, refl, there))
+      rw put.0 (one_more (row_at numbers used item) new new_out below (item, hands, refl, (rw put.0 at put)))
 
   stops : (stop : Stop) (new : WalkView) (new_out : List N) → count < length old_rows
       → IsPut numbers walk out used (Err stop) new new_out
@@ -190,33 +159,14 @@ module _ {N : Type 0} (numbers : List Colour → List N) (file : List ℕ) (begu
   stops NoRoom new new_out below (item, hands, (same, small)) =
       ((below, (item, next_is item hands.number, omega (arith, small, so_far.same_len))), same)
   stops Memory new new_out below (enters, new_is, same) =
-      let of_file = subst (λ f. EntersPage f walk.begun walk.given) so_far.same_file enters in
-      let of_begun = subst (λ b. EntersPage file b walk.given) so_far.same_begun of_file in
-      ((below, inl (subst (λ n. EntersPage file begun n) so_far.given of_begun)), same)
+      ((below, inl (rw (so_far.same_file, so_far.same_begun, so_far.given) at enters)), same)
 
-  pub stopped : (stop : Stop) (new : WalkView) (new_out : List N) (at : Cursor) → count < length old_rows
-      → IsPut numbers walk out used (Err stop) new new_out → IsCursorOf walk at
+  -- the rows so far are all, where there is a reason
+  filled : (stop : Stop) (at : Cursor) → IsCursorOf walk at
+      → StopsAfterRows numbers file begun so_far.items so_far.end (length old_rows) (length old) count used stop
       → AreRowsFilled numbers file begun old_rows old (record { cursor = at; count = count; used = used; stop = stop })
-      rows new_out
-  stopped stop new new_out at below put is =
-      let so = stops stop new new_out below put in
-      record {
-        items = so_far.items;
-        end = so_far.end;
-        tail = so_far.tail;
-        few = so_far.few;
-        asked = so_far.asked;
-        used = so_far.used_is;
-        lie = so_far.lie;
-        written = so.1 ∙ so_far.written;
-        cursor = cursor_is at is;
-        stops = so.0;
-      }
-
-  pub all_asked : (at : Cursor) → length old_rows ≤ count → IsCursorOf walk at
-      → AreRowsFilled numbers file begun old_rows old (record { cursor = at; count = count; used = used; stop = Done })
       rows out
-  all_asked at all is = record {
+  filled stop at is why = record {
     items = so_far.items;
     end = so_far.end;
     tail = so_far.tail;
@@ -226,19 +176,29 @@ module _ {N : Type 0} (numbers : List Colour → List N) (file : List ℕ) (begu
     lie = so_far.lie;
     written = so_far.written;
     cursor = cursor_is at is;
-    stops = omega (arith, so_far.asked, all);
+    stops = why;
   }
 
+  pub stopped : (stop : Stop) (new : WalkView) (new_out : List N) (at : Cursor) → count < length old_rows
+      → IsPut numbers walk out used (Err stop) new new_out → IsCursorOf walk at
+      → AreRowsFilled numbers file begun old_rows old (record { cursor = at; count = count; used = used; stop = stop })
+      rows new_out
+  stopped stop new new_out at below put is =
+      let (why, same) = stops stop new new_out below put in rw same (filled stop at is why)
+
+  pub all_asked : (at : Cursor) → length old_rows ≤ count → IsCursorOf walk at
+      → AreRowsFilled numbers file begun old_rows old (record { cursor = at; count = count; used = used; stop = Done })
+      rows out
+  all_asked at all is = filled Done at is (omega (arith, so_far.asked, all))
+
   pub walk_stopped : (first : WalkView) (stop : Stop) (new : WalkView) (new_out : List N) (at : Cursor)
-      → file ≡ first.file
-      → begun ≡ first.begun → IsPut numbers walk out used (Err stop) new new_out
+      → file ≡ first.file → begun ≡ first.begun → IsPut numbers walk out used (Err stop) new new_out
       → IsWalkAfter first (record { cursor = at; count = count; used = used; stop = stop }) new
   walk_stopped first stop new new_out at of begins put = grind arith
 
 -- where memory is refused before a walk begins, nothing is written
 module _ {N : Type 0} (numbers : List Colour → List N) (file : List ℕ) (begun : Begun) (at : Cursor)
-    (rows : List FaxRow) (out : List N)
-    (is : at ≡ begun_cursor begun) where
+    (rows : List FaxRow) (out : List N) (is : at ≡ begun_cursor begun) where
   none_filled : (stop : Stop) (items : List RowItem) (end : End) → IsTailFrom file begun items end
       → StopsAfterRows numbers file begun items end (length rows) (length out) 0 0 stop
       → AreRowsFilled numbers file begun rows out (record { cursor = at; count = 0; used = 0; stop = stop }) rows out
@@ -258,14 +218,10 @@ module _ {N : Type 0} (numbers : List Colour → List N) (file : List ℕ) (begu
   pub refused_at_once : (stop : Stop) → BeginningsHaveOneTail → (HasPage file at.page → TakesRuns file begun 0)
       → IsRefusedAt file at (length rows) stop
       → AreRowsFilled numbers file begun rows out (record { cursor = at; count = 0; used = 0; stop = stop }) rows out
-  refused_at_once Done one takes none = let tail = one file begun in
-      none_filled Done tail.items tail.end tail.is (sym none)
+  refused_at_once Done one takes none =
+      let tail = one file begun in none_filled Done tail.items tail.end tail.is (sym none)
   refused_at_once Memory one takes (some, page) =
       let tail = one file begun in none_filled Memory tail.items tail.end tail.is (some, inr (takes page))
   refused_at_once (Ended end) one takes (some, none) =
-      none_filled (Ended end) [] end (
-        Err end,
-        rw (subst (λ c. read_page file c ≡ Err end) is none) refl,
-        (refl, refl),
-      ) (some, refl, refl)
+      none_filled (Ended end) [] end (Err end, rw (rw is at none), (refl, refl)) (some, refl, refl)
   refused_at_once NoRoom one takes refused = absurd refused

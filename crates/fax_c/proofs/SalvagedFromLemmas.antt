@@ -1,8 +1,8 @@
 -- What is left of a page from a place on, written row after row.
 use Rattle.std.proofs.Common.{◌≡◌, ℕ, zero, suc, ◌+◌, ◌*◌, ◌%◌, ◌<◌, ◌≤◌, List, [], ◌∷◌, ◌++◌, length}
 use Rattle.std.proofs.Common.{take, drop}
-use Rattle.std.proofs.Common.{replicate, Bool, true, false, Option, Some, None, Ok, Err, refl, sym, ap, ◌∙◌, arith}
-use Rattle.std.proofs.Common.{append_assoc, append-nil, length-append, inl, inr, subst}
+use Rattle.std.proofs.Common.{replicate, true, false, Option, Some, None, Ok, Err, refl, sym, ap, ◌∙◌, arith}
+use Rattle.std.proofs.Common.{append_assoc, append-nil, length-append, inl, inr}
 use Rattle.std.specs.Prelude.{◌⊎◌, ◌≢◌, flat_map, not}
 use Rattle.std.proofs.lemmas.List.{length-replicate, length_push}
 use Rattle.fax_rows.specs.Rows.{Colour, White, runs_of}
@@ -36,7 +36,7 @@ use Rattle.fax_c.specs.declared.salvage_from.Ahead.{Ahead}
 use Rattle.fax_c.specs.Raster.{padded_row}
 use Rattle.fax_c.specs.SalvagedRaster.{found_of, lost_from, lost_of}
 use Rattle.fax_c.specs.code.CallSteps.{IsPutAt}
-use Rattle.fax_c.specs.code.SalvagedRaster.{IsStretchPut, stretch_lost}
+use Rattle.fax_c.specs.code.SalvagedRaster.{IsStretchPut}
 use Rattle.fax_c.specs.code.SalvagedFrom.{AreRowsFilled, EndsOrGoesOn, IsAhead, IsStopBefore, IsToldAfter}
 use Rattle.fax_c.specs.code.SalvagedFrom.{IsToldPlace, stretches_of}
 use Rattle.fax_c.specs.code.BareStrips.{IsRowBefore}
@@ -49,14 +49,6 @@ use Rattle.fax_c.proofs.ListLemmas.{more_put, one_set}
 use Rattle.fax_c.proofs.StripLemmas.{due_told}
 use Rattle.fax_c.proofs.PaddedLemmas.{fills_stride, padded_push}
 use Rattle.fax_walk.proofs.ShortLemmas.{some_run}
-
-pub not_true : (b : Bool) → not b ≡ true → b ≡ false
-not_true true is = cc
-not_true false is = refl
-
-pub not_false : (b : Bool) → not b ≡ false → b ≡ true
-not_false true is = refl
-not_false false is = cc
 
 -- the rows that are found among some and among others
 found_append : (rows others : List PageRow) → found_of (rows ++ others) ≡ found_of rows ++ found_of others
@@ -75,35 +67,26 @@ found_few (Ok row ∷ rows) = let few = found_few rows in omega (arith, few)
 found_few (Err cause ∷ rows) = let few = found_few rows in omega (arith, few)
 
 -- rows that are passed one after another
-passes_on : (a b c : RowsFromView) (first later : List PageRow) → PassesOver a first b → PassesOver b later c
+passes_on : {a b c : RowsFromView} (first later : List PageRow) → PassesOver a first b → PassesOver b later c
     → PassesOver a (first ++ later) c
-passes_on a b c first later one two = record {
+passes_on first later one two = record {
   same_file = two.same_file ∙ one.same_file;
   same_here = two.same_here ∙ one.same_here;
   next = omega (arith, one.next, two.next, length-append first later);
-  within =
-      let same : b.here.form.rows ≡ a.here.form.rows = ap (λ (p : FilePage). p.form.rows) one.same_here in
-      omega (arith, two.within, same);
-  followed = λ rows is.
-      subst (AreLeftNow a) (sym (append_assoc first later rows)) (one.followed (later ++ rows) (two.followed rows is));
+  within = rw one.same_here at two.within;
+  followed = λ rows is. rw append_assoc (one.followed (later ++ rows) (two.followed rows is));
 }
 
 passes_none : (a : RowsFromView) → row_due a ≤ a.here.form.rows → PassesOver a [] a
-passes_none a within = record {
-  same_file = refl;
-  same_here = refl;
-  next = omega arith;
-  within = within;
-  followed = λ rows is. is;
-}
+passes_none a within = grind arith
 
 -- a stretch that a row ends which is found
-lost_then : (lost : Option Stretch) (page row : ℕ) (pels : List Colour) (items : List LeftItem)
+pub lost_then : (lost : Option Stretch) (page row : ℕ) (pels : List Colour) (items : List LeftItem)
     → lost_of (with_lost lost (row_found page row pels ∷ items)) ≡ stretches_of lost ++ lost_of items
 lost_then None page row pels items = refl
 lost_then (Some stretch) page row pels items = refl
 
-lost_last : (lost : Option Stretch) → lost_of (with_lost lost []) ≡ stretches_of lost ++ []
+pub lost_last : (lost : Option Stretch) → lost_of (with_lost lost []) ≡ stretches_of lost ++ []
 lost_last None = refl
 lost_last (Some stretch) = refl
 
@@ -129,84 +112,57 @@ module _ (first : RowsFromView) (page row : ℕ) where
     few = omega arith;
   }
 
-  module _ (now new : RowsFromView) (due : ℕ) (lost : Option Stretch) (so_far : AreLostSoFar now due lost) where
-    -- more are lost
-    pub more_lost : (n : ℕ) (cause : Cause) → IsNextFrom now (Some (Lost n cause)) new
-        → AreLostSoFar new (due + n) (Some (longer lost page due n cause))
-    more_lost n cause (some, passes) =
-        let others : List PageRow = replicate n (Err cause) in
-        let len : length others ≡ n = length-replicate n (Err cause) in
-        record {
-          over = so_far.over ++ others;
-          passes = passes_on first now new so_far.over others so_far.passes passes;
-          due_is = omega (arith, so_far.due_is, length-append so_far.over others, len);
-          at = omega (arith, passes.next, so_far.at, len);
-          none = found_append so_far.over others
-              ∙ ap (λ (l : List (List Colour)). l ++ found_of others) so_far.none ∙ none_found n cause;
-          items = λ rows. ap (page_items page row) (append_assoc so_far.over others rows)
-              ∙ so_far.items (others ++ rows) ∙ lost_on lost page due n cause rows some;
-          few = longer_few lost so_far.few;
-        }
-      where
-        longer_few : (lost : Option Stretch) → rows_of lost ≤ due
-            → rows_of (Some (longer lost page due n cause)) ≤ due + n
-        longer_few None few = omega arith
-        longer_few (Some stretch) few = omega (arith, few)
+module _ {first now new : RowsFromView} {page row due : ℕ} {lost : Option Stretch}
+    (so_far : AreLostSoFar first page row now due lost) where
+  -- more are lost
+  pub more_lost : (n : ℕ) (cause : Cause) → IsNextFrom now (Some (Lost n cause)) new
+      → AreLostSoFar first page row new (due + n) (Some (longer lost page due n cause))
+  more_lost n cause (some, passes) =
+      let others : List PageRow = replicate n (Err cause) in
+      let len : length others ≡ n = length-replicate n (Err cause) in
+      record {
+        over = so_far.over ++ others;
+        passes = passes_on so_far.over others so_far.passes passes;
+        due_is = omega (arith, so_far.due_is, length-append so_far.over others, len);
+        at = omega (arith, passes.next, so_far.at, len);
+        none = rw (found_append, so_far.none) (none_found n cause);
+        items = λ rows. rw (append_assoc, so_far.items) (lost_on lost page due n cause rows some);
+        few = grind (arith, so_far.few);
+      }
 
-    -- the next one is found
-    pub found_ahead : IsNextFrom now (Some Found) new
-        → IsAhead first page row (record { row = due + 1; lost = lost; found = true }) new
-    found_ahead (passes, none, ends) =
-        let last : List PageRow = Ok new.last ∷ [] in
-        record {
-          over = so_far.over ++ last;
-          passes = passes_on first now new so_far.over last so_far.passes passes;
-          row_is = omega (arith, so_far.due_is, length_push so_far.over (Ok new.last));
-          lost_are = λ rows _. ap (λ (l : List PageRow). lost_from page row l) (append_assoc so_far.over last rows)
-              ∙ ap lost_of (so_far.items (Ok new.last ∷ rows))
-              ∙ lost_then lost page due new.last (page_items page (due + 1) rows);
-          found = λ _. (
-            found_append so_far.over last ∙ ap (λ (l : List (List Colour)). l ++ new.last ∷ []) so_far.none,
-            (so_far.over, new.last, refl),
-            none,
-            ends,
-          );
-          ended = λ not. absurd cc;
-        }
+  -- the next one is found
+  pub found_ahead : IsNextFrom now (Some Found) new
+      → IsAhead first page row (record { row = due + 1; lost = lost; found = true }) new
+  found_ahead (passes, none, ends) = record {
+    over = so_far.over ++ Ok new.last ∷ [];
+    passes = passes_on so_far.over (Ok new.last ∷ []) so_far.passes passes;
+    row_is = omega (arith, so_far.due_is, length_push so_far.over (Ok new.last));
+    lost_are = λ rows _. rw (append_assoc, so_far.items)
+        (lost_then lost page due new.last (page_items page (due + 1) rows));
+    found = λ _. (rw (found_append, so_far.none), (so_far.over, new.last, refl), none, ends);
+    ended = λ not. absurd cc;
+  }
 
-    -- no other is left
-    pub none_ahead : IsNextFrom now None new
-        → IsAhead first page row (record { row = due; lost = lost; found = false }) new
-    none_ahead (passes, all, are, alone) = record {
-      over = so_far.over ++ [];
-      passes = passes_on first now new so_far.over [] so_far.passes passes;
-      row_is = omega (arith, so_far.due_is, length-append so_far.over []);
-      lost_are = λ rows none. rw (none refl) (
-          ap (λ (l : List PageRow). lost_from page row l) (append_assoc so_far.over [] [])
-          ∙ ap lost_of (so_far.items [])
-          ∙ lost_last lost
-          );
-      found = λ is. absurd cc;
-      ended = λ _. (ap found_of (append-nil so_far.over) ∙ so_far.none, all, alone);
-    }
+  -- no other is left
+  pub none_ahead : IsNextFrom now None new
+      → IsAhead first page row (record { row = due; lost = lost; found = false }) new
+  none_ahead (passes, all, are, alone) = record {
+    over = so_far.over ++ [];
+    passes = passes_on so_far.over [] so_far.passes passes;
+    row_is = omega (arith, so_far.due_is, length-append so_far.over []);
+    lost_are = λ rows none. rw (none refl, append_assoc, so_far.items) (lost_last lost);
+    found = λ is. absurd cc;
+    ended = λ _. (rw append-nil so_far.none, all, alone);
+  }
 
--- rows that are lost end with one
-last_lost : (x : PageRow) (later : List PageRow) → found_of (x ∷ later) ≡ []
-    → (before : List PageRow) × (cause : Cause) × (x ∷ later ≡ before ++ Err cause ∷ [])
-last_lost (Ok pels) later none = absurd cc
-last_lost (Err cause) [] none = ([], cause, refl)
-last_lost (Err cause) (y ∷ later) none =
-    let (before, last, is) = last_lost y later none in
-    (Err cause ∷ before, last, ap (λ (l : List PageRow). Err cause ∷ l) is)
-
+-- where the last of all rows is found, none at their end is lost
 none_later : (over later : List PageRow) → found_of later ≡ [] → EndsFound (over ++ later) → later ≡ []
-none_later over [] none ends = refl
-none_later over (x ∷ later) none (before, row, is) =
-    let (lost, cause, last) = last_lost x later none in
-    let other : Err cause ≡ Ok row =
-    (same_from_push (over ++ lost) before (Err cause) (Ok row) (append_assoc over lost (Err cause ∷ [])
-    ∙ ap (λ (l : List PageRow). over ++ l) (sym last) ∙ is)).1 in
-    absurd cc
+none_later [] later none (before, row, is) =
+    let some = rw (is, found_append) at none in
+    absurd (omega (arith, ap length some, length_push (found_of before) row))
+none_later (x ∷ []) later none ([], row, is) = cc
+none_later (x ∷ y ∷ over) later none ([], row, is) = cc
+none_later (x ∷ over) later none (y ∷ before, row, is) = none_later over later none (before, row, cc)
 
 -- no stretch stands among no rows
 no_stretch : (lost : Option Stretch) → [] ≡ stretches_of lost ++ [] → lost ≡ None
@@ -219,23 +175,9 @@ stretches_put : (closed old now new : List FaxLost) (ahead : Option Stretch) (co
     → IsStretchPut ahead now count to new
     → (new ≡ (closed ++ stretches_of ahead) ++ drop to old) × (to ≡ length (closed ++ stretches_of ahead))
     × (to ≤ length old) × (to ≤ count + 1)
-stretches_put closed old now new None count to so_far count_is len room (to_is, is) =
-    let same : closed ++ [] ≡ closed = append-nil closed in (
-      is ∙ so_far ∙ rw (same, to_is) refl,
-      to_is ∙ count_is ∙ ap (λ (l : List FaxLost). length l) (sym same),
-      omega (arith, to_is, room),
-      omega (arith, to_is),
-    )
-stretches_put closed old now new (Some stretch) count to so_far count_is len room (to_is, put) = elim put [
-  | inl (there, is) ↦ (
-    is ∙ one_set closed old now count (stretch_lost stretch) (sym count_is) room so_far
-        ∙ ap (λ n. (closed ++ stretch_lost stretch ∷ []) ++ drop n old) (sym to_is),
-    to_is ∙ ap (λ n. n + 1) count_is ∙ sym (length_push closed (stretch_lost stretch)),
-    omega (arith, to_is, room),
-    omega (arith, to_is),
-  )
-  | inr (full, is) ↦ absurd (omega (arith, full, len, room))
-]
+stretches_put closed old now new None count to so_far count_is len room put = grind (arith, append-nil)
+stretches_put closed old now new (Some stretch) count to so_far count_is len room put =
+    grind (arith, one_set, length_push)
 
 module _ (first : RowsFromView) (page row stride : ℕ) (old : List ℕ) (old_lost : List FaxLost) where
   -- so much is written
@@ -279,16 +221,17 @@ module _ (first : RowsFromView) (page row stride : ℕ) (old : List ℕ) (old_lo
     ends = inl (refl, refl);
   }
 
-  module _ (now new : RowsFromView) (due count used stretches : ℕ) (out : List ℕ) (lost : List FaxLost)
-      (so_far : AreWrittenSoFar now due count used stretches out lost) (ahead : Ahead)
-      (next : IsAhead now page due ahead new) (len_lost : length lost ≡ length old_lost)
-      (room : stretches < length old_lost) (to : ℕ) (new_lost : List FaxLost)
-      (stretch : IsStretchPut ahead.lost lost stretches to new_lost) where
+module _ {first now : RowsFromView} {page row stride due count used stretches : ℕ} {old out : List ℕ}
+    {old_lost lost : List FaxLost}
+    (so_far : AreWrittenSoFar first page row stride old old_lost now due count used stretches out lost) where
+  module _ {new : RowsFromView} {ahead : Ahead} (next : IsAhead now page due ahead new)
+      (len_lost : length lost ≡ length old_lost) (room : stretches < length old_lost) (to : ℕ)
+      (new_lost : List FaxLost) (stretch : IsStretchPut ahead.lost lost stretches to new_lost) where
     abbrev its_over : List PageRow
     its_over = so_far.over ++ next.over
 
     its_passes : PassesOver first its_over new
-    its_passes = passes_on first now new so_far.over next.over so_far.passes next.passes
+    its_passes = passes_on so_far.over next.over so_far.passes next.passes
 
     abbrev its_closed : List FaxLost
     its_closed = so_far.closed ++ stretches_of ahead.lost
@@ -298,67 +241,51 @@ module _ (first : RowsFromView) (page row stride : ℕ) (old : List ℕ) (old_lo
 
     its_lost : (rows : List PageRow) → (ahead.found ≡ false → rows ≡ [])
         → lost_from page row (its_over ++ rows) ≡ its_closed ++ lost_from page ahead.row rows
-    its_lost rows none =
-        ap (λ (l : List PageRow). lost_from page row l) (append_assoc so_far.over next.over rows)
-        ∙ so_far.stretches_are (next.over ++ rows)
-        ∙ ap (λ (l : List FaxLost). so_far.closed ++ l) (next.lost_are rows none)
-        ∙ sym (append_assoc so_far.closed (stretches_of ahead.lost) (lost_from page ahead.row rows))
+    its_lost rows none = simp (append_assoc, so_far.stretches_are, next.lost_are rows none)
 
-    abbrev ThePut : Type 0
-    ThePut =
-        (new_lost ≡ its_closed ++ drop to old_lost) × (to ≡ length its_closed) × (to ≤ length old_lost)
+    its_put : (new_lost ≡ its_closed ++ drop to old_lost) × (to ≡ length its_closed) × (to ≤ length old_lost)
         × (to ≤ stretches + 1)
-
-    its_put : ThePut
     its_put = stretches_put so_far.closed old_lost lost new_lost ahead.lost stretches to so_far.put so_far.stretches_is
         len_lost room stretch
+
+    -- where no row is lost, no stretch is put
+    none_put : lost_from page due (next.over ++ []) ≡ [] → to ≡ stretches
+    none_put none = (rw (no_stretch ahead.lost (sym none ∙ next.lost_are [] (λ _. refl))) at stretch).0
 
     -- a row that is found
     pub one_more : ahead.found ≡ true → length new.last ≡ new.here.form.width
         → packed_len first.here.form.width ≤ stride → length out ≡ length old → (end : ℕ) (new_out : List ℕ)
         → IsPutAt (padded_row stride new.last) out used (Some end) new_out
-        → AreWrittenSoFar new ahead.row (count + 1) end to new_out new_lost
+        → AreWrittenSoFar first page row stride old old_lost new ahead.row (count + 1) end to new_out new_lost
     one_more is width fits len_out end new_out (end_is, inside, new_is) =
         let (alone, ends, none, with_page) = next.found is in
-        let same_width : length new.last ≡ first.here.form.width =
-        width ∙ ap (λ (p : FilePage). p.form.width) its_passes.same_here in
-        let short : packed_len (length new.last) ≤ stride = rw same_width fits in
-        let fills = fills_stride stride new.last short in
+        let short : packed_len (length new.last) ≤ stride = rw (width, its_passes.same_here) fits in
         let front = flat_map (padded_row stride) (found_of so_far.over) in
-        let rows_are : found_of its_over ≡ found_of so_far.over ++ new.last ∷ [] =
-        found_append so_far.over next.over ∙ ap (λ (l : List (List Colour)). found_of so_far.over ++ l) alone in
+        let rows_are : found_of its_over ≡ found_of so_far.over ++ new.last ∷ [] = rw (found_append, alone) in
         let bytes_are : flat_map (padded_row stride) (found_of its_over) ≡ front ++ padded_row stride new.last =
-        ap (λ (l : List (List Colour)). flat_map (padded_row stride) l) rows_are
-        ∙ padded_push stride (found_of so_far.over) new.last in
-        let sum : (count + 1) * stride ≡ count * stride + stride = omega arith in
+        rw rows_are (padded_push stride (found_of so_far.over) new.last) in
         record {
           over = its_over;
           passes = its_passes;
           due_is = due_next;
           at = omega (arith, next.passes.next, next.row_is, so_far.at);
-          count_is = ap (λ n. n + 1) so_far.count_is ∙ sym (length_push (found_of so_far.over) new.last)
-              ∙ ap (λ (l : List (List Colour)). length l) (sym rows_are);
-          bytes = ap (λ (l : List ℕ). length l) bytes_are ∙ length-append front (padded_row stride new.last)
-              ∙ ap (λ n. n + length (padded_row stride new.last)) so_far.bytes ∙ sym end_is;
-          used_is = omega (arith, end_is, fills, so_far.used_is, sum);
+          count_is = rw (rows_are, length_push, so_far.count_is);
+          bytes = rw (bytes_are, length-append, so_far.bytes) (sym end_is);
+          used_is = omega (arith, end_is, fills_stride stride new.last short, so_far.used_is);
           within = omega (arith, inside, len_out);
-          written = more_put front old out (padded_row stride new.last) new_out used end so_far.bytes so_far.written
-              end_is new_is
-              ∙ ap (λ (l : List ℕ). l ++ drop end old) (sym bytes_are);
+          written = rw bytes_are (more_put front old out (padded_row stride new.last) new_out used end so_far.bytes
+              so_far.written end_is new_is);
           closed = its_closed;
-          stretches_are = λ rows. its_lost rows (λ not. absurd (let apart : true ≡ false = sym is ∙ not in cc));
+          stretches_are = λ rows. its_lost rows (λ not. absurd (cc (is, not)));
           stretches_is = its_put.1;
           put = its_put.0;
           fits = its_put.2;
-          few =
-              let some : 0 < length next.over = ends_some next.over ends in
-              omega (arith, its_put.3, so_far.few, next.row_is, some);
+          few = omega (arith, its_put.3, so_far.few, next.row_is, ends_some ends);
           ends = inr (no_later alone ends, none, with_page);
         }
       where
-        ends_some : (over : List PageRow) → EndsFound over → 0 < length over
-        ends_some over (before, row, is) =
-            let len = ap (λ (l : List PageRow). length l) is ∙ length_push before (Ok row) in omega (arith, len)
+        ends_some : EndsFound next.over → 0 < length next.over
+        ends_some (before, row, is) = rw (is, length_push) (omega arith)
 
         -- a row after another that is found has no stretch before it
         no_later : found_of next.over ≡ new.last ∷ [] → EndsFound next.over
@@ -366,17 +293,12 @@ module _ (first : RowsFromView) (page row stride : ℕ) (old : List ℕ) (old_lo
         no_later alone (before, row, is) = (
           so_far.over ++ before,
           row,
-          ap (λ (l : List PageRow). so_far.over ++ l) is ∙ sym (append_assoc so_far.over before (Ok row ∷ [])),
+          rw (is, append_assoc),
           λ ends.
-              let all : found_of before ++ row ∷ [] ≡ new.last ∷ [] =
-              sym (found_append before (Ok row ∷ [])) ∙ ap (λ (l : List PageRow). found_of l) (sym is) ∙ alone in
+              let all : found_of before ++ row ∷ [] ≡ new.last ∷ [] = rw (is, found_append) at alone in
               let nothing = none_later so_far.over before (same_from_push (found_of before) [] row new.last all).0 ends
               in
-              let next_is : next.over ≡ Ok row ∷ [] = rw nothing at is in
-              let no_lost : [] ≡ stretches_of ahead.lost ++ [] =
-              ap (λ (l : List PageRow). lost_from page due (l ++ [])) (sym next_is) ∙ next.lost_are [] (λ _. refl) in
-              let same : to ≡ stretches = (rw (no_stretch ahead.lost no_lost) at stretch).0 in
-              omega (arith, same, room),
+              omega (arith, none_put (rw (is, nothing) refl), room),
         )
 
     -- no other row is left
@@ -386,17 +308,12 @@ module _ (first : RowsFromView) (page row stride : ℕ) (old : List ℕ) (old_lo
         out new_lost
     ended is has_room =
         let (none, all, alone) = next.ended is in
-        let found_are : found_of its_over ≡ found_of so_far.over =
-        found_append so_far.over next.over ∙ ap (λ (l : List (List Colour)). found_of so_far.over ++ l) none
-        ∙ append-nil (found_of so_far.over) in
-        let lost_are : lost_from page row its_over ≡ its_closed =
-        ap (λ (l : List PageRow). lost_from page row l) (sym (append-nil its_over)) ∙ its_lost [] (λ _. refl)
-        ∙ append-nil its_closed in
-        let at : row_due new ≡ ahead.row = omega (arith, next.passes.next, next.row_is, so_far.at) in
+        let found_are : found_of its_over ≡ found_of so_far.over = rw (found_append, none, append-nil) in
+        let lost_are : lost_from page row its_over ≡ its_closed = simp append-nil at (its_lost [] (λ _. refl)) in
         record {
           same_file = its_passes.same_file;
           same_here = its_passes.same_here;
-          row_is = ap (λ n. record { page = page; row = n }) (sym at);
+          row_is = ap (λ n. record { page = page; row = n }) (omega (arith, next.passes.next, next.row_is, so_far.at));
           within = omega (arith, all);
           ends = inl all;
           with_page = λ _. alone;
@@ -406,143 +323,101 @@ module _ (first : RowsFromView) (page row stride : ℕ) (old : List ℕ) (old_lo
             record {
               over = its_over;
               split = refl;
-              count = so_far.count_is ∙ ap (λ (l : List (List Colour)). length l) (sym found_are);
-              used = its_put.1 ∙ ap (λ (l : List FaxLost). length l) (sym lost_are);
+              count = rw found_are so_far.count_is;
+              used = rw lost_are its_put.1;
               cursor = ap (λ n. record { page = page; row = n }) due_next;
               written = rw (found_are, ← so_far.used_is) so_far.written;
-              lost_are = its_put.0 ∙ ap (λ (l : List FaxLost). l ++ drop to old_lost) (sym lost_are);
-              stops = (alone rest left, λ ends full. not_full none (none_later so_far.over next.over none ends) full);
+              lost_are = rw lost_are its_put.0;
+              stops = (alone rest left, λ ends. not_full (none_later so_far.over next.over none ends));
             },
           );
         }
       where
         -- where all stretches had ended, one more had room
-        not_full : found_of next.over ≡ [] → next.over ≡ []
-            → IsFull (length old) (count * stride) stride to (length old_lost) → ⊥
-        not_full none nothing full =
-            let alone : [] ≡ stretches_of ahead.lost ++ [] =
-            ap (λ (l : List PageRow). lost_from page due (l ++ [])) (sym nothing) ∙ next.lost_are [] (λ _. refl) in
-            let same : to ≡ stretches = (rw (no_stretch ahead.lost alone) at stretch).0 in
-            elim full [
-              | inl short ↦ omega (arith, short, so_far.used_is, has_room.0)
-              | inr few ↦ omega (arith, few, same, has_room.1)
-            ]
+        not_full : next.over ≡ [] → IsFull (length old) (count * stride) stride to (length old_lost) → ⊥
+        not_full nothing full =
+            omega (arith, full, so_far.used_is, has_room, none_put (ap (λ l. lost_from page due (l ++ [])) nothing))
 
   -- no more has room
-  pub is_done : (now : RowsFromView) (due count used stretches : ℕ) (out : List ℕ) (lost : List FaxLost)
-      → AreWrittenSoFar now due count used stretches out lost → HasRoomForBoth (length old) 0 stride 0 (length old_lost)
+  pub is_done : HasRoomForBoth (length old) 0 stride 0 (length old_lost)
       → IsFull (length old) used stride stretches (length old_lost)
       → AreRowsFilled page row stride first old old_lost
       (record { cursor = record { page = page; row = due }; count = count; used = stretches; stop = Done }) now out lost
-  is_done now due count used stretches out lost so_far room full =
-      let (ends, none, with_page) = it_ends so_far.ends in
-      let lost_are : lost_from page row so_far.over ≡ so_far.closed =
-      ap (λ (l : List PageRow). lost_from page row l) (sym (append-nil so_far.over)) ∙ so_far.stretches_are []
-      ∙ append-nil so_far.closed in
-      let rows_same : now.here.form.rows ≡ first.here.form.rows =
-      ap (λ (p : FilePage). p.form.rows) so_far.passes.same_here in
-      record {
-        same_file = so_far.passes.same_file;
-        same_here = so_far.passes.same_here;
-        row_is = ap (λ n. record { page = page; row = n }) (sym so_far.at);
-        within = omega (arith, so_far.passes.within, rows_same);
-        ends = inr none;
-        with_page = with_page;
-        written = λ rest left. (
-          so_far.over ++ rest,
-          so_far.passes.followed rest left,
-          record {
-            over = so_far.over;
-            split = refl;
-            count = so_far.count_is;
-            used = so_far.stretches_is ∙ ap (λ (l : List FaxLost). length l) (sym lost_are);
-            cursor = ap (λ n. record { page = page; row = n }) so_far.due_is;
-            written = rw (← so_far.used_is) so_far.written;
-            lost_are = so_far.put ∙ ap (λ (l : List FaxLost). l ++ drop stretches old_lost) (sym lost_are);
-            stops = (ends, rw (← so_far.used_is) full);
-          },
-        );
-      }
+  is_done room full = elim so_far.ends [
+    | inl none ↦ absurd (omega (arith, full, none, room))
+    | inr (ends, none, with_page) ↦
+        let lost_are : lost_from page row so_far.over ≡ so_far.closed = simp append-nil at (so_far.stretches_are []) in
+        record {
+          same_file = so_far.passes.same_file;
+          same_here = so_far.passes.same_here;
+          row_is = ap (λ n. record { page = page; row = n }) (sym so_far.at);
+          within = omega (arith, so_far.passes.within, ap (λ (p : FilePage). p.form.rows) so_far.passes.same_here);
+          ends = inr none;
+          with_page = with_page;
+          written = λ rest left. (
+            so_far.over ++ rest,
+            so_far.passes.followed rest left,
+            record {
+              over = so_far.over;
+              split = refl;
+              count = so_far.count_is;
+              used = rw lost_are so_far.stretches_is;
+              cursor = ap (λ n. record { page = page; row = n }) so_far.due_is;
+              written = rw (← so_far.used_is) so_far.written;
+              lost_are = rw lost_are so_far.put;
+              stops = (ends, rw (← so_far.used_is) full);
+            },
+          );
+        }
+  ]
+
+module _ (left : RowsFromView) (place : FaxPlace) (cursor : Cursor) (runs : List ℕ)
+    (row_is : cursor.row ≡ row_due left) (more : cursor.row ≢ left.here.form.rows) (ends : EndsOrGoesOn left) where
+  abbrev goes_on : left.reader.before ≡ None
+  goes_on = elim ends.1 [ inl all ↦ absurd (omega (arith, all, row_is, more)) | inr none ↦ none ]
+
+  abbrev due : row_due left < left.here.form.rows
+  due = omega (arith, ends.0, row_is, more)
+
+  -- the place of the row that is due, which its strip begins with
+  pub told_at : place ≡ place_at cursor → IsPlaceNow left None → IsToldAfter left cursor place runs runs
+  told_at place_is placed =
+      let row_there : place.row ≡ row_due left = ap (λ (p : FaxPlace). p.row) place_is ∙ row_is in
+      let (s, i, there, fits, width, first, rows_are) = placed goes_on due in
+      let at : Inner = record { bits = 0; reference = white_row left.here.form.width } in
+      let is_on : IsPlaceOn left.file left.here place runs s i at = record {
+        row = rw row_there there;
+        within = fits;
+        width = width;
+        so = inl (ap (λ (p : FaxPlace). p.runs) place_is, first refl, refl, refl);
+      } in
+      (ap cursor_of place_is, refl, inr (s, i, at, is_on, rows_are))
+
+  -- or it stands inside its strip
+  pub told_inside : (old_runs : List ℕ) (lent : PlaceInStrip) → cursor_of place ≡ cursor → place.bits ≡ lent.bits
+      → IsPlaceNow left (Some lent) → IsPutAt (runs_of lent.reference.now) old_runs 0 (Some place.runs) runs
+      → IsToldAfter left cursor place old_runs runs
+  told_inside old_runs lent cursor_is bits_are placed put =
+      let row_there : place.row ≡ row_due left = ap (λ (c : Cursor). c.row) cursor_is ∙ row_is in
+      let (s, i, there, fits, width, first, rows_are) = placed goes_on due in
+      let told = due_told left.here.form.width lent.reference.now (row_due left) lent.bits place.runs cursor.page
+      old_runs runs width put in
+      let at : Inner = record { bits = lent.bits; reference = lent.reference.now } in
+      let is_on : IsPlaceOn left.file left.here place runs s i at = record {
+        row = rw row_there there;
+        within = fits;
+        width = width;
+        so = inr (told.0, sym bits_are, runs_told told.1.reference);
+      } in
+      (cursor_is, told.2, inr (s, i, at, is_on, rows_are))
     where
-      it_ends : ((used ≡ 0) × (stretches ≡ 0))
-          ⊎ (StopsNoLater so_far.over stretches (length old_lost) × (now.reader.before ≡ None) × EndsWithPage now)
-          → StopsNoLater so_far.over stretches (length old_lost) × (now.reader.before ≡ None) × EndsWithPage now
-      it_ends (inl (none, no_stretch)) = elim full [
-        | inl short ↦ absurd (omega (arith, short, none, room.0))
-        | inr few ↦ absurd (omega (arith, few, no_stretch, room.1))
-      ]
-      it_ends (inr so) = so
+      runs_told : ((place.runs ≡ 0) × (lent.reference.now ≡ white_row left.here.form.width))
+          ⊎ (HasRuns place runs × (runs_of lent.reference.now ≡ take place.runs runs))
+          → runs_of lent.reference.now ≡ take place.runs runs
+      runs_told (inl (none, _)) = absurd (omega (arith, none, put.0, some_run White 0 lent.reference.now))
+      runs_told (inr (_, is)) = is
 
--- the place of the row that is due, which its strip begins with
-pub told_at : (left : RowsFromView) (cursor : Cursor) (place : FaxPlace) (runs : List ℕ) → place ≡ place_at cursor
-    → cursor.row ≡ row_due left → cursor.row ≢ left.here.form.rows → EndsOrGoesOn left → IsPlaceNow left None
-    → IsToldAfter left cursor place runs runs
-told_at left cursor place runs place_is row_is more (within, ends) placed =
-    let due : row_due left < left.here.form.rows = omega (arith, within, row_is, more) in
-    let row_there : place.row ≡ row_due left = ap (λ (p : FaxPlace). p.row) place_is ∙ row_is in
-    let (s, i, there, fits, width, first, rows_are) = placed (goes_on ends) due in (
-      ap cursor_of place_is,
-      refl,
-      inr (
-        s,
-        i,
-        record { bits = 0; reference = white_row left.here.form.width },
-        record {
-          row = rw row_there there;
-          within = fits;
-          width = width;
-          so = inl (ap (λ (p : FaxPlace). p.runs) place_is, first refl, refl, refl);
-        },
-        rows_are,
-      ),
-    )
-  where
-    goes_on : (row_due left ≡ left.here.form.rows) ⊎ (left.reader.before ≡ None) → left.reader.before ≡ None
-    goes_on (inl all) = absurd (omega (arith, all, row_is, more))
-    goes_on (inr none) = none
-
--- or it stands inside its strip
-pub told_inside : (left : RowsFromView) (cursor : Cursor) (place : FaxPlace) (old_runs runs : List ℕ)
-    (lent : PlaceInStrip) → cursor_of place ≡ cursor → place.bits ≡ lent.bits
-    → cursor.row ≡ row_due left → cursor.row ≢ left.here.form.rows → EndsOrGoesOn left
-    → IsPlaceNow left (Some lent) → IsPutAt (runs_of lent.reference.now) old_runs 0 (Some place.runs) runs
-    → IsToldAfter left cursor place old_runs runs
-told_inside left cursor place old_runs runs lent cursor_is bits_are row_is more (within, ends) placed put =
-    let due : row_due left < left.here.form.rows = omega (arith, within, row_is, more) in
-    let row_there : place.row ≡ row_due left = ap (λ (c : Cursor). c.row) cursor_is ∙ row_is in
-    let (s, i, there, fits, width, first, rows_are) = placed (goes_on ends) due in
-    let told = due_told left.here.form.width lent.reference.now (row_due left) lent.bits place.runs cursor.page old_runs
-    runs width put in (
-      cursor_is,
-      told.2,
-      inr (
-        s,
-        i,
-        record { bits = lent.bits; reference = lent.reference.now },
-        record {
-          row = rw row_there there;
-          within = fits;
-          width = width;
-          so = inr (told.0, sym bits_are, runs_told told.1.reference);
-        },
-        rows_are,
-      ),
-    )
-  where
-    goes_on : (row_due left ≡ left.here.form.rows) ⊎ (left.reader.before ≡ None) → left.reader.before ≡ None
-    goes_on (inl all) = absurd (omega (arith, all, row_is, more))
-    goes_on (inr none) = none
-
-    runs_told : ((place.runs ≡ 0) × (lent.reference.now ≡ white_row left.here.form.width))
-        ⊎ (HasRuns place runs × (runs_of lent.reference.now ≡ take place.runs runs))
-        → runs_of lent.reference.now ≡ take place.runs runs
-    runs_told (inl (none, _)) = absurd (has_some none)
-      where
-        has_some : place.runs ≡ 0 → ⊥
-        has_some none = omega (arith, none, put.0, some_run White 0 lent.reference.now)
-    runs_told (inr (_, is)) = is
-
--- nothing is looked for at a place, for this reason
+-- a place of the caller's, and what is written from there on
 module _ (file : List ℕ) (here : FilePage) (stride : ℕ) (place : FaxPlace) (runs old : List ℕ)
     (old_lost : List FaxLost) where
   abbrev m : ℕ
@@ -551,39 +426,34 @@ module _ (file : List ℕ) (here : FilePage) (stride : ℕ) (place : FaxPlace) (
   abbrev memory : LeftMemory
   memory = record { place = place; runs = runs; raster = old; lost = old_lost }
 
-  pub none_before : (stop : Stop) (filled : Filled) → 0 < m
+  -- nothing is written, for this reason
+  written_none : {filled : Filled} (stop : Stop)
+      → WritesNone file here stride place runs (length old) (length old_lost) stop
+      → filled ≡ none_filled_at (cursor_of place) stop → WritesFrom file here stride memory filled memory
+  written_none stop why filled_is = rw filled_is (inr (why, refl, refl))
+
+  -- nothing is looked for at the place
+  pub none_before : {filled : Filled} (stop : Stop) → 0 < m
       → IsStopBefore here.form place stride (length old) (length old_lost) (Some stop)
-      → filled ≡ none_filled_at (cursor_of place) stop
-      → WritesFrom file here stride memory filled memory
-  none_before stop filled some why filled_is =
-      let stop_is : filled.stop ≡ stop = ap (λ (f : Filled). f.stop) filled_is in
-      inr (
-        rw stop_is (none_for stop why),
-        filled_is ∙ ap (none_filled_at (cursor_of place)) (sym stop_is),
-        refl,
-      )
+      → filled ≡ none_filled_at (cursor_of place) stop → WritesFrom file here stride memory filled memory
+  none_before Done some why = absurd why
+  none_before Memory some why = absurd why
+  none_before (Ended (Fault p r cause)) some why = absurd why
+  none_before NoRoom some full = written_none NoRoom full
+  none_before (Ended Proper) some why = written_none (Ended Proper) why
+  none_before (Ended Outside) some (room, more, out) =
+      written_none (Ended Outside) (room, more, λ s i at its. nowhere s i at its out)
     where
-      none_for : (stop : Stop) → IsStopBefore here.form place stride (length old) (length old_lost) (Some stop)
-          → WritesNone file here stride place runs (length old) (length old_lost) stop
-      none_for Done why = absurd why
-      none_for Memory why = absurd why
-      none_for (Ended (Fault p r cause)) why = absurd why
-      none_for NoRoom full = full
-      none_for (Ended Proper) why = why
-      none_for (Ended Outside) (room, more, out) = (room, more, λ s i at its. nowhere s i at its out)
-        where
-          nowhere : (s i : ℕ) (at : Inner) → IsPlaceOn file here place runs s i at
-              → (here.form.rows < place.row) ⊎ ((place.runs ≡ 0) × (place.row % m ≢ 0)) → ⊥
-          nowhere s i at its (inl past) = omega (arith, past, its.row.row, its.row.place)
-          nowhere s i at its (inr (none, inside)) = elim its.so [
-            | inl first ↦
-                let row_is : place.row ≡ s * m + 0 = its.row.place ∙ ap (λ n. s * m + n) first.1 in
-                inside (rw row_is (mod-mul-add s m 0 some))
-            | inr has ↦ omega (arith, none, has.0.0)
-          ]
+      nowhere : (s i : ℕ) (at : Inner) → IsPlaceOn file here place runs s i at
+          → (here.form.rows < place.row) ⊎ ((place.runs ≡ 0) × (place.row % m ≢ 0)) → ⊥
+      nowhere s i at its (inl past) = omega (arith, past, its.row.row, its.row.place)
+      nowhere s i at its (inr (none, inside)) = elim its.so [
+        | inl first ↦ inside (rw (its.row.place, first.1) (mod-mul-add s m 0 some))
+        | inr has ↦ omega (arith, none, has.0.0)
+      ]
 
   -- what a place of the caller's is
-  module _ (bits : ℕ) (row_before : RowBefore) (before : IsRowBefore place runs (Some row_before))
+  module _ {bits : ℕ} {row_before : RowBefore} (before : IsRowBefore place runs (Some row_before))
       (none : place.runs ≡ 0 → bits ≡ 0) (some_bits : place.runs ≢ 0 → bits ≡ place.bits) where
     pub inner_is : (s i : ℕ) (at : Inner) → IsPlaceOn file here place runs s i at
         → IsInnerOf file here s bits row_before at
@@ -609,10 +479,10 @@ module _ (file : List ℕ) (here : FilePage) (stride : ℕ) (place : FaxPlace) (
               }
         ]
 
-    pub place_is : 0 < m → (place.runs ≡ 0 → place.row % m ≡ 0) → (s i : ℕ) (at : Inner)
+    pub place_is : {s i : ℕ} {at : Inner} → 0 < m → (place.runs ≡ 0 → place.row % m ≡ 0)
         → IsRowOfStrip here.form place.row s i → IsInnerOf file here s bits row_before at
         → IsPlaceOn file here place runs s i at
-    place_is some first s i at there inner = record {
+    place_is {s} {i} {at} some first there inner = record {
       row = there;
       within = omega (arith, inner.within, inner.bits_are);
       width = wide row_before inner.reference;
@@ -621,7 +491,7 @@ module _ (file : List ℕ) (here : FilePage) (stride : ℕ) (place : FaxPlace) (
       where
         wide : (row_before : RowBefore) → IsBefore here.form.width row_before at.reference
             → length at.reference ≡ here.form.width
-        wide White_row_before white = ap (λ (l : List Colour). length l) white ∙ length-replicate here.form.width _
+        wide White_row_before white = rw (white, length-replicate)
         wide (Runs those) (width, _) = width
 
         by_before : (row_before : RowBefore) → IsRowBefore place runs (Some row_before)
@@ -636,94 +506,54 @@ module _ (file : List ℕ) (here : FilePage) (stride : ℕ) (place : FaxPlace) (
             let same : bits ≡ place.bits = some_bits (λ zero. omega (arith, zero, has.0)) in
             inr (has, inner.bits_are ∙ same, runs_are ∙ those_are)
 
-  -- what is left from the place on is written
-  pub all_from : (first new : RowsFromView) (filled : Filled) (bits : ℕ) (row_before : RowBefore) (place' : FaxPlace)
-      (new_runs out : List ℕ) (lost : List FaxLost) (s i : ℕ) (at : Inner) (rest : List PageRow)
-      → HasRoomFor here.form.width stride (length old) (length old_lost)
-      → IsPlaceOn file here place runs s i at
-      → ((rows : List PageRow) → AreLeftNow first rows → AreRowsFrom file here s i at rows)
-      → first.file ≡ file → first.here ≡ here
-      → AreRowsFilled place.page place.row stride first old old_lost filled new out lost
-      → AreLeftNow new rest → IsToldAfter new filled.cursor place' runs new_runs
-      → WritesFrom file here stride memory filled
-      (record { place = place'; runs = new_runs; raster = out; lost = lost })
-  all_from first new filled bits row_before place' new_runs out lost s i at rest room its rows_are file_is here_is
-      written left told =
-      let (rows, are, now) = written.written rest left in
-      let same_file : new.file ≡ file = written.same_file ∙ file_is in
-      let same_here : new.here ≡ here = written.same_here ∙ here_is in
-      inl (
-        room,
-        s,
-        i,
-        at,
-        its,
-        rows,
-        rest,
-        rows_are rows are,
-        now,
-        (told.0, told.1, after same_file same_here told.2),
-      )
-    where
-      after : new.file ≡ file → new.here ≡ here → IsToldPlace new filled.cursor place' new_runs
-          → ((filled.cursor.row ≡ here.form.rows) × (place' ≡ place_at filled.cursor) × (rest ≡ []))
-          ⊎ ((s : ℕ) × (i : ℕ) × (at : Inner) × IsPlaceOn file here place' new_runs s i at
-          × AreRowsFrom file here s i at rest)
-      after same_file same_here (inl (all, is)) =
-          let same : here.form.rows ≡ new.here.form.rows = ap (λ (p : FilePage). p.form.rows) (sym same_here) in
-          let row_is : filled.cursor.row ≡ row_due new = ap (λ (c : Cursor). c.row) written.row_is in
-          inl (all ∙ sym same, is, written.with_page (sym row_is ∙ all) rest left)
-      after same_file same_here (inr (s, i, at, there, rests)) = inr (
-        s,
-        i,
-        at,
-        subst (λ (f : List ℕ). IsPlaceOn f here place' new_runs s i at) same_file
-            (subst (λ (p : FilePage). IsPlaceOn new.file p place' new_runs s i at) same_here there),
-        subst (λ (f : List ℕ). AreRowsFrom f here s i at rest) same_file
-            (subst (λ (p : FilePage). AreRowsFrom new.file p s i at rest) same_here (rests rest left)),
-      )
+    -- memory was refused at the place
+    pub no_memory_from : {filled : Filled} → 0 < m → HasRoomFor here.form.width stride (length old) (length old_lost)
+        → place.row < here.form.rows → (place.runs ≡ 0 → place.row % m ≡ 0)
+        → IsNotBegunFrom (record { file = file; here = here }) place.row bits row_before no_memory
+        → filled ≡ none_filled_at (cursor_of place) Memory → WritesFrom file here stride memory filled memory
+    no_memory_from some room due first fits =
+        written_none Memory (
+          room,
+          due,
+          λ s i there.
+              let (at, inner) = fits s i there in (at, place_is some first there inner),
+        )
 
-  -- memory was refused at the place
-  pub no_memory_from : (bits : ℕ) (row_before : RowBefore) (before : IsRowBefore place runs (Some row_before))
-      (none : place.runs ≡ 0 → bits ≡ 0) (some_bits : place.runs ≢ 0 → bits ≡ place.bits) (filled : Filled) → 0 < m
-      → HasRoomFor here.form.width stride (length old) (length old_lost) → place.row < here.form.rows
-      → (place.runs ≡ 0 → place.row % m ≡ 0)
-      → IsNotBegunFrom (record { file = file; here = here }) place.row bits row_before no_memory
-      → filled ≡ none_filled_at (cursor_of place) Memory
-      → WritesFrom file here stride memory filled memory
-  no_memory_from bits row_before before none some_bits filled some room due first fits filled_is =
-      let stop_is : filled.stop ≡ Memory = ap (λ (f : Filled). f.stop) filled_is in
-      let why : WritesNone file here stride place runs (length old) (length old_lost) Memory = (
-        room,
-        due,
-        λ s i there.
-            let (at, inner) = fits s i there in
-            (at, place_is bits row_before before none some_bits some first s i at there inner),
-      )
-      in
-      inr (
-        rw stop_is why,
-        filled_is ∙ ap (none_filled_at (cursor_of place)) (sym stop_is),
-        refl,
-      )
+    -- no row of the page is due at the place
+    pub nowhere_from : {filled : Filled} → HasRoomFor here.form.width stride (length old) (length old_lost)
+        → place.row < here.form.rows
+        → IsNotBegunFrom (record { file = file; here = here }) place.row bits row_before no_such_place
+        → filled ≡ none_filled_at (cursor_of place) (Ended Outside) → WritesFrom file here stride memory filled memory
+    nowhere_from room due not =
+        let more : place.row ≢ here.form.rows = λ all. omega (arith, due, all) in
+        written_none (Ended Outside) (room, more, λ s i at its. not s i its.row at (inner_is s i at its))
 
-  -- no row of the page is due at the place
-  pub nowhere_from : (bits : ℕ) (row_before : RowBefore) (before : IsRowBefore place runs (Some row_before))
-      (none : place.runs ≡ 0 → bits ≡ 0) (some_bits : place.runs ≢ 0 → bits ≡ place.bits) (filled : Filled)
-      → HasRoomFor here.form.width stride (length old) (length old_lost) → place.row < here.form.rows
-      → IsNotBegunFrom (record { file = file; here = here }) place.row bits row_before no_such_place
-      → filled ≡ none_filled_at (cursor_of place) (Ended Outside)
-      → WritesFrom file here stride memory filled memory
-  nowhere_from bits row_before before none some_bits filled room due not filled_is =
-      let stop_is : filled.stop ≡ Ended Outside = ap (λ (f : Filled). f.stop) filled_is in
-      let why : WritesNone file here stride place runs (length old) (length old_lost) (Ended Outside) = (
-        room,
-        (λ all. omega (arith, due, all)),
-        λ s i at its. not s i its.row at (inner_is bits row_before before none some_bits s i at its),
-      )
-      in
-      inr (
-        rw stop_is why,
-        filled_is ∙ ap (none_filled_at (cursor_of place)) (sym stop_is),
-        refl,
-      )
+  module _ {first new : RowsFromView} {filled : Filled} {place' : FaxPlace} {new_runs out : List ℕ}
+      {lost : List FaxLost} {rest : List PageRow} (file_is : first.file ≡ file) (here_is : first.here ≡ here)
+      (written : AreRowsFilled place.page place.row stride first old old_lost filled new out lost)
+      (left : AreLeftNow new rest) (told : IsToldAfter new filled.cursor place' runs new_runs) where
+    same_file : new.file ≡ file
+    same_file = written.same_file ∙ file_is
+
+    same_here : new.here ≡ here
+    same_here = written.same_here ∙ here_is
+
+    after : IsToldPlace new filled.cursor place' new_runs
+        → ((filled.cursor.row ≡ here.form.rows) × (place' ≡ place_at filled.cursor) × (rest ≡ []))
+        ⊎ ((s : ℕ) × (i : ℕ) × (at : Inner) × IsPlaceOn file here place' new_runs s i at
+        × AreRowsFrom file here s i at rest)
+    after (inl (all, is)) =
+        let row_is : filled.cursor.row ≡ row_due new = ap (λ (c : Cursor). c.row) written.row_is in
+        inl (rw same_here at all, is, written.with_page (sym row_is ∙ all) rest left)
+    after (inr (s, i, at, there, rests)) =
+        inr (s, i, at, rw (same_file, same_here) at there, rw (same_file, same_here) at (rests rest left))
+
+    -- what is left from the place on is written
+    pub all_from : {s i : ℕ} {at : Inner} → HasRoomFor here.form.width stride (length old) (length old_lost)
+        → IsPlaceOn file here place runs s i at
+        → ((rows : List PageRow) → AreLeftNow first rows → AreRowsFrom file here s i at rows)
+        → WritesFrom file here stride memory filled
+        (record { place = place'; runs = new_runs; raster = out; lost = lost })
+    all_from {s} {i} {at} room its rows_are =
+        let (rows, are, now) = written.written rest left in
+        inl (room, s, i, at, its, rows, rest, rows_are rows are, now, (told.0, told.1, after told.2))

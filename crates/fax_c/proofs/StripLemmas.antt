@@ -1,12 +1,12 @@
 -- The rows of a strip, written one after another.
-use Rattle.std.proofs.Common.{◌≡◌, ℕ, ◌+◌, ◌-◌, ◌*◌, ◌<◌, ◌≤◌, Bool, List, [], ◌∷◌, ◌++◌, length, drop, ap, sym, ◌∙◌}
+use Rattle.std.proofs.Common.{◌≡◌, ℕ, ◌+◌, ◌-◌, ◌*◌, ◌<◌, ◌≤◌, Bool, List, [], ◌∷◌, ◌++◌, length, drop, sym, ◌∙◌}
 use Rattle.std.proofs.Common.{subst, refl, inl, inr}
 use Rattle.std.proofs.Common.{arith, length-append}
 use Rattle.std.specs.Prelude.{Some, None, Err, flat_map}
 use Rattle.fax_bits.specs.Bits.{bits}
 use Rattle.fax_bits.specs.laws.Codes.{AreBitsByPlace}
 use Rattle.fax_rows.specs.Rows.{Colour, runs_of}
-use Rattle.std.proofs.lemmas.List.{length-replicate, take_at, drop_at}
+use Rattle.std.proofs.lemmas.List.{length_push, length-replicate, take_at, drop_at}
 use Rattle.fax_rows.specs.Coded.{packed_len}
 use Rattle.fax_page.specs.declared.StripForm.{StripForm}
 use Rattle.fax_page.specs.Lines.{IsLine, white_row}
@@ -41,17 +41,12 @@ not_begun form strip place runs (Runs those) (has, same) none at (is, below, wit
 
 -- and where memory is refused for one, a row is due there
 pub refused_at : (form : StripForm) (strip : List ℕ) (place : FaxPlace) (runs : List ℕ) (before : RowBefore)
-    → place.row < form.rows
-    → IsRowBefore place runs (Some before) → IsBegunInside form strip place.row place.bits before (Err Memory)
+    → place.row < form.rows → IsRowBefore place runs (Some before)
+    → IsBegunInside form strip place.row place.bits before (Err Memory)
     → (at : StripPlace) × IsDueAt form strip place runs at
 refused_at form strip place runs White due its (within, row, is) =
     let place_is : IsPlace form.width place runs (record { row = place.row; bits = place.bits; reference = row }) =
-    record {
-      row = refl;
-      bits = refl;
-      width_is = ap (λ (r : List Colour). length r) is ∙ length-replicate form.width Colour.White;
-      reference = inl (its, is);
-    } in
+    record { row = refl; bits = refl; width_is = rw (is, length-replicate); reference = inl (its, is) } in
     (record { row = place.row; bits = place.bits; reference = row }, (place_is, due, within))
 refused_at form strip place runs (Runs those) due (has, same) (within, row, (wide, is)) =
     let place_is : IsPlace form.width place runs (record { row = place.row; bits = place.bits; reference = row }) =
@@ -60,8 +55,7 @@ refused_at form strip place runs (Runs those) due (has, same) (within, row, (wid
 
 -- one row more is read
 reads_more : (form : StripForm) (all : List Bool) (from : StripPlace) (rows : List (List Colour)) (mid : StripPlace)
-    (n : ℕ) (row : List Colour)
-    → ReadsTo form all from rows mid → n ≤ length all → mid.row < form.rows
+    (n : ℕ) (row : List Colour) → ReadsTo form all from rows mid → n ≤ length all → mid.row < form.rows
     → IsLine form mid.row mid.reference (drop mid.bits all) row (drop n all)
     → ReadsTo form all from (rows ++ row ∷ []) (record { row = mid.row + 1; bits = n; reference = row })
 reads_more form all from [] mid n row same inside due line = grind arith
@@ -76,8 +70,7 @@ reads_more form all from (first ∷ rows) mid n row (bits, within, before, first
 
 -- so many rows are read from a place on, and written
 pub record AreReadSoFar (form : StripForm) (bytes : List ℕ) (stride : ℕ) (from : StripPlace) (old : List ℕ)
-    (count used : ℕ) (state : StripState)
-    (now : List ℕ) : Type 0 where
+    (count used : ℕ) (state : StripState) (now : List ℕ) : Type 0 where
   pub same_form : state.form ≡ form
   pub same_bytes : state.bytes ≡ bytes
   pub no_fault : state.fault ≡ None
@@ -89,16 +82,9 @@ pub record AreReadSoFar (form : StripForm) (bytes : List ℕ) (stride : ℕ) (fr
   pub room : used ≤ length old
   pub written : now ≡ flat_map (padded_row stride) rows ++ drop used old
 
--- a row of a form has room where its width has
-pub fits : (row : List Colour) (form first : StripForm) (stride : ℕ) → length row ≡ form.width → form ≡ first
-    → packed_len first.width ≤ stride
-    → packed_len (length row) ≤ stride
-fits row form first stride len same short = grind arith
-
 -- the place of a row that is due, where the runs of the row before it are written
 pub due_told : (width : ℕ) (reference : List Colour) (row bits count page : ℕ) (old_runs runs : List ℕ)
-    → length reference ≡ width
-    → IsPutAt (runs_of reference) old_runs 0 (Some count) runs
+    → length reference ≡ width → IsPutAt (runs_of reference) old_runs 0 (Some count) runs
     → let place : FaxPlace = record { page = page; row = row; bits = bits; runs = count } in
     HasRuns place runs × IsPlace width place runs (record { row = row; bits = bits; reference = reference })
     × (drop count runs ≡ drop count old_runs)
@@ -106,81 +92,63 @@ due_told width reference row bits count page old_runs runs len (count_is, within
     grind (arith, some_run, take_at, drop_at, length-append)
 
 -- what was read is all that is, where it stops
-pub stops_after : (form : StripForm) (bytes : List ℕ) (page stride : ℕ) (from : StripPlace) (old : List ℕ)
-    (count used row : ℕ)
-    (state next : StripState) (now : List ℕ) (stop : Stop) → AreReadSoFar form bytes stride from old count used state
-    now
+pub stops_after : {form : StripForm} {bytes : List ℕ} {page stride : ℕ} {from : StripPlace} {old : List ℕ}
+    {count used row : ℕ} {state : StripState} (next : StripState) {now : List ℕ} {stop : Stop}
+    → AreReadSoFar form bytes stride from old count used state now
     → place_due next ≡ place_due state → row ≡ next.row
     → StopsAt form (bits form.order bytes) (place_due next) page stride (length old - used) stop
     → AreStripRows form (bits form.order bytes) page stride from old
     (record { cursor = record { page = page; row = row }; count = count; used = used; stop = stop }) (place_due next)
     now
-stops_after form bytes page stride from old count used row state next now stop so_far same row_is why = grind arith
+stops_after next so_far same row_is why = grind arith
 
 -- why no row is read
-pub why_none : (form : StripForm) (bytes : List ℕ) (page stride left : ℕ) (old next : StripState) (stop : Stop)
-    → old.form ≡ form → old.bytes ≡ bytes
-    → stride ≤ left → IsReadNext page old (Some stop) next → StopsAt form (bits form.order bytes) (place_due next) page
-    stride left stop
-why_none form bytes page stride left old next stop same_form same_bytes room (same, next_form, next_bytes, why) =
+pub why_none : {form : StripForm} {bytes : List ℕ} (page stride left : ℕ) {old next : StripState} (stop : Stop)
+    → old.form ≡ form → old.bytes ≡ bytes → stride ≤ left → IsReadNext page old (Some stop) next
+    → StopsAt form (bits form.order bytes) (place_due next) page stride left stop
+why_none {form} {bytes} page stride left stop same_form same_bytes room (same, next_form, next_bytes, why) =
     subst (λ (to : StripPlace). StopsAt form (bits form.order bytes) to page stride left stop) (sym same) (elim why [
       | inl (end, is) ↦ inr (room, None, is, (refl, rw same_form at end.all_read))
       | inr (fault, meets, is) ↦
           inr (room, Some fault, is, (refl, rw same_form at meets.due, rw (same_form, same_bytes) at meets.cause))
     ])
 
-module _ (form : StripForm) (bytes : List ℕ) (stride : ℕ) (from : StripPlace) (old : List ℕ) (count used : ℕ)
-    (state : StripState) (now : List ℕ)
-    (so_far : AreReadSoFar form bytes stride from old count used state now) (bits_stand : AreBitsByPlace) where
+module _ {form : StripForm} {bytes : List ℕ} {stride : ℕ} {from : StripPlace} {old : List ℕ} {count used : ℕ}
+    {state : StripState} {now : List ℕ} (so_far : AreReadSoFar form bytes stride from old count used state now)
+    (bits_stand : AreBitsByPlace) where
   pub one_more : (next : StripState) (to : ℕ) (new : List ℕ) → ReadsRow state next
       → packed_len (length next.reference) ≤ stride
       → IsPutAt (padded_row stride next.reference) now used (Some to) new → length now ≡ length old
       → AreReadSoFar form bytes stride from old (count + 1) to next new
   one_more next to new reads short (to_is, within, new_is) same_len =
       let row = next.reference in
-      let fills = fills_stride stride row short in
       let front = flat_map (padded_row stride) so_far.rows in
       let step : IsLine form state.row state.reference (drop state.place (bits form.order bytes)) row
       (drop next.place (bits form.order bytes)) =
       rw (reads.same_form, reads.same_bytes, so_far.same_form, so_far.same_bytes) at reads.line in
-      let due : state.row < form.rows = subst (λ (f : StripForm). state.row < f.rows) so_far.same_form reads.due in
       let same_bytes = reads.same_bytes ∙ so_far.same_bytes in
       let inside : next.place ≤ length (bits form.order bytes) =
-      omega (arith, reads.within, ap (λ (l : List ℕ). length l) same_bytes, bits_stand.count form.order bytes) in
+      rw (bits_stand.count, ← same_bytes) (omega (arith, reads.within)) in
       let more = reads_more form (bits form.order bytes) from so_far.rows (place_due state) next.place row so_far.read
-      inside due step in
-      let rows_len : length (so_far.rows ++ row ∷ []) ≡ length so_far.rows + 1 = length-append so_far.rows (row ∷ []) in
-      let product : (length so_far.rows + 1) * stride ≡ length so_far.rows * stride + stride = omega arith in
-      let used_next : to ≡ length (so_far.rows ++ row ∷ []) * stride =
-      to_is ∙ ap (λ n. used + n) fills ∙ ap (λ n. n + stride) so_far.used_is ∙ sym product
-      ∙ sym (ap (λ n. n * stride) rows_len) in
+      inside (rw so_far.same_form at reads.due) step in
       let all = padded_push stride so_far.rows row in
       record {
         same_form = reads.same_form ∙ so_far.same_form;
         same_bytes = same_bytes;
         no_fault = reads.still_no_fault;
         rows = so_far.rows ++ row ∷ [];
-        read = subst (λ n. ReadsTo form (bits form.order bytes) from (so_far.rows ++ row ∷ [])
-            (record { row = n; bits = next.place; reference = row }))
-            (sym reads.next_row) more;
-        count_is = ap (λ n. n + 1) so_far.count_is ∙ sym rows_len;
-        used_is = used_next;
-        len = omega (
-          arith,
-          ap (λ (l : List ℕ). length l) all,
-          length-append front (padded_row stride row),
-          so_far.len,
-          to_is,
-        );
+        read = rw reads.next_row more;
+        count_is = rw (length_push, so_far.count_is);
+        used_is = rw length_push (omega (arith, to_is, fills_stride stride row short, so_far.used_is));
+        len = rw (all, length-append, so_far.len) (sym to_is);
         room = omega (arith, within, same_len);
-        written = more_put front old now (padded_row stride row) new used to so_far.len so_far.written to_is new_is
-            ∙ ap (λ (l : List ℕ). l ++ drop to old) (sym all);
+        written = rw all
+            (more_put front old now (padded_row stride row) new used to so_far.len so_far.written to_is new_is);
       }
 
 -- nothing is read from a place, for this reason
 pub none_for : (form : StripForm) (strip : List ℕ) (stride : ℕ) (old : StripMemory) (stop : Stop) (at : Cursor)
-    (filled : Filled)
-    → at ≡ cursor_of old.place → filled ≡ record { cursor = at; count = 0; used = 0; stop = stop }
+    (filled : Filled) → at ≡ cursor_of old.place → filled ≡ record { cursor = at; count = 0; used = 0; stop = stop }
     → ReadsNone form strip stride old.place old.runs (length old.raster) stop
     → ReadsOn form strip stride old filled old
 none_for form strip stride old stop at filled at_is filled_is why = grind arith

@@ -13,10 +13,12 @@ ghost use Rattle.std.specs.Prelude.{
   ⊤,
 };
 ghost use Rattle.fax_c.specs.views.Ended as Spec;
+ghost use Rattle.fax_files.specs.views.Writing as Written;
 
-use crate::bytes::{four_at, put_bytes};
+use crate::bytes::four_at;
 use crate::status;
 use crate::writing::{FaxWritten, MOST_BYTES, MOST_PAGES};
+use fax_files::put_totals;
 
 /// How far after the place of a page's directory the offset of the next one stands: after the
 /// number of its fields and twelve bytes of each of the sixteen.
@@ -36,9 +38,9 @@ fn is_endable(written: &FaxWritten) -> bool
 /// Where the link of a page stands to which a link leads, if that page lies after the link.
 fn next_link(file: &[u8], link: usize) -> Option<usize>
     requires { link + 4 ≤ length file.now }
-    ensures page { MatchOption result (Spec.IsLinkToPage file.now link → ⊥)
-        (λ next. Spec.IsLinkToPage file.now link) }
-    ensures next { MatchOption result ⊤ (λ next. next ≡ Spec.next_link file.now link) }
+    ensures page { MatchOption result (Written.IsLinkToPage file.now link → ⊥)
+        (λ next. Written.IsLinkToPage file.now link) }
+    ensures next { MatchOption result ⊤ (λ next. next ≡ Written.next_link file.now link) }
 {
     let directory = four_at(file, link) as usize;
     if directory < link + 4 || directory > file.len().saturating_sub(TO_LINK + 4) {
@@ -50,8 +52,8 @@ fn next_link(file: &[u8], link: usize) -> Option<usize>
 /// Whether so many pages stand in a file after its header, and the last has its link here.
 fn are_pages(file: &[u8], count: u32, last: usize) -> bool
     requires { 8 ≤ length file.now }
-    ensures some { result ≡ true → Spec.ArePagesAfter file.now count 4 last }
-    ensures none { result ≡ false → Spec.ArePagesAfter file.now count 4 last → ⊥ }
+    ensures some { result ≡ true → Written.ArePagesAfter file.now count 4 last }
+    ensures none { result ≡ false → Written.ArePagesAfter file.now count 4 last → ⊥ }
 {
     let mut link = 4;
     for _ in 0..count {
@@ -61,19 +63,6 @@ fn are_pages(file: &[u8], count: u32, last: usize) -> bool
         link = next;
     }
     link == last
-}
-
-/// Tells each page of a file how many there are.
-fn put_totals(file: &mut [u8], pages: u16)
-    requires header { 8 ≤ length file.old }
-    requires pages { (last : ℕ) × Spec.ArePagesAfter file.old pages 4 last }
-    ensures { file.new ≡ Spec.with_totals pages pages 4 file.old }
-{
-    let mut link = 4;
-    for _ in 0..pages {
-        link = four_at(file, link) as usize + TO_LINK;
-        put_bytes(file, link - 2, &pages.to_le_bytes());
-    }
 }
 
 /// Tells each page of a file of the caller how many there are, if these are its pages.
@@ -106,5 +95,6 @@ pub extern "C" fn faxpages_end_pages(file: &mut [u8], written: &mut FaxWritten) 
     ensures told { Spec.TellsPagesEnded file.old file.new written.old written.new result }
     ensures whole { Spec.EndsWholeFile file.old file.new written.old result }
 {
+    fax_files::laws::totals_are_told();
     end_pages(file, written)
 }

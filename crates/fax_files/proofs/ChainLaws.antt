@@ -8,9 +8,9 @@ use Rattle.std.proofs.lemmas.Map.Steps.{length-le_from_distinct_below}
 use Rattle.fax_files.specs.declared.FileFault.{FileFault}
 use Rattle.fax_files.specs.declared.Endian.{Endian}
 use Rattle.std.proofs.lemmas.Bool.Decides.{nat_tests}
-use Rattle.fax_files.specs.Directory.{ChainRead, Header, is_directory, next_offset, offset_fault, read_chain}
+use Rattle.fax_files.specs.Directory.{ChainRead, Header, is_directory, next_offset, read_chain}
 use Rattle.fax_files.specs.Directory.{read_chain_from}
-use Rattle.fax_files.specs.laws.TiffFiles.{HasOneChain, IsChainFrom}
+use Rattle.fax_files.specs.laws.TiffFiles.{HasOneChain, IsChainFrom, offset_fault}
 
 -- the chain goes on at an offset
 pub record GoesOn (endian : Endian) (file before : List ℕ) (due : ℕ) : Type 0 where
@@ -82,6 +82,18 @@ module _ (endian : Endian) (file : List ℕ) where
   abbrev read : ℕ → List ℕ → ℕ → ChainRead
   read limit before due = read_chain_from limit endian file before due
 
+  -- what is read at an offset, by its fault
+  abbrev read_by : ℕ → List ℕ → ℕ → Option FileFault → ChainRead
+  read_by limit before due (Some fault) = record { offsets = []; end = Some fault }
+  read_by limit before due None =
+      let more = read limit (due ∷ before) (next_offset endian file due) in
+      record more { offsets = due ∷ more.offsets }
+
+  by_fault : (limit : ℕ) (before : List ℕ) (due : ℕ) → due ≢ 0
+      → read (suc limit) before due ≡ read_by limit before due (offset_fault endian file before due)
+  unfolding read_chain_from
+  by_fault limit before due some = grind (arith, not_last)
+
   -- what is read is a chain, with at most as many directories as the file has bytes
   abbrev IsWhole : List ℕ → ℕ → ChainRead → Type 0
   IsWhole before due chain =
@@ -93,12 +105,11 @@ module _ (endian : Endian) (file : List ℕ) where
       (read limit (due ∷ before) (next_offset endian file due)))
       → (fault : Option FileFault) → offset_fault endian file before due ≡ fault
       → IsWhole before due (read (suc limit) before due)
-  unfolding read_chain_from
   at_offset limit before due some room rest (Some fault) e =
-      rw (not_last due some, e, read_chain_from) ((some, e), omega (arith, are_few (suc limit) before room))
+      rw (by_fault limit before due some, e) ((some, e), omega (arith, are_few (suc limit) before room))
   at_offset limit before due some room rest None e =
       let more = rest (going_on endian file before due some e) in
-      rw (not_last due some, e, read_chain_from) ((refl, some, e, more.0), omega (arith, more.1))
+      rw (by_fault limit before due some, e) ((refl, some, e, more.0), omega (arith, more.1))
 
   whole : (limit : ℕ) (before : List ℕ) (due : ℕ) → HasRoom limit before → IsWhole before due (read limit before due)
   unfolding read_chain_from
@@ -117,12 +128,12 @@ module _ (endian : Endian) (file : List ℕ) where
   unfolding read_chain_from
   one zero before due offsets end room is = absurd (no_room before room)
   one (suc limit) before due [] None room is = rw (is, read_chain_from) refl
-  one (suc limit) before due [] (Some fault) room is = rw (not_last due is.0, is.1, read_chain_from) refl
+  one (suc limit) before due [] (Some fault) room is = rw (by_fault limit before due is.0, is.1) refl
   one (suc limit) before due (q ∷ offsets) end room (is, some, good, rest) =
       let on = going_on endian file before due some good in
       let more = one limit (due ∷ before) (next_offset endian file due) offsets end
       (room_on limit before due room on) rest in
-      rw (not_last due some, good, more, is, read_chain_from) refl
+      rw (by_fault limit before due some, good, more, is) refl
 
 pub has_one_chain : (head : Header) (file : List ℕ) → HasOneChain head file
 unfolding read_chain

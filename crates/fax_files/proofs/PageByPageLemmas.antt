@@ -3,8 +3,8 @@ use Rattle.std.proofs.Common.{◌≡◌, ℕ, suc, ◌+◌, List, [], ◌∷◌,
 use Rattle.std.specs.declared.alloc.Global.{Global}
 use Rattle.fax_files.specs.declared.PageForm.{PageForm}
 use Rattle.fax_files.specs.Layout.{Written, WrittenPage, with_page, with_pages, file_of}
+use Rattle.fax_files.specs.views.PagesSoFar.{HasAdded}
 use Rattle.fax_files.specs.views.Writing.{empty_file, Writing, contents, with_one_more}
-use Rattle.fax_files.specs.laws.TiffFiles.{HasAdded}
 
 -- one more page after others
 pub with_pages-push : (old : Written) (total k : ℕ) (pages : List WrittenPage) (page : WrittenPage)

@@ -4,7 +4,8 @@ use Rattle.std.proofs.Common.{length, min, inl, inr, ap, sym, ◌∙◌}
 use Rattle.std.proofs.lemmas.Bool.{cases_lt}
 use Rattle.std.proofs.lemmas.List.{take_all, drop_all, length-drop}
 use Rattle.fax_files.specs.Directory.{is_inside, Entry, value_at}
-use Rattle.fax_files.specs.Page.{strip_bytes, bytes_inside as inside_bytes}
+use Rattle.fax_files.specs.BytesInside.{bytes_inside as inside_bytes}
+use Rattle.fax_files.specs.Page.{strip_bytes}
 use Rattle.fax_files.specs.code.Steps.{bytes_at}
 use Rattle.fax_files.specs.views.Page.{strip_count}
 use Rattle.fax_files.specs.views.Tiff.{TiffDirectory, bytes_of, inside_of}

@@ -18,7 +18,7 @@ use Rattle.fax_files.specs.code.PageParts.{to_offsets, lengths_of, joined_strips
 use Rattle.fax_files.specs.code.PageParts.{with_four_at}
 use Rattle.fax_files.specs.laws.TiffFiles.{IsWritable}
 use Rattle.fax_files.specs.views.Writing.{contents}
-use Rattle.fax_files.specs.code.Writing.{IsWriting, IsLayout, laid_out_fields, tail_bytes, page_end}
+use Rattle.fax_files.specs.code.Writing.{IsLayout, laid_out_fields, tail_bytes, page_end}
 use Rattle.fax_files.proofs.FilePlaceLemmas.{length-patched}
 use Rattle.fax_files.proofs.WritingLemmas.{length-contents}
 use Rattle.fax_files.proofs.WrittenStripLemmas.{length-offsets_from, length-lengths_of}
@@ -130,8 +130,8 @@ module _ (bytes : List ℕ) (link total added end : ℕ) (form : PageForm) (stri
       new_link = ap (λ n. n + to_link) place
 
       pub still_writing : (now : List ℕ) → now ≡ new.bytes → page_end (end + end % 2) form.strips ≤ max_file
-          → IsWriting now (at.directory + to_link)
-      still_writing now now_is short = grind (arith, size)
+          → (at.directory + to_link + 4 ≤ length now) × (length now ≤ max_file) × (length bytes ≤ length now)
+      still_writing now now_is short = grind (arith, size, new_split)
 
 -- a page that is written for a place of a file, whatever stands before it
 module _ (start total added : ℕ) (form : PageForm) (strips : List (Vec ℕ Global)) (header : 8 ≤ start)

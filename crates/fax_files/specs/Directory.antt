@@ -133,13 +133,6 @@ ascend [] = true
 ascend (entry ∷ []) = true
 ascend (entry ∷ next ∷ entries) = nat_lt entry.tag next.tag && ascend (next ∷ entries)
 
--- the fault of an offset that is due after these directories: it stands among them already (ours),
--- or no whole directory stands there
-abbrev pub offset_fault : Endian → List ℕ → List ℕ → ℕ → Option FileFault
-offset_fault endian file before due =
-    if list_any (λ q. due == q) before then (Some file_fault.DirectoryLoop)
-    else (if is_directory endian file due then None else (Some file_fault.DirectoryOutside))
-
 -- the chain of a file's directories, each one a page, as far as it goes: their offsets, and the
 -- fault that ends it, if any
 pub record ChainRead : Type 0 where
@@ -147,18 +140,19 @@ pub record ChainRead : Type 0 where
   pub end : Option FileFault
 
 -- the chain from the offset that is due on, after these directories, the last one first: it ends at
--- an offset of 0, or at one with a fault, and before the limit, which is above all that can be
+-- an offset of 0; with a fault where one stands among them already (ours), or no whole directory
+-- stands there; and before the limit, which is above all that can be
 unfoldable pub read_chain_from : ℕ → Endian → List ℕ → List ℕ → ℕ → ChainRead
 read_chain_from zero endian file before due = record { offsets = []; end = None }
 read_chain_from (suc limit) endian file before due =
     if due == 0 then (record { offsets = []; end = None })
-    else elim (offset_fault endian file before due) [
-      | Some fault ↦ record { offsets = []; end = Some fault }
-      | None ↦
-          let next = next_offset endian file due in
-          let more = read_chain_from limit endian file (due ∷ before) next in
-          record more { offsets = due ∷ more.offsets }
-    ]
+    else (if list_any (λ q. due == q) before
+    then (record { offsets = []; end = Some file_fault.DirectoryLoop })
+    else (if is_directory endian file due then (
+    let next = next_offset endian file due in
+    let more = read_chain_from limit endian file (due ∷ before) next in
+    record more { offsets = due ∷ more.offsets })
+    else (record { offsets = []; end = Some file_fault.DirectoryOutside })))
 
 -- the chain of a file with this header: no two of its directories begin at one byte
 unfoldable pub read_chain : Header → List ℕ → ChainRead

@@ -1,3 +1,4 @@
+pub mod BytesInside
 pub mod Directory
 pub mod Page
 pub mod FaultNames

@@ -2,7 +2,7 @@
 -- of its strips.
 -- A definition without a citation is this project's profile.
 use Rattle.std.specs.Prelude.{ℕ, ◌+◌, ◌-◌, ◌*◌, ◌/◌, ◌%◌, ◌^◌, min, Bool, true, nat_le, nat_lt}
-use Rattle.std.specs.Prelude.{◌==◌, ◌&&◌, if◌then◌else◌, List, [], take, drop, Option, Some}
+use Rattle.std.specs.Prelude.{◌==◌, ◌&&◌, if◌then◌else◌, List, take, drop, Option, Some}
 use Rattle.std.specs.Prelude.{None, option_and_then, Result, Ok}
 use Rattle.std.specs.Int.{div_ceil}
 use Rattle.fax_bits.specs.declared.FillOrder.{FillOrder}
@@ -119,20 +119,6 @@ strip_bytes endian file q s =
     let len = value_at endian file counts s in
     if is_inside file offset len then (Some (take len (drop offset file))) else None)
     (field fields Tags.STRIP_BYTE_COUNTS)) (field fields Tags.STRIP_OFFSETS)
-
--- the bytes of strip s that lie in the file, where not all of them do: up to the file's end, none
--- where it begins after that (TIFF 6.0, StripOffsets and StripByteCounts)
-unfoldable pub bytes_inside : Endian → List ℕ → ℕ → ℕ → List ℕ
-bytes_inside endian file q s =
-    let fields = entries endian file q in
-    elim (field fields Tags.STRIP_OFFSETS) [
-      | None ↦ []
-      | Some offsets ↦ elim (field fields Tags.STRIP_BYTE_COUNTS) [
-        | None ↦ []
-        | Some counts ↦
-            take (value_at endian file counts s) (drop (value_at endian file offsets s) file)
-      ]
-    ]
 
 -- the form of strip s: it holds the page's rows from s * rows_per_strip on (TIFF 6.0, RowsPerStrip)
 abbrev pub strip_form : PageForm → ℕ → StripForm

@@ -4,3 +4,4 @@ pub mod Pbm
 pub mod Tiff
 pub mod Writing
 pub mod Page
+pub mod PagesSoFar

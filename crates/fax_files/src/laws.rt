@@ -32,6 +32,12 @@ pub fn files_are_written_page_by_page()
     ensures { WritesPageByPage }
 {}
 
+/// Pages that are written are found by their links, and told another total they are the pages that
+/// say that (TIFF 6.0, PageNumber).
+pub fn totals_are_told()
+    ensures { Laws.TotalsAreTold }
+{}
+
 /// A written file is read as its pages, in their order, with a proper end (TIFF 6.0).
 pub fn written_files_are_read()
     ensures { Laws.WrittenFilesAreRead }

@@ -16,6 +16,7 @@ mod strips;
 mod tags;
 mod tiff;
 mod tiff_writer;
+mod totals;
 mod written;
 
 pub use chain::Chain;
@@ -27,6 +28,7 @@ pub use strips::Strips;
 use thiserror::Error;
 pub use tiff::Tiff;
 pub use tiff_writer::{PageBytes, TiffWriter, WriteFault, write_page};
+pub use totals::put_totals;
 pub use written::MAX_FILE;
 
 /// Which byte of a number stands first in a file (TIFF 6.0, section 2).

@@ -7,6 +7,7 @@ ghost use Rattle.fax_files.specs.Layout.{directory_place, page_bytes, to_link};
 ghost use Rattle.fax_files.specs.views.Writing as Spec;
 
 use crate::PageForm;
+use crate::totals::put_totals;
 use crate::written::{
     MAX_FILE, StripsAt, TO_LINK, append, laid_out, page_end, page_tail, set_link, strips_end,
 };
@@ -112,10 +113,17 @@ impl Model for TiffWriter {
       added = w.added;
     } };
 
-    ghost invariant = { λ w. IsWriting w.bytes.items w.link };
+    ghost invariant = { λ w. IsWriting record {
+      written = record { bytes = w.bytes.items; link = w.link };
+      total = w.total;
+      added = w.added;
+    } };
 }
 
 impl TiffWriter {
+    ghost use Rattle.std.specs.Prelude.{List};
+    ghost use Rattle.fax_files.specs.Layout.{WrittenPage, file_of};
+    ghost use Rattle.fax_files.specs.views.PagesSoFar.{HasAdded};
     ghost use Rattle.fax_files.specs.views.Writing.{empty_file};
 
     /// A file of this many pages, before the first is added.
@@ -128,7 +136,9 @@ impl TiffWriter {
         ensures { IfOk result (λ w. w ≡ record { written = empty_file; total = pages; added = 0 }) }
     {
         let head = [b'I', b'I', 42, 0, 0, 0, 0, 0];
-        let bytes = Vec::from_slice(alloc, &head).map_err(|_| Memory)?;
+        let Ok(bytes) = Vec::from_slice(alloc, &head) else {
+            return Err(Memory);
+        };
         Ok(TiffWriter {
             alloc,
             bytes,
@@ -186,11 +196,21 @@ impl TiffWriter {
         Ok(())
     }
 
-    /// The bytes of the file, to which all pages were added.
-    pub fn finish(self) -> Vec<u8>
-        requires { self.added ≡ self.total }
-        ensures { result.items ≡ self.written.bytes }
+    /// How many pages were added.
+    pub fn added(&self) -> u16
+        ensures { result ≡ self.now.added }
     {
-        self.bytes
+        self.added
+    }
+
+    /// The bytes of the file of the pages that were added, each of which says how many these are,
+    /// whatever number of pages the file was begun for.
+    pub fn finish(self) -> Vec<u8>
+        ensures { (pages : List WrittenPage) → HasAdded self.total pages self
+            → result.items ≡ file_of pages }
+    {
+        let mut bytes = self.bytes;
+        put_totals(&mut bytes, self.added);
+        bytes
     }
 }

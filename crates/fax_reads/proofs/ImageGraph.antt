@@ -17,7 +17,11 @@ use Rattle.fax_reads.specs.Images.{HeadRead, ImagesRead, read_head, read_raster,
 use Rattle.fax_reads.specs.Images.{read_images}
 use Rattle.fax_reads.specs.laws.Images.{ImagesAreReadByFunctions}
 use Rattle.fax_reads.proofs.HeadGraph.{head_is, head_of, head_bad}
-use Rattle.fax_walk.proofs.ConversionLemmas.{image_is_long}
+
+-- an image has bytes of its own
+image_is_long : (bytes : List ℕ) (image : Image) (rest : List ℕ) → IsImage bytes image rest
+    → length rest < length bytes
+image_is_long bytes image rest is = grind (arith, length-append)
 
 below : (a b : ℕ) → nat_lt a b ≡ true → a < b
 below a b is = grind (arith, nat_tests)

@@ -7,7 +7,8 @@ use Rattle.fax_rows.specs.Rows.{first_place, next_change, b1}
 use Rattle.fax_files.specs.Directory.{entries_at, has_integers, header, number_at, read_chain, read_chain_from, scalar}
 use Rattle.fax_files.specs.Directory.{value_at, values_place}
 use Rattle.fax_walk.specs.Pages.{read_page}
-use Rattle.fax_files.specs.Page.{bytes_inside, rational_of, form_in, page, strip_bytes}
+use Rattle.fax_files.specs.BytesInside.{bytes_inside}
+use Rattle.fax_files.specs.Page.{rational_of, form_in, page, strip_bytes}
 use Rattle.fax_files.specs.Layout.{field_bytes}
 use Rattle.fax_walk.specs.Salvaged.{LeftItem}
 use Rattle.fax_bits.specs.declared.FillOrder.TheVariants.{MsbFirst}

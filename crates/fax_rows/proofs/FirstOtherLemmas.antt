@@ -21,6 +21,7 @@ use Rattle.fax_rows.specs.Rows.{same_colour, first_place, other}
 use Rattle.fax_rows.specs.Coded.{colour_of_bit}
 use Rattle.fax_rows.specs.views.Packed.{first_other}
 use Rattle.fax_rows.specs.code.FirstOther.{is_other_bit, first_other_in_byte, plain_byte, others, IsFirstOtherByte}
+use Rattle.fax_rows.specs.code.Unpacked.{AreWhite}
 use Rattle.fax_rows.proofs.ChangeLemmas.{IsFirstPlace, first_place_is}
 use Rattle.fax_rows.proofs.ChangePlaceLemmas.{first_place_at}
 
@@ -119,6 +120,13 @@ differs_false plain byte h = eqb-true byte plain (not-false (nat_eq byte plain) 
 differs_true : (plain byte : ℕ) → differs plain byte ≡ true → byte ≢ plain
 differs_true plain byte h same = eqb-false byte plain (not-true (nat_eq byte plain) h) same
 
+-- where no lane is set, no byte differs
+lanes_plain : (bytes : List ℕ) (at n plain : ℕ) → at + n ≤ length bytes
+    → mask_l (map (differs plain) (chunk at n bytes)) ≡ 0
+    → (k : ℕ) → at ≤ k → k < at + n → get_or bytes k 0 ≡ plain
+lanes_plain bytes at n plain room none k l h =
+    differs_false plain (get_or bytes k 0) (none_from_empty_mask (differs plain) bytes at n 0 room none k l h)
+
 -- the lanes of sixteen bytes, where those that differ are set
 module _ (bytes : List ℕ) (from at plain : ℕ) (right : from ≤ at) (room : at + 16 ≤ length bytes)
     (same : (k : ℕ) → from ≤ k → k < at → get_or bytes k 0 ≡ plain) where
@@ -127,8 +135,7 @@ module _ (bytes : List ℕ) (from at plain : ℕ) (right : from ≤ at) (room : 
   sixteen_more none k l h =
       elim (cases_lt k at) [
         | inl before ↦ same k l before
-        | inr after ↦ differs_false plain (get_or bytes k 0) (none_from_empty_mask (differs plain) bytes at 16 0 room
-            none k after h)
+        | inr after ↦ lanes_plain bytes at 16 plain room none k after h
       ]
 
   pub found_in_lanes : (r : ℕ) → 0 < mask_l (map (differs plain) (chunk at 16 bytes))
@@ -187,6 +194,9 @@ pub plain_on : (bytes : List ℕ) (colour : Colour) (from middle to : ℕ) → I
     → IsPlain bytes colour from to
 plain_on bytes colour from middle to before after k l h = grind (arith, common_steps)
 
+white_bit : (b : Bool) → not (same_colour (colour_of_bit b) White) ≡ false → b ≡ false
+white_bit b h = grind arith
+
 -- by the law of the bits of bytes
 module _ (law : AreBitsByPlace) where
   pub plain_in_byte : (bytes : List ℕ) (colour : Colour) (q from to : ℕ) → q < length bytes → from < 8
@@ -204,6 +214,12 @@ module _ (law : AreBitsByPlace) where
   pub plain_bytes : (bytes : List ℕ) (colour : Colour) (from to : ℕ) → to ≤ length bytes
       → ((k : ℕ) → from ≤ k → k < to → get_or bytes k 0 ≡ plain_byte colour) → IsPlain bytes colour (8 * from) (8 * to)
   plain_bytes bytes colour from to within same k l h = grind (arith, plain_bit)
+
+  -- where no lane of 64 bytes is set, they are white
+  pub lanes_white : (bytes : List ℕ) (at : ℕ) → at + 64 ≤ length bytes
+      → mask_l (map (differs 0) (chunk at 64 bytes)) ≡ 0 → AreWhite (bits MsbFirst bytes) (8 * at) (8 * (at + 64))
+  lanes_white bytes at room none i l h =
+      white_bit _ (plain_bytes bytes White at (at + 64) room (lanes_plain bytes at 64 0 room none) i l h)
 
   -- from a bit of a byte that has no other bit after it, up to the first byte that has one
   pub plain_before : (bytes : List ℕ) (colour : Colour) (from here plain after : ℕ) → from / 8 < length bytes

@@ -1,8 +1,11 @@
 //! The first pel of packed bytes that is not of a colour, found in lanes.
-ghost use Rattle.std.specs.Prelude.{◌≡◌, ◌*◌, ◌≤◌, ◌<◌, length};
+ghost use Rattle.std.specs.Prelude.{◌≡◌, ◌+◌, ◌*◌, ◌≤◌, ◌<◌, length, IsTrue};
+ghost use Rattle.fax_bits.specs.Bits.{bits};
+ghost use Rattle.fax_bits.specs.declared.FillOrder.TheVariants.{MsbFirst};
 ghost use Rattle.fax_rows.specs.views.Packed as Spec;
 ghost use Rattle.fax_rows.specs.code.FirstOther.{others, first_other_in_byte, plain_byte};
 ghost use Rattle.fax_rows.specs.code.FirstOther.{IsFirstOtherByte};
+ghost use Rattle.fax_rows.specs.code.Unpacked.{AreWhite};
 
 use fax_bits::Colour;
 use fax_bits::laws::bits_stand_by_place;
@@ -42,6 +45,17 @@ fn first_other_in_byte(byte: u8, from: u32, colour: Colour) -> u32
     } else {
         from + ahead.leading_zeros()
     }
+}
+
+/// Whether the 64 bytes from a place on are white.
+#[inline(always)]
+pub(crate) fn are_white(bytes: &[u8], at: usize) -> bool
+    requires { at + 64 ≤ length bytes.now }
+    ensures { IsTrue result → AreWhite (bits MsbFirst bytes.now) (8 * at) (8 * (at + 64)) }
+{
+    bits_stand_by_place();
+    let lanes = u8x64::from_slice(&bytes[at..]);
+    lanes.simd_ne(u8x64::splat(0)).to_bitmask() == 0
 }
 
 /// The first of the bytes from `from` on that is not `plain`, or the place after them all.

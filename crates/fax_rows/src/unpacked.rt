@@ -1,16 +1,16 @@
 //! The places of change of a row of packed bytes: eight pels in a byte, the leftmost in its highest
 //! bit, where 1 is black.
 ghost use Rattle.std.specs.Prelude.{◌≡◌, ◌+◌, ◌-◌, ◌*◌, ◌<◌, ◌≤◌, ◌^◌, ℕ, false, length, take};
-ghost use Rattle.std.specs.Prelude.{slice_index, slice_index_or, Bool, IsTrue, List};
+ghost use Rattle.std.specs.Prelude.{slice_index, slice_index_or, Bool, List};
 ghost use Rattle.fax_bits.specs.Bits.{bits};
 ghost use Rattle.fax_bits.specs.declared.FillOrder.TheVariants.{MsbFirst};
 ghost use Rattle.fax_rows.specs.Coded as Spec;
 ghost use Rattle.fax_rows.specs.code.PackedWord.{word_bit};
 ghost use Rattle.fax_rows.specs.code.Put.{ArePut, HasRoom};
 ghost use Rattle.fax_rows.specs.code.Turns.{row_of, IsAscending};
-ghost use Rattle.fax_rows.specs.code.Unpacked.{IsUnpackedTo};
+ghost use Rattle.fax_rows.specs.code.Unpacked.{AreWhite, IsUnpackedTo};
 
-use crate::lanes::first_other;
+use crate::lanes::{are_white, first_other};
 use crate::ones::put_ones;
 use crate::packed::WORD;
 use crate::runs::other;
@@ -64,33 +64,36 @@ fn put_word(places: &mut [u32], end: usize, from: u32, before: u64, word: u64) -
     put_ones(places, end, from, changes)
 }
 
-/// Whether the four words from a place on are white.
+/// Goes past white words, by eights, from one on.
 #[inline(always)]
-fn are_white(bytes: &[u8], at: usize) -> bool
-    requires { at + 32 ≤ length bytes.now }
-    ensures { IsTrue result → (i : ℕ) → i < 256
-        → slice_index_or (bits MsbFirst bytes.now) (8 * at + i) false ≡ false }
-{
-    let first = (word_at(bytes, at) == 0) & (word_at(bytes, at + 8) == 0);
-    let last = (word_at(bytes, at + 16) == 0) & (word_at(bytes, at + 24) == 0);
-    first & last
-}
-
-/// Goes past white words, by fours, after a word that is white.
-#[inline(always)]
-fn past_white(bytes: &[u8], word: u64, from: u32, words: u32) -> u32
+fn past_eights(bytes: &[u8], from: u32, words: u32) -> u32
     requires short { words < 1024 }
     requires whole { 8 * words ≤ length bytes.now }
     requires within { from ≤ words }
     ensures from { from ≤ result }
     ensures within { result ≤ words }
-    ensures white { (i : ℕ) → 64 * from ≤ i → i < 64 * result
-        → Spec.colour_of_bit (slice_index_or (bits MsbFirst bytes.now) i false)
-        ≡ Spec.colour_of_bit (word_bit word 63) }
+    ensures white { AreWhite (bits MsbFirst bytes.now) (64 * from) (64 * result) }
 {
     let mut k = from;
-    while word == 0 && words - k >= 4 && are_white(bytes, 8 * k as usize) {
-        k += 4;
+    while words - k >= 8 && are_white(bytes, 8 * k as usize) {
+        k += 8;
+    }
+    k
+}
+
+/// Goes past white words, from one on.
+#[inline(always)]
+fn past_white(bytes: &[u8], from: u32, words: u32) -> u32
+    requires short { words < 1024 }
+    requires whole { 8 * words ≤ length bytes.now }
+    requires within { from ≤ words }
+    ensures from { from ≤ result }
+    ensures within { result ≤ words }
+    ensures white { AreWhite (bits MsbFirst bytes.now) (64 * from) (64 * result) }
+{
+    let mut k = past_eights(bytes, from, words);
+    while k < words && word_at(bytes, 8 * k as usize) == 0 {
+        k += 1;
     }
     k
 }
@@ -109,15 +112,18 @@ fn places_of_words(bytes: &[u8], places: &mut [u32], words: u32) -> (usize, Colo
     ensures same_len { length places.new ≡ length places.old }
 {
     // A bit of a word that is not the one before it is a change. After a white word the white ones
-    // that follow are gone past by fours.
+    // that follow are gone past by eights.
     let mut end = 1;
     let mut before = 0;
-    let mut k = 0;
+    let mut k = past_white(bytes, 0, words);
     while k < words {
         let word = word_at(bytes, 8 * k as usize);
         end = put_word(places, end, WORD * k, before, word);
         before = word;
-        k = past_white(bytes, word, k + 1, words);
+        k += 1;
+        if word == 0 {
+            k = past_white(bytes, k, words);
+        }
     }
     (end, last_colour(before))
 }

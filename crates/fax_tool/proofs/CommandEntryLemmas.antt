@@ -12,6 +12,7 @@ use Rattle.clap.specs.Walk.{Row, first_of, has_row, row_text, with_default}
 use Rattle.clap.proofs.OnLiterals.{clap_on_literals}
 use Rattle.fax_files.specs.Page.{most_rows}
 use Rattle.clap.proofs.WalkLemmas.{both}
+use Rattle.std.proofs.Math.Bool.{or-false}
 use Rattle.fax_tool.specs.Grammar.{AreSpelled, IsNumberText, IsSpelled, Item, Text, Use, commands, flag, most_lines}
 use Rattle.fax_tool.specs.Grammar.{name_of, number}
 use Rattle.fax_tool.specs.code.CommandEntries.{HasEntries, HasFlag, HasNumber}
@@ -38,8 +39,7 @@ module _ (name : Text) (holds : Text → Type 0) where
   AreGood (r ∷ rs) = IsGood r × AreGood rs
 
   good : (r : Row) (value : Text) → r.values ≡ value ∷ [] → read_as r.reading value ≡ value
-      → (bytes_eq r.id name ≡ true → holds value)
-      → IsGood r
+      → (bytes_eq r.id name ≡ true → holds value) → IsGood r
   good r value values_are as_written its = grind arith
 
   good_more : (rows : List Row) (r : Row) → AreGood rows → IsGood r → AreGood (rows ++ r ∷ [])
@@ -48,8 +48,7 @@ module _ (name : Text) (holds : Text → Type 0) where
 
   -- the rows of uses
   good_uses : (items : List Item) → All Fits items → bytes_eq (codes "FILE") name ≡ false
-      → (uses : List Use) (words : List Text)
-      → AreSpelled items uses words → AreGood (map row_of uses)
+      → (uses : List Use) (words : List Text) → AreSpelled items uses words → AreGood (map row_of uses)
   good_uses items fits no_file [] words are = tt
   good_uses items fits no_file (u ∷ us) words (inl (own, others, is, among, spelled, rest)) =
       grind (arith, good_uses items fits no_file us others rest)
@@ -88,19 +87,12 @@ module _ (name : Text) (holds : Text → Type 0) where
   fitting is_kind fits [] all = All-nil Fits
   fitting is_kind fits (item ∷ items) all =
       let parts = both (is_kind item || not (bytes_eq (name_of item) name)) _ all in
-      All-cons Fits item items (go (is_kind item) (bytes_eq (name_of item) name) refl refl parts.0)
+      All-cons Fits item items (λ named. fits item (rw (named, or-false) at parts.0) named)
       (fitting is_kind fits items parts.1)
-    where
-      go : (kind named : Bool) → is_kind item ≡ kind → bytes_eq (name_of item) name ≡ named → (kind || not named) ≡ true
-          → Fits item
-      go true named kind_is named_is test = fits item kind_is
-      go false true kind_is named_is test = cc
-      go false false kind_is named_is test = λ named. absurd cc
 
   entry_of : (is_kind : Item → Bool) → ((item : Item) → is_kind item ≡ true → Fits item) → (items : List Item)
       → list_all (λ item. is_kind item || not (bytes_eq (name_of item) name)) items ≡ true
-      → bytes_eq (codes "FILE") name ≡ false
-      → (uses : List Use) (words : List Text) → AreSpelled items uses words
+      → bytes_eq (codes "FILE") name ≡ false → (uses : List Use) (words : List Text) → AreSpelled items uses words
       → IsEntry (find (λ r. bytes_eq r.id name) (filled_rows items uses))
   entry_of is_kind fits items kinds no_file uses words are = grind (arith, fitting, found, good_defaults, good_uses)
 

@@ -32,21 +32,13 @@ no_lines max = grind arith
 of_none : (are : List PrintedLine → End → Type 0) (max : Option ℕ) (begun : Begun)
     → ((lines : List PrintedLine) × (end : End) × are lines end)
     → (text : List ℕ) → text ≡ next_line (At (begun_cursor begun)) → IsTextOfFirst are max begun text
-of_none are max begun all text is = (
-  all.0,
-  all.1,
-  all.2,
-  0,
-  omega arith,
-  no_lines max,
-  is
-      ∙ sym (first_text begun 0 all.0 all.1 (omega arith)),
-)
+of_none are max begun (lines, end, all) text is =
+    (lines, end, all, 0, omega arith, no_lines max, is ∙ sym (first_text begun 0 lines end (omega arith)))
 
 -- the input was not read
 pub unread : (text : List ℕ) (refusal : Refusal) (input : Input) (old : Option (List ℕ)) (counts : Counts)
-    → refusal ≢ Memory
-    → HasReadReason refusal input → HasWorked counts → StopsAtBeginning text refusal input (output_after old old counts)
+    → refusal ≢ Memory → HasReadReason refusal input → HasWorked counts
+    → StopsAtBeginning text refusal input (output_after old old counts)
 unread text refusal input old counts other reason worked = grind (arith, common_steps)
 
 -- the input was read but for memory, and this was to be written then
@@ -77,20 +69,20 @@ module _ (command : Command) (bytes : Option (List ℕ)) (taken : ℕ) (counts :
 
 -- rows were not read, and where to go on was to be written
 pub rows_unread : BeginningsHaveOneTail → (part : Selection) (refusal : Refusal) (bytes : Option (List ℕ)) (taken : ℕ)
-    (counts : Counts)
-    (output : Output)
+    (counts : Counts) (output : Output)
     → StopsAtBeginning (next_line (At (begun_cursor (begun_of part)))) refusal (input_after bytes taken counts) output
     → IsStopped (Rows part) refusal (input_after bytes taken counts) output
 rows_unread tails part refusal bytes taken counts output stops =
     stopped_first (Rows part) bytes taken counts output (next_line (At (begun_cursor (begun_of part)))) refusal
-    (λ file text is.
-    let one = one_rows file tails (begun_of part) in
-    of_none _ part.max (begun_of part) (one.items, one.end, one.is) text is) stops
+    (λ file. let one = one_rows file tails (begun_of part) in of_none _ part.max (begun_of part) (
+      one.items,
+      one.end,
+      one.is,
+    )) stops
 
 -- the part's beginning was refused
 pub rows_unbegun : BeginningsHaveOneTail → (part : Selection) (refusal : Refusal) (bytes : Option (List ℕ)) (taken : ℕ)
-    (counts : Counts)
-    (output : Output) → IsRead (input_after bytes taken counts)
+    (counts : Counts) (output : Output) → IsRead (input_after bytes taken counts)
     → StopsWith (next_line (At (begun_cursor (begun_of part)))) refusal output
     → IsStopped (Rows part) refusal (input_after bytes taken counts) output
 rows_unbegun tails part refusal bytes taken counts output read stops =
@@ -100,8 +92,8 @@ rows_unbegun tails part refusal bytes taken counts output read stops =
 
 -- pages were not read, and where to go on was to be written
 pub pages_unread : CursorsHaveOneFormTail → (part : Selection) (refusal : Refusal) (bytes : Option (List ℕ)) (taken : ℕ)
-    (counts : Counts)
-    (output : Output) → StopsAtBeginning (next_line (At part.cursor)) refusal (input_after bytes taken counts) output
+    (counts : Counts) (output : Output)
+    → StopsAtBeginning (next_line (At part.cursor)) refusal (input_after bytes taken counts) output
     → IsStopped (Forms part) refusal (input_after bytes taken counts) output
 pages_unread tails part refusal bytes taken counts output stops =
     stopped_first (Forms part) bytes taken counts output (next_line (At part.cursor)) refusal (λ file text is.
@@ -109,8 +101,7 @@ pages_unread tails part refusal bytes taken counts output stops =
     of_none _ part.max (At part.cursor) (one.items, one.end, one.is) text is) stops
 
 module _ (command : Command) (none : (file : List ℕ) → IsTextAfterMemory command file []) (bytes : Option (List ℕ))
-    (taken : ℕ)
-    (counts : Counts) (old : Option (List ℕ)) (given : Counts) (worked : HasWorked given) where
+    (taken : ℕ) (counts : Counts) (old : Option (List ℕ)) (given : Counts) (worked : HasWorked given) where
   -- memory was refused before anything was written
   pub without_memory : IsRead (input_after bytes taken counts)
       → IsStopped command Memory (input_after bytes taken counts) (output_after old old given)

@@ -38,18 +38,15 @@ pub needs_command : (last middle first old : Command) {name : Text}
 needs_command last middle first old required no_command no_help app local =
     let is : out-Command last ≡ needing_command (out-Command old) =
     required ∙ ap (λ (fields : Command-F Command). record fields { subcommand_required = true })
-    (no_command ∙ ap (λ (fields : Command-F Command). record fields { disable_help_subcommand = true }) no_help) in (
-      ap app_of_fields is ∙ ap (on_top command_settings) app,
-      ap (λ (fields : Command-F Command). fields.has_globals) is
-          ∙ local,
-    )
+    (no_command ∙ ap (λ (fields : Command-F Command). record fields { disable_help_subcommand = true }) no_help) in
+    let globals = ap (λ (fields : Command-F Command). fields.has_globals) is in
+    (ap app_of_fields is ∙ ap (on_top command_settings) app, globals ∙ local)
 
 pub argument_added : {old new : Command} {arg : Arg} {app : App} {rule : Rule} → AddsArg old arg new → IsApp old app
     → arg.global ≡ false → rule_of arg ≡ rule → IsApp new (with_rule app rule)
 argument_added adds is local rule = (adds.shape local ∙ ap₂ with_rule is.0 rule, adds.globals ∙ ap₂ ◌||◌ is.1 local)
 
 pub command_added : {old new sub : Command} {app inner : App} → AddsSubcommand old sub new → IsApp old app
-    → IsApp sub inner
-    → IsApp new (with_subcommand app inner.top)
+    → IsApp sub inner → IsApp new (with_subcommand app inner.top)
 command_added adds is sub =
     (adds.shape sub.1 ∙ ap₂ with_subcommand is.0 (ap (λ (a : App). a.top) sub.0), adds.globals ∙ ap₂ ◌||◌ is.1 sub.1)

@@ -1,6 +1,6 @@
 -- Runs that go on where the one before them was cut.
 use Rattle.std.proofs.Common.{◌≡◌, ℕ, zero, suc, List, [], ◌∷◌, ◌++◌, length, map, take, drop, refl, ap, sym, ◌∙◌}
-use Rattle.std.proofs.Common.{subst, append_assoc}
+use Rattle.std.proofs.Common.{append_assoc}
 use Rattle.std.proofs.Common.{append-nil, true, false, Bool, take-append-drop, ◌≤◌, ◌^◌, arith}
 use Rattle.std.proofs.Math.Seq.{take-length}
 use Rattle.std.proofs.lemmas.Grind.{flat_map-append}
@@ -8,9 +8,8 @@ use Rattle.std.proofs.lemmas.List.{append_cancel_left, append_cancel_right, drop
 use Rattle.std.specs.Prelude.{Option, Some, None}
 use Rattle.fax_walk.specs.declared.begun.Begun.{Begun}
 use Rattle.fax_walk.specs.declared.begun.Begun.TheVariants.{At}
-use Rattle.fax_walk.specs.declared.cursor.Cursor.{Cursor}
 use Rattle.fax_walk.specs.declared.end.End.{End}
-use Rattle.fax_walk.specs.Pages.{IsCursor, LongPlace}
+use Rattle.fax_walk.specs.Pages.{LongPlace}
 use Rattle.fax_walk.specs.laws.Cursors.{CursorsAreShort, PlacesAreShort, TextsNameOne}
 use Rattle.fax_walk.specs.laws.Tails.{BeginningsHaveOneTail, IsReached, LongTailsGoOn, PlacesAreReached, TailsGoOn}
 use Rattle.fax_walk.specs.Items.{RowItem as Item, IsTailFrom, begun_text, cursor_after, long_after}
@@ -58,8 +57,7 @@ parts : (max : Option ℕ) (lines : List PrintedLine) → up_to max lines ++ lin
 parts max lines = grind (arith, append-nil, take-append-drop)
 
 not_cut : (long : Bool) (max : Option ℕ) (begun : Begun) (lines : List PrintedLine) (end : End)
-    → is_cut max lines ≡ false
-    → text_of long max begun lines end ≡ whole_text long begun lines end
+    → is_cut max lines ≡ false → text_of long max begun lines end ≡ whole_text long begun lines end
 not_cut long max begun lines end whole = grind (arith, all_taken)
 
 -- one run is a beginning of a run without a limit
@@ -68,40 +66,26 @@ alone : (lines : List PrintedLine) (max : Option ℕ) (rows : List ℕ) (last wh
     → AreAsOneRun [] rows last cut (texts_of lines) whole
 alone lines max rows last whole cut rows_are all = record {
   more = texts_of (lines_left max lines);
-  beginning = ap texts_of (sym (parts max lines)) ∙ flat_map-append (λ line. line.text) (up_to max lines)
-      (lines_left max lines)
-      ∙ ap (λ text. text ++ texts_of (lines_left max lines)) (sym rows_are);
-  output = λ no. ap (λ (printed : Printed). printed.output) (all no);
-  error = λ no. ap (λ (printed : Printed). printed.error) (all no);
-  status = λ no. ap (λ (printed : Printed). printed.status) (all no);
+  beginning = rw (rows_are, ← flat_map-append, parts max lines);
+  output = λ no. rw (all no);
+  error = λ no. rw (all no);
+  status = λ no. rw (all no);
 }
 
 -- runs after these lines are with them as one run
 as_one_after : (long : Bool) (begun : Begun) (xs ys : List PrintedLine) (end : End) (first others rows : List ℕ)
-    (last : Printed) (cut : Bool)
-    → first ≡ texts_of xs
+    (last : Printed) (cut : Bool) → first ≡ texts_of xs
     → AreAsOneRun others rows last cut (texts_of ys) (whole_text long (named long (next_after begun xs)) ys end)
     → AreAsOneRun (first ++ others) rows last cut (texts_of (xs ++ ys)) (whole_text long begun (xs ++ ys) end)
 as_one_after long begun xs ys end first others rows last cut first_is all =
     let next : named long (next_after (named long (next_after begun xs)) ys)
-    ≡ named long (next_after begun (xs ++ ys)) =
-    named_after long (next_after begun xs) ys ∙ ap (named long) (sym (next_after-append begun xs ys)) in
+    ≡ named long (next_after begun (xs ++ ys)) = rw (named_after, next_after-append) in
     record {
       more = all.more;
-      beginning = flat_map-append (λ line. line.text) xs ys ∙ ap (λ text. text ++ texts_of ys) (sym first_is)
-          ∙ ap (λ text. first ++ text) all.beginning
-          ∙ sym (append_assoc first (others ++ rows) all.more) ∙ ap (λ text. text ++ all.more)
-          (sym (append_assoc first others rows));
-      output = λ no.
-          append_assoc first others last.output ∙ ap (λ text. first ++ text) (all.output no)
-          ∙ ap (λ (b : Begun). first ++ (texts_of ys ++ last_line end b)) next
-          ∙ sym (append_assoc first (texts_of ys) (last_line end (named long (next_after begun (xs ++ ys)))))
-          ∙ ap (λ (text : List ℕ). (text ++ texts_of ys) ++ last_line end (named long (next_after begun (xs ++ ys))))
-          first_is
-          ∙ ap (λ (text : List ℕ). text ++ last_line end (named long (next_after begun (xs ++ ys))))
-          (sym (flat_map-append (λ line. line.text) xs ys));
-      error = λ no. all.error no ∙ ap (λ (b : Begun). (end_text (Some end) b).error) next;
-      status = λ no. all.status no ∙ ap (λ (b : Begun). (end_text (Some end) b).status) next;
+      beginning = rw (flat_map-append, first_is, all.beginning) (simp append_assoc);
+      output = λ no. rw (append_assoc, all.output no, next, flat_map-append, first_is, append_assoc);
+      error = λ no. rw (← next) (all.error no);
+      status = λ no. rw (← next) (all.status no);
     }
 
 -- the text of `next` tells the text that stands in it
@@ -121,8 +105,7 @@ next_told long max begun lines end next e = grind (arith, same_last, same_text)
 
 module _ (tails : BeginningsHaveOneTail) (go_on : TailsGoOn) (long_go_on : LongTailsGoOn)
     (places : PlacesAreReached) (short : CursorsAreShort) (long_short : PlacesAreShort) (names : TextsNameOne)
-    (file : List ℕ)
-    (limit_kept : length file ≤ 2 ^ 32) where
+    (file : List ℕ) (limit_kept : length file ≤ 2 ^ 32) where
   reached : (long : Bool) (begun : Begun) → MayBegin file long begun → IsReached file begun
   reached long begun may = grind arith
 
@@ -144,8 +127,8 @@ module _ (tails : BeginningsHaveOneTail) (go_on : TailsGoOn) (long_go_on : LongT
       let at_cursor : IsTailFrom file (At (cursor_after item)) items end =
       go_on file begun (item ∷ items) end 0 item (reached false begun may) tail refl in
       record {
-        tail = subst (λ (c : Cursor). IsTailFrom file (At c) items end) (sym (begins_after item)) at_cursor;
-        may = subst IsCursor (sym (begins_after item))
+        tail = rw (begins_after item) at_cursor;
+        may = rw (begins_after item)
             (short file begun (item ∷ items) end 0 item limit_kept (reached false begun may) tail refl);
       }
   after_item true begun item items end may tail = by_place (long_after item) refl
@@ -170,8 +153,8 @@ module _ (tails : BeginningsHaveOneTail) (go_on : TailsGoOn) (long_go_on : LongT
     may : MayBegin file long next
 
   after_line : (long : Bool) (begun : Begun) (line : PrintedLine) (lines : List PrintedLine) (end : End)
-      → MayBegin file long begun
-      → AreRowLines file begun (line ∷ lines) end → LinesGoOn long (named long line.next) lines end
+      → MayBegin file long begun → AreRowLines file begun (line ∷ lines) end
+      → LinesGoOn long (named long line.next) lines end
   after_line long begun line lines end may are = by_items are.items are.lines_are are.tail
     where
       by_items : (items : List Item) → line ∷ lines ≡ map line_of_row items → IsTailFrom file begun items end
@@ -179,53 +162,44 @@ module _ (tails : BeginningsHaveOneTail) (go_on : TailsGoOn) (long_go_on : LongT
       by_items [] lines_are tail = absurd cc
       by_items (item ∷ items) lines_are tail =
           let is : line ≡ line_of_row item = cc in
-          let rest : lines ≡ map line_of_row items = cc in
           let goes = after_item long begun item items end may tail in
-          subst (λ (l : PrintedLine). LinesGoOn long (named long l.next) lines end) (sym is) (record {
-            are = record { items = items; tail = goes.tail; lines_are = rest };
-            may = goes.may;
-          })
+          rw is (record { are = record { items = items; tail = goes.tail; lines_are = cc }; may = goes.may })
 
   after_lines : (long : Bool) (begun : Begun) (n : ℕ) (lines : List PrintedLine) (end : End) → MayBegin file long begun
-      → AreRowLines file begun lines end → LinesGoOn long (named long (next_after begun (take n lines))) (drop n lines)
-      end
+      → AreRowLines file begun lines end
+      → LinesGoOn long (named long (next_after begun (take n lines))) (drop n lines) end
   after_lines long begun zero lines end may are = rw (named_begun long begun may) (record { are = are; may = may })
   after_lines long begun (suc n) [] end may are = rw (named_begun long begun may) (record { are = are; may = may })
   after_lines long begun (suc n) (line ∷ lines) end may are =
       let next = after_line long begun line lines end may are in
-      subst (λ (b : Begun). LinesGoOn long b (drop n lines) end) (named_after long line.next (take n lines))
+      rw (← named_after long line.next (take n lines))
       (after_lines long (named long line.next) n lines end next.may next.are)
 
   after_limit : (long : Bool) (begun : Begun) (max : Option ℕ) (lines : List PrintedLine) (end : End)
-      → MayBegin file long begun
-      → AreRowLines file begun lines end → LinesGoOn long (named long (next_after begun (up_to max lines)))
-      (lines_left max lines) end
+      → MayBegin file long begun → AreRowLines file begun lines end
+      → LinesGoOn long (named long (next_after begun (up_to max lines))) (lines_left max lines) end
   after_limit long begun (Some limit) lines end may are = after_lines long begun limit lines end may are
   after_limit long begun None lines end may are =
-      subst (λ (l : List PrintedLine). LinesGoOn long (named long (next_after begun lines)) l end)
-      (drop_all (length lines) lines (omega arith))
-      (subst (λ (l : List PrintedLine). LinesGoOn long (named long (next_after begun l)) (drop (length lines) lines)
-      end) (take-length lines)
-      (after_lines long begun (length lines) lines end may are))
+      let all = after_lines long begun (length lines) lines end may are in
+      rw (take-length lines, drop_all (length lines) lines (omega arith)) at all
 
   same_lines : (begun : Begun) (lines others : List PrintedLine) (end other : End) → AreRowLines file begun lines end
       → AreRowLines file begun others other → (others ≡ lines) × (other ≡ end)
   same_lines begun lines others end other are again =
-      let one = one_rows file tails begun in
-      let first = one.one lines end are in
-      let second = one.one others other again in (second.0 ∙ sym first.0, second.1 ∙ sym first.1)
+      let one = (one_rows file tails begun).one in
+      let (first, ends) = one lines end are in
+      let (second, other_ends) = one others other again in (second ∙ sym first, other_ends ∙ sym ends)
 
   all_runs : (limits : List (Option ℕ)) (long : Bool) (begun : Begun) (max : Option ℕ) (before rows : List ℕ)
-      (last : Printed) (cut : Bool)
-      (lines : List PrintedLine) (end : End) → MayBegin file long begun → AreRowLines file begun lines end
+      (last : Printed) (cut : Bool) (lines : List PrintedLine) (end : End) → MayBegin file long begun
+      → AreRowLines file begun lines end
       → AreRunsOfRows file long begun limits max before rows last cut
       → AreAsOneRun before rows last cut (texts_of lines) (whole_text long begun lines end)
   all_runs [] long begun max before rows last cut lines end may are (run, before_is) =
       let same = same_lines begun lines run.lines end run.end are run.are in
-      let text : last ≡ text_of long max begun lines end = rw (same.0, same.1) at run.text_is in
-      let rows_are : rows ≡ texts_of (up_to max lines) = rw same.0 at run.rows_are in
+      let text = rw (same.0, same.1) at run.text_is in
       let cut_is : cut ≡ is_cut max lines = rw same.0 at run.cut_is in
-      rw before_is (alone lines max rows last (whole_text long begun lines end) cut rows_are
+      rw before_is (alone lines max rows last (whole_text long begun lines end) cut (rw same.0 at run.rows_are)
       (λ no. text ∙ not_cut long max begun lines end (sym cut_is ∙ no)))
   all_runs (limit ∷ limits) long begun max before rows last cut lines end may are
       (text, first, was_cut, next, others, run, told, runs, before_is) =
@@ -234,34 +208,26 @@ module _ (tails : BeginningsHaveOneTail) (go_on : TailsGoOn) (long_go_on : LongT
       let goes = after_limit long begun limit lines end may are in
       let text_is : text ≡ text_of long limit begun lines end = rw (same.0, same.1) at run.text_is in
       let output : (text_of long limit begun lines end).output ≡ texts_of (up_to limit lines) ++ next_line next =
-      ap (λ (printed : Printed). printed.output) (sym text_is) ∙ told.is
-      ∙ ap (λ (l : List ℕ). l ++ next_line next) first_is in
+      ap (λ (printed : Printed). printed.output) (sym text_is) ∙ (rw first_is at told.is) in
       let next_is : next ≡ named long (next_after begun (up_to limit lines)) =
       sym (one_begun names (named long (next_after begun (up_to limit lines))) next
       (is_begun long (named long (next_after begun (up_to limit lines))) goes.may) told.limits
       (next_told long limit begun lines end next output)) in
       let later = all_runs limits long (named long (next_after begun (up_to limit lines))) max others rows last cut
-      (lines_left limit lines)
-      end goes.may goes.are (subst (λ (b : Begun). AreRunsOfRows file long b limits max others rows last cut) next_is
-      runs) in
-      rw before_is
-      (subst (λ (l : List PrintedLine). AreAsOneRun (first ++ others) rows last cut (texts_of l)
-      (whole_text long begun l end)) (parts limit lines)
-      (as_one_after long begun (up_to limit lines) (lines_left limit lines) end first others rows last cut first_is
-      later))
+      (lines_left limit lines) end goes.may goes.are (rw next_is at runs) in
+      let as_one = as_one_after long begun (up_to limit lines) (lines_left limit lines) end first others rows last cut
+      first_is later in
+      rw before_is (rw (parts limit lines) at as_one)
 
   cut_next : (long : Bool) (begun : Begun) (max : Option ℕ) (text : Printed) (rows : List ℕ) → MayBegin file long begun
       → IsRunOfRows file long begun max text rows true → (next : Begun) × IsReadAfter rows text.output next
   cut_next long begun max text rows may run =
       let next = named long (next_after begun (up_to max run.lines)) in
-      let goes = after_limit long begun max run.lines run.end may run.are in (
-        next,
-        record {
-          limits = is_begun long next goes.may;
-          is = ap (λ (printed : Printed). printed.output) (run.text_is ∙ cut_text max run.cut_is)
-              ∙ ap (λ (l : List ℕ). l ++ next_line next) (sym run.rows_are);
-        },
-      )
+      let goes = after_limit long begun max run.lines run.end may run.are in
+      let text_is : text.output ≡ rows ++ next_line next =
+      ap (λ (printed : Printed). printed.output) (run.text_is ∙ cut_text max run.cut_is)
+      ∙ ap (λ (l : List ℕ). l ++ next_line next) (sym run.rows_are) in
+      (next, record { limits = is_begun long next goes.may; is = text_is })
     where
       cut_text : (max : Option ℕ) → true ≡ is_cut max run.lines
           → text_of long max begun run.lines run.end ≡ first_text long begun (up_to max run.lines)
@@ -275,11 +241,7 @@ cut_runs_are_read_on tails go_on long_go_on places short long_short names file l
 pub runs_go_on : BeginningsHaveOneTail → TailsGoOn → LongTailsGoOn → PlacesAreReached → CursorsAreShort
     → PlacesAreShort → TextsNameOne → RunsGoOn
 runs_go_on tails go_on long_go_on places short long_short names file long begun limits max before rows last cut whole
-    lines was_cut
-    within may runs run =
-    let all = all_runs tails go_on long_go_on places short long_short names file (omega arith) limits long begun max
-    before rows last
-    cut run.lines run.end may run.are runs in
-    subst (λ (text : Printed). AreAsOneRun before rows last cut lines text) (sym run.text_is)
-    (subst (λ (l : List ℕ). AreAsOneRun before rows last cut l (whole_text long begun run.lines run.end))
-    (sym run.rows_are) all)
+    lines was_cut within may runs run =
+    rw (run.text_is, run.rows_are)
+    (all_runs tails go_on long_go_on places short long_short names file (omega arith) limits long begun max before rows
+    last cut run.lines run.end may run.are runs)

@@ -1,7 +1,7 @@
 -- What the grammar says of one word, of numbers and of uses that differ, and what scanning computes
 -- of them.
 use Rattle.std.proofs.Common.{◌≡◌, ◌≢◌, ◌<◌, ◌||◌, ◌++◌, arith, refl}
-use Rattle.std.proofs.Common.{Bool, true, false, ℕ, zero, suc, List, [], ◌∷◌, length}
+use Rattle.std.proofs.Common.{true, false, ℕ, zero, suc, List, [], ◌∷◌, length}
 use Rattle.std.specs.Prelude.{nat_lt, not}
 use Rattle.std.specs.Char.{digit_value}
 use Rattle.std.specs.List.{All, AllPairs, list_all, slice_index_or}
@@ -9,7 +9,7 @@ use Rattle.std.specs.Str.{bytes_eq}
 use Rattle.std.specs.Str.Parse.{AllDigits}
 use Rattle.std.proofs.lemmas.List.Elements.{All-cons, All-head, All-nil, All-tail}
 use Rattle.std.proofs.lemmas.List.Folds.{list_any-append}
-use Rattle.std.proofs.lemmas.Bool.{lt-ltb, ltb-true}
+use Rattle.std.proofs.lemmas.Bool.{lt-ltb, ltb-true, not-true}
 use Rattle.clap.proofs.WalkLemmas.{both}
 use Rattle.std.proofs.lemmas.Slice.Eq.{bytes_eq-Decides}
 use Rattle.fax_tool.specs.Grammar.{IsNumberText, Text, Use, name_of}
@@ -83,13 +83,9 @@ from_apart before (u ∷ us) is =
     let others = from_apart (before ++ u ∷ []) us of.1 in
     let each = λ (k : ℕ) (d : Use) (low : k < length us). new_and_other before u (slice_index_or us k d)
     (others.0 k d low) in (
-      All-cons (IsNew before) u us (new (is_used (name_of u.item) before) of.0) (λ k d low. (each k d low).0),
+      All-cons (IsNew before) u us (not-true (is_used (name_of u.item) before) of.0) (λ k d low. (each k d low).0),
       apart_cons u us (λ k d low. (each k d low).1) others.1,
     )
-  where
-    new : (b : Bool) → not b ≡ true → b ≡ false
-    new true is = cc
-    new false is = refl
 
 pub scanned_apart : (uses : List Use) → are_apart [] uses ≡ true → AreApart uses
 scanned_apart uses is = (from_apart [] uses is).1

@@ -3,6 +3,7 @@ mod NumberTextLemmas
 mod clap
 mod RunTextLemmas
 mod RememberedLemmas
+mod HeldLemmas
 mod BeginLemmas
 mod CommandEntryLemmas
 mod EntryReadLemmas

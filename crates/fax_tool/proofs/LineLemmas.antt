@@ -1,8 +1,8 @@
 -- The lines of rows and of pages.
-use Rattle.std.proofs.Common.{◌≡◌, ℕ, zero, suc, ◌+◌, inl, inr, List, [], ◌∷◌, ◌++◌, take, map}
+use Rattle.std.proofs.Common.{◌≡◌, ℕ, ◌+◌, inl, inr, List, [], ◌∷◌, ◌++◌, take, map}
 use Rattle.std.proofs.Common.{Option, Some, None, Result, Ok, Err, refl, sym, ap, ◌∙◌, arith}
-use Rattle.std.proofs.lemmas.Option.{slice_get_within, slice_get-map}
-use Rattle.std.proofs.lemmas.List.{length-map}
+use Rattle.std.proofs.lemmas.Option.{get_or_from_slice_get, slice_get_within, slice_get-map}
+use Rattle.std.proofs.lemmas.List.{length-map, take_more}
 use Rattle.std.specs.Prelude.{slice_get, option_map, IfOk}
 use Rattle.fax_bits.specs.declared.Memory.{Memory as NoMemory}
 use Rattle.fax_walk.specs.declared.begun.Begun.{Begun}
@@ -26,10 +26,7 @@ use Rattle.fax_tool.specs.code.Printing.{IsLinePut, IsNextAfter, end_of}
 -- the first elements of a list, with one more
 pub take_at : {A : Type 0} (xs : List A) (n : ℕ) (x : A) → slice_get xs n ≡ Some x
     → take (n + 1) xs ≡ take n xs ++ x ∷ []
-take_at [] n x e = absurd cc
-take_at (y ∷ xs) zero x e = let same : y ≡ x = cc in ap (λ i. i ∷ []) same
-take_at (y ∷ xs) (suc n) x e = let m : suc n + 1 ≡ suc (n + 1) = omega arith in
-    rw m (ap (λ l. y ∷ l) (take_at xs n x e))
+take_at xs n x e = rw (take_more xs n x (slice_get_within xs n x e), get_or_from_slice_get xs n x x e)
 
 pub next_after-append : (begun : Begun) (xs ys : List PrintedLine)
     → next_after begun (xs ++ ys) ≡ next_after (next_after begun xs) ys

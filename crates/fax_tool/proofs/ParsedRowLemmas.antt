@@ -20,6 +20,8 @@ use Rattle.fax_tool.proofs.RuleLemmas.{rule_of, rules_of}
 use Rattle.fax_tool.proofs.UseLemmas.{at_end, leaf, row_of}
 use Rattle.fax_tool.proofs.SpellLemmas.{entered}
 use Rattle.fax_tool.proofs.clap.Flat.{IsFlat, guard, read, run, stand}
+use Rattle.clap.proofs.WalkLemmas.{both}
+use Rattle.std.proofs.lemmas.Bool.{not-true}
 use Rattle.fax_tool.proofs.clap.FlatLemmas.{guard_twice, walk_is_read}
 
 -- the rows of uses
@@ -72,8 +74,7 @@ default_row name = record {
   values = codes "false" ∷ [];
   count = None;
   source = Some DefaultValue;
-  reading = reading_by
-      (rule_of (flag name));
+  reading = reading_by (rule_of (flag name));
 }
 
 pub same_either : (b : Bool) (rows : List Row) → cond b rows rows ≡ rows
@@ -103,16 +104,9 @@ is_no_flag id items = list_all (λ item. not (is_flag id item)) items
 defaults_keep : (id : Text) (items : List Item) (rows : List Row) → is_no_flag id items ≡ true
     → row_at id (fold with_default rows (rules_of items)) ≡ row_at id rows
 defaults_keep id [] rows none = refl
-defaults_keep id (item ∷ items) rows none = go (is_flag id item) refl none
-    (λ none. defaults_keep id items (with_default rows (rule_of item)) none)
-  where
-    go : (b : Bool) → is_flag id item ≡ b → (not b && is_no_flag id items) ≡ true
-        → (is_no_flag id items ≡ true → row_at id (fold with_default (with_default rows (rule_of item))
-        (rules_of items))
-        ≡ row_at id (with_default rows (rule_of item)))
-        → row_at id (fold with_default (with_default rows (rule_of item)) (rules_of items)) ≡ row_at id rows
-    go true is none later = cc
-    go false is none later = later none ∙ default_keeps id item rows is
+defaults_keep id (item ∷ items) rows none =
+    let of = both (not (is_flag id item)) (is_no_flag id items) none in
+    defaults_keep id items (with_default rows (rule_of item)) of.1 ∙ default_keeps id item rows (not-true _ of.0)
 
 -- the text of a flag
 abbrev pub is_true : Option Text → Bool

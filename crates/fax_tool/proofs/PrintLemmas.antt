@@ -1,7 +1,7 @@
 -- Lines that are printed, one after another.
 use Rattle.std.proofs.Common.{◌≡◌, ℕ, ◌+◌, ◌-◌, ◌<◌, ◌≤◌, List, [], ◌∷◌, ◌++◌, length, take, ap, sym, ◌∙◌, append_assoc}
 use Rattle.std.proofs.Common.{append-nil}
-use Rattle.std.proofs.Common.{arith, ◌↔◌, ◌⊎◌, inl, inr, subst, Bool, Result, Ok, Err}
+use Rattle.std.proofs.Common.{arith, ◌↔◌, ◌⊎◌, inl, inr, Bool, Result, Ok, Err}
 use Rattle.std.proofs.lemmas.Grind.{flat_map-append}
 use Rattle.std.proofs.lemmas.Option.{slice_get_within}
 use Rattle.std.specs.Prelude.{Option, Some, IfSome, option_map, false, slice_get, IfErr}
@@ -32,8 +32,7 @@ IsLeftOf max left count = max ≡ option_map (λ n. n + count) left
 -- so many of the lines are printed, the last part of their text is collected only, and so much of
 -- the limit is left
 pub record PrintsSome (tail now : List PrintedLine → End → Type 0) (given : ℕ) (max left : Option ℕ)
-    (output written : Option (List ℕ))
-    (text : List ℕ) : Type 0 where
+    (output written : Option (List ℕ)) (text : List ℕ) : Type 0 where
   pub lines : List PrintedLine
   pub end : End
   pub is : tail lines end
@@ -63,9 +62,9 @@ module _ {tail now : List PrintedLine → End → Type 0} (one : IsOne tail) {gi
   lines_are : (all : List PrintedLine) (end : End) → now all end → (all ≡ some.lines) × (end ≡ some.end)
   lines_are all end is = grind arith
 
-  pub part_sent : (new_written : Option (List ℕ)) (new_text : List ℕ) → SendsPart written new_written text new_text
+  pub part_sent : {new_written : Option (List ℕ)} {new_text : List ℕ} → SendsPart written new_written text new_text
       → PrintsSome tail now given max left output new_written new_text
-  part_sent new_written new_text sends = record {
+  part_sent {new_written} {new_text} sends = record {
     lines = some.lines;
     end = some.end;
     is = some.is;
@@ -74,19 +73,16 @@ module _ {tail now : List PrintedLine → End → Type 0} (one : IsOne tail) {gi
     limit = some.limit;
     sent = some.sent ++ sends.part;
     printed = Appends-trans output written new_written some.sent sends.part some.printed sends.written;
-    collected = some.collected ∙ ap (λ xs. some.sent ++ xs) sends.parts
-        ∙ sym (append_assoc some.sent sends.part new_text);
+    collected = rw (append_assoc, ← sends.parts) some.collected;
   }
 
   pub one_more : (new : List PrintedLine → End → Type 0) (new_given : ℕ) (new_left : Option ℕ) (line : PrintedLine)
-      (new_text : List ℕ)
-      → ((all : List PrintedLine) (end : End) → now all end ↔ new all end) → IsNumber now given line
-      → new_given ≡ given + 1
-      → IfSome left (λ n. 0 < n) → new_left ≡ option_map (λ n. n - 1) left → new_text ≡ text ++ line.text
+      (new_text : List ℕ) → ((all : List PrintedLine) (end : End) → now all end ↔ new all end) → IsNumber now given line
+      → new_given ≡ given + 1 → IfSome left (λ n. 0 < n)
+      → new_left ≡ option_map (λ n. n - 1) left → new_text ≡ text ++ line.text
       → PrintsSome tail new new_given max new_left output written new_text
   one_more new new_given new_left line new_text same (all, end, is, there) more above less grown =
-      let here : slice_get some.lines given ≡ Some line =
-      subst (λ (l : List PrintedLine). slice_get l given ≡ Some line) (lines_are all end is).0 there in
+      let here : slice_get some.lines given ≡ Some line = rw (lines_are all end is).0 at there in
       let within = slice_get_within some.lines given line here in
       rw (more, less) (record {
         lines = some.lines;
@@ -97,9 +93,7 @@ module _ {tail now : List PrintedLine → End → Type 0} (one : IsOne tail) {gi
         limit = one_less_left max left given some.limit above;
         sent = some.sent;
         printed = some.printed;
-        collected = ap texts_of (take_at some.lines given line here) ∙ texts_of-push (take given some.lines) line
-            ∙ ap (λ xs. xs ++ line.text) some.collected ∙ append_assoc some.sent text line.text
-            ∙ ap (λ xs. some.sent ++ xs) (sym grown);
+        collected = rw (take_at some.lines given line here, texts_of-push, some.collected, append_assoc, grown);
       })
 
   module _ (begun : Begun) where
@@ -115,8 +109,7 @@ module _ {tail now : List PrintedLine → End → Type 0} (one : IsOne tail) {gi
       given,
       some.within,
       within_limit max left given some.limit,
-      sym (append_assoc some.sent text next) ∙ ap (λ xs. xs ++ next) (sym some.collected)
-          ∙ sym (first_text begun given some.lines some.end some.within),
+      sym (first_text begun given some.lines some.end some.within ∙ rw (some.collected, append_assoc some.sent text _)),
     )
 
     -- a write of collected text was refused
@@ -124,18 +117,15 @@ module _ {tail now : List PrintedLine → End → Type 0} (one : IsOne tail) {gi
         → IsGivenInPart written new_written text counts refusal
         → StopsPrinting NoText (IsTextOfFirst tail max begun) refusal (output_after output new_written counts)
     stopped_for_write new_written counts refusal given_in_part =
-        let first : List ℕ → Type 0 = λ (t : List ℕ). IsTextOfFirst tail max begun (some.sent ++ t) in
         stops_after NoText NoText (λ (t : List ℕ). IsTextOfFirst tail max begun (some.sent ++ t))
-        (IsTextOfFirst tail max begun) refusal output
-        written new_written counts some.sent some.printed (λ printed none. absurd none) (λ t holds. holds)
+        (IsTextOfFirst tail max begun) refusal output written new_written counts some.sent some.printed
+        (λ printed none. absurd none) (λ t holds. holds)
         (stops_in_front (λ (t : List ℕ). IsTextOfFirst tail max begun (some.sent ++ t)) written new_written text next
-        counts refusal
-        first_lines given_in_part)
+        counts refusal first_lines given_in_part)
 
     -- memory was refused, and the lines so far and where to go on were to be written
     pub stopped_for_memory : (now_begun : Begun) (cursor : Cursor) (new_written : Option (List ℕ)) (shown line : List ℕ)
-        (counts : Counts)
-        (refusal : Refusal) → now_begun ≡ begun
+        (counts : Counts) (refusal : Refusal) → now_begun ≡ begun
         → ((from : Begun) × IsNextAfter now now_begun given from × (cursor ≡ begun_cursor from)) → shown ≡ text
         → line ≡ next_line (At cursor)
         → StopsWith (shown ++ line) refusal (output_after written new_written counts)
@@ -143,14 +133,10 @@ module _ {tail now : List PrintedLine → End → Type 0} (one : IsOne tail) {gi
     stopped_for_memory now_begun cursor new_written shown line counts refusal same_begun (from, after, at) same line_is
         stops =
         let are = lines_are after.lines after.end after.is in
-        let from_is : from ≡ next_after begun (take given some.lines) =
-        after.next_is ∙ ap (λ (b : Begun). next_after b (take given after.lines)) same_begun
-        ∙ ap (λ (l : List PrintedLine). next_after begun (take given l)) are.0 in
-        let next_is : line ≡ next = line_is ∙ ap (λ (c : Cursor). next_line (At c)) at ∙ ap (λ (b : Begun). next_line
-        (named false b)) from_is in
-        stops_after NoText NoText (λ (t : List ℕ). t ≡ shown ++ line)
-        (IsTextOfFirst tail max begun) refusal output written new_written counts
-        some.sent some.printed (λ printed none. absurd none)
+        let from_is : from ≡ next_after begun (take given some.lines) = rw (← same_begun, ← are.0) after.next_is in
+        let next_is : line ≡ next = rw (line_is, at, from_is) in
+        stops_after NoText NoText (λ (t : List ℕ). t ≡ shown ++ line) (IsTextOfFirst tail max begun) refusal output
+        written new_written counts some.sent some.printed (λ printed none. absurd none)
         (λ t is. rw (is, same, next_is) first_lines) stops
 
 -- where to go on at the cursor after so many lines
@@ -166,8 +152,7 @@ module _ (tail : List PrintedLine → End → Type 0) (begun : Begun) (given : �
   abbrev StopsNext : Refusal → Type 0
   StopsNext refusal =
       StopsPrinting (λ printed. IsNextLine tail begun given long printed.output) (IsNextLine tail begun given false)
-      refusal
-      (output_after old new counts)
+      refusal (output_after old new counts)
 
   -- where to go on was given in part
   pub next_stopped : (answer : Result Unit Refusal) (bytes : List ℕ)
@@ -176,8 +161,7 @@ module _ (tail : List PrintedLine → End → Type 0) (begun : Begun) (given : �
   next_stopped (Ok done) bytes is part = tt
   next_stopped (Err refusal) bytes (inl is) part =
       stops_at (λ printed. IsNextLine tail begun given long printed.output) (IsNextLine tail begun given false) old new
-      bytes counts refusal
-      is part
+      bytes counts refusal is part
   next_stopped (Err refusal) bytes (inr is) part = grind arith
 
   -- memory was refused for the line with a long cursor
@@ -188,8 +172,7 @@ module _ (tail : List PrintedLine → End → Type 0) (begun : Begun) (given : �
   abbrev StopsLast : Option End → Refusal → Type 0
   StopsLast ending refusal =
       StopsPrinting (λ printed. IsLastLine tail begun given long ending printed.output)
-      (IsNextLine tail begun given false) refusal
-      (output_after old new counts)
+      (IsNextLine tail begun given false) refusal (output_after old new counts)
 
   -- the last line was given in part
   pub last_stopped : (ending : Option End) (answer : Result Unit Refusal) (bytes : List ℕ)
@@ -198,14 +181,12 @@ module _ (tail : List PrintedLine → End → Type 0) (begun : Begun) (given : �
   last_stopped ending (Ok done) bytes is part = tt
   last_stopped ending (Err refusal) bytes is part =
       stops_at (λ printed. IsLastLine tail begun given long ending printed.output) (IsNextLine tail begun given false)
-      old new bytes counts
-      refusal is part
+      old new bytes counts refusal is part
 
   -- the last line says where to go on
   pub next_is_last : (ending : Option End) (answer : Result Unit Refusal)
       → ((line : List ℕ) → IsNextLine tail begun given long line → IsLastLine tail begun given long ending line)
-      → IfErr answer StopsNext
-      → IfErr answer (StopsLast ending)
+      → IfErr answer StopsNext → IfErr answer (StopsLast ending)
   next_is_last ending (Ok done) turns stops = tt
   next_is_last ending (Err refusal) turns stops =
       stops_more (λ printed. IsNextLine tail begun given long printed.output)

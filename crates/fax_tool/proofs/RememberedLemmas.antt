@@ -1,10 +1,11 @@
 -- Texts of numbers that are remembered.
 use Rattle.std.proofs.lemmas.Grind.{common_steps}
 use Rattle.std.proofs.Common.{◌≡◌, ℕ, zero, suc, ◌+◌, ◌*◌, ◌<◌, ◌≤◌, ◌⊎◌, List, [], ◌∷◌, ◌++◌, length, set, take}
-use Rattle.std.proofs.Common.{replicate, inl, inr, refl, ap, ◌∙◌}
+use Rattle.std.proofs.Common.{replicate, inl, inr, refl}
 use Rattle.std.proofs.Common.{Some, arith}
 use Rattle.std.specs.Prelude.{slice_get, slice_set}
 use Rattle.std.proofs.lemmas.List.{length-take-le}
+use Rattle.std.proofs.Math.Seq.{take-append-add}
 use borrow.Rule.Slice.PartMut.{put_mid}
 use Rattle.fax_tool.specs.Text.{and_number}
 use Rattle.fax_tool.specs.code.Remembered.{AreNumbers, ArePairs, IsMadeAt, IsText}
@@ -21,8 +22,7 @@ put_at (first ∷ all) (suc place) (suc i) new found is = grind (arith, put_at a
 
 -- a text is made of a number
 pub numbers_put : (texts : List ShortText) (number : ℕ) (new : ShortText) → AreNumbers texts
-    → IsText (and_number number) new
-    → AreNumbers (slice_set texts number new)
+    → IsText (and_number number) new → AreNumbers (slice_set texts number new)
 numbers_put texts number new are is = λ n kept made.
     elim (put_at texts number n new kept made.0) [
       | inl (same, kept_is) ↦ rw (same, kept_is) is
@@ -48,14 +48,7 @@ none_made zero place empty kept none made = cc
 none_made (suc count) zero empty kept none made = grind arith
 none_made (suc count) (suc place) empty kept none made = none_made count place empty kept none made
 
--- the first part of two lists, past the first list
-take_past : (xs ys : List ℕ) (m : ℕ) → take (length xs + m) (xs ++ ys) ≡ xs ++ take m ys
-take_past [] ys m = let same : 0 + m ≡ m = omega arith in ap (λ k. take k ys) same
-take_past (x ∷ xs) ys m =
-    let next : suc (length xs) + m ≡ suc (length xs + m) = omega arith in
-    ap (λ k. take k (x ∷ (xs ++ ys))) next ∙ ap (λ more. x ∷ more) (take_past xs ys m)
-
 -- eight bytes are written, and the text is the first of them
 pub short_put : (bytes more : List ℕ) (at k len : ℕ) → length more ≡ 8 → len ≤ 8 → at + 8 ≤ length bytes
     → take (at + len) (put_mid at k bytes more) ≡ take at bytes ++ take len more
-short_put bytes more at k len eight few room = grind (arith, common_steps, length-take-le, take_past)
+short_put bytes more at k len eight few room = grind (arith, common_steps, length-take-le, take-append-add)

@@ -1,6 +1,6 @@
 -- Lines of what is left of a file that are printed, one after another.
 use Rattle.std.proofs.Common.{◌≡◌, ℕ, ◌+◌, ◌≤◌, ◌↔◌, List, [], ◌∷◌, ◌++◌, length, take, ap, sym, ◌∙◌, append_assoc}
-use Rattle.std.proofs.Common.{append-nil, arith, codes, inr, map, refl, subst, true, false, Option}
+use Rattle.std.proofs.Common.{append-nil, arith, codes, inr, map, refl, true, false, Option}
 use Rattle.std.proofs.Common.{Some, None, Result, Ok, Err}
 use Rattle.std.proofs.Math.Seq.{take-length}
 use Rattle.std.proofs.lemmas.Grind.{flat_map-append}
@@ -51,17 +51,16 @@ module _ {are now : List (List ℕ) → Type 0} (one : IsOneList are) {given : �
   lines_are : (all : List (List ℕ)) → now all → all ≡ some.lines
   lines_are all is = one.one all ((some.same all).1 is) ∙ sym (one.one some.lines some.is)
 
-  pub part_sent : (new_written : Option (List ℕ)) (new_text : List ℕ) → SendsPart written new_written text new_text
+  pub part_sent : {new_written : Option (List ℕ)} {new_text : List ℕ} → SendsPart written new_written text new_text
       → PrintsSome are now given output new_written new_text
-  part_sent new_written new_text sends = record {
+  part_sent {new_written} {new_text} sends = record {
     lines = some.lines;
     is = some.is;
     same = some.same;
     within = some.within;
     sent = some.sent ++ sends.part;
     printed = Appends-trans output written new_written some.sent sends.part some.printed sends.written;
-    collected = some.collected ∙ ap (λ xs. some.sent ++ xs) sends.parts
-        ∙ sym (append_assoc some.sent sends.part new_text);
+    collected = rw (append_assoc, ← sends.parts) some.collected;
   }
 
   pub one_more : (new : List (List ℕ) → Type 0) (new_given : ℕ) (all : List (List ℕ)) (line new_text : List ℕ)
@@ -69,8 +68,7 @@ module _ {are now : List (List ℕ) → Type 0} (one : IsOneList are) {given : �
       → new_given ≡ given + 1 → new_text ≡ text ++ line
       → PrintsSome are new new_given output written new_text
   one_more new new_given all line new_text same is there more grown =
-      let here : slice_get some.lines given ≡ Some line =
-      subst (λ (l : List (List ℕ)). slice_get l given ≡ Some line) (lines_are all is) there in
+      let here : slice_get some.lines given ≡ Some line = rw (lines_are all is) at there in
       let within = slice_get_within some.lines given line here in
       rw more (record {
         lines = some.lines;
@@ -79,9 +77,7 @@ module _ {are now : List (List ℕ) → Type 0} (one : IsOneList are) {given : �
         within = omega (arith, within);
         sent = some.sent;
         printed = some.printed;
-        collected = ap texts_of (take_at some.lines given line here) ∙ texts_of-push (take given some.lines) line
-            ∙ ap (λ xs. xs ++ line) some.collected ∙ append_assoc some.sent text line
-            ∙ ap (λ xs. some.sent ++ xs) (sym grown);
+        collected = rw (take_at some.lines given line here, texts_of-push, some.collected, append_assoc, grown);
       })
 
   front : IsFrontOf are (some.sent ++ text)
@@ -110,11 +106,7 @@ module _ {are now : List (List ℕ) → Type 0} (one : IsOneList are) {given : �
       → StopsPrinting NoText (IsFrontOf are) Memory (output_after output new_written counts)
   stopped_for_memory new_written counts worked moved = record {
     reason = worked;
-    leaves = (
-      some.sent ++ text,
-      front,
-      Appends-trans output written new_written some.sent text some.printed moved,
-    );
+    leaves = (some.sent ++ text, front, Appends-trans output written new_written some.sent text some.printed moved);
   }
 
 module _ (bytes : Option (List ℕ)) (taken : ℕ) (counts : Counts) (file : List ℕ)
@@ -134,13 +126,10 @@ module _ (bytes : Option (List ℕ)) (taken : ℕ) (counts : Counts) (file : Lis
     pub end_unread : (given : Counts) → HasWorked given
         → IsStopped Salvage Memory (input_after bytes taken counts) (output_after old mid given)
     end_unread given worked =
+        let front = ap texts_of (sym (take-length lines)) in
         command_stops Salvage bytes taken counts (output_after old mid given) file same read Memory (record {
           reason = worked;
-          leaves = (
-            texts_of lines,
-            (lines, are, length lines, omega arith, ap texts_of (sym (take-length lines))),
-            sent,
-          );
+          leaves = (texts_of lines, (lines, are, length lines, omega arith, front), sent);
         })
 
     module _ (rows : List RowItem) (end : End) (tail : AreItems file rows end) (new : Option (List ℕ))

@@ -90,13 +90,12 @@ named_text n own is = (bytes_eq-Decides n own).0 is
 joined_word : (n own word t : Text) → bytes_eq n own ≡ true → word ≡ 45 ∷ 45 ∷ own ++ 61 ∷ t
     → word ∷ [] ≡ (codes "--" ++ n ++ codes "=" ++ t) ∷ []
 joined_word n own word t named shape =
-    ap (λ w. w ∷ []) (shape ∙ (ap (λ own. 45 ∷ 45 ∷ own ++ 61 ∷ t) (sym (named_text n own named)) ∙ sym
-    (append_assoc (45 ∷ 45 ∷ n) (61 ∷ []) t)))
+    rw (shape, ← named_text n own named, ← append_assoc (45 ∷ 45 ∷ n) (61 ∷ []) t)
 
 bare_word : (n own word : Text) → bytes_eq n own ≡ true → word ≡ 45 ∷ 45 ∷ own ++ []
     → word ∷ [] ≡ (codes "--" ++ n) ∷ []
 bare_word n own word named shape =
-    ap (λ w. w ∷ []) (shape ∙ ap (λ own. 45 ∷ 45 ∷ own) (append-nil own ∙ sym (named_text n own named)))
+    rw (shape, append-nil, named_text n own named)
 
 apart_words : (n own word value : Text) → bytes_eq n own ≡ true → word ≡ 45 ∷ 45 ∷ own ++ []
     → word ∷ value ∷ [] ≡ (codes "--" ++ n) ∷ value ∷ []
@@ -140,31 +139,17 @@ module _ (name : Text) (items : List Item) (first : arg_by_index (rules_of items
   long_as : (item : Item) (own : Text) (v : Option Text) (word : Text) → Contains items item → has_long own item ≡ true
       → word ≡ 45 ∷ 45 ∷ own ++ with_equals v → SpelledAs (rule_said (Some (rule_of item)) v) word
   long_as (text n) own v word among named shape =
-      option_as (text n) v word among refl (λ t is taken. inl (joined_word n own word t named
-      (shape ∙ ap (λ v. 45 ∷ 45 ∷ own ++ with_equals v) is)))
-      (λ is value plain taken. inr (
-        apart_words n own word value named
-            (shape ∙ ap (λ v. 45 ∷ 45 ∷ own ++ with_equals v) is),
-        plain,
-      ))
+      option_as (text n) v word among refl (λ t is taken. inl (joined_word n own word t named (rw is at shape)))
+      (λ is value plain taken. inr (apart_words n own word value named (rw is at shape), plain))
   long_as (number n most) own v word among named shape =
       option_as (number n most) v word among refl
-      (λ t is taken. (
-        inl (joined_word n own word t named (shape ∙ ap (λ v. 45 ∷ 45 ∷ own ++ with_equals v) is)),
-        scanned_number most t taken,
-      ))
-      (λ is value plain taken. (
-        inr (apart_words n own word value named (shape ∙ ap (λ v. 45 ∷ 45 ∷ own ++ with_equals v) is), plain),
-        scanned_number most value taken,
-      ))
+      (λ t is taken. (inl (joined_word n own word t named (rw is at shape)), scanned_number most t taken))
+      (λ is value plain taken.
+      (inr (apart_words n own word value named (rw is at shape), plain), scanned_number most value taken))
   long_as (flag n) own (Some t) word among named shape = tt
-  long_as (flag n) own None word among named shape = (
-    use_of (flag n) (codes "true"),
-    among,
-    λ rows. flag_used name items n rows,
-    λ taken.
-        (bare_word n own word named shape, refl),
-  )
+  long_as (flag n) own None word among named shape =
+      let spells = bare_word n own word named shape in
+      (use_of (flag n) (codes "true"), among, λ rows. flag_used name items n rows, λ taken. (spells, refl))
   long_as item own v word among named shape = cc
 
   letter_as : (x : ℕ) (rest word : Text) → Contains items (letter x) → word ≡ 45 ∷ x ∷ rest
@@ -175,10 +160,9 @@ module _ (name : Text) (items : List Item) (first : arg_by_index (rules_of items
 
   spelled_as : (word : Text) → IsUtf8 word → Form word → SpelledAs (said (rules_of items) false word) word
   spelled_as word utf8 (as_end is_end says_is) =
-      subst (λ W. SpelledAs W word) (sym (says_is (rules_of items))) ((bytes_eq-Decides word hyphens).0 is_end)
+      rw says_is ((bytes_eq-Decides word hyphens).0 is_end)
   spelled_as word utf8 (as_long (own, v) no_end form says_is) =
-      subst (λ W. SpelledAs W word) (sym (says_is (rules_of items) ∙ ap (λ o. rule_said o v) (by_long items own)))
-      (go (find (has_long own) items) (found_in (has_long own) items))
+      rw (says_is, by_long) (go (find (has_long own) items) (found_in (has_long own) items))
     where
       go : (o : Option Item) → ((item : Item) → o ≡ Some item → Contains items item × (has_long own item ≡ true))
           → SpelledAs (rule_said (option_map rule_of o) v) word
@@ -186,10 +170,7 @@ module _ (name : Text) (items : List Item) (first : arg_by_index (rules_of items
       go (Some item) found = long_as item own v word (found item refl).0 (found item refl).1
           (long_shape word own v form)
   spelled_as word utf8 (as_letter b bs x no_end no_long form char says_is) =
-      subst (λ W. SpelledAs W word)
-      (sym (says_is (rules_of items) ∙ ap (λ o. rule_said o (attached_value (drop (length (encode_utf8 x)) (b ∷ bs))))
-      (by_short items x)))
-      (go (find (has_letter x) items) (found_in (has_letter x) items))
+      rw (says_is, by_short) (go (find (has_letter x) items) (found_in (has_letter x) items))
     where
       shape : word ≡ 45 ∷ b ∷ bs
       shape = short_shape word b bs form
@@ -201,7 +182,7 @@ module _ (name : Text) (items : List Item) (first : arg_by_index (rules_of items
           let of = found (letter l) refl in
           let fit = fits (letter l) of.0 in
           let same = same_byte l x of.1 in
-          let byte = after_hyphen b bs (subst IsUtf8 shape utf8) in
+          let byte = after_hyphen b bs (rw shape at utf8) in
           let char_is : byte.0 ≡ x = let both = sym byte.1 ∙ char in cc in
           let first = byte.2 (subst (λ x. x < 128) (same ∙ sym char_is) fit.1) ∙ char_is ∙ sym same in
           subst (λ n. SpelledAs (rule_said (Some (rule_of (letter l))) (attached_value (drop n (b ∷ bs)))) word)
@@ -209,7 +190,7 @@ module _ (name : Text) (items : List Item) (first : arg_by_index (rules_of items
           (shape ∙ ap (λ b. 45 ∷ b ∷ bs) first))
       go (Some item) found = let no = (found item refl).1 in cc
   spelled_as word utf8 (as_place no_end no_long form says_is) =
-      subst (λ W. SpelledAs W word) (sym (says_is (rules_of items))) (said_plain word utf8 no_end no_long form)
+      rw says_is (said_plain word utf8 no_end no_long form)
 
   -- the uses that words spell, from a place and rows on
   abbrev Spelling : List Text → List Row → List Row → Type 0
@@ -222,8 +203,7 @@ module _ (name : Text) (items : List Item) (first : arg_by_index (rules_of items
   -- the first word is the text that was waited for
   abbrev Awaited : List Text → Rule → List Row → List Row → Type 0
   Awaited words a rows r = (value : Text) × (others : List Text) × (q : List Row) × (words ≡ value ∷ others)
-      × IsPlain value
-      × (taken (leaf name items) a (value ∷ []) rows ≡ Some q) × Spelling others q r
+      × IsPlain value × (taken (leaf name items) a (value ∷ []) rows ≡ Some q) × Spelling others q r
 
   abbrev WaitsSpelled : List Text → Type 0
   WaitsSpelled words = (a : Rule) (filed : Bool) (rows r : List Row) → All IsUtf8 words
@@ -231,14 +211,10 @@ module _ (name : Text) (items : List Item) (first : arg_by_index (rules_of items
 
   -- a use and those after it
   more_uses : (u : Use) (own others words : List Text) (rows q r : List Row) → words ≡ own ++ others
-      → Contains items u.item
-      → IsSpelled u.item u.value own → enter rows u ≡ Some q → Spelling others q r → Spelling words rows r
-  more_uses u own others words rows q r split among spells into rest = (
-    u ∷ rest.0,
-    inl (own, others, split, among, spells, rest.1),
-    ap (option_and_then (λ r. entered r rest.0)) into
-        ∙ rest.2,
-  )
+      → Contains items u.item → IsSpelled u.item u.value own
+      → enter rows u ≡ Some q → Spelling others q r → Spelling words rows r
+  more_uses u own others words rows q r split among spells into (uses, are, entered_is) =
+      (u ∷ uses, inl (own, others, split, among, spells, are), rw into entered_is)
 
   after_end : (words : List Text) (filed : Bool) (rows r : List Row)
       → read (leaf name items) words true None (place_of filed) rows ≡ Some r → Spelling (hyphens ∷ words) rows r
@@ -249,8 +225,7 @@ module _ (name : Text) (items : List Item) (first : arg_by_index (rules_of items
   after_end (word ∷ other ∷ words) false rows r is = let no = rw (first, second) at is in grind arith
 
   idle_from : (word : Text) (words : List Text) (W : Said) → SpelledAs W word → IdleSpelled words → WaitsSpelled words
-      → All IsUtf8 words
-      → (filed : Bool) (rows r : List Row)
+      → All IsUtf8 words → (filed : Bool) (rows r : List Row)
       → after (leaf name items) W false word (place_of filed) rows (read (leaf name items) words) ≡ Some r
       → Spelling (word ∷ words) rows r
   idle_from word words (says a values) (u, among, taken_is, spells) idles waiting utf8 filed rows r is =
@@ -263,14 +238,12 @@ module _ (name : Text) (items : List Item) (first : arg_by_index (rules_of items
       let (value, others, q, words_are, plain, took, rest) = waiting a filed rows r utf8 is in
       let into = sym (taken_is value rows) ∙ took in
       more_uses (use_of item value) (word ∷ value ∷ []) others (word ∷ words) rows q r (ap (λ ws. word ∷ ws) words_are)
-      among
-      (spells value plain (entered_taken (use_of item value) rows q into)) into rest
+      among (spells value plain (entered_taken (use_of item value) rows q into)) into rest
   idle_from word words ends is_end idles waiting utf8 filed rows r is =
-      subst (λ word. Spelling (word ∷ words) rows r) (sym is_end) (after_end words filed rows r is)
+      rw is_end (after_end words filed rows r is)
   idle_from word words place plain idles waiting utf8 false rows r is =
       let of = and_then_some (taken (leaf name items) (rule_of file) (word ∷ []) rows)
-      (read (leaf name items) words false None 2) r
-      (rw first at is) in
+      (read (leaf name items) words false None 2) r (rw first at is) in
       more_uses (use_of file word) (word ∷ []) words (word ∷ words) rows of.0 r refl has_file (refl, plain)
       (sym (option_used name items file word rows tt refl) ∙ of.1) (idles true of.0 r utf8 of.2)
   idle_from word words place plain idles waiting utf8 true rows r is = let no = rw second at is in cc

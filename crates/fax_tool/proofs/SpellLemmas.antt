@@ -7,9 +7,9 @@ use Rattle.std.specs.Str.{chars}
 use Rattle.std.proofs.lemmas.Bool.Decides.{nat_tests}
 use Rattle.std.proofs.lemmas.List.Folds.{list_any-append}
 use Rattle.std.proofs.Math.Bool.{or-true}
-use Rattle.clap.specs.Walk.{Row, Rule, arg_by_index, attached_value, has_row}
+use Rattle.clap.specs.Walk.{Row, Rule, arg_by_id, arg_by_index, attached_value, has_row}
 use Rattle.fax_tool.specs.Grammar.{AreSpelled, IsPlain, IsSpelled, Item, Text, Use, file, flag}
-use Rattle.fax_tool.specs.Grammar.{letter, number, text}
+use Rattle.fax_tool.specs.Grammar.{letter, name_of, number, text}
 use Rattle.fax_tool.specs.code.Scan.{use_of}
 use Rattle.fax_tool.proofs.clap.Flat.{place, read, rule_said, said, says, waits}
 use Rattle.fax_tool.proofs.clap.FlatLemmas.{and_then_at}
@@ -44,6 +44,10 @@ IsRead c (letter x) =
 IsRead c (flag name) = said c false (codes "--" ++ name) ≡ says (rule_of (flag name)) []
 IsRead c file = Unit {0}
 
+-- what is known of an item: its rule is found by its name, and how it is read
+abbrev pub IsKnown : List Rule → Item → Type 0
+IsKnown c item = (arg_by_id c (name_of item) ≡ Some (rule_of item)) × IsRead c item × IsItem item
+
 -- the place of the next word for one, and after an item
 abbrev pub place_of : Bool → ℕ
 place_of false = 1
@@ -73,46 +77,29 @@ entered rows (u ∷ us) = option_and_then (λ r. entered r us) (enter rows u)
 
 module _ (name : Text) (items : List Item) (first : arg_by_index (rules_of items) 1 ≡ Some (rule_of file))
     (second : arg_by_index (rules_of items) 2 ≡ None)
-    (each : (item : Item) → Contains items item → IsRead (rules_of items) item)
-    (fits : (item : Item) → Contains items item → IsItem item) where
+    (known : (item : Item) → Contains items item → IsKnown (rules_of items) item) where
   abbrev reads : List Text → Bool → List Row → Option (List Row)
   reads words filed rows = read (leaf name items) words false None (place_of filed) rows
 
   spelled_use : (item : Item) (value : Text) (own others : List Text) (filed : Bool) (rows : List Row)
-      → IsFiled filed rows
-      → IsRead (rules_of items) item → IsItem item → IsSpelled item value own
+      → IsFiled filed rows → IsRead (rules_of items) item → IsItem item → IsSpelled item value own
       → reads (own ++ others) filed rows ≡ option_and_then (reads others (is_filed item filed))
       (enter rows (use_of item value))
   spelled_use (text n) value own others filed rows is reads fits (inl spells) =
       rw (spells, reads.0 value, option_used name items (text n) value rows fits refl) refl
   spelled_use (text n) value own others filed rows is reads fits (inr (spells, plain)) =
-      rw (
-        spells,
-        reads.1,
-        plain_said (rules_of items) value plain,
-        option_used name items (text n) value rows fits
-            refl,
-      ) refl
+      let used = option_used name items (text n) value rows fits refl in
+      rw (spells, reads.1, plain_said (rules_of items) value plain, used)
   spelled_use (number n most) value own others filed rows is reads fits (inl spells, digits) =
       rw (spells, reads.0 value, option_used name items (number n most) value rows fits refl) refl
   spelled_use (number n most) value own others filed rows is reads fits (inr (spells, plain), digits) =
-      rw (
-        spells,
-        reads.1,
-        plain_said (rules_of items) value plain,
-        option_used name items (number n most) value rows
-            fits refl,
-      ) refl
+      let used = option_used name items (number n most) value rows fits refl in
+      rw (spells, reads.1, plain_said (rules_of items) value plain, used)
   spelled_use (letter x) value own others filed rows is reads fits (inl (inl spells)) =
       rw (spells, reads.0 value, option_used name items (letter x) value rows fits refl) refl
   spelled_use (letter x) value own others filed rows is reads fits (inl (inr (spells, plain))) =
-      rw (
-        spells,
-        reads.2,
-        plain_said (rules_of items) value plain,
-        option_used name items (letter x) value rows fits
-            refl,
-      ) refl
+      let used = option_used name items (letter x) value rows fits refl in
+      rw (spells, reads.2, plain_said (rules_of items) value plain, used)
   spelled_use (letter x) value own others filed rows is reads fits (inr (spells, some, no_equals)) =
       let attached : attached_value value ≡ Some value = grind arith in
       rw (spells, reads.1 value attached, option_used name items (letter x) value rows fits refl) refl
@@ -124,12 +111,11 @@ module _ (name : Text) (items : List Item) (first : arg_by_index (rules_of items
       rw (spells, plain_said (rules_of items) value plain, second, is) refl
 
   pub spelled : (uses : List Use) (words : List Text) (filed : Bool) (rows : List Row) → IsFiled filed rows
-      → AreSpelled items uses words
-      → reads words filed rows ≡ entered rows uses
+      → AreSpelled items uses words → reads words filed rows ≡ entered rows uses
   spelled [] words filed rows is (inl none) = rw none refl
   spelled [] words filed rows is (inr ends) = rw ends refl
   spelled (u ∷ us) words filed rows is (inl (own, others, split, among, spells, more)) =
-      rw split (spelled_use u.item u.value own others filed rows is (each u.item among) (fits u.item among) spells
+      rw split (spelled_use u.item u.value own others filed rows is (known u.item among).1 (known u.item among).2 spells
       ∙ and_then_at (enter rows u) _ _ (λ r into. spelled us others (is_filed u.item filed) r
       (filed_after u filed rows r is into) more))
   spelled (u ∷ us) words false rows is (inr (as_file, none, ends)) =

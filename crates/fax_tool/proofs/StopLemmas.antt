@@ -1,5 +1,5 @@
 -- What is left of a text where printing of it was refused.
-use Rattle.std.proofs.Common.{arith, ◌≡◌, ℕ, List, [], ◌++◌, ◌⊎◌, inl, inr, refl, ap, sym, ◌∙◌, subst, append_assoc}
+use Rattle.std.proofs.Common.{arith, ◌≡◌, ℕ, List, [], ◌++◌, ◌⊎◌, inl, inr, refl, append_assoc}
 use Rattle.std.specs.Prelude.{Option, Some, None, IfSome}
 use Rattle.std.specs.Io.KnownBytes.{Appends}
 use Rattle.std.proofs.KnownBytes.{Appends-trans}
@@ -34,23 +34,15 @@ stops_more is other first more refusal output f g stops = grind arith
 
 -- printing was refused after this was sent
 pub stops_after : (is other : Printed → Type 0) (first more : List ℕ → Type 0) (refusal : Refusal)
-    (old mid new : Option (List ℕ))
-    (counts : Counts) (sent : List ℕ) → Appends old mid sent
+    (old mid new : Option (List ℕ)) (counts : Counts) (sent : List ℕ) → Appends old mid sent
     → ((printed : Printed) → is printed → (p : Printed) × other p × (p.output ≡ sent ++ printed.output))
-    → ((text : List ℕ) → first text → more (sent ++ text)) → StopsPrinting is first refusal
-    (output_after mid new counts)
+    → ((text : List ℕ) → first text → more (sent ++ text))
+    → StopsPrinting is first refusal (output_after mid new counts)
     → StopsPrinting other more refusal (output_after old new counts)
 stops_after is other first more Memory old mid new counts sent before f g stops =
-    let left = stops.leaves in
-    record {
-      reason = stops.reason;
-      leaves = (
-        sent ++ left.0,
-        g left.0 left.1,
-        Appends-trans old mid new sent left.0
-            before left.2,
-      );
-    }
+    let (text, left, moved) = stops.leaves in
+    let all = Appends-trans old mid new sent text before moved in
+    record { reason = stops.reason; leaves = (sent ++ text, g text left, all) }
 stops_after is other first more Read old mid new counts sent before f g stops = absurd stops.reason
 stops_after is other first more Write old mid new counts sent before f g stops = record {
   reason = stops.reason;
@@ -66,32 +58,24 @@ stops_after is other first more Write old mid new counts sent before f g stops =
         → ((printed : Printed) × other printed × ((sent ++ text) ++ rest ≡ printed.output))
         ⊎ more ((sent ++ text) ++ rest)
     by_case text rest (inl (printed, holds, same)) =
-        let p = f printed holds in inl (
-          p.0,
-          p.1,
-          append_assoc sent text rest ∙ ap (λ (l : List ℕ). sent ++ l) same
-              ∙ sym p.2,
-        )
-    by_case text rest (inr left) = inr (subst more (sym (append_assoc sent text rest)) (g (text ++ rest) left))
+        let (other_printed, is, output) = f printed holds in
+        inl (other_printed, is, rw (append_assoc, same, output))
+    by_case text rest (inr left) = inr (rw append_assoc (g (text ++ rest) left))
 
 -- a text was given in part
 pub stops_in_part : (is : Printed → Type 0) (first : List ℕ → Type 0) (old new : Option (List ℕ)) (bytes : List ℕ)
-    (counts : Counts)
-    (refusal : Refusal) → ((printed : Printed) × is printed × (bytes ≡ printed.output)) ⊎ first bytes
+    (counts : Counts) (refusal : Refusal) → ((printed : Printed) × is printed × (bytes ≡ printed.output)) ⊎ first bytes
     → IsGivenInPart old new bytes counts refusal → StopsPrinting is first refusal (output_after old new counts)
 stops_in_part is first old new bytes counts refusal h given = grind arith
 
 -- the first part of a text was given in part
 pub stops_in_front : (first : List ℕ → Type 0) (old new : Option (List ℕ)) (bytes more : List ℕ) (counts : Counts)
-    (refusal : Refusal)
-    → first (bytes ++ more) → IsGivenInPart old new bytes counts refusal
+    (refusal : Refusal) → first (bytes ++ more) → IsGivenInPart old new bytes counts refusal
     → StopsPrinting NoText first refusal (output_after old new counts)
 stops_in_front first old new bytes more counts refusal holds given = grind (arith, append_assoc)
 
 -- such a text was given in part
 pub stops_at : (is : Printed → Type 0) (first : List ℕ → Type 0) (old new : Option (List ℕ)) (bytes : List ℕ)
-    (counts : Counts)
-    (refusal : Refusal) → is (record { output = bytes; error = []; status = 0 })
-    → IsGivenInPart old new bytes counts refusal
-    → StopsPrinting is first refusal (output_after old new counts)
+    (counts : Counts) (refusal : Refusal) → is (record { output = bytes; error = []; status = 0 })
+    → IsGivenInPart old new bytes counts refusal → StopsPrinting is first refusal (output_after old new counts)
 stops_at is first old new bytes counts refusal holds given = grind arith

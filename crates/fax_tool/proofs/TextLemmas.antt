@@ -78,8 +78,7 @@ by_ending lines end count long max begun ending h = grind (arith, whole_ended)
 module _ {tail now : List PrintedLine → End → Type 0} (one : IsOne tail)
     (same : (all : List PrintedLine) (end : End) → tail all end ↔ now all end)
     {begun now_begun : Begun} (same_begun : now_begun ≡ begun) (long : Bool) {max : Option ℕ} {ending : Option End}
-    {count : ℕ}
-    {output written : Option (List ℕ)} (prints : PrintsLines tail max ending count output written) where
+    {count : ℕ} {output written : Option (List ℕ)} (prints : PrintsLines tail max ending count output written) where
   ended : IsEndedText prints.lines prints.end count long max begun ending
   ended = by_ending prints.lines prints.end count long max begun ending prints.ends
 
@@ -99,8 +98,7 @@ module _ {tail now : List PrintedLine → End → Type 0} (one : IsOne tail)
 
   -- the lines and the last line are printed
   pub all_printed : (new_written : Option (List ℕ)) (counts : Counts) (line : List ℕ)
-      → IsLastLine now now_begun count long ending line
-      → Appends written new_written line
+      → IsLastLine now now_begun count long ending line → Appends written new_written line
       → WritesOutput (IsTextOfLines tail long max begun) (output_after output new_written counts) (end_line ending)
   all_printed new_written counts line is moved = record {
     printed = text_of long max begun prints.lines prints.end;
@@ -114,8 +112,7 @@ module _ {tail now : List PrintedLine → End → Type 0} (one : IsOne tail)
   -- the last line was refused
   pub stopped_at_last : (new_written : Option (List ℕ)) (counts : Counts) (refusal : Refusal)
       → StopsPrinting (λ printed. IsLastLine now now_begun count long ending printed.output)
-      (IsNextLine now now_begun count false) refusal
-      (output_after written new_written counts)
+      (IsNextLine now now_begun count false) refusal (output_after written new_written counts)
       → StopsPrinting (IsTextOfLines tail long max begun) (IsTextOfFirst tail max begun) refusal
       (output_after output new_written counts)
   stopped_at_last new_written counts refusal stops =
@@ -126,10 +123,8 @@ module _ {tail now : List PrintedLine → End → Type 0} (one : IsOne tail)
       (λ printed is. (
         text_of long max begun prints.lines prints.end,
         (prints.lines, prints.end, prints.is, refl),
-        whole
-            printed.output is,
-      ))
-      first stops
+        whole printed.output is,
+      )) first stops
 
 -- the lines were refused
 pub stopped_at_lines : (tail : List PrintedLine → End → Type 0) (begun : Begun) (long : Bool) (max : Option ℕ)

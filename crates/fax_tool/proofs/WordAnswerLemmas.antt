@@ -1,9 +1,9 @@
 -- The answers of words exclude one another.
 use Rattle.std.proofs.Common.{arith, ◌≡◌, ◌∙◌, Bool, ap, codes, inl, inr, refl, subst, sym, List, Option, Some, None}
 use Rattle.std.proofs.Common.{map}
-use mathlib.Core.HLevel.{Π_prop, is_prop→PathP, ⊥_prop}
+use mathlib.Core.HLevel.{is_prop→PathP}
 use native.Mathlib.Bridge.{le_prop}
-use Rattle.std.specs.Prelude.{IfSome, false, true, ◌⊎◌, ◌≢◌, ◌<◌}
+use Rattle.std.specs.Prelude.{false, true, ◌⊎◌, ◌≢◌, ◌<◌}
 use Rattle.std.specs.Option.{ForSome}
 use Rattle.fax_tool.specs.Grammar.{AreOfCommand, AreOfNoCommand, AskForVersion, Text, Use, text_in}
 use Rattle.clap.specs.Walk.{Row, first_of}
@@ -11,7 +11,7 @@ use Rattle.clap.proofs.OnLiterals.{clap_on_literals}
 use Rattle.fax_tool.proofs.WordReadLemmas.{command_is_read, command_rows, unread_is_no_command}
 use Rattle.fax_tool.proofs.ParsedRowLemmas.{first_use}
 use Rattle.fax_tool.proofs.UseLemmas.{row_of}
-use Rattle.fax_walk.specs.Pages.{IsCursor, IsLongCursor, LongPlace}
+use Rattle.fax_walk.specs.Pages.{IsCursor}
 use Rattle.fax_tool.specs.Text.{Begun}
 use Rattle.fax_walk.specs.declared.options.Options.{Options}
 use Rattle.fax_walk.specs.declared.options.Target.TheVariants.{Mmr, Pbm}
@@ -51,8 +51,7 @@ same_uses words a b xs ys left right =
     λ i. ((pair i).0, λ id. (sym (first_use id xs) ∙ ap (first_of id) rows ∙ first_use id ys) i)
 
 command_or_usage : (name : Text) (given : Given) (command : Command) → IsCommand name given command
-    → name ≡ codes "convert"
-    → HasNoTarget given → ⊥
+    → name ≡ codes "convert" → HasNoTarget given → ⊥
 command_or_usage name given command is convert none = grind arith
 
 job_or_usage : (words : List Text) (job : Job) → IsJobOfCommand words job → IsJobFault words Usage → ⊥
@@ -69,17 +68,15 @@ usage_or_no_cursor words (inr refused) no_cursor = grind arith
 -- a text of no cursor, nor of a long one where the part may have one, names nothing that the part
 -- begins with
 no_begun : (o : Option Text) (text : Text) (part : Selection) → o ≡ Some text → HasCursors (Rows part)
-    → IsBegunBy o (begun_of part)
-    → IsNoCursor text → (part.from ≡ None) ⊎ IsNoLongCursor text → ⊥
+    → IsBegunBy o (begun_of part) → IsNoCursor text → (part.from ≡ None) ⊎ IsNoLongCursor text → ⊥
 no_begun o text part given in_range begins none others = grind arith
 
 -- the cursors of a part with no place inside a strip
 without_place : (part : Selection) → part.from ≡ None → IsCursor part.cursor → HasCursors (Rows part)
-without_place part none in_range = (in_range, subst (λ (o : Option LongPlace). IfSome o IsLongCursor) (sym none) tt)
+without_place part none in_range = (in_range, rw none tt)
 
 command_or_no_cursor : (name : Text) (given : Given) (command : Command) → HasCursors command
-    → IsCommand name given command
-    → HasNoCursor name given → ⊥
+    → IsCommand name given command → HasNoCursor name given → ⊥
 command_or_no_cursor name given command in_range is none = grind (arith, no_begun)
 
 job_or_no_cursor : (words : List Text) (job : Job) → IsJobOfCommand words job → IsJobFault words NotACursor → ⊥
@@ -94,13 +91,11 @@ begun_in_range part in_range = grind arith
 
 -- a text names one thing to begin with
 one_named : TextsNameOne → (o : Option Text) (begun other : Begun) → IsBegun begun → IsBegun other → IsBegunBy o begun
-    → IsBegunBy o other
-    → begun ≡ other
+    → IsBegunBy o other → begun ≡ other
 one_named names o begun other in_range in_range' is is' = grind (arith, one_begun)
 
 one_part : TextsNameOne → (given : Given) (long : Bool) (part other : Selection) → HasCursors (Rows part)
-    → HasCursors (Rows other)
-    → IsPart given long part → IsPart given long other → part ≡ other
+    → HasCursors (Rows other) → IsPart given long part → IsPart given long other → part ≡ other
 one_part names given long part other in_range in_range' first second =
     let begun = one_named names (given (codes "cursor")) (begun_of part) (begun_of other) (begun_in_range part in_range)
     (begun_in_range other in_range') first.begins second.begins in
@@ -125,21 +120,17 @@ one_options given options other first second =
       strip = strip i;
       aligned = aligned i;
       some_k = is_prop→PathP (λ j. 0 < k j) (λ j. le_prop) options.some_k other.some_k i;
-      some_strip = is_prop→PathP (λ j. ForSome (strip j) (λ rows. 0 < rows))
-          (λ j. Π_prop (λ rows. Π_prop (λ is. le_prop)))
-          options.some_strip other.some_strip i;
-      aligned_is_no_pbm = is_prop→PathP (λ j. aligned j ≡ true → target j ≢ Pbm)
-          (λ j. Π_prop (λ is. Π_prop (λ is_pbm. ⊥_prop)))
+      some_strip = is_prop→PathP (λ j. ForSome (strip j) (λ rows. 0 < rows)) (λ j. hlevel le_prop) options.some_strip
+          other.some_strip i;
+      aligned_is_no_pbm = is_prop→PathP (λ j. aligned j ≡ true → target j ≢ Pbm) (λ j. hlevel)
           options.aligned_is_no_pbm other.aligned_is_no_pbm i;
-      aligned_is_no_mmr = is_prop→PathP (λ j. aligned j ≡ true → target j ≢ Mmr)
-          (λ j. Π_prop (λ is. Π_prop (λ is_mmr. ⊥_prop)))
+      aligned_is_no_mmr = is_prop→PathP (λ j. aligned j ≡ true → target j ≢ Mmr) (λ j. hlevel)
           options.aligned_is_no_mmr other.aligned_is_no_mmr i;
     }
 
 -- a command's name and what is given after it give one command
 one_command : TextsNameOne → (name : Text) (given : Given) (command other : Command) → HasCursors command
-    → HasCursors other
-    → IsCommand name given command → IsCommand name given other → command ≡ other
+    → HasCursors other → IsCommand name given command → IsCommand name given other → command ≡ other
 one_command names name given (Forms part) (Forms other) in_range in_range' first second =
     ap (λ (p : Selection). Forms p) (one_part names given false part other (without_place part first.2 in_range)
     (without_place other second.2 in_range') first.1 second.1)

@@ -24,8 +24,8 @@ use Rattle.fax_tool.specs.Grammar.{name_of, number, text_in}
 use Rattle.fax_tool.specs.code.Scan.{is_taken, takes}
 use Rattle.fax_tool.proofs.GrammarLemmas.{apart_scanned, number_scanned, scanned_apart}
 use Rattle.fax_tool.proofs.RuleLemmas.{items_at, rule_of, rules_of}
-use Rattle.fax_tool.proofs.UseLemmas.{IsItem, leaf, row_of}
-use Rattle.fax_tool.proofs.SpellLemmas.{IsRead, letter_read, spelled}
+use Rattle.fax_tool.proofs.UseLemmas.{leaf, row_of}
+use Rattle.fax_tool.proofs.SpellLemmas.{IsKnown, letter_read, spelled}
 use Rattle.fax_tool.proofs.ShapeLemmas.{all_spelled}
 use Rattle.fax_tool.proofs.clap.Flat.{IsFlat, guard, read}
 use Rattle.fax_tool.proofs.clap.FlatLemmas.{Form, found as found_in, as_end, as_letter, as_long, as_place, form}
@@ -43,10 +43,6 @@ uses_taken items [] words is = refl
 uses_taken items (u ∷ us) words (inl (own, others, split, among, is, more)) =
     grind (arith, use_taken, uses_taken items us others more)
 uses_taken items (u ∷ us) words (inr (as_file, none, is)) = rw (as_file, none) refl
-
--- what is known of an item: its rule is found by its name, and how it is read
-abbrev IsKnown : List Rule → Item → Type 0
-IsKnown c item = (arg_by_id c (name_of item) ≡ Some (rule_of item)) × IsRead c item × IsItem item
 
 -- ---- the command's name
 
@@ -101,8 +97,8 @@ unnamed word [] (as_end is_end says_is) met none = let h = rw (met, is_end) at n
 unnamed word (other ∷ rest) (as_end is_end says_is) met none = let h = rw (met, is_end) at none in cc
 unnamed word rest (as_long p no_end form says_is) met none = let h = rw (met, no_end, form) at none in cc
 unnamed word rest (as_letter b bs x no_end no_long form char says_is) met none = grind arith
-unnamed word rest (as_place no_end no_long (inl short) says_is) met none = let h =
-    rw (met, no_end, no_long, short) at none in cc
+unnamed word rest (as_place no_end no_long (inl short) says_is) met none =
+    let h = rw (met, no_end, no_long, short) at none in cc
 unnamed word rest (as_place no_end no_long (inr (b, bs, form, short)) says_is) met none = grind arith
 
 -- ---- one command
@@ -186,8 +182,7 @@ lacks_target uses lacking = go (text_in uses (codes "o")) (given_filled (codes "
 own_of : (name : Text) (items : List Item) → subcommand_met (names_of program) idle name ≡ Some name
     → find (λ s. answers_to name (label_of s)) program.subs ≡ Some (leaf name items)
     → arg_by_index (rules_of items) 1 ≡ Some (rule_of file) → arg_by_index (rules_of items) 2 ≡ None
-    → Contains items file
-    → AllByRecursion (IsKnown (rules_of items)) items
+    → Contains items file → AllByRecursion (IsKnown (rules_of items)) items
     → ((uses : List Use) → lacks items (filled_rows items uses) ≡ true → LacksTarget name uses) → IsOwn (name, items)
 own_of name items met named first second has_file each target = record {
   met = met;
@@ -250,11 +245,9 @@ command_rows (own ∷ name ∷ words) = option_and_then (λ c. option_map {U = T
     (read (leaf c.0 c.1) words false None 1 [])) (find (λ c. bytes_eq c.0 name) commands)
 command_rows words = None
 
-known_item : (command : Text × List Item) → IsOwn command → (item : Item) → Contains command.1 item
+known_item : {command : Text × List Item} → IsOwn command → (item : Item) → Contains command.1 item
     → IsKnown (rules_of command.1) item
-known_item command is item among =
-    All-contains (IsKnown (rules_of command.1)) command.1 item
-    (All-from_recursion (IsKnown (rules_of command.1)) command.1 is.each) among
+known_item is item among = All-contains (IsKnown _) _ item (All-from_recursion (IsKnown _) _ is.each) among
 
 abbrev IsNamed : Text × List Item → Type 0
 IsNamed command = (program : Text) (words : List Text) → command_rows (program ∷ command.0 ∷ words)
@@ -270,18 +263,9 @@ pub command_is_read : (words : List Text) (name : Text) (uses : List Use) → Ar
 command_is_read words name uses is =
     let own = All-contains IsOwn commands (name, is.items) own_commands is.known in
     let named = All-contains IsNamed commands (name, is.items) all_named is.known is.program is.others in
-    let reads = spelled name is.items own.first own.second (λ item among.
-    (known_item (name, is.items) own item among).1) (λ item among. (known_item (name, is.items) own item among).2) uses
-    is.others false [] tt is.written in
-    rw (
-      is.are,
-      named,
-      reads,
-      entered_from [] uses,
-      apart_scanned uses is.once,
-      uses_taken is.items uses is.others
-          is.written,
-    ) refl
+    let reads = spelled name is.items own.first own.second (known_item own) uses is.others false [] tt is.written in
+    let taken = uses_taken is.items uses is.others is.written in
+    rw (is.are, named, reads, entered_from [] uses, apart_scanned uses is.once, taken)
 
 -- and words that are not read are those of no command
 pub unread_is_no_command : (words : List Text) → command_rows words ≡ None → AreOfNoCommand words
@@ -296,7 +280,7 @@ of_command : (command : Text × List Item) → Contains commands command
 of_command command among own rest rows utf8 is =
     let known = All-contains IsOwn commands command own_commands among in
     let (uses, written, into) = (all_spelled command.0 command.1 known.first known.second known.has_file
-    (λ item of. (known_item command known item of).2) rest).0 false [] rows utf8 is in
+    (λ item of. (known_item known item of).2) rest).0 false [] rows utf8 is in
     let of = rows_entered uses rows into in (
       uses,
       record {
@@ -306,8 +290,7 @@ of_command command among own rest rows utf8 is =
         are = refl;
         known = among;
         written = written;
-        once =
-            scanned_apart uses of.0;
+        once = scanned_apart uses of.0;
       },
       of.1,
       refl,
@@ -323,11 +306,7 @@ named_command word = go (find (λ c. bytes_eq c.0 word) commands) refl
     go None at = inl at
     go (Some (name, items)) at =
         let (among, named) = found_in (λ c. bytes_eq c.0 word) commands (name, items) at in
-        inr (
-          items,
-          subst (λ (name : Text). Contains commands (name, items)) ((bytes_eq-Decides name word).0 named)
-              among,
-        )
+        inr (items, rw ((bytes_eq-Decides name word).0 named) at among)
 
 pub read_is_of_command : (words : List Text) (name : Text) (rows : List Row) → All IsUtf8 words
     → command_rows words ≡ Some (name, rows)
@@ -350,8 +329,7 @@ read_is_of_command (own ∷ word ∷ rest) name rows utf8 is = elim (named_comma
         let of = of_command (word, items) among own rest r (All-tail IsUtf8 word rest
         (All-tail IsUtf8 own (word ∷ rest) utf8)) reads in
         subst (λ (c : Text × List Row). (uses : List Use) × AreOfCommand (own ∷ word ∷ rest) c.0 uses
-        × (c.1 ≡ map row_of uses)) pair
-        (of.0, of.1, of.2)
+        × (c.1 ≡ map row_of uses)) pair (of.0, of.1, of.2)
 
 guard_none : {A : Type 0} (k : Kinds) (x : A) → guard k (Some x) ≡ None → k ≡ [] → ⊥
 guard_none k x is none = grind arith
@@ -362,8 +340,7 @@ guard_some (k ∷ ks) x y is = cc
 
 -- words of this command
 outcome : (name : Text) (items : List Item) → Contains commands (name, items) → (own : Text) (rest : List Text)
-    → All IsUtf8 rest
-    → Outcome (own ∷ name ∷ rest)
+    → All IsUtf8 rest → Outcome (own ∷ name ∷ rest)
 outcome name items among own rest utf8 =
     go (read (leaf name items) rest false None 1 []) refl (level name items
     (All-from_recursion (IsFlat (rules_of items)) (rules_of items) (flat_items (rules_of items) items is.each)) rest)
@@ -383,9 +360,8 @@ outcome name items among own rest utf8 =
         → Outcome (own ∷ name ∷ rest)
     go None none at = inl (
       λ taken. guard_none _ entries at (sym fault_is ∙ taken),
-      inl (unread_is_no_command (own ∷ name ∷ rest) (All-contains IsNamed commands (name, items) all_named among own
-          rest
-          ∙ ap (option_map {U = Text × List Row} (λ rows. (name, rows))) none)),
+      inl (unread_is_no_command (own ∷ name ∷ rest)
+          (rw (All-contains IsNamed commands (name, items) all_named among own rest, none))),
     )
     go (Some rows) reads at =
         let (uses, are, same, items_are) = of_command (name, items) among own rest rows utf8 reads in
@@ -397,27 +373,13 @@ outcome name items among own rest utf8 =
             ≡ ended name items (map row_of uses)
             → Outcome (own ∷ name ∷ rest)
         last uses are items_are true lacking at =
-            inl (
-              λ taken. guard_none _ entries (at ∙ rw lacking refl) (sym fault_is ∙ taken),
-              inr
-                  (name, uses, are, is.target uses lacking),
-            )
+            let untaken = guard_none _ entries (at ∙ rw lacking refl) in
+            inl (λ taken. untaken (sym fault_is ∙ taken), inr (name, uses, are, is.target uses lacking))
         last uses are items_are false lacking at =
             let (none, same) = guard_some _ entries (filled_rows items uses) (at ∙ rw lacking refl) in
-            inr (
-              fault_is ∙ none,
-              name,
-              entries,
-              command_named own name rest (leaf name items) is.met is.named,
-              (
-                uses,
-                are,
-                subst (λ entries. Agrees entries uses) (sym same)
-                    (All-contains AreAgreeing commands (name, items) all_agree among uses),
-                same
-                    ∙ ap (λ items. filled_rows items uses) (sym items_are),
-              ),
-            )
+            let named = command_named own name rest (leaf name items) is.met is.named in
+            let agree = All-contains AreAgreeing commands (name, items) all_agree among uses in
+            inr (fault_is ∙ none, name, entries, named, (uses, are, rw same agree, rw items_are same))
 
 -- no command is met by a word that is no command's name
 unnamed_met : (word : Text) (all : List (Text × List Item)) → find (λ command. bytes_eq command.0 word) all ≡ None
@@ -430,11 +392,9 @@ unfolding clap_on_literals
 read_or_not [] utf8 = inl (λ taken. cc, inl (unread_is_no_command [] refl))
 read_or_not (own ∷ []) utf8 = inl (λ taken. cc, inl (unread_is_no_command (own ∷ []) refl))
 read_or_not (own ∷ word ∷ rest) utf8 = elim (named_command word) [
-  | inl none ↦ inl (
-    unnamed word rest (form word) (unnamed_met word commands none),
-    inl
-        (unread_is_no_command (own ∷ word ∷ rest) (rw none refl)),
-  )
+  | inl none ↦
+      let no_command = unread_is_no_command (own ∷ word ∷ rest) (rw none refl) in
+      inl (unnamed word rest (form word) (unnamed_met word commands none), inl no_command)
   | inr (items, among) ↦ outcome word items among own rest (All-tail IsUtf8 word rest
       (All-tail IsUtf8 own (word ∷ rest) utf8))
 ]

@@ -9,6 +9,7 @@ ghost use Rattle.fax_tool.specs.code.Adapters.{IsFaultOf};
 ghost use Rattle.std.specs.IoError.{error_kind};
 ghost use Rattle.fax_tool.specs.code.Adapters.{reader_of, writer_of};
 
+pub(crate) mod held;
 pub mod transfer;
 
 use std::io;

@@ -1,16 +1,14 @@
 -- What is converted has one output or one fault, and what is checked has one report.
 use Rattle.std.proofs.lemmas.Grind.{common_steps}
-use Rattle.std.proofs.Common.{arith, ◌≡◌, ℕ, List, length, Option, Some, None, Result, Ok, Err, Bool, refl, ap, sym}
+use Rattle.std.proofs.Common.{arith, ◌≡◌, ℕ, List, length, Option, Some, None, Err, Bool, refl, ap, sym}
 use Rattle.std.proofs.Common.{◌∙◌, subst}
 use Rattle.std.proofs.Common.{inl, inr, codes}
-use Rattle.std.specs.Prelude.{flat_map, not}
+use Rattle.std.specs.Prelude.{flat_map}
 use Rattle.fax_bits.specs.Bits.{bits, BeginsWith}
 use Rattle.fax_bits.specs.declared.Colour.{Colour}
 use Rattle.fax_files.specs.declared.Cause.{Cause}
 use Rattle.fax_files.specs.declared.PageForm.{PageForm}
-use Rattle.fax_files.specs.Directory.{Header, ascend, entries, read_chain}
-use Rattle.fax_files.specs.declared.FileFault.{FileFault}
-use Rattle.fax_files.specs.Page.{strip_bytes, strip_form}
+use Rattle.fax_files.specs.Page.{strip_form}
 use Rattle.fax_files.specs.laws.Pbm.{ImagesAreReadInOneWay}
 use Rattle.fax_page.specs.declared.StripFault.{StripFault}
 use Rattle.fax_page.specs.declared.StripForm.{StripForm}
@@ -27,14 +25,13 @@ use Rattle.fax_walk.specs.declared.walk.Place.{Place}
 use Rattle.fax_walk.specs.Converted.{IsConverted, IsNotConverted, IsSource, IsTiff, IsTooLarge, SourcePage, pages_of}
 use Rattle.fax_walk.specs.Converted.{target_bytes}
 use Rattle.fax_walk.specs.Pages.{AreFrom, read_page, goes_on, ends_as}
-use Rattle.fax_walk.specs.Report.{IsNoted, IsReportedEnd, IsStripNoted, note_if}
+use Rattle.fax_walk.specs.Report.{IsNoted, IsReportedEnd, IsStripNoted}
 use Rattle.fax_walk.specs.Items.{AreItems, RowItem}
 use Rattle.fax_walk.specs.laws.Answers.{BytesAreConvertedInOneWay, FilesHaveOneReport}
 use Rattle.fax_walk.specs.laws.Tails.{FilesHaveOneForms, FilesHaveOneItems}
 use Rattle.fax_walk.proofs.InOrderLemmas.{IsSingle, single_from, two_of}
 use Rattle.fax_walk.proofs.PageLawLemmas.{proper_after, single_on_page}
 use Rattle.fax_walk.proofs.ReadBackLemmas.{not_both}
-use Rattle.fax_walk.specs.declared.checking.NoteKind.TheVariants.{EntriesOutOfOrder}
 
 -- the fault of a source whose rows end so
 abbrev source_fault : End → ConvertFault
@@ -78,8 +75,7 @@ module _ (images_once : ImagesAreReadInOneWay) (one_forms : FilesHaveOneForms) (
   output_has_no_fault : (bytes : List ℕ) (options : Options) (output : List ℕ) (fault : ConvertFault)
       → IsConverted bytes options output
       → IsNotConverted bytes options fault → ⊥
-  output_has_no_fault bytes options output Refused.UnknownInput is none =
-      no_source bytes is.pages none.0 none.1 is.source
+  output_has_no_fault bytes options output Refused.UnknownInput is none = grind (arith, no_source)
   output_has_no_fault bytes options output (Refused.Pbm image fault) is none = grind arith
   output_has_no_fault bytes options output (Refused.Source p r cause) is none =
       no_tiff_source bytes none.1 p r cause is.pages none.0 none.2 is.source
@@ -125,19 +121,11 @@ module _ (images_once : ImagesAreReadInOneWay) (one_forms : FilesHaveOneForms) (
 module _ (file : List ℕ) where
   proper_once : (n m : ℕ) → read_page file (record { page = n; row = 0 }) ≡ Err Proper
       → read_page file (record { page = m; row = 0 }) ≡ Err Proper → n ≡ m
-  proper_once n m first second =
-      let (head, is_head, none, count) = proper_after file n first in
-      let (other, is_other, none', count') = proper_after file m second in
-      let both : ◌≡◌ {A = Result Header FileFault} (Ok head) (Ok other) = sym is_head ∙ is_other in
-      let same : head ≡ other = cc in
-      count ∙ ap (λ (h : Header). length (read_chain h file).offsets) same ∙ sym count'
+  proper_once n m first second = grind (arith, proper_after)
 
   one_end : (end : End) (pages others : ℕ) (fault other : Option (Place × Cause)) → IsReportedEnd file end pages fault
       → IsReportedEnd file end others other → (pages ≡ others) × (fault ≡ other)
-  one_end Proper pages others fault other first second =
-      (proper_once pages others first.0 second.0, first.1 ∙ sym second.1)
-  one_end (Fault p r cause) pages others fault other first second = (first.0 ∙ sym second.0, first.1 ∙ sym second.1)
-  one_end Outside pages others fault other first second = absurd first
+  one_end end pages others fault other first second = grind (arith, proper_once)
 
 module _ (strips_once : (form : StripForm) → ReadsStripsOneWay form) (noted_once : StripsAreNotedInOneWay) where
   -- a strip that has notes has no fault
@@ -174,15 +162,7 @@ module _ (strips_once : (form : StripForm) → ReadsStripsOneWay form) (noted_on
 
   module _ (file : List ℕ) where
     single_noted : (at : ℕ × Option ℕ) → IsSingle (IsNoted file at)
-    single_noted (p, None) =
-        single_on_page (read_page file (record { page = p; row = 0 }))
-        (λ here step. step ≡ goes_on (note_if (not (ascend (entries here.endian file here.offset))) p None
-        EntriesOutOfOrder) (p, Some 0))
-        ends_as (λ here x y first second. first ∙ sym second)
-    single_noted (p, Some s) =
-        single_on_page (read_page file (record { page = p; row = 0 }))
-        (λ here. IsStripNoted here.form p s (strip_bytes here.endian file here.offset s)) ends_as
-        (λ here. single_strip here.form p s (strip_bytes here.endian file here.offset s))
+    single_noted at = grind (arith, single_on_page, single_strip)
 
   pub files_have_one_report : FilesHaveOneItems → FilesHaveOneReport
   files_have_one_report one_items file report other first second =

@@ -14,11 +14,11 @@ use Rattle.fax_files.specs.views.Tiff.{TiffDirectory, directory_of, form_of}
 use Rattle.fax_walk.specs.declared.cursor.Cursor.{Cursor}
 use Rattle.fax_walk.specs.declared.end.End.{End}
 use Rattle.fax_walk.specs.declared.end.End.TheVariants.{Proper, Fault, Outside}
-use Rattle.fax_walk.specs.Pages.{chain_end, page_of_chain, page_with_form, read_page}
+use Rattle.fax_walk.specs.Pages.{chain_end, page_with_form, read_page}
 use Rattle.fax_walk.specs.code.Opening.{EndsAt, IsChainBefore, IsFilePage, IsNamed, IsNoPage, IsPageAnswer, PageDue}
 use Rattle.fax_walk.specs.code.Opening.{page_with}
 use Rattle.fax_walk.proofs.OpeningLemmas.{due_some, due_none, due_fault}
-use Rattle.fax_walk.proofs.PageLawLemmas.{none_past, page_here, proper_end}
+use Rattle.fax_walk.proofs.PageLawLemmas.{none_here, none_past, page_here, proper_end}
 
 -- after more pages than a chain has, all is outside
 outside_past : (pages : ℕ) (at : Cursor) → pages < at.page → chain_end pages None at ≡ Outside
@@ -52,11 +52,9 @@ module _ (file : List ℕ) (number : ℕ) (chain : ChainState) (answer : Result 
       → read_page file at ≡ Err (chain_end number its.end at)
   past_chain at none past =
       let count : length its.offsets ≡ number = grind (arith, none_past) in
-      let gone = slice_get_past its.offsets at.page (omega (arith, count, past)) in
-      let gone_there = rw before.file_is at gone in
+      let gone = rw before.file_is at (slice_get_past its.offsets at.page (omega (arith, count, past))) in
       let count_there = rw before.file_is at count in
-      rw before.file_is
-      (rw (gone_there, page_of_chain, count_there) at (page_here file chain.tiff.head before.head at))
+      rw before.file_is (rw count_there at (none_here file chain.tiff.head before.head at gone))
 
   -- where the chain ends properly, and where it ends with a fault
   ended_at : (at : Cursor) → answer ≡ Ok None → number ≤ at.page → read_page file at ≡ Err (chain_end number None at)
@@ -94,7 +92,7 @@ module _ (file : List ℕ) (number : ℕ) (chain : ChainState) (answer : Result 
         let endian_is : directory.endian ≡ chain.tiff.head.endian = ap (λ (d : TiffDirectory). d.endian) there.1 in
         let file_is : directory.file ≡ file = ap (λ (d : TiffDirectory). d.file) there.1 ∙ before.file_is in
         let place = rw (before.given, before.file_is) at there.0 in
-        rw (file_is, endian_is) (rw (place, page_of_chain) at (page_here file chain.tiff.head before.head at))
+        rw (file_is, endian_is) (page_here file chain.tiff.head before.head at directory.offset place)
 
     pub fields_refused : (refused : FileFault) → form_of directory ≡ Err refused → IsNoPage directory.file number
         (Fault number 0 (File refused))

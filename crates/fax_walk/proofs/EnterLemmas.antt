@@ -10,7 +10,6 @@ use Rattle.fax_walk.specs.declared.begun.Begun.TheVariants.{At, Inside}
 use Rattle.fax_walk.specs.declared.cursor.Cursor.{Cursor}
 use Rattle.fax_walk.specs.declared.end.End.{End}
 use Rattle.fax_walk.specs.declared.opening.OpenFault.{OpenFault}
-use Rattle.fax_walk.specs.declared.opening.OpenFault.TheVariants.{Memory, Ended}
 use Rattle.fax_walk.specs.Pages.{LongPlace, ends_as}
 use Rattle.fax_walk.specs.views.Walk.{Begins, EndsBefore, EntersFirst, HasPage}
 use Rattle.fax_walk.specs.Items.{IsInnerOn, IsRow, RowPlace, begun_cursor, first_at, inner_at}
@@ -44,8 +43,7 @@ no_row file begun end at n begins stop before = record {
 
 module _ (file : List ℕ) (at : Cursor) where
   ends_at : (end : End) → EndsAt file at end → Begins file (At at) (Err end)
-  ends_at end (inl none) = rw none refl
-  ends_at end (inr (here, page, above, end_is)) = rw end_is (begins_past file at here page above)
+  ends_at end is = grind (arith, begins_past)
 
   pub no_page : (end : End) → EndsAt file at end → HasNoRows file (At at) end
   no_page end ends = no_beginning file (At at) end (ends_at end ends)
@@ -66,35 +64,20 @@ module _ (file : List ℕ) (at : Cursor) where
     pub refused_on : at.row < due.form.rows → (result : Result PageState OpenFault)
         → IfErr result (IsRefusal (IsNoStrip due at.row))
         → IfErr result (IsRefusal (HasNoRows file (At at)))
-    refused_on below (Ok page) refused = refused
-    refused_on below (Err Memory) refused = tt
-    refused_on below (Err (Ended end)) refused =
-        no_row file (At at) end (here at.row) (row_in_strip due.form at.row) (begins_on below)
-        (rw (named.0) at refused.stop)
-        (elim (cases_lt 0 (row_in_strip due.form at.row)) [
-          | inl some ↦
-              let parts = div-add-mod at.row due.form.rows_per_strip in
-              inr (rw refused.told (named.1, omega (arith, parts, some)))
-          | inr none ↦ inl (omega (arith, none))
-        ])
+    refused_on below is refused = grind (arith, no_row, begins_on, cases_lt, div-add-mod)
 
     pub enters_on : at.row < due.form.rows → EntersFirst file (At at)
     enters_on below = rw (named.3) (inl below)
 
     module _ (its : IsFilePage due.page due.chain due.directory due.form) where
       begins_next : due.form.rows ≤ at.row → Begins file (At at) (Ok (first_at due.chain.given 0, 0))
-      begins_next past =
-          let within = named.2 in
-          rw (its.after.given, named.1)
-          (begins_after file at (page_with due.directory due.form) named.3 (omega (arith, past, within)))
+      begins_next past = grind (arith, begins_after)
 
       its_file : due.chain.tiff.file ≡ file
       its_file = its.after.file_is ∙ named.0
 
       pub enters_next : due.form.rows ≤ at.row → HasPage due.chain.tiff.file due.chain.given → EntersFirst file (At at)
-      enters_next past there =
-          let within = named.2 in
-          rw (named.3) (inr (refl, omega (arith, past, within), rw (its_file, its.after.given, named.1) at there))
+      enters_next past there = grind (arith, its_file)
 
       pub refused_next : due.form.rows ≤ at.row → (result : Result PageState OpenFault)
           → IfErr result (IsRefusal (λ end. IsRow due.chain.tiff.file (first_at due.chain.given 0) (ends_as end)))
@@ -108,9 +91,7 @@ module _ (file : List ℕ) (at : Cursor) where
 
 module _ (file : List ℕ) (place : LongPlace) where
   ends_inside : (end : End) → EndsAt file place.at end → Begins file (Inside place) (Err end)
-  ends_inside end (inl none) = rw none refl
-  ends_inside end (inr (here, page, above, end_is)) =
-      rw page (inr (λ inner. let row = inner.row in omega (arith, above, row), rw end_is refl))
+  ends_inside end is = grind arith
 
   pub no_page_inside : (end : End) → EndsAt file place.at end → HasNoRows file (Inside place) end
   no_page_inside end ends = no_beginning file (Inside place) end (ends_inside end ends)
@@ -125,9 +106,4 @@ module _ (file : List ℕ) (place : LongPlace) where
 
     pub refused_inside : (result : Result PageState OpenFault) → IfErr result (IsRefusal (IsNoInner due place))
         → IfErr result (IsRefusal (HasNoRows file (Inside place)))
-    refused_inside (Ok page) refused = refused
-    refused_inside (Err Memory) refused = tt
-    refused_inside (Err (Ended end)) (inl (inner, stop)) = grind (arith, begun_place)
-    refused_inside (Err (Ended end)) (inr (not, end_is)) =
-        no_beginning file (Inside place) end
-        (rw (named.3) (inr (λ inner. not (rw (sym named.0) at inner), rw end_is refl)))
+    refused_inside result refused = grind (arith, begun_place, no_beginning)

@@ -47,9 +47,7 @@ module _ (file : List ℕ) where
       → (strip_bytes here.endian file here.offset (strip_at here.form at.row) ≡ None
       → at.row ≤ strip_at here.form at.row * here.form.rows_per_strip)
       → (end : End) → IsRow file at (ends_as end) → EndsFrom at end
-  on_page at here page first end stop =
-      in_strip here.form at (strip_bytes here.endian file here.offset (strip_at here.form at.row)) end
-      (rw page at stop) first
+  on_page at here page first end stop = grind (arith, in_strip)
 
   -- after an item
   module _ (at : RowPlace) (item : RowItem) (to : RowPlace) (end : End) where

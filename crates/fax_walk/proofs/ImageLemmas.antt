@@ -1,24 +1,23 @@
 -- Images that are converted.
 use Rattle.std.proofs.lemmas.Grind.{common_steps}
-use Rattle.std.proofs.Common.{◌≡◌, ◌≢◌, ℕ, zero, suc, ◌+◌, ◌*◌, ◌≤◌, inl, inr, List, [], ◌∷◌, ◌++◌, length, map, take}
-use Rattle.std.proofs.Common.{drop, Some}
-use Rattle.std.proofs.Common.{None, refl, sym, ap, ◌∙◌, subst, arith, append_assoc, length-append, length-take}
-use Rattle.std.proofs.Common.{length-drop}
+use Rattle.std.proofs.Common.{◌≡◌, ◌≢◌, ℕ, zero, suc, ◌+◌, ◌*◌, ◌<◌, ◌≤◌, inl, inr, List, [], ◌∷◌, ◌++◌, length, map}
+use Rattle.std.proofs.Common.{take, drop, Some, None, refl, sym, ap, ◌∙◌, subst, arith, append_assoc, append-nil}
+use Rattle.std.proofs.Common.{length-append, length-drop, length-take, take-append-drop}
 use Rattle.std.specs.Prelude.{codes}
-use Rattle.std.proofs.lemmas.List.{length-map, drop-drop, map-append}
+use Rattle.std.proofs.lemmas.List.{drop-drop, map-append}
 use Rattle.fax_bits.specs.Bits.{BeginsWith}
 use Rattle.fax_bits.specs.declared.Colour.{Colour}
 use Rattle.fax_rows.specs.laws.Packed.{PackingUndoesUnpacking}
 use Rattle.fax_rows.specs.Coded.{packed_len, unpacked_row}
 use Rattle.fax_files.specs.declared.pbm.PbmFault.{PbmFault}
-use Rattle.fax_files.specs.Pbm.{Image, IsImage, IsImageFault, AreImages, raster_rows}
-use Rattle.fax_files.specs.laws.Pbm.{AreOfWidth, ImagesAreReadInOneWay, ImagesBeginInOneWay}
+use Rattle.fax_files.specs.Pbm.{Image, IsImage, IsImageFault, raster_rows}
+use Rattle.fax_files.specs.laws.Pbm.{AreOfWidth}
+use Rattle.fax_walk.specs.declared.options.ConvertFault.TheVariants.{Pbm}
 use Rattle.fax_walk.specs.declared.options.Options.{Options}
 use Rattle.fax_walk.specs.declared.output.Output.{Output}
-use Rattle.fax_walk.specs.Converted.{IsSource, SourcePage}
-use Rattle.fax_walk.specs.code.Conversion.{IsImageCount}
-use Rattle.fax_walk.specs.code.Output.{Progress, IsBeginning, IsPageDue, IsWrittenTo, with_source_page}
-use Rattle.fax_walk.specs.code.Sources.{page_of_image, AreImagesWritten}
+use Rattle.fax_walk.specs.Converted.{IsNotConverted, IsSource, SourcePage}
+use Rattle.fax_walk.specs.code.Output.{with_source_page}
+use Rattle.fax_walk.specs.views.Converting.{IsConverting, IsWrittenTo, Progress, page_of_image}
 
 pub raster_count : (width n : ℕ) (bytes : List ℕ) → length (raster_rows width n bytes) ≡ n
 raster_count width zero bytes = refl
@@ -52,91 +51,104 @@ raster_widths packs width (suc n) bytes enough =
       raster_widths packs width n (drop (packed_len width) bytes) rest,
     )
 
--- no image stands in no bytes
-no_bytes : (image : Image) (rest : List ℕ) → IsImage [] image rest → ⊥
-no_bytes image rest is = let spelled = is.head.spelled in cc
+regrouped : (p a b c d r x : List ℕ) (s : ℕ) → p ++ (a ++ (b ++ (c ++ (d ++ s ∷ (r ++ x)))))
+    ≡ (p ++ (a ++ (b ++ (c ++ (d ++ s ∷ r))))) ++ x
+regrouped p a b c d r x s = simp append_assoc
 
--- the images that are left
-module _ (reads : ImagesAreReadInOneWay) (begins : ImagesBeginInOneWay) where
-  pub no_fault : (left : List ℕ) (rest : List Image) (fault : PbmFault) → AreImages left rest None
-      → (left ≢ []) × IsImageFault left fault
-      → ⊥
-  no_fault left rest fault are is =
-      let same = reads left rest [] None (Some fault) are (inr (fault, is.0, is.1, refl)) in
-      let no : ⊥ = cc (same.1) in no
+-- an image that bytes begin with, whatever follows it
+module _ (bytes : List ℕ) (image : Image) (rest : List ℕ) (is : IsImage bytes image rest) where
+  abbrev pub front : List ℕ
+  front =
+      let after_width = is.head.second_gap ++ (is.head.height_digits ++ is.head.space ∷ is.raster) in
+      codes "P4" ++ (is.head.first_gap ++ (is.head.width_digits ++ after_width))
 
-  -- the image that is read is the first of those that are left
-  pub one_read : (left next : List ℕ) (image : Image) (rest : List Image) → AreImages left rest None
-      → IsImage left image next
-      → (later : List Image) × (rest ≡ image ∷ later) × AreImages next later None
-  one_read left next image [] (inl none) is = absurd (no_bytes image next
-      (subst (λ (l : List ℕ). IsImage l image next) none.0 is))
-  one_read left next image [] (inr fault) is = absurd cc
-  one_read left next image (first ∷ rest) are is =
-      let one = begins left first image are.0 next are.1 is in
-      (rest, ap (λ (i : Image). i ∷ rest) one.0, subst (λ (l : List ℕ). AreImages l rest None) one.1 are.2)
+  pub split : bytes ≡ front ++ rest
+  split = is.head.spelled ∙ regrouped (codes "P4") is.head.first_gap is.head.width_digits is.head.second_gap
+      is.head.height_digits is.raster rest is.head.space
 
--- the images before the first one
-pub images_begun : (bytes : List ℕ) (options : Options) (total : ℕ) (output : Output) → IsImageCount bytes total
-    → IsBeginning options total output
-    → AreImagesWritten bytes bytes options total output
-images_begun bytes options total output counted begun =
-    record {
-      before = [];
-      rest = counted.images;
-      all = counted.are;
-      total_is = counted.count_is;
-      left_are =
-          counted.are;
-      written = begun;
-    }
+  pub has_bytes : 0 < length bytes
+  has_bytes = omega (arith, ap (λ (l : List ℕ). length l) split)
 
-module _ (reads : ImagesAreReadInOneWay) (begins : ImagesBeginInOneWay) (bytes left : List ℕ) (options : Options)
-    (total : ℕ)
-    (output : Output) (so_far : AreImagesWritten bytes left options total output) where
+  again : (left : List ℕ) → IsImage (front ++ left) image left
+  again left = record {
+    height = is.height;
+    raster = is.raster;
+    head = record {
+      first_gap = is.head.first_gap;
+      width_digits = is.head.width_digits;
+      second_gap = is.head.second_gap;
+      height_digits = is.head.height_digits;
+      space = is.head.space;
+      first_is_gap = is.head.first_is_gap;
+      width_is = is.head.width_is;
+      second_is_gap = is.head.second_is_gap;
+      height_is = is.head.height_is;
+      space_is = is.head.space_is;
+      spelled = sym (regrouped (codes "P4") is.head.first_gap is.head.width_digits is.head.second_gap
+          is.head.height_digits is.raster left is.head.space);
+    };
+    within = is.within;
+    whole = is.whole;
+    rows_are = is.rows_are;
+  }
+
+  -- one more image is taken
+  pub image_taken : (taken : List ℕ) (options : Options) (count : ℕ) (output new : Output)
+      → (so_far : IsConverting taken options count output)
+      → IsWrittenTo new (with_source_page (record { options = options; pages = map page_of_image so_far.images })
+      (page_of_image image))
+      → IsConverting (taken ++ front) options (count + 1) new
+  image_taken taken options count output new so_far written = record {
+    images = so_far.images ++ image ∷ [];
+    counted = omega (arith, so_far.counted, length-append so_far.images (image ∷ []));
+    few = omega (arith, so_far.few, length-append taken front);
+    after = λ left more end are.
+        rw (append_assoc taken front left, append_assoc so_far.images (image ∷ []) more)
+        (so_far.after (front ++ left) (image ∷ more) end (left, again left, are));
+    written = subst (λ (l : List SourcePage). IsWrittenTo new (record { options = options; pages = l }))
+        (sym (map-append page_of_image so_far.images (image ∷ []))) written;
+  }
+
+-- all bytes that are taken are images
+module _ (taken : List ℕ) (options : Options) (count : ℕ) (output : Output)
+    (so_far : IsConverting taken options count output) where
   abbrev pub at : Progress
-  at = record { options = options; total = total; pages = map page_of_image so_far.before }
+  at = record { options = options; pages = map page_of_image so_far.images }
 
-  pages_are : length at.pages ≡ length so_far.before
-  pages_are = length-map so_far.before page_of_image
+  pub source : BeginsWith taken (codes "P4") → IsSource taken at.pages
+  source begins = inl (
+    begins,
+    so_far.images,
+    rw (append-nil taken, append-nil so_far.images) at (so_far.after [] [] None (inl (refl, refl))),
+    refl,
+  )
 
-  module _ (image : Image) (next : List ℕ) (is : IsImage left image next) where
-    read : (later : List Image) × (so_far.rest ≡ image ∷ later) × AreImages next later None
-    read = one_read reads begins left next image so_far.rest so_far.left_are is
+  -- and bytes after them are none, for a fault
+  pub refused_at : (left : List ℕ) (fault : PbmFault) → left ≢ [] → IsImageFault left fault
+      → BeginsWith (taken ++ left) (codes "P4")
+      → IsNotConverted (taken ++ left) options (Pbm count fault)
+  refused_at left fault some is begins = (
+    begins,
+    so_far.images,
+    rw (append-nil so_far.images) at (so_far.after left [] (Some fault) (inr (fault, some, is, refl))),
+    so_far.counted,
+  )
 
-    -- one more image is due
-    pub image_due : IsPageDue options output at
-    image_due = grind (arith, common_steps)
+-- so much of the last bytes is taken
+module _ (before rest : List ℕ) (n : ℕ) (options : Options) (count : ℕ) (output : Output)
+    (so_far : IsConverting (before ++ take n rest) options count output) where
+  -- and none are left
+  pub all_taken : drop n rest ≡ [] → IsConverting (before ++ rest) options count output
+  all_taken none =
+      let all : take n rest ≡ rest = sym (append-nil (take n rest)) ∙ ap (λ (l : List ℕ). take n rest ++ l) (sym none)
+      ∙ take-append-drop n rest in
+      rw all at so_far
 
-    pub image_written : (new : Output) → IsWrittenTo new (with_source_page at (page_of_image image))
-        → AreImagesWritten bytes next options total new
-    image_written new written =
-        let same : so_far.before ++ so_far.rest ≡ (so_far.before ++ image ∷ []) ++ read.0 =
-        ap (λ (l : List Image). so_far.before ++ l) read.1 ∙ sym (append_assoc so_far.before (image ∷ []) read.0) in
-        record {
-          before = so_far.before ++ image ∷ [];
-          rest = read.0;
-          all = subst (λ (l : List Image). AreImages bytes l None) same so_far.all;
-          total_is = sym (ap length same) ∙ so_far.total_is;
-          left_are = read.2;
-          written = subst (λ (l : List SourcePage). IsWrittenTo new
-              (record { options = options; total = total; pages = l }))
-              (sym (map-append page_of_image so_far.before (image ∷ []))) written;
-        }
-
-  -- after the last image
-  module _ (empty : left ≡ []) where
-    none_left : so_far.rest ≡ []
-    none_left = (reads left so_far.rest [] None None so_far.left_are (inl (empty, refl))).0
-
-    pub all_written : length at.pages ≡ total
-    all_written = omega (
-      arith,
-      pages_are,
-      ap length none_left,
-      length-append so_far.before so_far.rest,
-      so_far.total_is,
-    )
-
-    pub source : BeginsWith bytes (codes "P4") → IsSource bytes at.pages
-    source begins = grind (arith, common_steps, none_left)
+  -- and a fault follows
+  pub stopped : (fault : PbmFault) → drop n rest ≢ [] → IsImageFault (drop n rest) fault
+      → BeginsWith (before ++ rest) (codes "P4") → IsNotConverted (before ++ rest) options (Pbm count fault)
+  stopped fault some is begins =
+      let all : (before ++ take n rest) ++ drop n rest ≡ before ++ rest =
+      append_assoc before (take n rest) (drop n rest) ∙ ap (λ (l : List ℕ). before ++ l) (take-append-drop n rest) in
+      rw all at (refused_at (before ++ take n rest) options count output so_far (drop n rest) fault some is
+      (rw (← all) at begins))

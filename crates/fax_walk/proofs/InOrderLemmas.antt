@@ -31,8 +31,7 @@ step_parts x y to place same = (cc same, cc same)
 
 pub same_step : {S A : Type 0} {next : NextItem A S → Type 0} → IsOneAnswer next → (x y : A) (to place : S)
     → next (goes_on x to) → next (goes_on y place) → (x ≡ y) × (to ≡ place)
-same_step only x y to place is is_too = step_parts x y to place
-    (same_answer only (goes_on x to) (goes_on y place) is is_too)
+same_step only x y to place is is_too = grind (arith, step_parts, same_answer)
 
 -- what is one list with one end is single
 pub two_of : {A E : Type 0} {holds : List A → E → Type 0} → IsOne holds → (items others : List A) (end other : E)
@@ -54,10 +53,7 @@ single_from next single at [] [] end other first second = grind arith
 single_from next single at [] (y ∷ others) end other first (to, second, rest) = grind arith
 single_from next single at (x ∷ items) [] end other (to, first, rest) second = grind arith
 single_from {S} {A} next single at (x ∷ items) (y ∷ others) end other (to, first, rest) (to', second, rest') =
-    let same = step_parts x y to to' (single at (goes_on x to) (goes_on y to') first second) in
-    let later = single_from next single to' items others end other
-    (subst (λ (p : S). AreFrom next p items end) same.1 rest) rest' in
-    (ap (λ (i : A). i ∷ items) same.0 ∙ ap (λ (l : List A). y ∷ l) later.0, later.1)
+    grind (arith, step_parts, single_from next single to' items others end other)
 
 module _ {S A : Type 0} (next : S → NextItem A S → Type 0) (answers : (at : S) → IsOneAnswer (next at)) where
   pub one_from : (at : S) (items others : List A) (end other : End) → AreFrom next at items end
@@ -94,9 +90,7 @@ module _ {S A : Type 0} (next : S → NextItem A S → Type 0) (answers : (at : 
   one_led at [] (y ∷ others) to another count is is_too = absurd (omega (arith, count))
   one_led at (x ∷ items) [] to another count is is_too = absurd (omega (arith, count))
   one_led at (x ∷ items) (y ∷ others) to another count (place, step, leads) (place', step', leads') =
-      let same = same_step (answers at) x y place place' step step' in
-      one_led place' items others to another (omega (arith, count))
-      (subst (λ (s : S). LeadTo next s items to) same.1 leads) leads'
+      grind (arith, same_step, one_led place' items others to another (omega (arith, count)))
 
   pub one_list : (at : S) → IsListed next at → IsOne (AreFrom next at)
   one_list at listed = grind (arith, common_steps, one_from)

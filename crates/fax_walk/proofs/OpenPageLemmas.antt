@@ -35,7 +35,6 @@ use Rattle.fax_walk.specs.views.Walk.{HasPage}
 use Rattle.fax_walk.specs.code.Stages.{GivesRow, HasSkipped, IsNoInner, IsNoStrip, IsRefusal, IsOpen}
 use Rattle.fax_walk.specs.code.Stages.{IsSamePage, IsStripOf}
 use Rattle.fax_walk.specs.code.Stages.{KeepsPlace, PageState, ReadsPageRow, StopsAtRow, item_of, place_of, row_of}
-use Rattle.fax_walk.specs.code.Stages.{skipped}
 use Rattle.fax_walk.proofs.InOrderLemmas.{leads_on}
 use Rattle.fax_walk.proofs.PelsAfterLemmas.{pels_after}
 use Rattle.fax_walk.proofs.StripPlaceLemmas.{in_strip}
@@ -207,12 +206,7 @@ pub next_keeps : (page : PageState) (strip : StripState) (shown : List Colour) �
     → row_of page < page.form.rows
     → strip.row ≡ 0 → (read : ℕ) → read ≡ page.read
     → KeepsPlace page (record page { number = page.number + 1; strip = strip; shown = shown; read = read })
-next_keeps page strip shown limits strip_is all_read due none now_read read_is = record {
-  same = record { page = refl; form = refl; first = refl; directory = refl };
-  row = next_row_is page limits strip_is all_read due strip none;
-  place = next_place page limits strip_is all_read due strip none;
-  read = read_is;
-}
+next_keeps page strip shown limits strip_is all_read due none now_read read_is = grind (arith, next_row_is, next_place)
 
 -- the next strip is not there
 pub next_stops : (page : PageState) → IsPageForm page.form → IsStripOf page.form page.directory page.number page.strip
@@ -220,8 +214,7 @@ pub next_stops : (page : PageState) → IsPageForm page.form → IsStripOf page.
     → row_of page < page.form.rows
     → bytes_of page.directory (page.number + 1) ≡ None → StopsAtRow page
     (Fault page.page (row_of page) (File StripOutside))
-next_stops page limits strip_is its all_read due outside =
-    record { stop = strip_outside page limits strip_is all_read due its outside; told = (File StripOutside, refl) }
+next_stops page limits strip_is its all_read due outside = grind (arith, strip_outside)
 
 module _ (old page : PageState) (keeps : KeepsPlace old page) where
   -- a row is read at the place that was kept
@@ -270,8 +263,7 @@ pub fault_stops : (page : PageState) (strip : StripState) (fault : StripFault) �
     → IsFilePage page.page page.chain page.directory page.form
     → IsAdvance page.strip (Err fault) strip → (row : ℕ) → row ≡ page.number * page.form.rows_per_strip + strip.row
     → StopsAtRow page (Fault page.page row (Strip fault))
-fault_stops page strip fault is_open limits strip_is its (inl again) row due =
-    absurd (cc (is_open.no_fault, again.told))
+fault_stops page strip fault is_open limits strip_is its (inl again) row due = grind arith
 fault_stops page strip fault is_open limits strip_is its (inr meets) row due =
     rw (due, meets.told)
     (record { stop = row_fault page limits strip_is meets.due its fault strip meets; told = (Strip fault, refl) })
@@ -292,28 +284,7 @@ module _ (old now new : PageState) (items : List RowItem) (skips : HasSkipped ol
 
   pub row_given : IsFilePage new.page new.chain new.directory new.form → new.first < row_of new → new.read < 2 ^ 53
       → GivesRow old new
-  row_given its past few =
-      let count : length items ≡ skipped old = omega (arith, past, skips.few, skips.rows, reads.next_row, same_on.first)
-      in
-      let item_is : its_item ≡ item_of old (row_of old + skipped old) new =
-      rw (← skips.same.page, ← count, skips.rows, skips.same.form) refl in
-      record {
-        same = same_on;
-        still_open = reads.still_open;
-        items = items ++ its_item ∷ [];
-        lead = lead_on;
-        front = items;
-        item = its_item;
-        items_are = refl;
-        count = count;
-        item_is = item_is;
-        here = rw (same_on.directory, same_on.form, reads.same.page) at (its.here (row_of now));
-        within = subst (λ (f : PageForm). row_of now < f.rows) skips.same.form reads.due;
-        after = reads.after;
-        next_row = omega (arith, reads.next_row, skips.rows, count);
-        read = omega (arith, reads.one_more, skips.read, count);
-        few = few;
-      }
+  row_given its past few = grind (arith, same_on, lead_on)
 
 -- a page that is due is opened at the strip that holds a row
 module _ (due : PageDue) (first : ℕ) (its : IsFilePage due.page due.chain due.directory due.form)
@@ -366,10 +337,7 @@ module _ (due : PageDue) (place : LongPlace) (its : IsFilePage due.page due.chai
 
   pub no_strip : bytes_of due.directory its_number ≡ None
       → IsNoInner due place (Fault due.page (its_number * due.form.rows_per_strip) (File StripOutside))
-  no_strip outside = inl (
-    record { row = below; not_first = some; fits = rw outside tt },
-    rw (its_here, outside) (rw same_page refl),
-  )
+  no_strip outside = grind (arith, its_here)
 
 -- the place inside the strip after the row that was read last
 module _ (page : PageState) (limits : IsPageForm page.form) (within : page.number < page.form.strips)
@@ -387,12 +355,7 @@ module _ (page : PageState) (limits : IsPageForm page.form) (within : page.numbe
       (omega (arith, none)) in
       none_first page.page (row_of page) (at_first page.form page.page (row_of page) _ (omega (arith, begins, none))
       numbers.1)
-  long_none (inr all) = elim (cases_lt (row_of page) page.form.rows) [
-    | inl below ↦ none_first page.page (row_of page) (first_there page limits strip_is all below)
-    | inr past ↦
-        let last = rows_within page limits within strip_is.form_is strip_is.within in
-        none_first (page.page + 1) 0 (at_end page.form page.page (row_of page) _ (omega (arith, past, last)))
-  ]
+  long_none (inr all) = grind (arith, cases_lt, none_first, first_there, rows_within, at_end)
 
   module _ (some : 0 < page.strip.row) (due : page.strip.row < page.strip.form.rows) where
     inside : place_of page
@@ -402,9 +365,7 @@ module _ (page : PageState) (limits : IsPageForm page.form) (within : page.numbe
           inner = Some
               (record { bits = page.strip.place; reference = page.strip.reference });
         }
-    inside =
-        at_inner page.form page.page (row_of page) _ (is_below page limits strip_is due)
-        (omega (arith, some, (numbered page limits strip_is due).1))
+    inside = grind (arith, at_inner, is_below, numbered)
 
     pub long_some : (bits : ℕ) → bits ≡ page.strip.place → bits ≤ 4294967295
         → Some (record {

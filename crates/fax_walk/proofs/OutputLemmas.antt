@@ -23,11 +23,13 @@ use Rattle.fax_walk.specs.declared.options.Target.{Target}
 use Rattle.fax_walk.specs.declared.options.Target.TheVariants.{Pbm}
 use Rattle.fax_walk.specs.declared.open_strips.OpenStrips.{OpenStrips}
 use Rattle.fax_walk.specs.declared.sheet.Sheet.{Sheet}
-use Rattle.fax_walk.specs.Converted.{SourcePage, written_page, target_bytes, IsTooLarge}
+use Rattle.fax_files.specs.laws.TiffFiles.{TotalsAreTold}
+use Rattle.fax_walk.specs.Converted.{SourcePage, most_pages, written_page, target_bytes, IsTooLarge}
 use Rattle.fax_walk.specs.code.OpenStrips.{HasPutRows, AreInStrip}
 use Rattle.fax_walk.specs.code.Output.{Progress, Part, no_rows, with_row, page_of, after, nothing_written, sheet_form}
 use Rattle.fax_walk.specs.code.Output.{coding_of}
-use Rattle.fax_walk.specs.code.Output.{StaysTooLarge, HasImages, HasPages, HasRowsOnPage, HasImageRows, BecomesTooLarge}
+use Rattle.fax_walk.specs.code.Output.{StaysTooLarge, HasPutImages, HasPages, HasRowsOnPage, HasImageRows}
+use Rattle.fax_walk.specs.code.Output.{BecomesTooLarge}
 
 -- what follows where a call was done
 pub on_ok : {E : Type 0} {P Q : Type 0} (result : Result (Unit {0}) E) → OnOk result P → (P → Q) → OnOk result Q
@@ -73,7 +75,7 @@ module _ (packs : PackingUndoesUnpacking) (at : Progress) (sheet : Sheet) (targe
   pub image_too_large : max_file < length done + length (head_bytes sheet.width sheet.rows) + sheet.rows * packed_len
       sheet.width
       → BecomesTooLarge (no_rows at sheet)
-  image_too_large large = λ rows count widths more all.
+  image_too_large large = λ rows count widths more.
       let page = page_of sheet rows in
       let head = ap (λ (n : ℕ). length (head_bytes sheet.width n)) count in
       let raster : length (flat_map packed_row rows) ≡ sheet.rows * packed_len sheet.width =
@@ -92,7 +94,7 @@ module _ (packs : PackingUndoesUnpacking) (at : Progress) (sheet : Sheet) (targe
       images_too_large at.options.target at.options ((at.pages ++ page ∷ []) ++ more) target long
 
 -- an image is begun
-pub image_begun : (at : Progress) (sheet : Sheet) (old new : List ℕ) → HasImages old at
+pub image_begun : (at : Progress) (sheet : Sheet) (old new : List ℕ) → HasPutImages old at
     → new ≡ old ++ head_bytes sheet.width sheet.rows
     → length new + sheet.rows * packed_len sheet.width ≤ max_file → HasImageRows new (no_rows at sheet)
 image_begun at sheet old new has new_is fits = grind (arith, append-nil)
@@ -160,13 +162,12 @@ pages_grow old total k (page ∷ pages) =
     )
 
 -- a TIFF file of no page yet
-pub file_begun : (options : Options) (total : ℕ) (coding : Coding) (writer : Writing)
+pub file_begun : (options : Options) (coding : Coding) (writer : Writing)
     → coding_of options.target ≡ Some coding
-    → total ≤ 65535
-    → writer ≡ record { written = empty_file; total = total; added = 0 }
-    → HasPages coding writer (nothing_written options total)
+    → writer ≡ record { written = empty_file; total = most_pages; added = 0 }
+    → HasPages coding writer (nothing_written options)
 unfolding with_pages
-file_begun options total coding writer coding_is few is = grind arith
+file_begun options coding writer coding_is is = grind arith
 
 reached_by : (form : PageForm) (k n : ℕ) (rows : List (List Colour)) (writer : Option WriterState)
     → length rows ≡ form.rows
@@ -186,9 +187,6 @@ module _ (part : Part) (coding : Coding) (writer : Writing) (page : OpenStrips)
   abbrev options : Options
   options = part.at.options
 
-  abbrev total : ℕ
-  total = part.at.total
-
   abbrev source : SourcePage
   source = page_of part.sheet part.rows
 
@@ -205,12 +203,30 @@ module _ (part : Part) (coding : Coding) (writer : Writing) (page : OpenStrips)
   strips_are = rw (has.2.done, all_strips as_put options.k part.rows page has.2 all, ← all) refl
 
   with_source : with_page writer.written writer.total writer.added page.form (contents page.done.items)
-      ≡ with_pages empty_file total 0 (map written pages)
+      ≡ with_pages empty_file most_pages 0 (map written pages)
   with_source = grind (arith, length-map, strips_are, map-append, pages_next)
 
   pub page_ended : (new : Writing) → new ≡ with_one_more writer page.form page.done.items
       → length_with writer page.form page.done.items ≤ max_file → HasPages coding new (after part)
-  page_ended new new_is fits = grind (arith, length_push, with_source)
+  page_ended new new_is fits =
+      let total_is : writer.total ≡ most_pages = ap (λ (w : Writing). w.total) has.0.added in
+      let count : writer.added + 1 ≡ length (map written pages) = omega (
+        arith,
+        ap (λ (w : Writing). w.added) has.0.added,
+        length-map part.at.pages written,
+        length-map pages written,
+        length_push part.at.pages source,
+      ) in
+      record {
+        coding_is = has.0.coding_is;
+        few = omega (arith, has.1, length_push part.at.pages source);
+        added = new_is ∙ rw (with_source, total_is, count) refl;
+        fits = rw new_is fits;
+      }
 
-  pub page_too_large : max_file < length_with writer page.form page.done.items → StaysTooLarge (after part)
-  page_too_large large = grind (arith, common_steps, length-map, pages_append, pages_grow, with_source)
+  pub page_too_large : TotalsAreTold → max_file < length_with writer page.form page.done.items
+      → StaysTooLarge (after part)
+  page_too_large totals large = λ more.
+      let all = map written (pages ++ more) in
+      let alike = totals.alike (length all) most_pages all in
+      inl (grind (arith, common_steps, length-map, pages_append, pages_grow, with_source, alike))

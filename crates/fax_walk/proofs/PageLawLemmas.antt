@@ -18,7 +18,7 @@ use Rattle.fax_walk.specs.declared.end.End.{End}
 use Rattle.fax_walk.specs.declared.end.End.TheVariants.{Fault, Proper}
 use Rattle.fax_walk.specs.Pages.{AreFrom, FormItem, FilePage, IsForm, IsFormTail, NextItem, chain_end, ends_as}
 use Rattle.fax_walk.specs.Pages.{first_page}
-use Rattle.fax_walk.specs.Pages.{goes_on, page_of_chain, page_with_form, read_page}
+use Rattle.fax_walk.specs.Pages.{goes_on, page_with_form, read_page}
 use Rattle.fax_walk.specs.laws.Tails.{FilesHaveOneForms, CursorsHaveOneFormTail, FormTailOfPage, FormTailOfStart}
 use Rattle.fax_walk.specs.laws.Tails.{FormsStandByNumber}
 use Rattle.fax_walk.specs.laws.Tails.{FormTailsGoOn}
@@ -162,21 +162,23 @@ module _ (file : List ℕ) (head : Header) (is_head : header file ≡ Ok head) w
   abbrev chain : ChainRead
   chain = read_chain head file
 
-  pub page_here : (at : Cursor) → read_page file at ≡ page_of_chain head file chain at
+  pub none_here : (at : Cursor) → slice_get chain.offsets at.page ≡ None
+      → read_page file at ≡ Err (chain_end (length chain.offsets) chain.end at)
   unfolding read_page
-  page_here at = rw (is_head, read_page) refl
+  none_here at none = rw (is_head, none, read_page) refl
+
+  pub page_here : (at : Cursor) (q : ℕ) → slice_get chain.offsets at.page ≡ Some q
+      → read_page file at ≡ page_with_form head.endian q at.page (page head.endian file q)
+  unfolding read_page
+  page_here at q there = rw (is_head, there, read_page) refl
 
   pub no_page : (at : Cursor) → drop at.page chain.offsets ≡ []
       → read_page file at ≡ Err (chain_end (length chain.offsets) chain.end at)
-  no_page at e =
-      let none : slice_get chain.offsets at.page ≡ None = rw e at (first_dropped at.page chain.offsets) in
-      rw (none, page_of_chain) at (page_here at)
+  no_page at e = none_here at (rw e at (first_dropped at.page chain.offsets))
 
   pub some_page : (at : Cursor) (q : ℕ) (later : List ℕ) → drop at.page chain.offsets ≡ q ∷ later
       → read_page file at ≡ page_with_form head.endian q at.page (page head.endian file q)
-  some_page at q later e =
-      let there : slice_get chain.offsets at.page ≡ Some q = rw e at (first_dropped at.page chain.offsets) in
-      rw (there, page_of_chain) at (page_here at)
+  some_page at q later e = page_here at q (rw e at (first_dropped at.page chain.offsets))
 
 module _ (chains : FilesHaveOneChain) (file : List ℕ) where
   -- a page's number is below that of the file's bytes

@@ -1,7 +1,7 @@
 -- What is handed out of a page stands together in what is handed out of its file.
-use Rattle.std.proofs.Common.{◌≡◌, ℕ, zero, suc, ◌+◌, List, [], ◌∷◌, ◌++◌, Some, Result, Ok, Err}
+use Rattle.std.proofs.Common.{◌≡◌, ℕ, zero, suc, ◌+◌, List, [], ◌∷◌, ◌++◌, Some, Result, Ok}
 use Rattle.std.proofs.Common.{refl, sym, ap, ◌∙◌, arith, append_assoc}
-use Rattle.std.specs.Prelude.{flat_map, slice_get}
+use Rattle.std.specs.Prelude.{slice_get}
 use Rattle.fax_page.specs.laws.Salvage.{SalvagesStripsOneWay}
 use Rattle.fax_files.specs.declared.Endian.{Endian}
 use Rattle.fax_files.specs.declared.FileFault.{FileFault}
@@ -53,24 +53,12 @@ module _ (salvages : SalvagesStripsOneWay) (file : List ℕ) (p : ℕ) (here : F
   its_items : (endian : Endian) (q : ℕ) (answer : Result PageForm FileFault) (own : List LeftItem)
       → ◌≡◌ {A = Result FilePage End} (Ok here) (page_with_form endian q p answer)
       → IsPageLeftAs endian file p q answer own → own ≡ page_items p 0 rows
-  its_items endian q (Err fault) own is left = absurd cc
-  its_items endian q (Ok form) own is left =
-      let its : FilePage = record { endian = endian; offset = q; form = form } in
-      let same : here ≡ its = cc in
-      let there : AreRowsOfPage file its rows = rw same at are in
-      left.2
-      ∙ ap (λ (l : List (List PageRow)). page_items p 0 (flat_map (λ rows. rows) l))
-      (one_strips salvages file its 0 left.0 there.0 left.1 there.1)
-      ∙ ap (page_items p 0) (sym there.2)
+  its_items endian q answer own is left = grind (arith, one_strips)
 
   stands_at : (head : Header) (offsets : List ℕ) (q : ℕ) → slice_get offsets p ≡ Some q
       → page_with_form head.endian q p (page head.endian file q) ≡ Ok here
       → ArePagesLeft head.endian file 0 offsets items → StandsIn (page_items p 0 rows) items
-  stands_at head offsets q there is left =
-      let stands = page_stands head.endian file 0 p q offsets items there left in
-      let number : 0 + p ≡ p = omega arith in
-      let own = its_items head.endian q (page head.endian file q) stands.0 (sym is) (rw number at stands.1) in
-      rw own at stands.2
+  stands_at head offsets q there is left = grind (arith, page_stands, its_items)
 
   in_file : read_page file at ≡ Ok here → IsSalvaged file items → StandsIn (page_items p 0 rows) items
   in_file is left =

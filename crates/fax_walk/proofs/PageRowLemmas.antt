@@ -1,6 +1,6 @@
 -- The rows of a page without a fault are rows that a walk hands out, one after another.
 use Rattle.std.proofs.Common.{◌≡◌, ℕ, ◌+◌, ◌*◌, min, inl, inr, Bool, true, List, [], ◌∷◌, ◌++◌, map, length, Some, None}
-use Rattle.std.proofs.Common.{refl, ap, arith}
+use Rattle.std.proofs.Common.{refl, arith}
 use Rattle.std.proofs.lemmas.List.{map-append}
 use Rattle.std.proofs.lemmas.Bool.Decides.{nat_tests}
 use Rattle.std.specs.Prelude.{if◌then◌else◌, nat_lt}
@@ -14,7 +14,7 @@ use Rattle.fax_files.specs.Page.{strip_form}
 use Rattle.fax_walk.specs.Items.{RowPlace, first_at}
 use Rattle.fax_walk.specs.code.Opening.{IsPageOf}
 use Rattle.fax_walk.specs.code.RowPlaces.{first_on}
-use Rattle.fax_walk.specs.laws.WrittenFiles.{WalkedRow, numbered}
+use Rattle.fax_walk.specs.laws.WrittenFiles.{numbered}
 use Rattle.fax_walk.proofs.InOrderLemmas.{leads_both}
 use Rattle.fax_walk.proofs.StripPlaceLemmas.{shown_length, strip_count}
 use Rattle.fax_walk.proofs.RowLawLemmas.{LinesAreRead}
@@ -31,9 +31,7 @@ shown_both form rows more = by_test form.exchanged
 numbered_both : (p r : ℕ) (rows more : List (List Colour))
     → numbered p r (rows ++ more) ≡ numbered p r rows ++ numbered p (r + length rows) more
 numbered_both p r [] more = let none : r + 0 ≡ r = omega arith in rw none refl
-numbered_both p r (row ∷ rows) more =
-    let n : r + length (row ∷ rows) ≡ r + 1 + length rows = omega arith in
-    rw n (ap (λ (l : List WalkedRow). record { page = p; row = r; pels = row } ∷ l) (numbered_both p (r + 1) rows more))
+numbered_both p r (row ∷ rows) more = grind (arith, numbered_both p (r + 1) rows more)
 
 -- rows of a page that lead to a place, and those after them
 read_both : (file : List ℕ) (p : ℕ) (at middle : RowPlace) (r : ℕ) (rows more : List (List Colour))

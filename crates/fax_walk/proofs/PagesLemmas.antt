@@ -1,16 +1,16 @@
 -- Steps of a reader of pages.
-use Rattle.std.proofs.Common.{◌≡◌, ℕ, ◌+◌, ◌^◌, ◌<◌, Bool, true, false, List, [], ◌∷◌, ◌++◌, length, Option, Some, None}
+use Rattle.std.proofs.Common.{◌≡◌, ℕ, ◌+◌, ◌^◌, ◌<◌, Bool, List, [], ◌∷◌, ◌++◌, length, Option, Some, None}
 use Rattle.std.proofs.Common.{Result, Ok, Err}
-use Rattle.std.proofs.Common.{inl, inr, refl, sym, ap, ◌∙◌, subst, arith, append-nil, append_assoc}
+use Rattle.std.proofs.Common.{refl, sym, ap, ◌∙◌, arith, append-nil, append_assoc}
 use Rattle.std.proofs.lemmas.Bool.Decides.{nat_tests}
 use Rattle.std.proofs.lemmas.List.{length_push}
-use Rattle.std.specs.Prelude.{IfOk, IfErr, nat_le, ◌==◌}
+use Rattle.std.specs.Prelude.{IfOk, IfErr}
 use Rattle.fax_files.specs.declared.PageForm.{PageForm}
 use Rattle.fax_files.specs.views.Chain.{ChainState}
 use Rattle.fax_files.specs.views.Tiff.{TiffDirectory}
 use Rattle.fax_walk.specs.declared.cursor.Cursor.{Cursor}
 use Rattle.fax_walk.specs.declared.end.End.{End}
-use Rattle.fax_walk.specs.Pages.{AreFrom, FormItem, IsForm, IsFormTail, first_page, goes_on, ends_as}
+use Rattle.fax_walk.specs.Pages.{AreFrom, FormItem, IsForm, IsFormTail, goes_on, ends_as}
 use Rattle.fax_walk.specs.code.Pages.{told_of, IsSoundReader, GoesOnAt, HasGiven, IsPageAfter, IsFirstDue, IsDueIn}
 use Rattle.fax_walk.specs.code.Pages.{EndsNow}
 use Rattle.fax_walk.specs.views.InOrder.{EndsAfter, HasEndedAs}
@@ -36,19 +36,10 @@ form_here p chain directory form its = rw (its.here 0) refl
 module _ (file : List ℕ) (at : Cursor) (due : PageDue) (named : IsNamed file at (Some due)) where
   -- a reader from a page's first row begins with that page
   pub begins_here : at.row ≡ 0 → IsFirstDue file at due
-  begins_here first =
-      let test : (at.row == 0) ≡ true = grind (arith, nat_tests, first) in
-      record {
-        on = λ forms end are. rw (named.3, first_page, test, ← named.1) are;
-        file_is = named.0;
-      }
+  begins_here first = grind (arith, nat_tests)
 
   begins_next : 0 < at.row → GoesOnAt file at [] (at.page + 1)
-  begins_next some forms end are =
-      let within = named.2 in
-      let later : (at.row == 0) ≡ false = grind (arith, nat_tests, some) in
-      let near : nat_le at.row due.form.rows ≡ true = grind (arith, nat_tests, within) in
-      rw (named.3, first_page, later, near) are
+  begins_next some forms end are = grind (arith, nat_tests)
 
 module _ (file : List ℕ) (at : Cursor) (due : PageDue) (named : IsNamed file at (Some due))
     (its : IsFilePage due.page due.chain due.directory due.form) where
@@ -61,25 +52,16 @@ module _ (file : List ℕ) (at : Cursor) (due : PageDue) (named : IsNamed file a
   -- from a later row with the page after it
   pub begins_after : 0 < at.row → (result : Result PageDue End) → IfOk result (IsPageAfter due.chain)
       → IfOk result (IsFirstDue file at)
-  begins_after some (Ok next) after = record {
-    on = subst (GoesOnAt file at []) (sym (after.0 ∙ number)) (begins_next file at due named some);
-    file_is = after.1 ∙ chain_file;
-  }
-  begins_after some (Err end) after = after
+  begins_after some is after = grind (arith, number, begins_next, chain_file)
 
   pub ends_after : 0 < at.row → (result : Result PageDue End)
       → IfErr result (λ end. IsForm due.chain.tiff.file due.chain.given (ends_as end))
       → IfErr result (IsFormTail file at [])
-  ends_after some (Ok next) after = after
-  ends_after some (Err end) after = begins_next file at due named some [] end (rw (chain_file, number) at after)
+  ends_after some is after = grind (arith, begins_next, chain_file, number)
 
 -- from a cursor on there are no pages
 pub no_forms : (file : List ℕ) (at : Cursor) (end : End) → EndsAt file at end → IsFormTail file at [] end
-no_forms file at end (inl none) = rw (none, first_page) (refl, refl)
-no_forms file at end (inr (here, page, above, end_is)) =
-    let first : (at.row == 0) ≡ false = grind (arith, nat_tests, above) in
-    let near : nat_le at.row here.form.rows ≡ false = grind (arith, nat_tests, above) in
-    rw (page, first_page, first, near, end_is) (refl, refl)
+no_forms file at end is = grind (arith, nat_tests)
 
 -- after the forms that lead to a page the pages end
 ended_after : (file : List ℕ) (begun : Cursor) (given p : ℕ) (end : End) → HasGiven file begun given p
@@ -146,8 +128,7 @@ pub forms_left : (file : List ℕ) (begun : Cursor) (given : ℕ) (cursor : Curs
     × AreFormsLeft (record { file = file; begun = begun; given = given; told = told_of stage }) forms end
 forms_left file begun given cursor Before tails sound = untold file begun given cursor tails sound.cursor_is
 forms_left file begun given cursor (After chain) tails sound = untold file begun given cursor tails sound.cursor_is
-forms_left file begun given cursor (Ended end) tails sound =
-    ([], end, left_ended (IsFormTail file begun) given end sound.come)
+forms_left file begun given cursor (Ended end) tails sound = grind (arith, left_ended)
 
 -- one page more was handed out
 pub given_more : (file : List ℕ) (begun : Cursor) (given : ℕ) (due : PageDue) → HasGiven file begun given due.page

@@ -1,9 +1,9 @@
 -- Bytes with gaps of zeros between those that are held.
 use Rattle.std.proofs.lemmas.Grind.{common_steps}
-use Rattle.std.proofs.Common.{◌≡◌, ℕ, zero, suc, ◌+◌, ◌-◌, ◌^◌, ◌<◌, ◌≤◌, List, [], ◌∷◌, ◌++◌, length, take, drop, set}
-use Rattle.std.proofs.Common.{replicate, get_or, refl, sym, ap, arith, append_assoc, append-nil, length-append}
+use Rattle.std.proofs.Common.{◌≡◌, ℕ, zero, suc, ◌+◌, ◌-◌, ◌^◌, ◌<◌, ◌≤◌, List, [], ◌∷◌, ◌++◌, length, drop, set}
+use Rattle.std.proofs.Common.{replicate, get_or, refl, ap, arith, append_assoc, append-nil, length-append}
 use Rattle.std.proofs.Common.{length-drop}
-use Rattle.std.specs.Prelude.{decimal, Result, Ok, Err, OnOk, OnErr, ⊤}
+use Rattle.std.specs.Prelude.{decimal, Result, OnOk, OnErr, ⊤}
 use Rattle.std.proofs.lemmas.List.{replicate-append-replicate, drop-append-le, drop_all}
 use Rattle.fax_walk.specs.declared.parts.Gap.{Gap}
 use Rattle.std.proofs.lemmas.Fmt.{length-decimal-le}
@@ -47,9 +47,7 @@ pub gaps_more : (gaps : List Gap) (held more : List ℕ) (placed : ℕ) → AreG
     → AreGaps gaps (held ++ more) placed
 gaps_more [] held more placed are = are
 gaps_more (gap ∷ gaps) held more placed are =
-    let rest = gaps_more gaps (drop gap.held held) more are.2.0 are.2.2 in
-    let cut : drop gap.held (held ++ more) ≡ drop gap.held held ++ more = drop-append-le gap.held held more are.1 in
-    (are.0, omega (arith, are.1, length-append held more), (are.2.0, are.2.1, rw cut rest))
+    grind (arith, gaps_more gaps (drop gap.held held) more are.2.0 are.2.2, drop-append-le, length-append)
 
 -- a gap after all bytes
 module _ (gap : Gap) where
@@ -91,10 +89,7 @@ module _ (gap : Gap) (more : ℕ) where
       → i + 1 ≡ length gaps → gap ≡ get_or gaps i gap
       → spread (set gaps i (widened gap more)) held ≡ spread gaps held ++ replicate more 0
   spread_widened [] held placed i are all last is = absurd (omega (arith, last))
-  spread_widened (first ∷ []) held placed zero are all last is =
-      let here : length held ≤ gap.held = omega (arith, all, are.2.1, are.2.2, ap (λ (g : Gap). g.held) is) in
-      let same : first ≡ gap = sym is in
-      rw (same, drop_all gap.held held here) (zeros_after (take gap.held held) gap.zeros more)
+  spread_widened (first ∷ []) held placed zero are all last is = grind (arith, drop_all, zeros_after)
   spread_widened (first ∷ []) held placed (suc i) are all last is = absurd (omega (arith, last))
   spread_widened (first ∷ next ∷ gaps) held placed zero are all last is = absurd (omega (arith, last))
   spread_widened (first ∷ next ∷ gaps) held placed (suc i) are all last is =
@@ -111,8 +106,7 @@ module _ (gap : Gap) (more : ℕ) where
   gaps_widened [] held placed i are there is = absurd (omega (arith, there))
   gaps_widened (first ∷ gaps) held placed zero are there is = rw is are
   gaps_widened (first ∷ gaps) held placed (suc i) are there is =
-      let rest = gaps_widened gaps (drop first.held held) are.2.0 i are.2.2 (omega (arith, there)) is in
-      (are.0, are.1, (are.2.0, are.2.1, rest))
+      grind (arith, gaps_widened gaps (drop first.held held) are.2.0 i are.2.2 (omega (arith, there)) is)
 
   pub zeros_widened : (gaps : List Gap) (i : ℕ) → i < length gaps → gap ≡ get_or gaps i gap
       → zeros_of (set gaps i (widened gap more)) ≡ zeros_of gaps + more
@@ -170,20 +164,16 @@ module _ (held : List ℕ) (gaps : List Gap) (placed zeros more : ℕ) (are : Ar
 -- more bytes that are held, where they were put
 module _ (held : List ℕ) (gaps : List Gap) (placed zeros : ℕ) (are : AreParts held gaps placed zeros) where
   pub held_more : (more : List ℕ) → length (held ++ more) + zeros < 2 ^ 64 → AreParts (held ++ more) gaps placed zeros
-  held_more more fits =
-      let there = gaps_more gaps held more placed are.gaps_are in
-      record { gaps_are = there; zeros_are = are.zeros_are; fits = fits }
+  held_more more fits = grind (arith, gaps_more)
 
   pub held_put : {E : Type 0} (result : Result ⊤ E) (new more : List ℕ) → OnOk result (new ≡ held ++ more)
       → OnErr result (new ≡ held)
       → length (held ++ more) + zeros < 2 ^ 64 → AreParts new gaps placed zeros
-  held_put (Ok done) new more ok err fits = rw ok (held_more more fits)
-  held_put (Err fault) new more ok err fits = rw err are
+  held_put result new more ok err fits = grind (arith, held_more)
 
   pub put_bytes : {E : Type 0} (result : Result ⊤ E) (new more : List ℕ) → OnOk result (new ≡ held ++ more)
       → OnOk result (spread gaps new ≡ spread gaps held ++ more)
-  put_bytes (Ok done) new more ok = rw ok (spread_more gaps held more placed are.gaps_are)
-  put_bytes (Err fault) new more ok = tt
+  put_bytes result new more ok = grind (arith, spread_more)
 
 -- an image's header is short
 pub head_short : (width rows : ℕ) → width < 2 ^ 32 → rows < 2 ^ 32 → length (head_bytes width rows) ≤ 25

@@ -2,13 +2,12 @@
 use Rattle.std.proofs.lemmas.Grind.{common_steps}
 use Rattle.std.proofs.Common.{◌≡◌, ◌≢◌, ℕ, suc, ◌+◌, ◌<◌, ◌≤◌, inl, inr, List, [], ◌∷◌, map, drop, length}
 use Rattle.std.proofs.Common.{None, Ok, refl, sym, ap, ◌∙◌, subst, arith}
-use Rattle.std.specs.Prelude.{All, IsTrue, codes}
+use Rattle.std.specs.Prelude.{All, codes}
 use Rattle.std.proofs.lemmas.List.{length-map, map-append}
 use Rattle.std.proofs.lemmas.List.Elements.{All-cons, All-head, All-nil, All-tail}
 use Rattle.fax_bits.specs.Bits.{BeginsWith}
-use Rattle.fax_bits.specs.declared.Colour.{Colour}
 use Rattle.fax_files.specs.declared.PageForm.{PageForm}
-use Rattle.fax_files.specs.Pbm.{AreImages, Image, IsImage, is_within_limits}
+use Rattle.fax_files.specs.Pbm.{AreImages, Image, IsImage}
 use Rattle.fax_files.specs.laws.TiffFiles.{FormsAreWithinLimits}
 use Rattle.fax_files.specs.laws.Pbm.{AreOfWidth, AreWritableImages, IsWritableImage, WrittenImagesAreRead}
 use Rattle.fax_files.specs.views.Page.{IsPageForm}
@@ -22,7 +21,8 @@ use Rattle.fax_walk.specs.Items.{AreItems, RowItem}
 use Rattle.fax_rows.specs.laws.Packed.{PackingUndoesUnpacking}
 use Rattle.fax_walk.specs.Converted.{IsSource, IsTiff, IsTooLarge, SourcePage, pages_of, target_bytes}
 use Rattle.fax_walk.specs.code.Output.{form_sheet, page_of}
-use Rattle.fax_walk.specs.code.Sources.{ArePaged, AreRowsOn, FilesArePaged, page_of_image, pels_of}
+use Rattle.fax_walk.specs.code.Sources.{ArePaged, AreRowsOn, FilesArePaged, pels_of}
+use Rattle.fax_walk.specs.views.Converting.{page_of_image}
 use Rattle.fax_walk.specs.laws.ReadBack.{AreReadBack, ConversionsAreReadBack, ConversionsKeepItems}
 use Rattle.fax_walk.specs.laws.Tails.{FilesHaveOneItems}
 use Rattle.fax_walk.specs.laws.WrittenFiles.{CodedFilesAreWalked, IsWritableSource, numbered, rows_of, walked}
@@ -40,15 +40,7 @@ page_writable form own limits count wide = grind (arith, length-map)
 -- an image that was read can be written
 image_writable : PackingUndoesUnpacking → (left : List ℕ) (image : Image) (rest : List ℕ) → IsImage left image rest
     → IsWritableImage image
-image_writable packs left image rest is =
-    let count : length image.rows ≡ is.height =
-    ap (λ (l : List (List Colour)). length l) is.rows_are ∙ raster_count image.width is.height is.raster in
-    let whole = is.whole in
-    record {
-      within = subst (λ (n : ℕ). IsTrue (is_within_limits image.width n)) (sym count) is.within;
-      rows = subst (AreOfWidth image.width) (sym is.rows_are) (raster_widths packs image.width is.height is.raster
-          (omega (arith, whole)));
-    }
+image_writable packs left image rest is = grind (arith, raster_count, raster_widths)
 
 image_page_writable : (image : Image) → IsWritableImage image → IsWritableSource (page_of_image image)
 image_page_writable image writable = grind (arith, common_steps)
@@ -102,8 +94,7 @@ module _ (packs : PackingUndoesUnpacking) (paged : FilesArePaged) (within_limits
       → AreFrom (IsForm file) p forms Proper → ArePaged p forms Proper items Proper
       → All IsWritableSource (pages_of forms items)
   forms_writable file bytes [] p items forms_are paged = All-nil IsWritableSource
-  forms_writable file bytes (one ∷ forms) p items forms_are (own, others, items_are, are, inr stop) = let no =
-      stop.2.3 in absurd cc
+  forms_writable file bytes (one ∷ forms) p items forms_are (own, others, items_are, are, inr stop) = grind arith
   forms_writable file bytes (one ∷ forms) p items (next, step, rest) (own, others, items_are, are, inl whole) =
       let found = found_page file p one next step in
       let limits : IsPageForm one.form =

@@ -197,8 +197,7 @@ module _ (file : List ℕ) where
 
   pub same_page : (at : Cursor) (here there : FilePage) → read_page file at ≡ Ok here → read_page file at ≡ Ok there
       → here ≡ there
-  same_page at here there is is_too =
-      let same : ◌≡◌ {A = Result FilePage End} (Ok here) (Ok there) = sym is ∙ is_too in cc
+  same_page at here there is is_too = grind arith
 
   -- what holds of the place after a row that was read: on the page after, at the next strip, or
   -- inside the strip
@@ -277,13 +276,11 @@ module _ (file : List ℕ) (here : FilePage) where
   by_inner place (inr not) = record { it = Err Outside; is = inr (not, refl); one = only }
     where
       only : (other : Result (RowPlace × ℕ) End) → IsBegunOn file (Inside place) here other → other ≡ Err Outside
-      only other (inl (is, e)) = absurd (not is)
-      only other (inr (not_too, e)) = e
+      only other is = grind arith
 
   pub one_on : (begun : Begun) → IsOneAnswer (IsBegunOn file begun here)
   one_on (At at) = record { it = _; is = refl; one = λ other same. same }
-  one_on (Inside place) = let only = by_inner place (inner_or_not place) in
-      record { it = only.it; is = only.is; one = only.one }
+  one_on (Inside place) = grind (arith, by_inner, inner_or_not)
 
 -- a walk begins in one way
 pub one_beginning : (file : List ℕ) (begun : Begun) → IsOneAnswer (Begins file begun)

@@ -1,10 +1,10 @@
 -- The rows that are left of a page or a strip, one after another.
-use Rattle.std.proofs.Common.{◌≡◌, ℕ, zero, suc, ◌+◌, ◌-◌, ◌<◌, ◌≤◌, List, [], ◌∷◌, ◌++◌, map, replicate, length, drop}
-use Rattle.std.proofs.Common.{Bool, true, Option, Some, None, Ok, Err, refl, sym, ap, ◌∙◌, arith, append_assoc}
+use Rattle.std.proofs.Common.{◌≡◌, ℕ, zero, suc, ◌+◌, ◌≤◌, List, [], ◌∷◌, ◌++◌, map, replicate, length, drop}
+use Rattle.std.proofs.Common.{true, Option, Some, None, Ok, Err, refl, sym, ap, ◌∙◌, arith, append_assoc}
 use Rattle.std.proofs.Common.{append-nil, length-append}
 use Rattle.std.specs.Prelude.{MatchOption, flat_map}
 use Rattle.std.specs.Borrow.{Bor}
-use Rattle.std.proofs.lemmas.List.{length-map, length-replicate, map-append}
+use Rattle.std.proofs.lemmas.List.{length-map, length-replicate}
 use Rattle.fax_bits.specs.Bits.{bits}
 use Rattle.fax_page.specs.declared.StripFault.{StripFault}
 use Rattle.fax_page.specs.declared.StripFault.TheVariants.{MissingEol}
@@ -12,8 +12,8 @@ use Rattle.fax_page.specs.declared.StripForm.{StripForm}
 use Rattle.fax_page.specs.declared.salvage_reader.Salvaged.{Salvaged}
 use Rattle.fax_page.specs.declared.salvage_reader.Salvaged.TheVariants as in_strip
 use Rattle.fax_page.specs.Lines.{white_row}
-use Rattle.fax_page.specs.Salvage.{SalvagedRow, found, lost, unended, AreSalvaged, next_due}
-use Rattle.fax_page.specs.views.Salvage.{SalvageState, IsSalvageStep, IsAfterLost}
+use Rattle.fax_page.specs.Salvage.{SalvagedRow, found, lost, unended}
+use Rattle.fax_page.specs.views.Salvage.{SalvageState, IsSalvageStep}
 use Rattle.fax_page.specs.LeftUncounted.{AreLeftUncounted}
 use Rattle.fax_page.specs.Strip.{most_rows}
 use Rattle.fax_page.specs.declared.RowsEnd.{RowsEnd}
@@ -34,12 +34,12 @@ use Rattle.fax_walk.specs.Salvaged.{PageRow, strip_row}
 use Rattle.fax_walk.specs.laws.RowsLeft.{AreLeftOneWay}
 use Rattle.fax_walk.specs.views.RowsLeft.{LeftOf, of_page, of_strip, of_uncounted, AreLeftOf}
 use Rattle.fax_walk.specs.views.RowsLeft.{IsNextPart, IsUncountedStart, PassesRows}
-use Rattle.fax_walk.specs.code.SalvageItems.{AreRowsLeft, IsBeforeRows, IsPart, StaysOnPage, part_of, row_due}
+use Rattle.fax_walk.specs.code.SalvageItems.{AreRowsLeft, IsBeforeRows, IsPart, StaysOnPage, part_of}
 use Rattle.fax_walk.specs.code.ShownRows.{ShownState, IsShownPart}
 use Rattle.fax_walk.specs.code.RowsLeft.{AreLeftNow, IsCountOf, IsGoneOver, GoesOver, GoesOverPart, IsNextOf}
 use Rattle.fax_walk.specs.code.RowsLeft.{its_of, row_of, rows_of, last_of, view_of}
 use Rattle.fax_walk.proofs.SalvageLawLemmas.{strips_left, one_strips}
-use Rattle.fax_walk.proofs.SalvageRowLemmas.{map_same, none_after, step_form}
+use Rattle.fax_walk.proofs.SalvageStepLemmas.{PassesAs, over_of, step_passes}
 
 -- they are one list
 pub rows_left : SalvagesStripsOneWay → LeavesUncounted → (its : LeftOf) → AreLeftOneWay its
@@ -108,55 +108,30 @@ module _ (old new : Left) (sound : IsGoneOver old) where
 
     passes : (one : AreLeftOneWay (its_of old)) → (rest : List PageRow) → AreLeftNow new rest
         → rows_of new ≡ rows_of old → PassesRows (view_of old) over (view_of new)
-    passes one rest is rows_are = record {
-      next = goes.next;
-      within = omega (arith, goes.within, rows_are);
-      rows_are = rows_at one rest is;
-    }
+    passes one rest is rows_are = grind (arith, rows_at)
 
   -- nothing is left
   all_passed : (one : AreLeftOneWay (its_of old)) → GoesOver old [] new → AreLeftNow new [] → (all : List PageRow)
       → AreLeftOf (its_of old) all → length all ≡ row_of old
-  all_passed one goes none all are =
-      let before = sound.passed [] (goes.followed [] none) in
-      let same : all ≡ before.0 =
-      one.one all are ∙ sym (one.one (before.0 ++ []) before.2) ∙ append-nil before.0 in
-      ap length same ∙ before.1
+  all_passed one goes none all are = grind (arith, append-nil)
 
   -- what a call for the next rows leaves
   pub next_gone : (part : Option PagePart) → IsNextOf old part new → IsGoneOver new
   next_gone None next = gone_over [] next.over.0 next.same_its next.same_rows
   next_gone (Some Found) next = gone_over (Ok (last_of new) ∷ []) next.over next.same_its next.same_rows
-  next_gone (Some (Lost rows cause)) next =
-      gone_over (replicate rows (Err cause)) next.over.1 next.same_its next.same_rows
+  next_gone (Some (Lost rows cause)) next = grind (arith, gone_over)
 
   -- and answers
   pub next_seen : (one : AreLeftOneWay (its_of old)) → (part : Option PagePart) → IsNextOf old part new
       → IsNextPart (view_of old) part (view_of new)
-  next_seen one None next = record {
-    same_its = next.same_its;
-    same_rows = next.same_rows;
-    same_width = next.same_width;
-    passes = (
-      omega (arith, next.over.0.next, next.over.1, next.same_rows),
-      all_passed one next.over.0 next.over.2,
-    );
-  }
+  next_seen one None next = grind (arith, passes, all_passed)
   next_seen one (Some Found) next = record {
     same_its = next.same_its;
     same_rows = next.same_rows;
     same_width = next.same_width;
     passes = passes (Ok (last_of new) ∷ []) next.over next.same_its one next.rest.0 next.rest.1 next.same_rows;
   }
-  next_seen one (Some (Lost rows cause)) next = record {
-    same_its = next.same_its;
-    same_rows = next.same_rows;
-    same_width = next.same_width;
-    passes = (
-      next.over.0,
-      passes (replicate rows (Err cause)) next.over.1 next.same_its one next.rest.0 next.rest.1 next.same_rows,
-    );
-  }
+  next_seen one (Some (Lost rows cause)) next = grind (arith, passes)
 
 -- what a call for the next rows of a page answers
 pub page_next : (old new : ShownState) (part : Option PagePart) → IsShownPart old part new
@@ -170,9 +145,7 @@ page_next old new part its rest = record {
 }
   where
     stays_over : (part : Option PagePart) → IsPart old.rows part new.rows → StaysOnPage old.rows new.rows
-    stays_over None is = is.0.stays
-    stays_over (Some Found) is = is.0.stays
-    stays_over (Some (Lost rows cause)) is = is.0.stays
+    stays_over part is = grind arith
 
     stays : StaysOnPage old.rows new.rows
     stays = stays_over part its.0
@@ -181,135 +154,31 @@ page_next old new part its rest = record {
     same_page old new stays = rw (stays.0, stays.1) refl
 
     over_page : (part : Option PagePart) → IsShownPart old part new → GoesOverPart (Page old) part (Page new)
-    over_page None (is, shown) = (
-      record { next = omega (arith, is.1); within = omega (arith, is.2); followed = is.0.followed },
-      is.2,
-      is.3,
-    )
+    over_page None (is, shown) = grind arith
     over_page (Some Found) (is, shown) = record {
       next = is.1;
       within = is.2;
       followed = λ rows left. rw shown (is.0.followed rows left);
     }
-    over_page (Some (Lost rows cause)) (is, shown) = (
-      is.1,
-      record {
-        next = is.2 ∙ ap (λ n. row_due old.rows + n) (sym (length-replicate rows (Err cause)));
-        within = is.3;
-        followed = is.0.followed;
-      },
-    )
-
--- rows of a strip that are lost
-module _ (old new : SalvageState) (bytes : Bor (List ℕ)) (fault : StripFault) (count : ℕ)
-    (due : old.row < old.form.rows) (after : IsAfterLost old fault count new) where
-  abbrev others : List SalvagedRow
-  others = replicate (count - 1) (lost fault)
-
-  abbrev IsDueOr : Option (List Bool) → Type 0
-  IsDueOr o =
-      MatchOption o
-      ((count ≡ old.form.rows - old.row) × (new.form ≡ old.form) × (new.row ≡ old.form.rows))
-      (λ b. (count ≡ 1) × (new ≡ record {
-        form = old.form;
-        row = old.row + 1;
-        due = b;
-        reference = white_row old.form.width;
-        before = Some fault;
-      }))
-
-  counted : (0 < count) × (new.row ≡ old.row + count) × (new.row ≤ old.form.rows)
-  counted = by_due (next_due old.form.coding after.0) after.2
-    where
-      by_due : (o : Option (List Bool)) → IsDueOr o
-          → (0 < count) × (new.row ≡ old.row + count) × (new.row ≤ old.form.rows)
-      by_due None all = omega (arith, all.0, all.2, due)
-      by_due (Some b) one =
-          let row_is : new.row ≡ old.row + 1 = ap (λ (s : SalvageState). s.row) one.1 in
-          omega (arith, one.0, row_is, due)
-
-  left_in_strip : (own : List SalvagedRow) → AreSalvaged new.form new.row new.before new.reference new.due own
-      → MatchOption (next_due old.form.coding after.0)
-      (others ++ own ≡ replicate (old.form.rows - (old.row + 1)) (lost fault))
-      (λ b. AreSalvaged old.form (old.row + 1) (Some fault) (white_row old.form.width) b (others ++ own))
-  left_in_strip own is = by_due (next_due old.form.coding after.0) after.2
-    where
-      by_due : (o : Option (List Bool)) → IsDueOr o
-          → MatchOption o
-          (others ++ own ≡ replicate (old.form.rows - (old.row + 1)) (lost fault))
-          (λ b. AreSalvaged old.form (old.row + 1) (Some fault) (white_row old.form.width) b (others ++ own))
-      by_due None all =
-          let none = none_after new.form new.row new.before new.reference new.due own
-          (all.2 ∙ ap (λ (f : StripForm). f.rows) (sym all.1)) is in
-          let same : count - 1 ≡ old.form.rows - (old.row + 1) = omega (arith, all.0) in
-          rw none (append-nil others ∙ ap (λ k. replicate k (lost fault)) same)
-      by_due (Some b) one =
-          let same : count - 1 ≡ 0 = omega (arith, one.0) in
-          rw same (rw one.1 at is)
-
-  lost_next : (first : SalvagedRow) → strip_row first ≡ Err (Strip fault) → new.form ≡ old.form
-      → ((own : List SalvagedRow) → AreSalvaged new.form new.row new.before new.reference new.due own
-      → AreSalvaged old.form old.row old.before old.reference old.due (first ∷ (others ++ own)))
-      → GoesOverPart (Strip_ old bytes) (Some (Lost count (Strip fault))) (Strip_ new bytes)
-  lost_next first named same_form rows_are_lost = (
-    counted.0,
-    record {
-      next = counted.1 ∙ ap (λ n. old.row + n) (sym (length-replicate count (Err (Strip fault))));
-      within = let rows_are : new.form.rows ≡ old.form.rows = ap (λ (f : StripForm). f.rows) same_form in
-          omega (arith, counted.2, rows_are);
-      followed = λ rows is. (first ∷ (others ++ is.0), rows_are_lost is.0 is.1, named_so rows is.0 is.2);
-    },
-  )
-    where
-      named_so : (rows : List PageRow) (own : List SalvagedRow) → rows ≡ map strip_row own
-          → replicate count (Err (Strip fault)) ++ rows ≡ map strip_row (first ∷ (others ++ own))
-      named_so rows own rows_are =
-          let there : PageRow = Err (Strip fault) in
-          let one : count ≡ suc (count - 1) = omega (arith, counted.0) in
-          let lost_are : map strip_row others ≡ replicate (count - 1) there =
-          map_same strip_row (count - 1) (lost fault) in
-          let tail : replicate (count - 1) there ++ rows ≡ map strip_row (others ++ own) =
-          ap (λ (l : List PageRow). replicate (count - 1) there ++ l) rows_are
-          ∙ ap (λ (l : List PageRow). l ++ map strip_row own) (sym lost_are)
-          ∙ sym (map-append strip_row others own) in
-          ap (λ k. replicate k there ++ rows) one
-          ∙ ap (λ (l : List PageRow). there ∷ l) tail
-          ∙ ap (λ (row : PageRow). row ∷ map strip_row (others ++ own)) (sym named)
+    over_page (Some (Lost rows cause)) (is, shown) = grind (arith, length-replicate)
 
 -- what a call for the next rows of a strip answers
 module _ (salvages : SalvagesStripsOneWay) (old new : SalvageState) (bytes : Bor (List ℕ)) where
+  passes_strip : (salvaged : Salvaged) → IsSalvageStep old (Some salvaged) new
+      → PassesAs strip_row old new (over_of strip_row new (part_of salvaged true))
+  passes_strip salvaged step = step_passes strip_row true old new (λ fault. refl) (λ row. refl) salvaged step
+
+  goes_strip : (over : List PageRow) → PassesAs strip_row old new over
+      → GoesOver (Strip_ old bytes) over (Strip_ new bytes)
+  goes_strip over its = grind arith
+
+  lost_strip : (count : ℕ) (cause : Cause) → PassesAs strip_row old new (replicate count (Err cause))
+      → GoesOverPart (Strip_ old bytes) (Some (Lost count cause)) (Strip_ new bytes)
+  lost_strip count cause its = grind (arith, length-replicate, goes_strip)
+
   over_strip : (salvaged : Salvaged) → IsSalvageStep old (Some salvaged) new
       → GoesOverPart (Strip_ old bytes) (Some (part_of salvaged true)) (Strip_ new bytes)
-  over_strip in_strip.Found finds =
-      let form_same : new.form ≡ old.form = ap (λ (s : SalvageState). s.form) finds.new_is in
-      let row_next : new.row ≡ old.row + 1 = ap (λ (s : SalvageState). s.row) finds.new_is in
-      let none : new.before ≡ None = ap (λ (s : SalvageState). s.before) finds.new_is in
-      let rows_are : new.form.rows ≡ old.form.rows = ap (λ (f : StripForm). f.rows) form_same in
-      record {
-        next = row_next;
-        within = omega (arith, row_next, finds.due, rows_are);
-        followed = λ rows is.
-            let own = rw (form_same, row_next, none) at is.1 in (
-              found new.reference ∷ is.0,
-              (new.due, finds.due, finds.read, finds.ended, own),
-              ap (λ (l : List PageRow). Ok new.reference ∷ l) is.2,
-            );
-      }
-  over_strip (in_strip.Lost fault count) (due, is_lost, after) =
-      lost_next old new bytes fault count due after (lost fault) refl
-      (step_form old new (in_strip.Lost fault count) (due, is_lost, after)).0
-      (λ own is. (due, is_lost, (after.0, after.1, left_in_strip old new bytes fault count due after own is)))
-  over_strip (in_strip.Unended count) (row, rest, read, eol_due, below, after) =
-      let due : old.row < old.form.rows = omega (arith, eol_due.1) in
-      lost_next old new bytes MissingEol count due after (unended row) refl
-      (step_form old new (in_strip.Unended count) (row, rest, read, eol_due, below, after)).0
-      (λ own is. (
-        rest,
-        read,
-        eol_due,
-        below,
-        (after.0, after.1, left_in_strip old new bytes MissingEol count due after own is),
-      ))
+  over_strip salvaged step = grind (arith, goes_strip, passes_strip, lost_strip)
 
   -- there is something left
   rest_of_strip : new.row ≤ new.form.rows → (rows : List PageRow) × AreLeftNow (Strip_ new bytes) rows
@@ -317,21 +186,9 @@ module _ (salvages : SalvagesStripsOneWay) (old new : SalvageState) (bytes : Bor
       let own = salvages new.form new.row new.before new.reference new.due within in
       (map strip_row own.rows, (own.rows, own.are, refl))
 
-  same_strip : new.form ≡ old.form → its_of (Strip_ new bytes) ≡ its_of (Strip_ old bytes)
-  same_strip same = rw same refl
-
   pub strip_next : (salvaged : Salvaged) → IsSalvageStep old (Some salvaged) new
       → IsNextOf (Strip_ old bytes) (Some (part_of salvaged true)) (Strip_ new bytes)
-  strip_next salvaged step =
-      let form_is = step_form old new salvaged step in
-      let rows_are : new.form.rows ≡ old.form.rows = ap (λ (f : StripForm). f.rows) form_is.0 in
-      record {
-        same_its = same_strip form_is.0;
-        same_rows = rows_are;
-        same_width = ap (λ (f : StripForm). f.width) form_is.0;
-        over = over_strip salvaged step;
-        rest = rest_of_strip (omega (arith, form_is.1, rows_are));
-      }
+  strip_next salvaged step = grind (arith, passes_strip, over_strip, rest_of_strip)
 
 -- what a call for the next rows answers, of those that nobody counted
 module _ (leaves : LeavesUncounted) (old new : UncountedState) (bytes : Bor (List ℕ)) (count : ℕ)
@@ -364,8 +221,7 @@ module _ (leaves : LeavesUncounted) (old new : UncountedState) (bytes : Bor (Lis
           (λ fault. (own ≡ []) × (end ≡ Fault fault))
           × (rows ≡ map strip_row own))
       by_over None over none = (map strip_row none.0, (none.0, none.1, none.2, refl))
-      by_over (Some fault) over none =
-          let own = over fault in (map strip_row own.0, (own.0, own.1, own.2, refl))
+      by_over (Some fault) over none = grind arith
 
   -- one row is passed
   one_over : (row : SalvagedRow) (its : PageRow) → strip_row row ≡ its → PassesUncounted old row new
@@ -394,13 +250,7 @@ module _ (leaves : LeavesUncounted) (old new : UncountedState) (bytes : Bor (Lis
 
   next_is : (part : PagePart) (row : SalvagedRow) → PassesUncounted old row new
       → GoesOverPart OldLeft (Some part) NewLeft → IsNextOf OldLeft (Some part) NewLeft
-  next_is part row passes over = record {
-    same_its = its_same passes.same_form;
-    same_rows = refl;
-    same_width = ap (λ (f : StripForm). f.width) passes.same_form;
-    over = over;
-    rest = rest_left passes.within;
-  }
+  next_is part row passes over = grind (arith, its_same, rest_left)
 
   lost_alone : (rows : ℕ) (cause : Cause) (row : SalvagedRow) → strip_row row ≡ Err cause → rows ≡ 1
       → PassesUncounted old row new → GoesOverPart OldLeft (Some (Lost rows cause)) NewLeft
@@ -447,28 +297,26 @@ module _ (leaves : LeavesUncounted) (old new : UncountedState) (bytes : Bor (Lis
           ap (λ (l : List PageRow). length l) (append-nil before.0) in
           omega (arith, all, same_len, before.1)
 
--- before the first of rows that nobody counted
-module _ (form : StripForm) (bytes : Bor (List ℕ)) (end : RowsEnd) (start passed : UncountedState) (count : ℕ)
+-- before the first of rows that nobody counted, to which the reader is taken again
+module _ (form : StripForm) (bytes : Bor (List ℕ)) (end : RowsEnd) (start passed new : UncountedState) (count : ℕ)
     (start_is : start ≡ uncounted_beginning form (bits form.order bytes.now)) (all : PassesAll start end passed)
+    (new_is : new ≡ uncounted_beginning passed.strip.form (bits passed.strip.form.order bytes.now))
     (count_is : count ≡ passed.row) (few : count ≤ most_rows) (leaves : LeavesUncounted) where
-  abbrev Begun : Left
-  Begun = Uncounted start bytes count
+  again : new ≡ uncounted_beginning form (bits form.order bytes.now)
+  again = grind arith
 
   own_left : AreLeftUncounted (uncounted form) 0 None (white_row form.width) (bits form.order bytes.now) all.rows end
   own_left = rw start_is at all.are
 
   many : length (map strip_row all.rows) ≡ count
-  many =
-      let none : start.row ≡ 0 = ap (λ (s : UncountedState). s.row) start_is in
-      let len : length (map strip_row all.rows) ≡ length all.rows = length-map all.rows strip_row in
-      omega (arith, count_is, all.count, none, len)
+  many = grind (arith, length-map)
 
-  pub uncounted_begun : IsGoneOver Begun
-  uncounted_begun = record {
-    within = rw start_is (omega arith);
-    counted = rw start_is counted;
-    passed = λ rows is. ([], rw start_is refl, rw start_is (shown rows (rw start_is at is)));
-  }
+  pub uncounted_begun : IsGoneOver (Uncounted new bytes count)
+  uncounted_begun = rw again (record {
+    within = omega arith;
+    counted = counted;
+    passed = λ rows (own, end', are, rows_are). ([], refl, (end', (own, are, rows_are)));
+  })
     where
       counted : IsCountOf (of_uncounted (uncounted form) (bits form.order bytes.now)) count
       counted rows (end', (own', is', rows_are)) =
@@ -477,35 +325,9 @@ module _ (form : StripForm) (bytes : Bor (List ℕ)) (end : RowsEnd) (start pass
           let same = (one.one own' end' is').0 ∙ sym (one.one all.rows end own_left).0 in
           ap (λ (l : List PageRow). length l) (rows_are ∙ ap (map strip_row) same) ∙ many
 
-      shown : (rows : List PageRow)
-          → AreLeftNow (Uncounted (uncounted_beginning form (bits form.order bytes.now)) bytes count) rows
-          → AreLeftOf (of_uncounted (uncounted form) (bits form.order bytes.now)) rows
-      shown rows (own, end', are, rows_are) = (end', (own, are, rows_are))
-
-  pub uncounted_started : IsUncountedStart form (bits form.order bytes.now) (view_of Begun) count end
-  uncounted_started = record {
-    all = map strip_row all.rows;
-    are = (all.rows, own_left, refl);
-    count_is = sym many;
-    few = few;
-    start = record {
-      its_is = rw start_is refl;
-      none_passed = rw start_is refl;
-      rows_are = refl;
-      width_is = rw start_is refl;
-    };
-  }
-
--- the reader is taken to the first row again
-pub begun_again : (form : StripForm) (bytes : Bor (List ℕ)) (start passed new : UncountedState)
-    → start ≡ uncounted_beginning form (bits form.order bytes.now) → passed.strip.form ≡ start.strip.form
-    → new ≡ uncounted_beginning passed.strip.form (bits passed.strip.form.order bytes.now) → new ≡ start
-begun_again form bytes start passed new start_is same new_is =
-    let form_is : passed.strip.form ≡ uncounted form =
-    same ∙ ap (λ (s : UncountedState). s.strip.form) start_is in
-    new_is
-    ∙ ap (λ (f : StripForm). uncounted_beginning f (bits f.order bytes.now)) form_is
-    ∙ sym start_is
+  pub uncounted_started : IsUncountedStart form (bits form.order bytes.now) (view_of (Uncounted new bytes count)) count
+      end
+  uncounted_started = grind (arith, again, own_left, many)
 
 -- before the first row of a page
 pub page_begun : (directory : TiffDirectory) (form : PageForm) (its : ShownState)

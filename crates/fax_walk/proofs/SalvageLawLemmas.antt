@@ -61,11 +61,7 @@ module _ (salvages : SalvagesStripsOneWay) where
   one_page : (endian : Endian) (file : List ℕ) (p q : ℕ) (answer : Result PageForm FileFault)
       (items others : List LeftItem)
       → IsPageLeftAs endian file p q answer items → IsPageLeftAs endian file p q answer others → items ≡ others
-  one_page endian file p q (Err fault) items others is is' = is ∙ sym is'
-  one_page endian file p q (Ok form) items others is is' =
-      let here : FilePage = record { endian = endian; offset = q; form = form } in
-      is.2 ∙ ap (λ (l : List (List PageRow)). page_items p 0 (flat_map (λ rows. rows) l))
-      (one_strips file here 0 is.0 is'.0 is.1 is'.1) ∙ sym is'.2
+  one_page endian file p q answer items others is is' = grind (arith, one_strips)
 
   -- what is left of the pages from one on
   pub pages_left : (endian : Endian) (file : List ℕ) (p : ℕ) (offsets : List ℕ)

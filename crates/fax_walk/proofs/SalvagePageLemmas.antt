@@ -5,13 +5,14 @@ use Rattle.fax_rows.specs.Rows.{Colour}
 use Rattle.fax_walk.specs.declared.salvage.Stretch.{Stretch}
 use Rattle.fax_files.specs.Page.{most_rows}
 use Rattle.fax_walk.specs.Pages.{Cause, PageForm}
-use Rattle.fax_walk.specs.Salvaged.{PageRow, LeftItem, row_found, rows_lost, page_refused, lost_before, page_items}
+use Rattle.fax_walk.specs.Salvaged.{PageRow, LeftItem, row_found, lost_before, page_items}
 use Rattle.fax_walk.specs.code.SalvageItems.{RowsState, AreRowsLeft, IsPart, StaysOnPage, row_due}
 use Rattle.fax_walk.specs.declared.salvage.SalvageItem.TheVariants.{Row, Lost as Lost_}
 use Rattle.fax_walk.specs.declared.salvage_rows.PagePart.TheVariants.{Found, Lost}
 use Rattle.fax_walk.specs.Items.{exchanged}
 use Rattle.fax_walk.specs.code.SalvagePage.{SalvagePageState, EndsOnPage, GivesOfPage, HasPassedLost}
-use Rattle.fax_walk.specs.code.SalvagePage.{HasSomeRows, IsLeftOnPage, handed_of, longer, row_after, rows_of}
+use Rattle.fax_walk.specs.code.SalvagePage.{IsGoneThrough, IsLeftOnPage, handed_of, longer, row_after, rows_of}
+use Rattle.std.proofs.Common.{Bool}
 use Rattle.fax_walk.specs.code.SalvagePage.{with_lost, with_waiting}
 use Rattle.std.specs.Prelude.{if◌then◌else◌}
 
@@ -21,65 +22,47 @@ stretch_of p r count cause = record { page = p; row = r; rows = count; cause = c
 -- one row that is lost
 lost_one : (p r : ℕ) (cause : Cause) (items : List LeftItem)
     → lost_before p r cause items ≡ with_lost (Some (stretch_of p r 1 cause)) items
-lost_one p r cause [] = refl
-lost_one p r cause (row_found q s row ∷ items) = refl
-lost_one p r cause (rows_lost q s count other ∷ items) =
-    let same : count + 1 ≡ 1 + count = omega arith in
-    ap (λ n. rows_lost p r n cause ∷ items) same
-lost_one p r cause (page_refused q fault ∷ items) = refl
+lost_one p r cause items = grind arith
 
 -- a row that is lost before others
 lost_more : (p r : ℕ) (cause : Cause) (stretch : Stretch) (items : List LeftItem)
     → lost_before p r cause (with_lost (Some stretch) items)
     ≡ with_lost (Some (stretch_of p r (stretch.rows + 1) cause)) items
-lost_more p r cause stretch [] = refl
-lost_more p r cause stretch (row_found q s row ∷ items) = refl
-lost_more p r cause stretch (rows_lost q s count other ∷ items) =
-    let same : stretch.rows + count + 1 ≡ stretch.rows + 1 + count = omega arith in
-    ap (λ n. rows_lost p r n cause ∷ items) same
-lost_more p r cause stretch (page_refused q fault ∷ items) = refl
+lost_more p r cause stretch items = grind arith
 
 -- two stretches, one after the other
 lost_both : (first : Stretch) (p r count : ℕ) (cause : Cause) (items : List LeftItem)
     → with_lost (Some first) (with_lost (Some (stretch_of p r count cause)) items)
     ≡ with_lost (Some (longer (Some first) p r count cause)) items
-lost_both first p r count cause [] = refl
-lost_both first p r count cause (row_found q s row ∷ items) = refl
-lost_both first p r count cause (rows_lost q s more other ∷ items) =
-    let same : first.rows + (count + more) ≡ first.rows + count + more = omega arith in
-    ap (λ n. rows_lost first.page first.row n first.cause ∷ items) same
-lost_both first p r count cause (page_refused q fault ∷ items) = refl
+lost_both first p r count cause items = grind arith
 
 -- rows that are lost, one after another
 lost_rows : (p r count : ℕ) (cause : Cause) (rows : List PageRow)
     → page_items p r (replicate (suc count) (Err cause) ++ rows)
     ≡ with_lost (Some (stretch_of p r (suc count) cause)) (page_items p (r + suc count) rows)
 lost_rows p r zero cause rows = lost_one p r cause (page_items p (r + 1) rows)
-lost_rows p r (suc count) cause rows =
-    let later : r + 1 + suc count ≡ r + suc (suc count) = omega arith in
-    let more : suc count + 1 ≡ suc (suc count) = omega arith in
-    ap (lost_before p r cause) (lost_rows p (r + 1) count cause rows)
-    ∙ lost_more p r cause (stretch_of p (r + 1) (suc count) cause) (page_items p (r + 1 + suc count) rows)
-    ∙ ap (λ n. with_lost (Some (stretch_of p r (suc count + 1) cause)) (page_items p n rows)) later
-    ∙ ap (λ n. with_lost (Some (stretch_of p r n cause)) (page_items p (r + suc (suc count)) rows)) more
+lost_rows p r (suc count) cause rows = grind (arith, lost_rows p (r + 1) count cause rows, lost_more)
 
 -- and after others
 pub lost_on : (lost : Option Stretch) (p r count : ℕ) (cause : Cause) (rows : List PageRow) → 0 < count
     → with_lost lost (page_items p r (replicate count (Err cause) ++ rows))
     ≡ with_lost (Some (longer lost p r count cause)) (page_items p (r + count) rows)
-lost_on lost p r zero cause rows some = absurd (omega (arith, some))
-lost_on None p r (suc count) cause rows some = lost_rows p r count cause rows
-lost_on (Some first) p r (suc count) cause rows some =
-    ap (with_lost (Some first)) (lost_rows p r count cause rows)
-    ∙ lost_both first p r (suc count) cause (page_items p (r + suc count) rows)
+lost_on lost p r count cause rows some = grind (arith, lost_rows, lost_both)
 
 -- where no row waits
 unwaited : (state : SalvagePageState) (items : List LeftItem) → state.waits ≡ false → with_waiting state items ≡ items
 unwaited state items none = rw none refl
 
-module _ (start now : SalvagePageState) (passed : HasPassedLost start now) where
+module _ {start now : SalvagePageState} (passed : HasPassedLost start now) {p i : ℕ} {form : PageForm}
+    {waits : Bool} {last : Option (List Colour)} (gone : IsGoneThrough p form now.rows i now.lost waits last) where
   abbrev r : ℕ
   r = row_after now
+
+  few_lost : rows_of now.lost ≤ r
+  few_lost = omega (arith, gone.few, gone.row_is)
+
+  limit : now.rows.form.rows ≤ most_rows
+  limit = rw gone.form_is gone.limits.rows
 
   -- what is left where no row waits
   left_on : (rows : List PageRow) → AreRowsLeft now.rows rows
@@ -94,14 +77,12 @@ module _ (start now : SalvagePageState) (passed : HasPassedLost start now) where
 
   longer_rows : (count : ℕ) (cause : Cause) (lost : Option Stretch)
       → rows_of (Some (longer lost now.page r count cause)) ≡ rows_of lost + count
-  longer_rows count cause None = omega arith
-  longer_rows count cause (Some stretch) = refl
+  longer_rows count cause lost = grind arith
 
   lost_count : (count : ℕ) (cause : Cause) (rows : RowsState) → row_due rows ≡ r + count
       → row_due rows - rows_of (Some (longer now.lost now.page r count cause)) - (if now.waits then 1 else 0)
       ≡ handed_of now
-  lost_count count cause rows row_is =
-      rw passed.none_waits (omega (arith, row_is, longer_rows count cause now.lost))
+  lost_count count cause rows row_is = grind (arith, longer_rows)
 
   -- more rows are lost
   pub lost_passed : (count : ℕ) (cause : Cause) (rows : RowsState) (shown : List Colour)
@@ -124,13 +105,15 @@ module _ (start now : SalvagePageState) (passed : HasPassedLost start now) where
         (left_on (replicate count (Err cause) ++ is.0) (over.followed is.0 is.1));
   }
 
-  module _ (rows : RowsState) (part : IsPart now.rows (Some Found) rows) (few : rows_of now.lost ≤ r)
-      (some_lost : HasSomeRows now.lost) (limit : now.rows.form.rows ≤ most_rows) where
+  -- as many were handed out before a stretch
+  before_stretch : (stretch : Stretch) → now.lost ≡ Some stretch
+      → (handed_of now ≡ r - stretch.rows) × (0 < stretch.rows) × (stretch.rows ≤ r)
+  before_stretch stretch some = grind (arith, count_is, few_lost)
+
+  module _ (rows : RowsState) (part : IsPart now.rows (Some Found) rows) where
     -- within the limit of a page's rows
     below : row_due rows ≤ most_rows
-    below =
-        let same : rows.form.rows ≡ now.rows.form.rows = ap (λ (f : PageForm). f.rows) part.0.stays.1 in
-        omega (arith, part.2, same, limit)
+    below = grind (arith, limit)
 
     abbrev row : List Colour
     row = exchanged rows.form rows.reader.reference
@@ -171,11 +154,7 @@ module _ (start now : SalvagePageState) (passed : HasPassedLost start now) where
     found_after stretch some = record {
       page_is = passed.page_is;
       stays = stays;
-      count =
-          let lost_some : 0 < stretch.rows = rw some at some_lost in
-          let lost_few : stretch.rows ≤ r = rw some at few in
-          let before : handed_of now ≡ r - stretch.rows = count_is ∙ ap (λ l. r - rows_of l) some in
-          omega (arith, before, passed.count, part.1, lost_some, lost_few);
+      count = omega (arith, before_stretch stretch some, passed.count, part.1);
       few = omega (arith, below);
       followed = λ items is.
           let items_are : items ≡ row_found now.page r row ∷ page_items now.page (r + 1) is.0 =
@@ -214,17 +193,12 @@ module _ (start now : SalvagePageState) (passed : HasPassedLost start now) where
     }
 
     -- the last rows are lost
-    pub ended_after : (stretch : Stretch) (shown : List Colour) → rows_of now.lost ≤ r → HasSomeRows now.lost
-        → now.rows.form.rows ≤ most_rows → now.lost ≡ Some stretch
+    pub ended_after : (stretch : Stretch) (shown : List Colour) → now.lost ≡ Some stretch
         → GivesOfPage start (Lost_ stretch) (record now { rows = rows; lost = None; shown = shown })
-    ended_after stretch shown few some_lost limit some = record {
+    ended_after stretch shown some = record {
       page_is = passed.page_is;
       stays = ends;
-      count =
-          let lost_some : 0 < stretch.rows = rw some at some_lost in
-          let lost_few : stretch.rows ≤ r = rw some at few in
-          let before : handed_of now ≡ r - stretch.rows = count_is ∙ ap (λ l. r - rows_of l) some in
-          rw passed.none_waits (omega (arith, before, passed.count, part.1, lost_some, lost_few));
+      count = rw passed.none_waits (omega (arith, before_stretch stretch some, passed.count, part.1));
       few =
           let same : rows.form.rows ≡ now.rows.form.rows = ap (λ (f : PageForm). f.rows) part.0.stays.1 in
           omega (arith, part.2, same, limit);

@@ -34,7 +34,7 @@ use Rattle.fax_walk.proofs.OpenPageLemmas.{whole_of}
 use Rattle.fax_walk.specs.laws.RowsLeft.{AreLeftFromPlaces}
 use Rattle.fax_walk.specs.Salvaged.{strip_left}
 use Rattle.fax_walk.proofs.SalvageLawLemmas.{one_strips}
-use Rattle.fax_walk.proofs.SalvageRowLemmas.{none_after}
+use Rattle.fax_walk.proofs.SalvageStepLemmas.{none_after}
 use Rattle.fax_walk.proofs.StripPlaceLemmas.{in_strip}
 
 abbrev state_of : TiffDirectory → PageForm → ℕ → Bool → SalvageState → RowsState
@@ -49,23 +49,12 @@ state_of directory form s whole reader = record {
 
 -- a row of a strip is a row of one strip alone
 one_strip : (form : PageForm) (r s i : ℕ) → IsRowOfStrip form r s i → r / form.rows_per_strip ≡ s
-one_strip form r s i there =
-    (in_strip form.rows_per_strip s i r (omega (arith, there.row)) there.place).0
+one_strip form r s i there = grind (arith, in_strip)
 
 -- the strip that holds a row
 pub holds_row : (form : PageForm) (r s : ℕ) → IsPageForm form → r < form.rows → s ≡ r / form.rows_per_strip
     → IsRowOfStrip form r s (r - s * form.rows_per_strip)
-holds_row form r s limits due s_is =
-    let whole = whole_of form limits in
-    let n = form.rows_per_strip in
-    let there : s * n ≤ r = grind (arith, s_is) in
-    let below : r < s * n + n = grind (arith, s_is, whole.some_in_strip) in
-    let enough = whole.enough in
-    record {
-      strip = grind (arith, whole.enough, due, there);
-      row = omega (arith, there, below, due);
-      place = omega (arith, there);
-    }
+holds_row form r s limits due s_is = grind (arith, whole_of)
 
 module _ (strips : PageStrips) (form : PageForm) (r s i place : ℕ) (bytes : List ℕ) (whole : Bool)
     (before : RowBefore)
@@ -178,8 +167,7 @@ module _ (strips : PageStrips) (form : PageForm) (s : ℕ) (whole clean : Bool) 
         length-replicate form.width White,
         (λ _. refl),
         λ rows left. next_rows rows left.0 left.1 more
-            (none_after reader.form reader.row reader.before reader.reference reader.due left.0
-            (gone ∙ sym rows_of_strip) left.2) left.3 left.4,
+            (none_after reader left.0 (gone ∙ sym rows_of_strip) left.2) left.3 left.4,
       )
     where
       next_rows : (rows : List PageRow) (own : List SalvagedRow) (others : List (List PageRow)) → s + 1 < form.strips
@@ -188,8 +176,7 @@ module _ (strips : PageStrips) (form : PageForm) (s : ℕ) (whole clean : Bool) 
           → AreRowsFrom strips.directory.file its_page (s + 1) 0 (record { bits = 0; reference = white_row form.width })
           rows
       next_rows rows own [] more none are rows_are = absurd (omega (arith, more, are))
-      next_rows rows own (first ∷ others) more none (some, (its, salvaged, first_is), are) rows_are =
-          (its, others, salvaged, are, rows_are ∙ rw none (rw first_is refl))
+      next_rows rows own (first ∷ others) more none (some, (its, salvaged, first_is), are) rows_are = grind arith
 
   module _ (bytes : List ℕ) (another : Bool) (not_gone : reader.row ≢ (strip_form form s).rows)
       (left : AreBytesLeft strips.directory s bytes another)
@@ -207,13 +194,7 @@ module _ (strips : PageStrips) (form : PageForm) (s : ℕ) (whole clean : Bool) 
     Counted = (n ≤ 8 * length bytes) × (length reader.due ≡ 8 * length bytes - n)
 
     counted : Counted
-    counted =
-        let here = is.stands.due inside in
-        let count : length (bits form.order is.stands.bytes) ≡ 8 * length bytes =
-        len form.order is.stands.bytes ∙ ap (λ (l : List ℕ). 8 * length l) (sym same) in
-        let rest : length reader.due ≡ length (bits form.order is.stands.bytes) - n =
-        sym (ap (λ (l : List Bool). length l) here.2) ∙ length-drop n (bits form.order is.stands.bytes) in
-        (omega (arith, here.1, count), omega (arith, rest, count))
+    counted = grind (arith, inside, same, length-drop)
 
     -- so many bits are left
     pub due_fits : length reader.due ≤ 8 * length bytes
@@ -223,27 +204,7 @@ module _ (strips : PageStrips) (form : PageForm) (s : ℕ) (whole clean : Bool) 
     pub place_here : (lent : PlaceInStrip) → lent.bits ≡ 8 * length bytes - length reader.due
         → lent.reference.now ≡ reader.reference → length lent.reference.now ≡ reader.form.width
         → IsPlaceOf at_place (Some lent)
-    place_here lent bits_are reference_is width before due =
-        let here = is.stands.due inside in
-        let place : lent.bits ≡ n = omega (arith, bits_are, counted) in
-        let bits_left : drop lent.bits (bits form.order is.stands.bytes) ≡ reader.due =
-        ap (λ k. drop k (bits form.order is.stands.bytes)) place ∙ here.2 in
-        let fits : lent.bits ≤ 8 * length is.stands.bytes =
-        omega (arith, place, counted, ap (λ (l : List ℕ). length l) same) in (
-          s,
-          reader.row,
-          record { strip = is.inside; row = omega (arith, inside, rows_of_strip); place = refl },
-          rw (is.stands.left form) fits,
-          width ∙ ap (λ (f : StripForm). f.width) is.reader_form,
-          (λ none. absurd cc),
-          λ rows (own, others, salvaged, are, rows_are). rw (is.stands.left form) (
-            own,
-            others,
-            rw (is.reader_form, before, sym reference_is, sym bits_left) at salvaged,
-            are,
-            rows_are,
-          ),
-        )
+    place_here lent bits_are reference_is width before due = grind (arith, inside, counted, same, rows_of_strip)
 
 -- a row that a reader begins before has its place in its strip
 pub begun_fits : (directory : TiffDirectory) (form : PageForm) (r bits : ℕ) (before : RowBefore) (state : RowsState)

@@ -1,5 +1,5 @@
 -- A page of which nothing is lost: its rows are those that a walk hands out.
-use Rattle.std.proofs.Common.{◌≡◌, ℕ, zero, suc, ◌+◌, ◌*◌, ◌≤◌, true, false, List, [], ◌++◌, length, min, None, refl}
+use Rattle.std.proofs.Common.{◌≡◌, ℕ, zero, suc, ◌+◌, ◌*◌, ◌≤◌, true, false, List, ◌++◌, length, min, None, refl}
 use Rattle.std.proofs.Common.{arith}
 use Rattle.std.proofs.lemmas.Bool.Decides.{nat_tests}
 use Rattle.std.specs.Prelude.{nat_lt}
@@ -36,10 +36,7 @@ module _ (by_place : AreBitsByPlace) (lines_read : LinesAreRead) (directory : Ti
       form.rows))
 
   none_led : LeadToStrip 0
-  none_led =
-      let inside : nat_lt (min (0 * n) form.rows) form.rows ≡ true = grind (arith, nat_tests, limits.some_rows) in
-      let zero_is : min (0 * n) form.rows ≡ 0 = omega arith in
-      ([], rw (inside, zero_is) refl)
+  none_led = grind (arith, nat_tests)
 
   strips_led : (s : ℕ) → s ≤ form.strips → AreWholeBefore directory form form.strips → LeadToStrip s
   strips_led zero few strips = none_led

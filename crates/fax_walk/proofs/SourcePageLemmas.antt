@@ -1,14 +1,12 @@
 -- The rows of a file, page by page.
 use Rattle.std.proofs.lemmas.Grind.{common_steps}
-use Rattle.std.proofs.Common.{subst, ◌≡◌, ℕ, zero, suc, ◌+◌, ◌*◌, ◌<◌, ◌⊎◌, inl, inr, List, [], ◌∷◌, ◌++◌, length}
+use Rattle.std.proofs.Common.{subst, ◌≡◌, ℕ, zero, suc, ◌+◌, ◌<◌, ◌⊎◌, inl, inr, List, [], ◌∷◌, ◌++◌, length}
 use Rattle.std.proofs.Common.{Option, Some, None, Ok, Err, refl, sym, ap, ◌∙◌, arith, append-nil}
 use Rattle.std.proofs.lemmas.List.{drop_at, length-replicate, take_at}
 use Rattle.fax_bits.specs.declared.Colour.{Colour}
 use Rattle.fax_bits.specs.declared.Colour.TheVariants.{White}
 use Rattle.fax_bits.specs.laws.Codes.{AreBitsByPlace}
-use Rattle.fax_files.specs.declared.FileFault.TheVariants.{StripOutside}
 use Rattle.fax_files.specs.declared.Cause.{Cause}
-use Rattle.fax_files.specs.declared.Cause.TheVariants.{File, Strip}
 use Rattle.fax_files.specs.declared.PageForm.{PageForm}
 use Rattle.fax_files.specs.declared.Endian.{Endian}
 use Rattle.fax_files.specs.Page.{strip_bytes}
@@ -72,12 +70,8 @@ module _ (by_place : AreBitsByPlace) (lines_read : LinesAreRead) (file : List �
         → IsInStrip form (place_at r inner) found answer → IsRow file (place_at r inner) answer
         → Rows r (place_at r inner)
     by_found inner wide None (goes_on item to) is row = absurd cc
-    by_found inner wide None (ends_as end) is row =
-        let same : end ≡ Fault p (strip_at form r * form.rows_per_strip) (File StripOutside) = cc in
-        stops r inner _ (File StripOutside) due (subst (λ (e : End). IsRow file (place_at r inner) (ends_as e)) same
-        row)
-    by_found inner wide (Some bytes) (ends_as end) (fault, stop, end_is) row =
-        stops r inner r (Strip fault) due (subst (λ (e : End). IsRow file (place_at r inner) (ends_as e)) end_is row)
+    by_found inner wide None (ends_as end) is row = grind (arith, stops)
+    by_found inner wide (Some bytes) (ends_as end) (fault, stop, end_is) row = grind (arith, stops)
     by_found inner wide (Some bytes) (goes_on item to) is row =
         let item_is = (lines_read _ _ (before form.width inner).reference).width _ (exchanged form item.pels) _ wide
         is.3 in
@@ -121,14 +115,10 @@ found_page file p one next is = grind arith
 after_led : {S A : Type 0} (next : S → NextItem A S → Type 0) → ((at : S) → IsOneAnswer (next at)) → (at to : S)
     (own items : List A) (end : End) → LeadTo next at own to → AreFrom next at items end
     → (others : List A) × (items ≡ own ++ others) × AreFrom next to others end
-after_led {S} {A} next answers at to [] items end to_is are =
-    (items, refl, subst (λ (s : S). AreFrom next s items end) (sym to_is) are)
+after_led {S} {A} next answers at to [] items end to_is are = grind arith
 after_led {S} {A} next answers at to (x ∷ own) [] end (place, step, lead) are = grind (arith, common_steps)
 after_led {S} {A} next answers at to (x ∷ own) (y ∷ items) end (place, step, lead) (place', step', rest) =
-    let same = same_step (answers at) y x place' place step' step in
-    let later = after_led next answers place to own items end lead
-    (subst (λ (s : S). AreFrom next s items end) same.1 rest) in
-    (later.0, ap (λ (i : A). i ∷ items) same.0 ∙ ap (λ (l : List A). x ∷ l) later.1, later.2)
+    grind (arith, same_step, after_led next answers place to own items end lead)
 
 module _ (by_place : AreBitsByPlace) (lines_read : LinesAreRead) (chains : FilesHaveOneChain) (wholes : FormsAreWhole)
     (file : List ℕ) where

@@ -1,11 +1,11 @@
 -- The rows of a strip are rows that a walk hands out, one after another.
-use Rattle.std.proofs.Common.{◌≡◌, ℕ, ◌+◌, ◌*◌, ◌<◌, ◌≤◌, inl, inr, Bool, true, false, List, [], ◌∷◌, map, length, drop}
+use Rattle.std.proofs.lemmas.Grind.{common_steps}
+use Rattle.std.proofs.Common.{◌≡◌, ℕ, ◌+◌, ◌*◌, ◌<◌, ◌≤◌, Bool, List, [], ◌∷◌, map, length, drop}
 use Rattle.std.proofs.Common.{Option, Some, None}
-use Rattle.std.proofs.Common.{refl, ap, ◌∙◌, arith}
+use Rattle.std.proofs.Common.{refl, ap, arith}
 use Rattle.std.proofs.lemmas.Bool.{cases_lt}
 use Rattle.std.proofs.lemmas.Bool.Decides.{nat_tests}
 use Rattle.std.proofs.lemmas.List.{length-map}
-use Rattle.std.specs.Prelude.{nat_lt}
 use Rattle.fax_bits.specs.declared.Colour.{Colour}
 use Rattle.fax_bits.specs.Bits.{bits}
 use Rattle.fax_bits.specs.laws.Codes.{AreBitsByPlace}
@@ -89,24 +89,14 @@ module _ (by_place : AreBitsByPlace) (lines_read : LinesAreRead) (file : List �
 
       -- after the strip's last row
       after_strip : (inner : Inner) (r : ℕ) → r ≡ s * n + strip.rows → place_on form p r inner ≡ first_on form p r
-      after_strip inner r r_is = elim (cases_lt r form.rows) [
-        | inl less ↦
-            let test : nat_lt r form.rows ≡ true = grind (arith, nat_tests, less) in
-            let number = in_strip n (s + 1) 0 r whole.some_in_strip (omega arith) in
-            at_first form p r inner less number.1 ∙ rw test refl
-        | inr past ↦
-            let test : nat_lt r form.rows ≡ false = grind (arith, nat_tests, past) in
-            at_end form p r inner (omega arith) ∙ rw test refl
-      ]
+      after_strip inner r r_is = grind (arith, common_steps, cases_lt, nat_tests, in_strip, at_first, at_end)
 
       -- the rows from row i of the strip on
       lines_from : (inner : Inner) (r i : ℕ) (own : List (List Colour)) (stop : Option StripFault) (left : List Bool)
           → r ≡ s * n + i → i ≤ strip.rows → (i ≡ 0 → inner ≡ first)
           → AreLines strip i inner.reference (drop inner.bits all) own stop left
           → AreRead file p (place_on form p r inner) r (shown form own) (Reaches stop (r + length own))
-      lines_from inner r i [] None left r_is within begins lines =
-          let none : r + 0 ≡ r = omega arith in
-          none_read file p form _ r (Reaches None (r + 0)) (rw none (after_strip inner r (omega (arith, lines.1))))
+      lines_from inner r i [] None left r_is within begins lines = grind (arith, none_read, after_strip)
       lines_from inner r i [] (Some fault) left r_is within begins lines =
           let number = numbers form p s i r inner r_is lines.1 in
           let at = due_at form p s i r inner r_is lines.1 begins in

@@ -1,5 +1,5 @@
 -- Where a walk from a cursor begins.
-use Rattle.std.proofs.Common.{◌≡◌, ℕ, ◌+◌, ◌*◌, ◌<◌, ◌⊎◌, true, false, List, Result, Ok, Err, refl, ap, arith}
+use Rattle.std.proofs.Common.{◌≡◌, ℕ, ◌+◌, ◌*◌, ◌<◌, ◌⊎◌, true, false, List, Result, Ok, Err, refl, arith}
 use Rattle.std.proofs.lemmas.Bool.Decides.{nat_tests}
 use Rattle.std.specs.Prelude.{nat_lt, ◌==◌}
 use Rattle.fax_walk.specs.declared.begun.Begun.TheVariants.{At}
@@ -36,8 +36,7 @@ module _ (file : List ℕ) (at : Cursor) (here : FilePage) (page : read_page fil
 
 pub same_place : (from at : RowPlace) (k n : ℕ) → ◌≡◌ {A = Result (RowPlace × ℕ) End} (Ok (from, k)) (Ok (at, n))
     → from ≡ at
-same_place from at k n e = let both : ◌≡◌ {A = RowPlace × ℕ} (from, k) (at, n) = cc in
-    ap (λ (b : RowPlace × ℕ). b.0) both
+same_place from at k n e = grind arith
 
 -- the place where a walk from a cursor begins: the first row of the cursor's strip, or of the page
 -- after

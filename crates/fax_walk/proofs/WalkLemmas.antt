@@ -1,7 +1,7 @@
 -- A walk that goes on, or ends.
 use Rattle.std.proofs.lemmas.Grind.{common_steps}
 use Rattle.std.proofs.Common.{◌≡◌, ℕ, ◌+◌, ◌<◌, ◌⊎◌, inl, inr, List, [], ◌∷◌, ◌++◌, length, drop, Option, Some}
-use Rattle.std.proofs.Common.{None, Result, Ok, Err, ◌≤◌, refl, subst, sym, ap, ◌∙◌, arith, length-append, length-drop}
+use Rattle.std.proofs.Common.{None, Result, Ok, Err, ◌≤◌, refl, sym, ap, ◌∙◌, arith, length-append, length-drop}
 use Rattle.std.proofs.Common.{append_assoc, append-nil}
 use Rattle.std.proofs.lemmas.Bool.{cases_lt}
 use Rattle.std.specs.Prelude.{MatchResult, slice_get}
@@ -10,10 +10,10 @@ use Rattle.fax_files.specs.laws.TiffFiles.{FilesHaveOneChain, FormsAreWhole}
 use Rattle.fax_walk.specs.declared.begun.Begun.{Begun}
 use Rattle.fax_walk.specs.declared.cursor.Cursor.{Cursor}
 use Rattle.fax_walk.specs.declared.end.End.{End}
-use Rattle.fax_walk.specs.declared.begun.Begun.TheVariants.{At, Inside}
+use Rattle.fax_walk.specs.declared.begun.Begun.TheVariants.{At}
 use Rattle.fax_walk.specs.declared.opening.OpenFault.{OpenFault}
 use Rattle.fax_walk.specs.declared.opening.OpenFault.TheVariants.{Ended, Memory}
-use Rattle.fax_walk.specs.Pages.{AreFrom, FilePage, read_page, LongPlace, ends_as}
+use Rattle.fax_walk.specs.Pages.{AreFrom, FilePage, read_page, LongPlace}
 use Rattle.fax_walk.specs.views.InOrder.{EndsAfter, HasEndedAs, HasToldNoOther}
 use Rattle.fax_walk.specs.laws.InOrder.{LeadTo}
 use Rattle.fax_walk.specs.views.Walk.{AreRead, dropped, EndsBefore, EntersFirst, EntersPage, HasPage, IsCursorOf}
@@ -52,8 +52,7 @@ module _ (by_place : AreBitsByPlace) (lines_read : LinesAreRead) (chains : Files
     front_count = length-append come.items gives.front ∙ omega (arith, come.count, come.total, gives.count)
 
     all_is : all ≡ (come.items ++ gives.front) ++ gives.item ∷ []
-    all_is = ap (λ (l : List RowItem). come.items ++ l) gives.items_are
-        ∙ sym (append_assoc come.items gives.front (gives.item ∷ []))
+    all_is = grind (arith, append_assoc)
 
     number : IsItemNumber file begun given gives.item
     number =
@@ -279,16 +278,7 @@ module _ (file : List ℕ) (begun : Begun) where
       → read_page file (begun_cursor from) ≡ found
       → MatchResult found (λ here. IsBegunOn file from here (starts first n)) (λ none. starts first n ≡ Err none)
       → (n ≡ 0 → first_at (page + 1) 0 ≡ first) → HasPage file (page + 1) → EntersFirst file from
-  enters_first from page n first (Err none) is begins same there = grind arith
-  enters_first (At at) page n first (Ok here) is begins same there = elim (cases_lt at.row here.form.rows) [
-    | inl below ↦ rw is (inl below)
-    | inr past ↦
-        let begin = begun_past at here first n past begins in
-        let next : page + 1 ≡ at.page + 1 = ap (λ (p : RowPlace). p.page) (same begin.1 ∙ begin.0) in
-        rw is (inr (refl, begun_last at here first n past begins, subst (HasPage file) next there))
-  ]
-  enters_first (Inside place) page n first (Ok here) is (inl (inner, begins)) same there = rw is (inl inner.row)
-  enters_first (Inside place) page n first (Ok here) is (inr (not, begins)) same there = grind arith
+  enters_first from page n first found is begins same there = grind (arith, cases_lt, begun_past, begun_last)
 
   last_row : (page : ℕ) (item : RowItem) → item.row < item.form.rows → first_at (page + 1) 0 ≡ place_after item
       → (item.row + 1 ≡ item.form.rows) × (page + 1 ≡ item.page + 1)
@@ -298,43 +288,17 @@ module _ (file : List ℕ) (begun : Begun) where
       → row_of old ≡ old.form.rows
       → HasPage file (old.page + 1) → EntersPage file begun given
   enters given cursor old reads is_open all there =
-      let place = all_read old all in
-      let come = reads.come in
-      elim reads.stands [
-        | inl (zero, same) ↦
-            let none : come.dropped ≡ 0 → length come.items ≡ 0 = λ n. omega (arith, n, come.count, come.total, zero) in
-            let same_place = λ (n : come.dropped ≡ 0). sym place ∙ leads_nowhere come.items come.first (place_of old)
-            (none n) come.lead in
-            inl (
-              zero,
-              enters_first begun old.page come.dropped come.first (read_page file (begun_cursor begun)) refl
-                  come.begins same_place there,
-            )
-        | inr after ↦
-            let last = last_row old.page after.item after.within (sym place ∙ after.to_is) in
-            inr (after.before, after.item, after.count, after.number, last.0, subst (HasPage file) last.1 there)
-      ]
+      grind (arith, common_steps, all_read, leads_nowhere, enters_first, last_row)
 
   pub not_entered : (initial at new : Option PageState) (fault : OpenFault)
       → ((given : ℕ) (cursor : Cursor) → GoesOnFrom file begun given cursor initial
       → GoesOnFrom file begun given cursor at)
       → (at ≡ initial) ⊎ IsDueOn at → IsEntered file begun at (Err fault) new
       → IsReadNext file begun initial (Err fault) new
-  not_entered initial None new Memory goes (inl here) (refused, first, same) =
-      (same ∙ here, λ given cursor from. inl ((goes given cursor from).0, first refl))
+  not_entered initial None new Memory goes (inl here) (refused, first, same) = grind arith
   not_entered initial None new Memory goes (inr due) _ = absurd due
-  not_entered initial None new (Ended end) goes there (refused, first, same) = λ given cursor from.
-      let start = goes given cursor from in rw same (start.0, start.1, refused)
-  not_entered initial (Some old) new Memory goes (inl here) (read, refused, page, same) = (
-    same ∙ here,
-    λ given cursor from.
-        let goes_on = goes given cursor from in
-        enters given cursor old goes_on.1 goes_on.0 read (subst (λ f. HasPage f (old.page + 1)) goes_on.1.file_is
-        (page refl)),
-  )
-  not_entered initial (Some old) new Memory goes (inr due) (read, refused, page, same) =
-      absurd (omega (arith, due, read))
-  not_entered initial (Some old) new (Ended end) goes there (read, stop, page, same) = λ given cursor from.
-      let goes_on = goes given cursor from in
-      let none : skipped old ≡ 0 = omega (arith, goes_on.0.first, read) in
-      rw same (goes_on.1, subst (λ f. IsRow f (place_of old) (ends_as end)) goes_on.1.file_is stop, inl none)
+  not_entered initial None new (Ended end) goes there (refused, first, same) = grind arith
+  not_entered initial (Some old) new Memory goes (inl here) (read, refused, page, same) =
+      grind (arith, common_steps, enters)
+  not_entered initial (Some old) new Memory goes (inr due) (read, refused, page, same) = grind arith
+  not_entered initial (Some old) new (Ended end) goes there (read, stop, page, same) = grind arith

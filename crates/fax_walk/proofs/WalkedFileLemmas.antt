@@ -72,11 +72,7 @@ module _ (by_place : AreBitsByPlace) (lines_read : LinesAreRead) (wholes : Forms
       → p + length later ≡ length offsets → AreWritable pages → AllZip (IsReadAt file) later pages
       → AllZip HoldsPageRows pages rows
       → AreAllFrom file p (rows_of p rows)
-  pages_read [] p [] [] e count writable read holds = record {
-    items = [];
-    are = rw (proper_after file head is offsets chain p e (omega (arith, count))) refl;
-    rows_are = refl;
-  }
+  pages_read [] p [] [] e count writable read holds = grind (arith, proper_after)
   pages_read [] p [] (first ∷ rows) e count writable read holds = absurd holds
   pages_read [] p (written ∷ pages) rows e count writable read holds = absurd read
   pages_read (q ∷ later) p [] rows e count writable read holds = absurd read

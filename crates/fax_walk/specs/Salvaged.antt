@@ -12,7 +12,8 @@ use Rattle.fax_files.specs.declared.FileFault.{FileFault}
 use Rattle.fax_files.specs.declared.FileFault.TheVariants.{StripOutside}
 use Rattle.fax_files.specs.declared.Endian.{Endian}
 use Rattle.fax_files.specs.Directory.{header, read_chain}
-use Rattle.fax_files.specs.Page.{bytes_inside, page, strip_bytes, strip_form}
+use Rattle.fax_files.specs.BytesInside.{bytes_inside}
+use Rattle.fax_files.specs.Page.{page, strip_bytes, strip_form}
 use Rattle.fax_walk.specs.Pages.{Cause, File, Strip, FilePage, PageForm}
 use Rattle.fax_walk.specs.Items.{Inner, exchanged}
 

@@ -5,7 +5,6 @@ pub mod Walk
 pub mod LongText
 pub mod Pages
 pub mod Parts
-pub mod Conversion
 pub mod OpenStrips
 pub mod Output
 pub mod Check

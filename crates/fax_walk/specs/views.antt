@@ -6,3 +6,4 @@ pub mod Lent
 pub mod SalvageItems
 pub mod RowsLeft
 pub mod RowsFrom
+pub mod Converting

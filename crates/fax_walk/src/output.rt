@@ -1,5 +1,5 @@
 //! What a conversion writes, page by page.
-ghost use Rattle.std.specs.Prelude.{◌≡◌, ◌≤◌, OnOk, IfOk, IfErr};
+ghost use Rattle.std.specs.Prelude.{◌≡◌, OnOk, IfOk, IfErr};
 ghost use Rattle.fax_walk.specs.declared.options.Options.{Options as Choice};
 ghost use Rattle.fax_walk.specs.code.Output as Spec;
 ghost use Rattle.fax_walk.specs.code.Output.{Progress};
@@ -17,12 +17,12 @@ use std::alloc::Global;
 const MAX_OUTPUT: usize = MAX_FILE as usize;
 
 /// The most pages of a TIFF file.
-const MAX_PAGES: u64 = 65_535;
+const MAX_PAGES: u16 = 65_535;
 
 /// What is written, page by page.
 // An output that is too large takes every row without doing anything, and stays so whatever
 // follows. An image is measured before its rows are put, a page of a TIFF file when its strips are
-// whole.
+// whole. How many pages there are is known, and told in each, when all are written.
 #[derive(Drop)]
 pub(crate) enum Output {
     /// Images.
@@ -34,18 +34,14 @@ pub(crate) enum Output {
 }
 
 impl Output {
-    /// The output of so many pages, before the first.
-    pub(crate) fn new(alloc: Global, options: &Options, pages: u64) -> Result<Self, Memory>
-        requires { 1 ≤ pages }
-        ensures { IfOk result (Spec.IsBeginning options.now pages) }
+    /// The output before the first page.
+    pub(crate) fn new(alloc: Global, options: &Options) -> Result<Self, Memory>
+        ensures { IfOk result (Spec.IsBeginning options.now) }
     {
         let Some(coding) = options.target.coding() else {
             return Ok(Output::Images(Parts::new(alloc)));
         };
-        if pages > MAX_PAGES {
-            return Ok(Output::TooLarge);
-        }
-        let writer = TiffWriter::new(alloc, pages as u16)?;
+        let writer = TiffWriter::new(alloc, MAX_PAGES)?;
         Ok(Output::File(coding, writer, None))
     }
 
@@ -70,7 +66,11 @@ impl Output {
                     *self = Output::TooLarge;
                 }
             }
-            Output::File(coding, _, open) => {
+            Output::File(coding, writer, open) => {
+                if writer.added() == MAX_PAGES {
+                    *self = Output::TooLarge;
+                    return Ok(());
+                }
                 let form = sheet.form(options, *coding);
                 *open = Some(OpenStrips::new(alloc, form, options.k));
             }
@@ -99,6 +99,7 @@ impl Output {
         requires { Spec.HasAllRows self.old }
         ensures { OnOk result (Spec.EndsPage self.old self.new) }
     {
+        fax_files::laws::totals_are_told();
         let Output::File(_, writer, open) = self else {
             return Ok(());
         };
@@ -117,10 +118,10 @@ impl Output {
 
     /// The bytes of all pages.
     pub(crate) fn finish(self, alloc: Global) -> Result<Parts, ConvertFault>
-        requires { Spec.HasAllPages self }
         ensures ok { IfOk result (Spec.FinishesAs self) }
         ensures err { IfErr result (Spec.IsRefusedAs self) }
     {
+        fax_files::laws::totals_are_told();
         match self {
             Output::Images(parts) => Ok(parts),
             Output::File(_, writer, _) => Ok(Parts::of_bytes(alloc, writer.finish())),

@@ -1,8 +1,9 @@
 //! How many pages a file has that is written page by page, told in each of them.
 
-use crate::bytes::{four_at, put_bytes};
+use crate::bytes::four_at;
 use crate::status;
 use crate::writing::{FaxWritten, MOST_BYTES, MOST_PAGES};
+use fax_files::put_totals;
 
 /// How far after the place of a page's directory the offset of the next one stands: after the
 /// number of its fields and twelve bytes of each of the sixteen.
@@ -39,17 +40,6 @@ fn are_pages(file: &[u8], count: u32, last: usize) -> bool {
     link == last
 }
 
-/// Tells each page of a file how many there are.
-// requires header { 8 ≤ length file.old }
-// requires pages { (last : ℕ) × Spec.ArePagesAfter file.old pages 4 last }
-fn put_totals(file: &mut [u8], pages: u16) {
-    let mut link = 4;
-    for _ in 0..pages {
-        link = four_at(file, link) as usize + TO_LINK;
-        put_bytes(file, link - 2, &pages.to_le_bytes());
-    }
-}
-
 /// Tells each page of a file of the caller how many there are, if these are its pages.
 fn end_pages(file: &mut [u8], written: &mut FaxWritten) -> u32 {
     // Until the pages are ended the total is 0, which TIFF calls not available: so the file is a
@@ -74,5 +64,6 @@ fn end_pages(file: &mut [u8], written: &mut FaxWritten) -> u32 {
 /// Tells each page of a file that was written page by page how many there are, as one does of which
 /// that was known when the first was added.
 pub fn faxpages_end_pages(file: &mut [u8], written: &mut FaxWritten) -> u32 {
+    fax_files::laws::totals_are_told();
     end_pages(file, written)
 }

@@ -190,6 +190,11 @@ impl<'a> PbmReader<'a> {
         }
     }
 
+    /// The bytes that are left.
+    pub fn left(&self) -> &'a [u8] {
+        self.left
+    }
+
     /// The image at the start of the bytes that are left, which then begin after it, or none where
     /// no bytes are left.
     ///

@@ -3,6 +3,7 @@
 use kit_std::prelude::Vec;
 
 use crate::PageForm;
+use crate::totals::put_totals;
 use crate::written::{
     MAX_FILE, StripsAt, TO_LINK, append, laid_out, page_end, page_tail, set_link, strips_end,
 };
@@ -96,7 +97,9 @@ impl TiffWriter {
     // requires { 1 ≤ pages }
     pub fn new(alloc: Global, pages: u16) -> Result<Self, Memory> {
         let head = [b'I', b'I', 42, 0, 0, 0, 0, 0];
-        let bytes = Vec::from_slice(alloc, &head).map_err(|_| Memory)?;
+        let Ok(bytes) = Vec::from_slice(alloc, &head) else {
+            return Err(Memory);
+        };
         Ok(TiffWriter {
             alloc,
             bytes,
@@ -149,9 +152,16 @@ impl TiffWriter {
         Ok(())
     }
 
-    /// The bytes of the file, to which all pages were added.
-    // requires { self.added ≡ self.total }
+    /// How many pages were added.
+    pub fn added(&self) -> u16 {
+        self.added
+    }
+
+    /// The bytes of the file of the pages that were added, each of which says how many these are,
+    /// whatever number of pages the file was begun for.
     pub fn finish(self) -> Vec<u8> {
-        self.bytes
+        let mut bytes = self.bytes;
+        put_totals(&mut bytes, self.added);
+        bytes
     }
 }

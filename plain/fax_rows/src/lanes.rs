@@ -34,6 +34,15 @@ fn first_other_in_byte(byte: u8, from: u32, colour: Colour) -> u32 {
     }
 }
 
+/// Whether the 64 bytes from a place on are white.
+#[inline(always)]
+// requires { at + 64 ≤ length bytes.now }
+pub(crate) fn are_white(bytes: &[u8], at: usize) -> bool {
+    bits_stand_by_place();
+    let lanes = u8x64::from_slice(&bytes[at..]);
+    lanes.simd_ne(u8x64::splat(0)).to_bitmask() == 0
+}
+
 /// The first of the bytes from `from` on that is not `plain`, or the place after them all.
 // requires { from ≤ length bytes.now }
 fn first_other_of_rest(bytes: &[u8], from: usize, plain: u8) -> usize {

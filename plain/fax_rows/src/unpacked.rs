@@ -1,7 +1,7 @@
 //! The places of change of a row of packed bytes: eight pels in a byte, the leftmost in its highest
 //! bit, where 1 is black.
 
-use crate::lanes::first_other;
+use crate::lanes::{are_white, first_other};
 use crate::ones::put_ones;
 use crate::packed::WORD;
 use crate::runs::other;
@@ -41,24 +41,28 @@ fn put_word(places: &mut [u32], end: usize, from: u32, before: u64, word: u64) -
     put_ones(places, end, from, changes)
 }
 
-/// Whether the four words from a place on are white.
-#[inline(always)]
-// requires { at + 32 ≤ length bytes.now }
-fn are_white(bytes: &[u8], at: usize) -> bool {
-    let first = (word_at(bytes, at) == 0) & (word_at(bytes, at + 8) == 0);
-    let last = (word_at(bytes, at + 16) == 0) & (word_at(bytes, at + 24) == 0);
-    first & last
-}
-
-/// Goes past white words, by fours, after a word that is white.
+/// Goes past white words, by eights, from one on.
 #[inline(always)]
 // requires short { words < 1024 }
 // requires whole { 8 * words ≤ length bytes.now }
 // requires within { from ≤ words }
-fn past_white(bytes: &[u8], word: u64, from: u32, words: u32) -> u32 {
+fn past_eights(bytes: &[u8], from: u32, words: u32) -> u32 {
     let mut k = from;
-    while word == 0 && words - k >= 4 && are_white(bytes, 8 * k as usize) {
-        k += 4;
+    while words - k >= 8 && are_white(bytes, 8 * k as usize) {
+        k += 8;
+    }
+    k
+}
+
+/// Goes past white words, from one on.
+#[inline(always)]
+// requires short { words < 1024 }
+// requires whole { 8 * words ≤ length bytes.now }
+// requires within { from ≤ words }
+fn past_white(bytes: &[u8], from: u32, words: u32) -> u32 {
+    let mut k = past_eights(bytes, from, words);
+    while k < words && word_at(bytes, 8 * k as usize) == 0 {
+        k += 1;
     }
     k
 }
@@ -71,15 +75,18 @@ fn past_white(bytes: &[u8], word: u64, from: u32, words: u32) -> u32 {
 // requires first { slice_index places.old 0 ≡ 0 }
 fn places_of_words(bytes: &[u8], places: &mut [u32], words: u32) -> (usize, Colour) {
     // A bit of a word that is not the one before it is a change. After a white word the white ones
-    // that follow are gone past by fours.
+    // that follow are gone past by eights.
     let mut end = 1;
     let mut before = 0;
-    let mut k = 0;
+    let mut k = past_white(bytes, 0, words);
     while k < words {
         let word = word_at(bytes, 8 * k as usize);
         end = put_word(places, end, WORD * k, before, word);
         before = word;
-        k = past_white(bytes, word, k + 1, words);
+        k += 1;
+        if word == 0 {
+            k = past_white(bytes, k, words);
+        }
     }
     (end, last_colour(before))
 }

@@ -1,5 +1,6 @@
 //! The streams that a run reads and writes.
 
+pub(crate) mod held;
 pub mod transfer;
 
 use kit_std::io;

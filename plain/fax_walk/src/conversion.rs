@@ -2,70 +2,20 @@
 
 use kit_std::prelude::Vec;
 
+use crate::image_conversion::ImageConversion;
 use crate::options::{ConvertFault, Options};
 use crate::output::Output;
 use crate::parts::Parts;
 use crate::sheet::Sheet;
 use crate::walk::LastRow;
-use crate::{Pages, Walk, WalkFault};
+use crate::{Walk, WalkFault};
 use fax_bits::Memory;
-use fax_files::{PbmImage, PbmReader};
-use fax_rows::Row;
 use kit_std::alloc::Global;
-
-/// The number of images in these bytes.
-fn count_images(bytes: &[u8]) -> Result<u64, ConvertFault> {
-    let mut reader = PbmReader::new(bytes);
-    for image in 0..u64::MAX {
-        match reader.next_image() {
-            Ok(Some(_)) => {}
-            Ok(None) => return Ok(image),
-            Err(fault) => return Err(ConvertFault::Pbm { image, fault }),
-        }
-    }
-    Ok(u64::MAX)
-}
-
-/// Converts an image. Where the output is too large, its rows are not looked at.
-// requires { (at : Progress) × IsPageDue options.now output.old at }
-fn convert_image(
-    alloc: Global,
-    image: &PbmImage,
-    options: &Options,
-    output: &mut Output,
-) -> Result<(), Memory> {
-    fax_rows::laws::packing_undoes_unpacking();
-    output.begin(alloc, options, &Sheet::of_image(image))?;
-    if let Output::TooLarge = output {
-        return Ok(());
-    }
-    let mut row = Row::white(alloc, image.width)?;
-    for i in 0..image.rows {
-        row.set_packed(image.row(i));
-        output.put_row(&row)?;
-    }
-    output.end()
-}
 
 /// Converts images.
 // requires { BeginsWith bytes.now (codes "P4") }
 fn convert_images(alloc: Global, bytes: &[u8], options: &Options) -> Result<Parts, ConvertFault> {
-    fax_files::laws::images_are_read_in_one_way();
-    fax_files::laws::images_begin_in_one_way();
-    let images = count_images(bytes)?;
-    let mut output = Output::new(alloc, options, images)?;
-    let mut reader = PbmReader::new(bytes);
-    loop {
-        match reader.next_image() {
-            Ok(Some(image)) => convert_image(alloc, &image, options, &mut output)?,
-            Ok(None) => return output.finish(alloc),
-            // Counting them has met no fault.
-            Err(fault) => return Err(ConvertFault::Pbm {
-                image: images,
-                fault,
-            }),
-        }
-    }
+    ImageConversion::new(alloc, *options)?.finish(bytes)
 }
 
 /// Why the rows of a TIFF file have ended. A walk from its first row on does not begin outside it.
@@ -74,20 +24,6 @@ fn source_fault(fault: WalkFault) -> ConvertFault {
         WalkFault::Memory => ConvertFault::Memory,
         WalkFault::AtRow { page, row, cause } => ConvertFault::Source { page, row, cause },
         WalkFault::CursorOutside => ConvertFault::UnknownInput,
-    }
-}
-
-/// The number of pages that are not refused, from the first on.
-fn count_pages(file: &[u8]) -> u64 {
-    crate::laws::form_tails_are_one();
-    let mut pages = Pages::start(file);
-    let mut count = 0;
-    loop {
-        match pages.next_page() {
-            Ok(Some(_)) => count += 1,
-            Ok(None) => return count,
-            Err(_) => return count,
-        }
     }
 }
 
@@ -151,9 +87,7 @@ fn convert_file(alloc: Global, file: &[u8], options: &Options) -> Result<Parts, 
     crate::laws::files_are_paged();
     crate::laws::form_tails_are_one();
     crate::laws::tails_go_on();
-    let count = count_pages(file);
-    // A file without a page is refused where its first one is due.
-    let mut output = Output::new(alloc, options, count.max(1))?;
+    let mut output = Output::new(alloc, options)?;
     let mut walk = Walk::start(alloc, file);
     loop {
         match walk.next_row() {

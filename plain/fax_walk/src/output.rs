@@ -13,12 +13,12 @@ use kit_std::alloc::Global;
 const MAX_OUTPUT: usize = MAX_FILE as usize;
 
 /// The most pages of a TIFF file.
-const MAX_PAGES: u64 = 65_535;
+const MAX_PAGES: u16 = 65_535;
 
 /// What is written, page by page.
 // An output that is too large takes every row without doing anything, and stays so whatever
 // follows. An image is measured before its rows are put, a page of a TIFF file when its strips are
-// whole.
+// whole. How many pages there are is known, and told in each, when all are written.
 pub(crate) enum Output {
     /// Images.
     Images(Parts),
@@ -29,16 +29,12 @@ pub(crate) enum Output {
 }
 
 impl Output {
-    /// The output of so many pages, before the first.
-    // requires { 1 ≤ pages }
-    pub(crate) fn new(alloc: Global, options: &Options, pages: u64) -> Result<Self, Memory> {
+    /// The output before the first page.
+    pub(crate) fn new(alloc: Global, options: &Options) -> Result<Self, Memory> {
         let Some(coding) = options.target.coding() else {
             return Ok(Output::Images(Parts::new(alloc)));
         };
-        if pages > MAX_PAGES {
-            return Ok(Output::TooLarge);
-        }
-        let writer = TiffWriter::new(alloc, pages as u16)?;
+        let writer = TiffWriter::new(alloc, MAX_PAGES)?;
         Ok(Output::File(coding, writer, None))
     }
 
@@ -61,7 +57,11 @@ impl Output {
                     *self = Output::TooLarge;
                 }
             }
-            Output::File(coding, _, open) => {
+            Output::File(coding, writer, open) => {
+                if writer.added() == MAX_PAGES {
+                    *self = Output::TooLarge;
+                    return Ok(());
+                }
                 let form = sheet.form(options, *coding);
                 *open = Some(OpenStrips::new(alloc, form, options.k));
             }
@@ -86,6 +86,7 @@ impl Output {
     /// Ends the page, of which all rows were written.
     // requires { Spec.HasAllRows self.old }
     pub(crate) fn end(&mut self) -> Result<(), Memory> {
+        fax_files::laws::totals_are_told();
         let Output::File(_, writer, open) = self else {
             return Ok(());
         };
@@ -103,8 +104,8 @@ impl Output {
     }
 
     /// The bytes of all pages.
-    // requires { Spec.HasAllPages self }
     pub(crate) fn finish(self, alloc: Global) -> Result<Parts, ConvertFault> {
+        fax_files::laws::totals_are_told();
         match self {
             Output::Images(parts) => Ok(parts),
             Output::File(_, writer, _) => Ok(Parts::of_bytes(alloc, writer.finish())),

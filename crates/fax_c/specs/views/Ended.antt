@@ -1,42 +1,15 @@
 -- Files that were written page by page, once their number of pages is told in each.
 -- A definition without a citation is this project's profile.
-use Rattle.std.specs.Prelude.{◌≡◌, ℕ, zero, suc, ◌+◌, ◌-◌, ◌<◌, ◌≤◌, ◌⊎◌, List, [], ◌∷◌, ◌++◌}
-use Rattle.std.specs.Prelude.{length, take, drop}
-use Rattle.fax_files.specs.declared.Endian.TheVariants.{Little}
-use Rattle.fax_files.specs.Directory.{max_file, number_at}
-use Rattle.fax_files.specs.Layout.{WrittenPage, file_of, to_link, two, with_pages}
+use Rattle.std.specs.Prelude.{◌≡◌, ℕ, ◌<◌, ◌≤◌, ◌⊎◌, List, [], ◌∷◌, ◌++◌, length, take, drop}
+use Rattle.fax_files.specs.Directory.{max_file}
+use Rattle.fax_files.specs.Layout.{WrittenPage, file_of, with_pages}
+use Rattle.fax_files.specs.views.Writing.{ArePagesAfter, with_totals}
 use Rattle.fax_files.specs.declared.PageForm.{PageForm}
 use Rattle.fax_files.specs.views.Writing.{empty_file}
 use Rattle.fax_c.specs.declared.forms.FaxForm.{FaxForm}
 use Rattle.fax_c.specs.declared.writing.FaxWritten.{FaxWritten}
 use Rattle.fax_c.specs.Raster.{AskedRaster, page_strips}
 use Rattle.fax_c.specs.views.PageByPage.{IsFormGiven, file_so_far}
-
--- where the link of a page stands to whose directory a link leads
-abbrev pub next_link : List ℕ → ℕ → ℕ
-next_link file link = number_at Little 4 file link + to_link
-
--- this page lies in the file after the link
-abbrev pub IsLinkToPage : List ℕ → ℕ → Type 0
-IsLinkToPage file link =
-    (link + 4 ≤ number_at Little 4 file link) × (next_link file link + 4 ≤ length file)
-
--- so many pages stand in a file after a link, and the last has its link here
-abbrev pub ArePagesAfter : List ℕ → ℕ → ℕ → ℕ → Type 0
-ArePagesAfter file zero link last = link ≡ last
-ArePagesAfter file (suc n) link last =
-    IsLinkToPage file link × ArePagesAfter file n (next_link file link) last
-
--- a file in which the page of this link says that there are so many pages: PageNumber is the last
--- field of its directory, and this number the last two bytes (TIFF 6.0, PageNumber)
-abbrev pub with_total : ℕ → ℕ → List ℕ → List ℕ
-with_total total link file = take (link - 2) file ++ two total ++ drop link file
-
--- a file in which each of so many pages after a link says so
-abbrev pub with_totals : ℕ → ℕ → ℕ → List ℕ → List ℕ
-with_totals total zero link file = file
-with_totals total (suc n) link file =
-    let next = next_link file link in with_totals total n next (with_total total next file)
 
 -- the numbers of a file that is written so far can be those of one with pages
 pub record IsEndable (written : FaxWritten) : Type 0 where

@@ -61,7 +61,7 @@ WritesLeft its page width count stride old filled new =
     (HoldsRows (length old.raster) width count stride
     × (rows : List PageRow) × AreLeftOf its rows × (length rows ≡ count)
     × AreLeftWritten page stride rows old filled new)
-    ⊎ ((new.raster ≡ old.raster) × (new.lost ≡ old.lost)
+    ⊎ ((new ≡ old)
     × (((filled ≡ none_filled page NoRoom) × (HoldsRows (length old.raster) width count stride → ⊥))
     ⊎ ((filled ≡ none_filled page Memory) × HoldsRows (length old.raster) width count stride)))
 
@@ -75,8 +75,7 @@ TellsSalvaged file page stride old_form form old new told status =
     × (form ≡ form_numbers here.form)
     × WritesLeft (of_page file here) page here.form.width here.form.rows stride old filled new)
     ⊎ ((end : End) × (read_page file (record { page = page; row = 0 }) ≡ Err end)
-    × (filled ≡ none_filled page (Ended end)) × (form ≡ old_form) × (new.raster ≡ old.raster)
-    × (new.lost ≡ old.lost)))
+    × (filled ≡ none_filled page (Ended end)) × (form ≡ old_form) × (new ≡ old)))
 
 -- what was written of rows that nobody counted is told, with how they end, where all stretches have
 -- room
@@ -95,9 +94,8 @@ WritesUncounted form b stride old new told status =
     × AreLeftWritten 0 stride rows old filled new × IsLeftTold filled end told status)
     ⊎ ((HoldsRows (length old.raster) form.width (length rows) stride → ⊥)
     × IsTold (none_filled_at (record { page = 0; row = length rows }) NoRoom) told status
-    × (new.raster ≡ old.raster) × (new.lost ≡ old.lost))))
-    ⊎ (IsTold (none_filled 0 Memory) told status × (new.raster ≡ old.raster)
-    × (new.lost ≡ old.lost))
+    × (new ≡ old))))
+    ⊎ (IsTold (none_filled 0 Memory) told status × (new ≡ old))
 
 -- what is left of a strip is told, of counted rows or of such as nobody counted; or it can be read
 -- in no form of these numbers, and nothing is changed
@@ -111,4 +109,4 @@ TellsStripSalvaged asked old new old_told told status =
     ⊎ ((form : StripForm) × IsReadableUncounted asked.strip asked.form form
     × WritesUncounted form (bits form.order asked.strip) asked.stride old new told status)
     ⊎ ((status ≡ 7) × ((form : StripForm) → IsReadableIn asked.strip asked.form form → ⊥)
-    × (new.raster ≡ old.raster) × (new.lost ≡ old.lost) × (told ≡ old_told))
+    × (new ≡ old) × (told ≡ old_told))

@@ -6,7 +6,9 @@ use Rattle.fax_files.specs.declared.written.Layout.{Layout}
 use Rattle.fax_files.specs.declared.tags.TheConstants as Tags
 use Rattle.fax_files.specs.Layout.{four}
 use Rattle.fax_files.specs.code.PageParts.{to_offsets, long_field}
-use Rattle.fax_files.specs.Layout.{WrittenField, fields_with}
+use Rattle.fax_files.specs.Layout.{WrittenField, WrittenPage, fields_with}
+use Rattle.fax_files.specs.views.PagesSoFar.{HasAdded}
+use Rattle.fax_files.specs.views.Writing.{Writing}
 use Rattle.fax_files.specs.Layout.{offsets_from}
 use Rattle.fax_files.specs.code.PageParts.{fields_bytes, values_bytes, lengths_of}
 use Rattle.fax_files.specs.Directory.{max_file}
@@ -25,10 +27,14 @@ tail_bytes end fields form start strips =
     replicate (end % 2) 0 ++ (fields_bytes fields ++ four 0 ++ values_bytes form
     (offsets_from start strips) (lengths_of strips))
 
--- a file that is being written is within the limit, and has room for its last link
-pub record IsWriting (bytes : List ℕ) (link : ℕ) : Type 0 where
-  pub link_inside : link + 4 ≤ length bytes
-  pub limit : length bytes ≤ max_file
+-- a file that is being written is that of the pages that were added, is within the limit, and has
+-- a header and room for its last link
+pub record IsWriting (writing : Writing) : Type 0 where
+  pub pages : List WrittenPage
+  pub added : HasAdded writing.total pages writing
+  pub link_inside : writing.written.link + 4 ≤ length writing.written.bytes
+  pub header : 8 ≤ length writing.written.bytes
+  pub limit : length writing.written.bytes ≤ max_file
 
 -- how many bytes a file has whose last page has its directory at this place, and so many strips
 abbrev pub page_end : ℕ → ℕ → ℕ

@@ -1,12 +1,13 @@
 -- The laws of TIFF files: their chain, their forms, and what is written and read back.
 -- A definition without a citation is this project's profile.
 use Rattle.std.specs.Prelude.{◌≡◌, ◌≢◌, ℕ, ◌+◌, ◌*◌, ◌<◌, ◌⊎◌, if◌then◌else◌, List, [], ◌∷◌}
-use Rattle.std.specs.Prelude.{map, flat_map, Option, Some, None}
+use Rattle.std.specs.Prelude.{map, flat_map, ◌==◌, ◌^◌, Option, Some, None}
 use Rattle.fax_bits.specs.declared.Colour.{Colour}
 use Rattle.fax_bits.specs.Bits.{bits}
 use Rattle.fax_rows.specs.Rows.{other}
 use Rattle.fax_page.specs.declared.StripFault.{StripFault}
 use Rattle.fax_page.specs.views.Strip.{IsStrip}
+use Rattle.fax_files.specs.declared.FileFault.TheVariants.{DirectoryLoop, DirectoryOutside}
 use Rattle.fax_files.specs.declared.FileFault.TheVariants.{StripOutside}
 use Rattle.fax_files.specs.declared.Cause.{Cause}
 use Rattle.fax_files.specs.declared.Cause.TheVariants.{File, Strip}
@@ -15,11 +16,11 @@ use Rattle.fax_files.specs.declared.Endian.{Endian}
 use Rattle.fax_files.specs.Page.{most_pels, most_rows, strip_bytes, strip_form, page}
 use Rattle.std.specs.Prelude.{◌≡◌, ℕ, ◌+◌, ◌*◌, ◌≤◌, ◌<◌, ◌⊎◌, false, List, [], ◌∷◌, length, take}
 use Rattle.std.specs.Prelude.{drop, slice_index_or, Option, Some, None, Ok, IsTrue, All}
-use Rattle.std.specs.List.{AllZip}
+use Rattle.std.specs.List.{AllZip, list_any}
 use Rattle.fax_files.specs.declared.FileFault.{FileFault}
 use Rattle.fax_files.specs.declared.Endian.TheVariants.{Little}
 use Rattle.fax_files.specs.Directory.{ChainRead, Header, header, is_directory, max_file}
-use Rattle.fax_files.specs.Directory.{next_offset, number_at, offset_fault, read_chain}
+use Rattle.fax_files.specs.Directory.{next_offset, number_at, read_chain}
 use Rattle.fax_files.specs.views.Page.{IsPageForm}
 use Rattle.fax_files.specs.Layout.{four, directory_place, Written, with_page, WrittenPage, file_of}
 use Rattle.fax_files.specs.Layout.{with_pages}
@@ -27,6 +28,8 @@ use Rattle.fax_files.specs.views.Writing.{empty_file}
 use Rattle.std.specs.Prelude.{◌≡◌, ◌≤◌, ℕ, ◌+◌, ◌*◌, if◌then◌else◌, List, [], ◌∷◌}
 use Rattle.std.specs.Prelude.{◌++◌, length, Vec}
 use Rattle.std.specs.declared.alloc.Global.{Global}
+use Rattle.fax_files.specs.views.Writing.{ArePagesAfter, with_totals}
+use Rattle.fax_files.specs.views.PagesSoFar.{HasAdded}
 use Rattle.fax_files.specs.views.Writing.{Writing, contents, with_one_more}
 
 -- From strip s on the page has these strips, each a list of rows. The end is none after the last
@@ -136,6 +139,13 @@ WrittenFilesAreRead =
     (pages : List WrittenPage) → 1 ≤ length pages → length pages ≤ 65535 → AreWritable pages
     → length (file_of pages) ≤ max_file → IsReadAs (file_of pages) pages
 
+-- the fault of an offset that is due after these directories: it stands among them already, or no
+-- whole directory stands there (TIFF 6.0, section 2)
+abbrev pub offset_fault : Endian → List ℕ → List ℕ → ℕ → Option FileFault
+offset_fault endian file before due =
+    if list_any (λ q. due == q) before then (Some DirectoryLoop)
+    else (if is_directory endian file due then None else (Some DirectoryOutside))
+
 -- from the offset that is due on, after these directories, the last one first, the chain goes over
 -- these offsets to this end: at an offset of 0, or at one with a fault (TIFF 6.0, section 2)
 abbrev pub IsChainFrom : Endian → List ℕ → List ℕ → ℕ → List ℕ → Option FileFault → Type 0
@@ -181,14 +191,16 @@ abbrev pub FormsAreWithinLimits : Type 0
 FormsAreWithinLimits = (endian : Endian) (file : List ℕ) (q : ℕ) (form : PageForm)
     → All (λ byte. byte < 256) file → page endian file q ≡ Ok form → IsPageForm form
 
--- these pages of so many were added, and no more
-abbrev pub HasAdded : ℕ → List WrittenPage → Writing → Type 0
-HasAdded total pages writing =
-    writing ≡ record {
-      written = with_pages empty_file total 0 pages;
-      total = total;
-      added = length pages;
-    }
+-- pages that are written are found by their links, and told another total they are the pages that
+-- say that, in as many bytes
+pub record TotalsAreTold : Type 0 where
+  pub told : (total other : ℕ) (pages : List WrittenPage)
+      → let old = with_pages empty_file other 0 pages in length old.bytes < 2 ^ 32
+      → ArePagesAfter old.bytes (length pages) 4 old.link
+      × (with_totals total (length pages) 4 old.bytes ≡ (with_pages empty_file total 0 pages).bytes)
+  pub alike : (total other : ℕ) (pages : List WrittenPage)
+      → length (with_pages empty_file total 0 pages).bytes
+      ≡ length (with_pages empty_file other 0 pages).bytes
 
 -- a writer that adds pages one after another, from its beginning on, gives the bytes of their file
 pub record WritesPageByPage : Type 0 where

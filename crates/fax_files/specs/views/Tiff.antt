@@ -4,7 +4,8 @@ use Rattle.fax_files.specs.declared.Endian.{Endian}
 use Rattle.fax_files.specs.Directory.{Header, is_directory}
 use Rattle.fax_files.specs.declared.FileFault.{FileFault}
 use Rattle.fax_files.specs.declared.PageForm.{PageForm}
-use Rattle.fax_files.specs.Page.{bytes_inside, page, strip_bytes}
+use Rattle.fax_files.specs.BytesInside.{bytes_inside}
+use Rattle.fax_files.specs.Page.{page, strip_bytes}
 
 -- a file and what its header says
 pub record TiffFile : Type 0 where

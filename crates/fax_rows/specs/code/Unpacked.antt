@@ -10,3 +10,7 @@ use Rattle.fax_rows.specs.code.Turns.{turned}
 pub record IsUnpackedTo (b : List Bool) (places : List ℕ) (i : ℕ) (colour : Colour) : Type 0 where
   pub before : (k : ℕ) → k < i → turned Black places k ≡ colour_of_bit (slice_index_or b k false)
   pub after : (k : ℕ) → i ≤ k → turned Black places k ≡ colour
+
+-- the bits from a place up to another are white
+abbrev pub AreWhite : List Bool → ℕ → ℕ → Type 0
+AreWhite b from to = (i : ℕ) → from ≤ i → i < to → slice_index_or b i false ≡ false

@@ -63,11 +63,9 @@ pub data Form (word : Text) : Type 0 where
   as_long : (p : Text × Option Text) → bytes_eq word hyphens ≡ false → long_of word ≡ Some p
       → ((c : List Rule) → said c false word ≡ rule_said (arg_by_long c p.0) p.1) → Form word
   as_letter : (b : ℕ) (bs : Text) (x : ℕ) → bytes_eq word hyphens ≡ false → long_of word ≡ None
-      → short_of word ≡ Some (b ∷ bs)
-      → slice_get (chars (b ∷ bs)) 0 ≡ Some x
-      → ((c : List Rule) → said c false word ≡ rule_said (arg_by_short c x)
-      (attached_value (drop (length (encode_utf8 x)) (b ∷ bs))))
-      → Form word
+      → short_of word ≡ Some (b ∷ bs) → slice_get (chars (b ∷ bs)) 0 ≡ Some x
+      → ((c : List Rule) → said c false word
+      ≡ rule_said (arg_by_short c x) (attached_value (drop (length (encode_utf8 x)) (b ∷ bs)))) → Form word
   as_place : bytes_eq word hyphens ≡ false → long_of word ≡ None
       → ((short_of word ≡ None) ⊎ ((b : ℕ) × (bs : Text) × (short_of word ≡ Some (b ∷ bs))
       × (slice_get (chars (b ∷ bs)) 0 ≡ None)))
@@ -77,8 +75,7 @@ pub form : (word : Text) → Form word
 form word = go (bytes_eq word hyphens) refl (long_of word) refl (short_of word) refl
   where
     letter : (flags : Text) (o : Option ℕ) → bytes_eq word hyphens ≡ false → long_of word ≡ None
-        → short_of word ≡ Some flags
-        → slice_get (chars flags) 0 ≡ o → Form word
+        → short_of word ≡ Some flags → slice_get (chars flags) 0 ≡ o → Form word
     letter [] o no_end no_long short is = absurd (no_flags word short)
     letter (b ∷ bs) None no_end no_long short is = as_place no_end no_long (inr (b, bs, short, is))
         (λ c. rw (no_end, no_long, short, is) refl)
@@ -86,8 +83,7 @@ form word = go (bytes_eq word hyphens) refl (long_of word) refl (short_of word) 
         (λ c. rw (no_end, no_long, short, is) refl)
 
     go : (e : Bool) → bytes_eq word hyphens ≡ e → (o : Option (Text × Option Text)) → long_of word ≡ o
-        → (f : Option Text) → short_of word ≡ f
-        → Form word
+        → (f : Option Text) → short_of word ≡ f → Form word
     go true is o long f short = as_end is (λ c. rw is refl)
     go false is (Some p) long f short = as_long p is long (λ c. rw (is, long) refl)
     go false is None long None short = as_place is long (inl short) (λ c. rw (is, long, short) refl)
@@ -118,8 +114,7 @@ module _ (s : Shape) (flat : All (IsFlat s.rules) s.rules) where
       let (among, test) = found _ c a is in
       elim (All-contains (IsFlat c) c a flat among) [
         | inl one ↦ one
-        | inr flag ↦ let no = rw (flag.1, flag.2) at test in
-            grind arith
+        | inr flag ↦ let no = rw (flag.1, flag.2) at test in grind arith
       ]
 
   placing : (i : ℕ) (a : Rule) → arg_by_index c i ≡ Some a → IsOne c a
@@ -295,8 +290,7 @@ module _ (s : Shape) (flat : All (IsFlat s.rules) s.rules) where
       other_letter (Some b) rest fault later r = grind (arith, unsettled, guard_twice)
 
       value_is : run s (after_step c word (waits_at false) (plain_word c (option a.id) word unfilled).0
-          (plain_word c (option a.id) word unfilled).1)
-          words ≡ reads_value place
+          (plain_word c (option a.id) word unfilled).1) words ≡ reads_value place
       value_is = rw (one.0, enough c a one) (idles (Some (a, word)) rows position false one)
 
       value_word : Form word → run s (waits_at false) (word ∷ words) ≡ reads_value (said c false word)
@@ -304,8 +298,7 @@ module _ (s : Shape) (flat : All (IsFlat s.rules) s.rules) where
       value_word w = turn (waits_at false) word words ∙ go w
         where
           go : Form word → guard (turn_fault s [] (waits_at false) word)
-              (run s (walked c [] (waits_at false) word) words)
-              ≡ reads_value (said c false word)
+              (run s (walked c [] (waits_at false) word) words) ≡ reads_value (said c false word)
           go (as_end is_end says_is) = rw is_end (unsettled_trail words) ∙ ap reads_value (sym (says_is c))
           go (as_long q no_end form says_is) =
               rw (no_end, form) (other_option (arg_by_long c q.0) q.1 _ _) ∙ ap reads_value (sym (says_is c))
@@ -330,14 +323,12 @@ module _ (s : Shape) (flat : All (IsFlat s.rules) s.rules) where
   unfolding walk_fault
   walks [] = (
     λ p rows position trailing is. settle_then p rows position is (λ r. Some r),
-    λ a rows position one.
-        unsettled a rows position one _,
+    λ a rows position one. unsettled a rows position one _,
   )
   walks (word ∷ words) =
       let (idles, waiting) = walks words in (
         idle_step word words idles waiting,
-        λ a rows position one. value_word a rows position one word words idles
-            (form word),
+        λ a rows position one. value_word a rows position one word words idles (form word),
       )
 
   -- the rows at the end of a walk

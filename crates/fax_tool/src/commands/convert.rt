@@ -1,6 +1,10 @@
 //! `convert`: the pages in another form.
 ghost use Rattle.std.specs.Io.KnownBytes.{Appends};
-ghost use Rattle.std.specs.Prelude.{◌≡◌, ◌<◌, IfErr, IfOk, OnOk, length, replicate};
+ghost use Rattle.std.specs.Prelude.{◌≡◌, ◌≢◌, ◌<◌, IfErr, IfOk, IfSome, List, OnOk, length};
+ghost use Rattle.std.specs.Prelude.{replicate, ℕ};
+ghost use Rattle.fax_walk.specs.Converted.{IsConverted, IsNotConverted};
+ghost use Rattle.fax_tool.specs.Run.{IsRead};
+ghost use Rattle.fax_tool.specs.code.Outcome.{HasReadReason};
 ghost use Rattle.fax_walk.specs.views.Parts.{part_bytes};
 ghost use Rattle.fax_tool.specs.Run.{HasWorked};
 ghost use Rattle.fax_tool.specs.code.Transfers.{IsGivenInPart, counted};
@@ -9,10 +13,11 @@ ghost use Rattle.fax_tool.specs.Streams.{input_after, no_faults, output_after};
 ghost use Rattle.fax_tool.specs.declared.words.Command.TheVariants.{Convert};
 
 use crate::refusal::Refusal;
-use crate::streams::transfer::{Interruptions, give_all, read_whole, zero_bytes};
+use crate::streams::held::Held;
+use crate::streams::transfer::{CHUNK, Interruptions, give_all, read_rest, zero_bytes};
 use crate::streams::{Sink, Source};
 use crate::text::fault::{ErrorLine, conversion_line};
-use fax_walk::{Options, Part, Parts};
+use fax_walk::{ConvertFault, ImageConversion, Options, Part, Parts};
 use std::alloc::Global;
 
 /// How many zeros are written at once.
@@ -81,8 +86,48 @@ fn give_parts<W: Sink>(out: &mut W, block: &[u8], output: &Parts) -> Result<(), 
     Ok(())
 }
 
-/// Reads the input whole and writes its pages as the options say. Where it is refused nothing is
-/// written.
+/// What the input becomes by the options. Raw PBM is converted as its bytes come, and only what it
+/// becomes is held; a TIFF file is read whole.
+fn read_conversion<R: Source>(
+    alloc: Global,
+    options: Options,
+    input: &mut R,
+) -> Result<Result<Parts, ConvertFault>, Refusal>
+    requires counts { R.counts input.old ≡ no_faults }
+    requires taken { R.taken input.old ≡ 0 }
+    ensures converts { IfOk result (λ answer. (file : List ℕ)
+        × IfSome (R.left input.old) (λ bytes. file ≡ bytes)
+        × IfOk answer (λ output. IsConverted file options output)
+        × IfErr answer (λ fault. fault ≢ ConvertFault.Memory → IsNotConverted file options fault)) }
+    ensures read { OnOk result (IsRead
+        (input_after (R.left input.old) (R.taken input.new) (R.counts input.new))) }
+    ensures reason { IfErr result (λ refusal. HasReadReason refusal
+        (input_after (R.left input.old) (R.taken input.new) (R.counts input.new))) }
+{
+    let mut interruptions = Interruptions::NONE;
+    let mut held = Held::new(alloc, CHUNK)?;
+    let mut ended = held.fill(input, &mut interruptions)?;
+    if !held.bytes().starts_with(b"P4") {
+        let file = read_rest(alloc, input, &mut interruptions, held, ended)?;
+        return Ok(fax_walk::convert_parts(alloc, &file, &options));
+    }
+    interruptions.are_few();
+    let Ok(mut conversion) = ImageConversion::new(alloc, options) else {
+        return Err(Refusal::Memory);
+    };
+    while !ended {
+        interruptions.are_few();
+        let Ok(taken) = conversion.take_images(held.bytes()) else {
+            return Err(Refusal::Memory);
+        };
+        held.drop_front(taken);
+        ended = held.fill(input, &mut interruptions)?;
+    }
+    interruptions.are_few();
+    Ok(conversion.finish(held.bytes()))
+}
+
+/// Reads the input and writes its pages as the options say. Where it is refused nothing is written.
 pub fn give_conversion<R: Source, W: Sink>(
     alloc: Global,
     options: Options,
@@ -99,8 +144,8 @@ pub fn give_conversion<R: Source, W: Sink>(
         (input_after (R.left input.old) (R.taken input.new) (R.counts input.new))
         (output_after (W.written out.old) (W.written out.new) (W.counts out.new))) }
 {
-    let file = read_whole(alloc, input)?;
-    match fax_walk::convert_parts(alloc, &file, &options) {
+    let answer = read_conversion(alloc, options, input)?;
+    match answer {
         Ok(output) => {
             let block = zero_bytes(alloc, BLOCK)?;
             give_parts(out, &block, &output)?;

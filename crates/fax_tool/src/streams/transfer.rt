@@ -1,7 +1,7 @@
 //! Whole transfers: a source to its end, and all of some bytes to a sink.
 ghost use Rattle.std.specs.Prelude.{◌≡◌, ◌≤◌, ◌<◌, ◌-◌, length, IfOk, IfErr, IfSome, OnOk, IsTrue};
-ghost use Rattle.std.specs.Prelude.{Err, false, replicate, vec_len};
-ghost use Rattle.std.specs.Io.KnownBytes.{Appends};
+ghost use Rattle.std.specs.Prelude.{Err, true, false, replicate, vec_len, List, ℕ, ◌++◌};
+ghost use Rattle.std.specs.Io.KnownBytes.{Appends, Consumes, IsAtEnd};
 ghost use Rattle.fax_tool.specs.declared.refusal.Refusal.TheVariants.{Memory};
 ghost use Rattle.fax_tool.specs.Run.{HasFailed, HasWorked, IsRead, most_interrupted};
 ghost use Rattle.fax_files.specs.Directory.{max_file};
@@ -10,16 +10,17 @@ ghost use Rattle.fax_tool.specs.code.Outcome.{HasReadReason};
 ghost use Rattle.fax_tool.specs.code.Transfers.{IsGivenInPart, counted};
 
 use crate::refusal::Refusal;
+use crate::streams::held::Held;
 use crate::streams::{Sink, Source, StreamFault};
 use fax_files::MAX_FILE;
 use std::alloc::Global;
 use std::marker::Model;
 
 /// The most bytes of an input: 256 MiB.
-const MOST_INPUT: usize = MAX_FILE as usize;
+pub(crate) const MOST_INPUT: usize = MAX_FILE as usize;
 
 /// How many bytes are read at a time.
-const CHUNK: usize = 65_536;
+pub(crate) const CHUNK: usize = 65_536;
 
 /// For how many bytes of an input there is room before the first of them is read: where it has no
 /// more, none is copied as its room grows.
@@ -57,7 +58,7 @@ impl Interruptions {
 
     /// Whether a call with this fault is made again: an interrupted one, up to 1,023 times on a
     /// stream.
-    fn allow(&mut self, fault: StreamFault) -> bool
+    pub(crate) fn allow(&mut self, fault: StreamFault) -> bool
         ensures again { IsTrue result → counted self.new
             ≡ counts_after (Err fault) (counted self.old) }
         ensures fewer { IsTrue result → most_interrupted - self.new
@@ -85,6 +86,46 @@ pub(crate) fn zero_bytes(alloc: Global, len: usize) -> Result<Vec<u8>, Refusal>
     vec![in alloc; 0u8; len].map_err(|_| Refusal::Memory)
 }
 
+/// Reads what is left of a source after the bytes that are held, and answers all of them.
+///
+/// # Errors
+///
+/// `Memory` where a growth was refused; else as `Held::fill`.
+pub(crate) fn read_rest<R: Source>(
+    alloc: Global,
+    input: &mut R,
+    interruptions: &mut Interruptions,
+    mut held: Held,
+    mut ended: bool,
+) -> Result<Vec<u8>, Refusal>
+    requires counts { R.counts input.old ≡ counted interruptions.old }
+    requires taken { R.taken input.old ≡ held.taken }
+    requires all { held.taken ≡ length held.bytes }
+    requires end { ended ≡ true → IsAtEnd (R.left input.old) }
+    ensures whole { IfOk result (λ file. (text : List ℕ) × (file.items ≡ held.bytes ++ text)
+        × Consumes (R.left input.old) (R.left input.new) text × IsAtEnd (R.left input.new)) }
+    ensures limit { IfOk result (λ file. vec_len file ≤ max_file) }
+    ensures read { OnOk result (IsRead
+        (input_after (R.left input.old) (R.taken input.new) (R.counts input.new))) }
+    ensures reason { IfErr result (λ refusal. HasReadReason refusal
+        (input_after (R.left input.old) (R.taken input.new) (R.counts input.new))) }
+{
+    interruptions.are_few();
+    let mut file = Vec::new(alloc);
+    file.reserve(FIRST_ROOM).map_err(|_| Refusal::Memory)?;
+    loop {
+        interruptions.are_few();
+        if file.extend_from_slice(held.bytes()).is_err() {
+            return Err(Refusal::Memory);
+        }
+        if ended {
+            return Ok(file);
+        }
+        held.drop_front(held.bytes().len());
+        ended = held.fill(input, interruptions)?;
+    }
+}
+
 /// Reads a source whole, of at most 268,435,456 bytes.
 ///
 /// # Errors
@@ -102,28 +143,9 @@ pub fn read_whole<R: Source>(alloc: Global, input: &mut R) -> Result<Vec<u8>, Re
         (input_after (R.left input.old) (R.taken input.new) (R.counts input.new))) }
 {
     let mut interruptions = Interruptions::NONE;
-    let mut file = Vec::new(alloc);
-    file.reserve(FIRST_ROOM).map_err(|_| Refusal::Memory)?;
-    let mut chunk = zero_bytes(alloc, CHUNK)?;
-    loop {
-        interruptions.are_few();
-        match input.take(&mut chunk) {
-            Ok(0) => return Ok(file),
-            Ok(count) => {
-                if count > MOST_INPUT - file.len() {
-                    return Err(Refusal::Read);
-                }
-                if file.extend_from_slice(&chunk[..count]).is_err() {
-                    return Err(Refusal::Memory);
-                }
-            }
-            Err(fault) => {
-                if !interruptions.allow(fault) {
-                    return Err(Refusal::Read);
-                }
-            }
-        }
-    }
+    let mut held = Held::new(alloc, CHUNK)?;
+    let ended = held.fill(input, &mut interruptions)?;
+    read_rest(alloc, input, &mut interruptions, held, ended)
 }
 
 /// Gives a sink all of the bytes, in order.

@@ -4,20 +4,15 @@ use Rattle.std.specs.Prelude.{map, flat_map, Option, Some, None, unwrap_or}
 use Rattle.fax_bits.specs.declared.Colour.{Colour}
 use Rattle.fax_rows.specs.Coded.{packed_len, packed_row}
 use Rattle.fax_page.specs.declared.Coding.{Coding}
-use Rattle.fax_page.specs.declared.Coding.TheVariants.{Mh, Mr, Mmr}
 use Rattle.fax_files.specs.declared.PageForm.{PageForm}
 use Rattle.fax_files.specs.views.Page.{IsGoodRational, strip_count}
 use Rattle.fax_files.specs.Pbm.{pbm_of}
 use Rattle.fax_files.specs.views.Pbm.{head_bytes}
 use Rattle.fax_files.specs.laws.Pbm.{AreOfWidth}
-use Rattle.fax_files.specs.Layout.{with_pages}
-use Rattle.fax_files.specs.views.Writing.{empty_file}
 use Rattle.fax_files.specs.Directory.{max_file}
 use Rattle.fax_files.specs.views.Writing.{Writing}
 use Rattle.fax_walk.specs.declared.options.Options.{Options}
-use Rattle.fax_walk.specs.declared.options.Target.{Target}
-use Rattle.fax_walk.specs.declared.options.Target.TheVariants.{Pbm, Mh as ToMh, Mr as ToMr}
-use Rattle.fax_walk.specs.declared.options.Target.TheVariants.{Mmr as ToMmr}
+use Rattle.fax_walk.specs.declared.options.Target.TheVariants.{Pbm}
 use Rattle.fax_walk.specs.declared.options.ConvertFault.{ConvertFault}
 use Rattle.fax_walk.specs.declared.options.ConvertFault.TheVariants.{OutputTooLarge}
 use Rattle.fax_walk.specs.declared.open_strips.OpenStrips.{OpenStrips}
@@ -25,8 +20,10 @@ use Rattle.fax_walk.specs.declared.output.Output.{Output}
 use Rattle.fax_walk.specs.declared.output.Output.TheVariants.{Images, File, TooLarge}
 use Rattle.fax_walk.specs.declared.sheet.Sheet.{Sheet}
 use Rattle.fax_files.specs.Page.{most_pels, most_rows}
-use Rattle.fax_walk.specs.Converted.{SourcePage, most_pages, written_page, target_bytes, IsTooLarge}
+use Rattle.fax_walk.specs.Converted.{SourcePage, most_pages, target_bytes, IsTooLarge}
 use Rattle.fax_walk.specs.code.OpenStrips.{HasPutRows}
+pub use Rattle.fax_walk.specs.views.Converting.{HasPages, HasPutImages, IsWrittenTo, Progress}
+pub use Rattle.fax_walk.specs.views.Converting.{StaysTooLarge, coding_of}
 
 -- a sheet within the limits of a page
 pub record IsSheet (sheet : Sheet) : Type 0 where
@@ -73,22 +70,9 @@ page_of sheet rows = record {
   resolution = record { x = sheet.x; y = sheet.y; unit = sheet.unit };
 }
 
--- how the strips of a target are coded, if it is a TIFF file
-abbrev pub coding_of : Target → Option Coding
-coding_of Pbm = None
-coding_of ToMh = Some Mh
-coding_of ToMr = Some Mr
-coding_of ToMmr = Some Mmr
-
--- how far a conversion is written: by these options, of so many pages, these
-pub record Progress : Type 0 where
-  pub options : Options
-  pub total : ℕ
-  pub pages : List SourcePage
-
 -- before the first page
-abbrev pub nothing_written : Options → ℕ → Progress
-nothing_written options total = record { options = options; total = total; pages = [] }
+abbrev pub nothing_written : Options → Progress
+nothing_written options = record { options = options; pages = [] }
 
 -- with one more page
 abbrev pub with_source_page : Progress → SourcePage → Progress
@@ -112,40 +96,9 @@ with_row part row = record part { rows = part.rows ++ row ∷ [] }
 abbrev pub after : Part → Progress
 after part = with_source_page part.at (page_of part.sheet part.rows)
 
--- whatever pages follow, up to all of them, the output is too large
-abbrev pub StaysTooLarge : Progress → Type 0
-StaysTooLarge at =
-    (more : List SourcePage) → length (at.pages ++ more) ≡ at.total
-    → IsTooLarge at.options.target (at.pages ++ more)
-    (target_bytes at.options.target at.options (at.pages ++ more))
-
--- the images of the pages are written
-pub record HasImages (bytes : List ℕ) (at : Progress) : Type 0 where
-  pub target : at.options.target ≡ Pbm
-  pub bytes_are : bytes ≡ pbm_of (map (λ page. page.image) at.pages)
-  pub fits : length bytes ≤ max_file
-
--- the pages are written into a TIFF file
-pub record HasPages (coding : Coding) (writer : Writing) (at : Progress) : Type 0 where
-  pub coding_is : coding_of at.options.target ≡ Some coding
-  pub few : at.total ≤ most_pages
-  pub total : writer.total ≡ at.total
-  pub added : writer.added ≡ length at.pages
-  pub written : writer.written
-      ≡ with_pages empty_file at.total 0 (map (written_page at.options coding) at.pages)
-  pub fits : length writer.written.bytes ≤ max_file
-
--- an output has these pages, and no part of another
-abbrev pub IsWrittenTo : Output → Progress → Type 0
-IsWrittenTo (Images bytes) at = HasImages bytes at
-IsWrittenTo (File coding writer None) at = HasPages coding writer at
-IsWrittenTo (File coding writer (Some page)) at = ⊥
-IsWrittenTo TooLarge at = StaysTooLarge at
-
--- these pages are written by these options, and one more is due
+-- these pages are written by these options
 pub record IsPageDue (options : Options) (output : Output) (at : Progress) : Type 0 where
   pub options_are : at.options ≡ options
-  pub fewer : length at.pages < at.total
   pub written : IsWrittenTo output at
 
 -- the page's rows are written after the images of the pages before it, and there is room for those
@@ -163,7 +116,7 @@ pub record HasImageRows (bytes : List ℕ) (part : Part) : Type 0 where
 abbrev pub HasRowsOnPage : Coding → Writing → Option OpenStrips → Part → Type 0
 HasRowsOnPage coding writer None part = ⊥
 HasRowsOnPage coding writer (Some page) part =
-    HasPages coding writer part.at × (length part.at.pages < part.at.total)
+    HasPages coding writer part.at × (length part.at.pages < most_pages)
     × HasPutRows (sheet_form part.at.options coding part.sheet) part.at.options.k part.rows page
 
 -- a page of this sheet makes the output too large, whatever rows it has and whatever follows it
@@ -183,8 +136,8 @@ pub record IsPartWritten (output : Output) (part : Part) : Type 0 where
   pub has : HasPart output part
 
 -- an output before its first page
-abbrev pub IsBeginning : Options → ℕ → Output → Type 0
-IsBeginning options total output = IsWrittenTo output (nothing_written options total)
+abbrev pub IsBeginning : Options → Output → Type 0
+IsBeginning options output = IsWrittenTo output (nothing_written options)
 
 -- a page is begun
 abbrev pub BeginsPage : Options → Output → Sheet → Output → Type 0
@@ -228,17 +181,10 @@ pub record IsPutTo (output : Output) (part : Part) : Type 0 where
 pub record IsRowDue (options : Options) (output : Output) (r : ℕ) (row : List Colour)
     (part : Part) : Type 0 where
   pub options_are : part.at.options ≡ options
-  pub fewer : length part.at.pages < part.at.total
   pub put : IsPutTo output part
   pub count : length part.rows ≡ r
   pub due : r < part.sheet.rows
   pub width : length row ≡ part.sheet.width
-
--- all pages were written
-pub record HasAllPages (output : Output) : Type 0 where
-  pub at : Progress
-  pub written : IsWrittenTo output at
-  pub all : length at.pages ≡ at.total
 
 -- the bytes are those of all pages, and not too many
 pub record IsWhole (at : Progress) (bytes : List ℕ) : Type 0 where
@@ -246,12 +192,11 @@ pub record IsWhole (at : Progress) (bytes : List ℕ) : Type 0 where
   pub fits : IsTooLarge at.options.target at.pages bytes → ⊥
 
 abbrev pub FinishesAs : Output → List ℕ → Type 0
-FinishesAs output bytes =
-    (at : Progress) → IsWrittenTo output at → length at.pages ≡ at.total → IsWhole at bytes
+FinishesAs output bytes = (at : Progress) → IsWrittenTo output at → IsWhole at bytes
 
 -- all pages are too large
 abbrev pub IsRefusedAs : Output → ConvertFault → Type 0
 IsRefusedAs output fault =
     (fault ≡ OutputTooLarge)
-    × ((at : Progress) → IsWrittenTo output at → length at.pages ≡ at.total
+    × ((at : Progress) → IsWrittenTo output at
     → IsTooLarge at.options.target at.pages (target_bytes at.options.target at.options at.pages))

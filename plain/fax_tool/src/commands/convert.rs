@@ -1,10 +1,11 @@
 //! `convert`: the pages in another form.
 
 use crate::refusal::Refusal;
-use crate::streams::transfer::{Interruptions, give_all, read_whole, zero_bytes};
+use crate::streams::held::Held;
+use crate::streams::transfer::{CHUNK, Interruptions, give_all, read_rest, zero_bytes};
 use crate::streams::{Sink, Source};
 use crate::text::fault::{ErrorLine, conversion_line};
-use fax_walk::{Options, Part, Parts};
+use fax_walk::{ConvertFault, ImageConversion, Options, Part, Parts};
 use kit_std::alloc::Global;
 
 /// How many zeros are written at once.
@@ -57,8 +58,39 @@ fn give_parts<W: Sink>(out: &mut W, block: &[u8], output: &Parts) -> Result<(), 
     Ok(())
 }
 
-/// Reads the input whole and writes its pages as the options say. Where it is refused nothing is
-/// written.
+/// What the input becomes by the options. Raw PBM is converted as its bytes come, and only what it
+/// becomes is held; a TIFF file is read whole.
+// requires counts { R.counts input.old ≡ no_faults }
+// requires taken { R.taken input.old ≡ 0 }
+fn read_conversion<R: Source>(
+    alloc: Global,
+    options: Options,
+    input: &mut R,
+) -> Result<Result<Parts, ConvertFault>, Refusal> {
+    let mut interruptions = Interruptions::NONE;
+    let mut held = Held::new(alloc, CHUNK)?;
+    let mut ended = held.fill(input, &mut interruptions)?;
+    if !held.bytes().starts_with(b"P4") {
+        let file = read_rest(alloc, input, &mut interruptions, held, ended)?;
+        return Ok(fax_walk::convert_parts(alloc, &file, &options));
+    }
+    interruptions.are_few();
+    let Ok(mut conversion) = ImageConversion::new(alloc, options) else {
+        return Err(Refusal::Memory);
+    };
+    while !ended {
+        interruptions.are_few();
+        let Ok(taken) = conversion.take_images(held.bytes()) else {
+            return Err(Refusal::Memory);
+        };
+        held.drop_front(taken);
+        ended = held.fill(input, &mut interruptions)?;
+    }
+    interruptions.are_few();
+    Ok(conversion.finish(held.bytes()))
+}
+
+/// Reads the input and writes its pages as the options say. Where it is refused nothing is written.
 // requires input_counts { R.counts input.old ≡ no_faults }
 // requires taken { R.taken input.old ≡ 0 }
 // requires counts { W.counts out.old ≡ no_faults }
@@ -68,8 +100,8 @@ pub fn give_conversion<R: Source, W: Sink>(
     input: &mut R,
     out: &mut W,
 ) -> Result<Option<ErrorLine>, Refusal> {
-    let file = read_whole(alloc, input)?;
-    match fax_walk::convert_parts(alloc, &file, &options) {
+    let answer = read_conversion(alloc, options, input)?;
+    match answer {
         Ok(output) => {
             let block = zero_bytes(alloc, BLOCK)?;
             give_parts(out, &block, &output)?;

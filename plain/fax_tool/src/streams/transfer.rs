@@ -3,16 +3,17 @@
 use kit_std::prelude::{Vec, vec};
 
 use crate::refusal::Refusal;
+use crate::streams::held::Held;
 use crate::streams::{Sink, Source, StreamFault};
 use fax_files::MAX_FILE;
 use kit_std::alloc::Global;
 use kit_std::marker::Model;
 
 /// The most bytes of an input: 256 MiB.
-const MOST_INPUT: usize = MAX_FILE as usize;
+pub(crate) const MOST_INPUT: usize = MAX_FILE as usize;
 
 /// How many bytes are read at a time.
-const CHUNK: usize = 65_536;
+pub(crate) const CHUNK: usize = 65_536;
 
 /// For how many bytes of an input there is room before the first of them is read: where it has no
 /// more, none is copied as its room grows.
@@ -39,7 +40,7 @@ impl Interruptions {
 
     /// Whether a call with this fault is made again: an interrupted one, up to 1,023 times on a
     /// stream.
-    fn allow(&mut self, fault: StreamFault) -> bool {
+    pub(crate) fn allow(&mut self, fault: StreamFault) -> bool {
         // Each stream of a run has its own count. An interrupted read has moved nothing, so that
         // the bytes after it are known; a read that failed may leave them unknown.
         match fault {
@@ -57,6 +58,38 @@ pub(crate) fn zero_bytes(alloc: Global, len: usize) -> Result<Vec<u8>, Refusal> 
     vec![in alloc; 0u8; len].map_err(|_| Refusal::Memory)
 }
 
+/// Reads what is left of a source after the bytes that are held, and answers all of them.
+///
+/// # Errors
+///
+/// `Memory` where a growth was refused; else as `Held::fill`.
+// requires counts { R.counts input.old ≡ counted interruptions.old }
+// requires taken { R.taken input.old ≡ held.taken }
+// requires all { held.taken ≡ length held.bytes }
+// requires end { ended ≡ true → IsAtEnd (R.left input.old) }
+pub(crate) fn read_rest<R: Source>(
+    alloc: Global,
+    input: &mut R,
+    interruptions: &mut Interruptions,
+    mut held: Held,
+    mut ended: bool,
+) -> Result<Vec<u8>, Refusal> {
+    interruptions.are_few();
+    let mut file = Vec::new(alloc);
+    file.reserve(FIRST_ROOM).map_err(|_| Refusal::Memory)?;
+    loop {
+        interruptions.are_few();
+        if file.extend_from_slice(held.bytes()).is_err() {
+            return Err(Refusal::Memory);
+        }
+        if ended {
+            return Ok(file);
+        }
+        held.drop_front(held.bytes().len());
+        ended = held.fill(input, interruptions)?;
+    }
+}
+
 /// Reads a source whole, of at most 268,435,456 bytes.
 ///
 /// # Errors
@@ -67,28 +100,9 @@ pub(crate) fn zero_bytes(alloc: Global, len: usize) -> Result<Vec<u8>, Refusal> 
 // requires taken { R.taken input.old ≡ 0 }
 pub fn read_whole<R: Source>(alloc: Global, input: &mut R) -> Result<Vec<u8>, Refusal> {
     let mut interruptions = Interruptions::NONE;
-    let mut file = Vec::new(alloc);
-    file.reserve(FIRST_ROOM).map_err(|_| Refusal::Memory)?;
-    let mut chunk = zero_bytes(alloc, CHUNK)?;
-    loop {
-        interruptions.are_few();
-        match input.take(&mut chunk) {
-            Ok(0) => return Ok(file),
-            Ok(count) => {
-                if count > MOST_INPUT - file.len() {
-                    return Err(Refusal::Read);
-                }
-                if file.extend_from_slice(&chunk[..count]).is_err() {
-                    return Err(Refusal::Memory);
-                }
-            }
-            Err(fault) => {
-                if !interruptions.allow(fault) {
-                    return Err(Refusal::Read);
-                }
-            }
-        }
-    }
+    let mut held = Held::new(alloc, CHUNK)?;
+    let ended = held.fill(input, &mut interruptions)?;
+    read_rest(alloc, input, &mut interruptions, held, ended)
 }
 
 /// Gives a sink all of the bytes, in order.

@@ -143,12 +143,22 @@ fn written(page: &str) -> Result<String, WrongLine> {
     }
 }
 
-/// The file of three pages.
+/// The file of three pages. One that was begun for more pages is the same.
 fn three_written(first: &str, second: &str, third: &str) -> Result<String, WrongLine> {
+    let file = three_of(3, first, second, third)?;
+    let other = three_of(u16::MAX, first, second, third)?;
+    if other != file {
+        return Ok(format!("{other} where more were to come"));
+    }
+    Ok(file)
+}
+
+/// The file of three pages that was begun for so many.
+fn three_of(pages: u16, first: &str, second: &str, third: &str) -> Result<String, WrongLine> {
     let first = page_of(first)?;
     let second = page_of(second)?;
     let third = page_of(third)?;
-    let mut writer = TiffWriter::new(Global, 3)?;
+    let mut writer = TiffWriter::new(Global, pages)?;
     if writer.add_page(&first.form, &first.strips).is_err()
         || writer.add_page(&second.form, &second.strips).is_err()
     {

@@ -4,10 +4,14 @@ use crate::files::fault_name;
 use crate::table::WrongLine;
 use crate::{text, words};
 use fax_walk::{
-    check, convert, ConvertFault, Cursor, LongCursor, Options, Pages, Report, Target, Walk,
-    WalkFault,
+    check, convert, ConvertFault, Cursor, ImageConversion, LongCursor, Options, Pages, Report,
+    Target, Walk, WalkFault,
 };
 use kit_std::alloc::Global;
+
+/// In pieces of so many bytes images come, where they are not too many pieces.
+const PIECES: [usize; 4] = [1, 2, 7, 65_536];
+const MOST_PIECES: usize = 3_000;
 
 /// A text as the libraries append to it.
 type Text = kit_std::alloc::String;
@@ -230,13 +234,47 @@ fn options(
     })
 }
 
-/// The bytes that a file is converted to, or the fault.
-fn converted(bytes: &[u8], options: &Options) -> Result<String, WrongLine> {
-    match convert(Global, bytes, options) {
-        Ok(file) => Ok(text::digits(&file)),
+/// The bytes of an answer, or the fault.
+fn conversion_text(answer: Result<&[u8], ConvertFault>) -> Result<String, WrongLine> {
+    match answer {
+        Ok(file) => Ok(text::digits(file)),
         Err(ConvertFault::Memory) => Err(WrongLine::Memory),
         Err(fault) => Ok(format!("{fault:?}")),
     }
+}
+
+/// What images become that come in pieces of so many bytes.
+fn in_pieces(bytes: &[u8], options: &Options, piece: usize) -> Result<Vec<u8>, ConvertFault> {
+    let mut conversion = ImageConversion::new(Global, *options)?;
+    let (mut held, mut file) = (Vec::new(), Vec::new());
+    for part in bytes.chunks(piece) {
+        held.extend_from_slice(part);
+        let taken = conversion.take_images(&held)?;
+        held.drain(..taken);
+    }
+    let output = conversion.finish(&held)?;
+    let mut left = output.parts();
+    while let Some(part) = left.next_part() {
+        file.extend_from_slice(part.held);
+        file.resize(file.len() + part.zeros, 0);
+    }
+    Ok(file)
+}
+
+/// The bytes that a file is converted to, or the fault. Images that come in pieces become the same.
+fn converted(bytes: &[u8], options: &Options) -> Result<String, WrongLine> {
+    let file = convert(Global, bytes, options);
+    let whole = conversion_text(file.as_ref().map(|file| &file[..]).map_err(|fault| *fault))?;
+    if bytes.starts_with(b"P4") {
+        for piece in PIECES.into_iter().filter(|piece| bytes.len() / piece < MOST_PIECES) {
+            let file = in_pieces(bytes, options, piece);
+            let other = conversion_text(file.as_ref().map(|file| &file[..]).map_err(|fault| *fault))?;
+            if other != whole {
+                return Ok(format!("{other} in pieces of {piece}"));
+            }
+        }
+    }
+    Ok(whole)
 }
 
 /// The images that a file is converted to which images were converted to.

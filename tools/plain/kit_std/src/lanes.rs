@@ -20,6 +20,8 @@ pub type u8x8 = Simd<u8, 8>;
 #[allow(non_camel_case_types)]
 pub type u8x16 = Simd<u8, 16>;
 #[allow(non_camel_case_types)]
+pub type u8x64 = Simd<u8, 64>;
+#[allow(non_camel_case_types)]
 pub type u32x4 = Simd<u32, 4>;
 #[allow(non_camel_case_types)]
 pub type u32x8 = Simd<u32, 8>;
@@ -41,6 +43,20 @@ impl Simd<u8, 16> {
     #[inline(always)]
     pub fn simd_ne(self, other: Self) -> Mask {
         Mask(differing(&self.0, &other.0))
+    }
+}
+
+impl Simd<u8, 64> {
+    /// Which lanes differ from those of another, sixteen at a time.
+    #[inline(always)]
+    pub fn simd_ne(self, other: Self) -> Mask {
+        let (one, other) = (self.0.chunks_exact(16), other.0.chunks_exact(16));
+        Mask(one.zip(other).rev().fold(0, |bits, (one, other)| {
+            match (one.try_into(), other.try_into()) {
+                (Ok(one), Ok(other)) => bits << 16 | differing(one, other),
+                _ => unreachable!(),
+            }
+        }))
     }
 }
 

@@ -1,8 +1,8 @@
-use Rattle.std.proofs.Common.{◌≡◌, ℕ, ◌+◌, ◌-◌, ◌*◌, List, [], ◌∷◌, ◌++◌, take, drop, ap, arith, refl, subst, sym, ◌∙◌}
+use Rattle.std.proofs.Common.{◌≡◌, ℕ, ◌+◌, ◌-◌, ◌*◌, List, [], ◌∷◌, ◌++◌, take, drop, ap, arith, refl, ◌∙◌}
 use Rattle.std.specs.Prelude.{Result, IfOk}
 use Rattle.std.specs.List.{between}
 use Rattle.std.proofs.lemmas.List.FromFn.{length-map-range_with_len, map-range_with_len_more}
-use Rattle.fax_rows.specs.Coded.{packed_len, unpacked_row}
+use Rattle.fax_rows.specs.Coded.{unpacked_row}
 use Rattle.fax_page.specs.declared.StripForm.{StripForm}
 use Rattle.fax_page.specs.laws.Writer.{HasPut}
 use Rattle.fax_page.specs.views.Writer.{WriterState}
@@ -39,19 +39,14 @@ loop-i-preserved c =
     let row = c.set_packed.new.self in
     let all = rows_of_raster form.width c.args.stride raster c.args.first i in
     let row_is : row ≡ raster_row form.width c.args.stride raster (c.args.first + i) =
-    c.set_packed.ensures.pels
-    ∙ ap (λ n. unpacked_row n (between ((c.args.first + i) * c.args.stride)
-    ((c.args.first + i) * c.args.stride + c.packed_len-len.result) raster)) c.loop-i.invariant.width
-    ∙ ap (unpacked_row form.width) (cut raster ((c.args.first + i) * c.args.stride) c.packed_len-len.result
-    (packed_len form.width) c.packed_len-len.ensures) in
+    rw (c.set_packed.ensures.pels, c.loop-i.invariant.width) (ap (unpacked_row form.width)
+    (cut raster ((c.args.first + i) * c.args.stride) c.packed_len-len.result _ c.packed_len-len.ensures)) in
     let more : rows_of_raster form.width c.args.stride raster c.args.first (i + 1) ≡ all ++ row ∷ [] =
-    map-range_with_len_more (raster_row form.width c.args.stride raster) c.args.first i (c.args.first + i) refl
-    ∙ ap (λ r. all ++ r ∷ []) (sym row_is) in
+    rw row_is (map-range_with_len_more (raster_row form.width c.args.stride raster) c.args.first i _ refl) in
     record {
       width = c.set_packed.ensures.same_width ∙ c.loop-i.invariant.width;
-      put = subst (λ them. HasPut form c.args.k them c.put_row.new.self) (sym more)
-          (c.strips_are_written_row_by_row.ensures.goes_on form c.args.k all row c.loop-i.writer c.put_row.new.self
-          c.loop-i.invariant.put c.in_ok-put_row.ensures);
+      put = rw more (c.strips_are_written_row_by_row.ensures.goes_on form c.args.k all row c.loop-i.writer
+          c.put_row.new.self c.loop-i.invariant.put c.in_ok-put_row.ensures);
     }
 
 pub finish-requires : goal.finish-requires
@@ -67,9 +62,7 @@ returns c =
     let put = c.loop-i.invariant.put in
     let i_is : c.loop-i.i ≡ c.args.form.rows = omega (arith, c.loop-i-test.false, c.loop-i.auto.i-end) in
     let all = rows_of_raster c.args.form.width c.args.stride c.args.raster.now c.args.first c.args.form.rows in
-    let whole = subst (λ n. HasPut c.args.form c.args.k (rows_of_raster c.args.form.width c.args.stride
-    c.args.raster.now c.args.first n) c.loop-i.writer) i_is put in
+    let whole = rw i_is at put in
     if_ok-weaker c.finish.result
-    (λ bytes ends. c.strips_are_written_row_by_row.ensures.finishes c.args.form c.args.k all c.loop-i.writer bytes.items
-    whole ends)
+    (λ bytes. c.strips_are_written_row_by_row.ensures.finishes _ c.args.k all c.loop-i.writer bytes.items whole)
     c.finish.ensures

@@ -1,6 +1,9 @@
-use Rattle.std.proofs.Common.{arith}
-use Rattle.fax_c.proofs.TotalLemmas.{one_left}
+use Rattle.std.proofs.Common.{◌≡◌, ◌<◌, ℕ, suc, ◌+◌, ◌-◌, arith}
 use Rattle.fax_c.proofs.ending.are_pages.Goals as goal
+
+-- one of the pages that are left
+one_left : (count i : ℕ) → i < count → count - i ≡ suc (count - (i + 1))
+one_left count i fewer = omega (arith, fewer)
 
 pub returns-in_default-clause-none : goal.returns-in_default-clause-none
 returns-in_default-clause-none c =

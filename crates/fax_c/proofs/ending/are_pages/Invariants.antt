@@ -1,5 +1,5 @@
 use Rattle.std.proofs.Common.{◌+◌, ◌-◌, ◌≤◌, length}
-use Rattle.fax_c.specs.views.Ended.{ArePagesAfter}
+use Rattle.fax_files.specs.views.Writing.{ArePagesAfter}
 use Rattle.fax_c.proofs.ending.are_pages.Given as goal
 
 -- what is left of the pages stands from the link on

@@ -30,10 +30,7 @@ loop-count-preserved c =
       table = so.table;
       lie = set so.lie c.loop-count.count row;
       asked = so.asked;
-      so_far = put_row (padded_row c.args.stride) c.args.walk.now.file c.args.walk.now.begun c.loop-count.walk
-          c.loop-count.count c.loop-count.used
-          so.table so.lie c.args.out.now c.loop-count.out so.law so.so_far
-          c.in-Ok.to c.put_next_padded.new.walk c.put_next_padded.new.out
+      so_far = put_row so.law so.so_far c.in-Ok.to c.put_next_padded.new.walk c.put_next_padded.new.out
           (omega (arith, c.loop-count-test.true, so.asked)) c.in-Ok.ensures;
     }
 
@@ -43,12 +40,9 @@ returns-in-Err c =
       so.table,
       so.lie,
       so.asked,
-      stopped (padded_row c.args.stride) c.args.walk.now.file c.args.walk.now.begun c.loop-count.walk c.loop-count.count
-          c.loop-count.used
-          so.table so.lie c.args.out.now c.loop-count.out so.law so.so_far
-          c.in-Err.stop c.put_next_padded.new.walk c.put_next_padded.new.out c.cursor-cursor.result
-          (omega (arith, c.loop-count-test.true, so.asked))
-          c.in-Err.ensures c.cursor-cursor.ensures,
+      stopped so.law so.so_far c.in-Err.stop c.put_next_padded.new.walk c.put_next_padded.new.out
+          c.cursor-cursor.result (omega (arith, c.loop-count-test.true, so.asked)) c.in-Err.ensures
+          c.cursor-cursor.ensures,
     )
 
 pub returns : goal.returns
@@ -57,8 +51,5 @@ returns c =
       so.table,
       so.lie,
       so.asked,
-      all_asked (padded_row c.args.stride) c.args.walk.now.file c.args.walk.now.begun c.loop-count.walk
-          c.loop-count.count c.loop-count.used
-          so.table so.lie c.args.out.now c.loop-count.out so.law so.so_far
-          c.cursor.result (omega (arith, c.loop-count-test.false, so.asked)) c.cursor.ensures,
+      all_asked so.law so.so_far c.cursor.result (omega (arith, c.loop-count-test.false, so.asked)) c.cursor.ensures,
     )

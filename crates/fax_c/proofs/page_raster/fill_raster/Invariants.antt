@@ -12,8 +12,7 @@ invariant-loop-count l = record {
   lie : List FaxRow;
   asked : length table ≡ l.fn.asked;
   so_far : AreRowsWritten (padded_row l.fn.stride) l.initial.walk.file l.initial.walk.begun l.walk l.count l.used table
-      lie
-      l.initial.out l.out;
+      lie l.initial.out l.out;
 }
 
 abbrev pub decreases-loop-count : goal.decreases-loop-count

@@ -16,75 +16,49 @@ loop-count-init g c = record {
 pub loop-count-preserved : goal.loop-count-preserved
 loop-count-preserved g c = record {
   law = c.loop-count.invariant.law;
-  so_far = one_more g.F.RowFormat.numbers c.args.walk.now.file c.args.walk.now.begun c.loop-count.walk
-      c.loop-count.count c.loop-count.used
-      c.args.rows.now c.loop-count.rows c.args.out.now c.loop-count.out c.loop-count.invariant.law
-      c.loop-count.invariant.so_far
-      c.in-Ok.row c.put_next.new.walk c.put_next.new.out (omega (arith, c.loop-count-test.true)) c.in-Ok.ensures.put;
-  kept = kept_on c.args.runs.now c.loop-count.runs c.place_before.new.runs c.loop-count.invariant.kept
-      c.place_before.ensures.kept;
+  so_far = one_more c.loop-count.invariant.law c.loop-count.invariant.so_far c.in-Ok.row c.put_next.new.walk
+      c.put_next.new.out (omega (arith, c.loop-count-test.true)) c.in-Ok.ensures.put;
+  kept = kept_on _ _ _ c.loop-count.invariant.kept c.place_before.ensures.kept;
   place = λ none. absurd (omega (arith, none));
   runs = λ none. absurd (omega (arith, none));
 }
 
 pub returns-in-Err-clause-filled : goal.returns-in-Err-clause-filled
 returns-in-Err-clause-filled g c =
-    stopped g.F.RowFormat.numbers c.args.walk.now.file c.args.walk.now.begun c.loop-count.walk c.loop-count.count
-    c.loop-count.used
-    c.args.rows.now c.loop-count.rows c.args.out.now c.loop-count.out c.loop-count.invariant.law
-    c.loop-count.invariant.so_far
-    c.in-Err.stop c.put_next.new.walk c.put_next.new.out c.cursor-cursor.result (omega (arith, c.loop-count-test.true))
-    c.in-Err.ensures.put
+    stopped c.loop-count.invariant.law c.loop-count.invariant.so_far c.in-Err.stop c.put_next.new.walk
+    c.put_next.new.out c.cursor-cursor.result (omega (arith, c.loop-count-test.true)) c.in-Err.ensures.put
     c.cursor-cursor.ensures
 
 pub returns-clause-filled : goal.returns-clause-filled
 returns-clause-filled g c =
-    all_asked g.F.RowFormat.numbers c.args.walk.now.file c.args.walk.now.begun c.loop-count.walk c.loop-count.count
-    c.loop-count.used
-    c.args.rows.now c.loop-count.rows c.args.out.now c.loop-count.out c.loop-count.invariant.law
-    c.loop-count.invariant.so_far
-    c.cursor.result (omega (arith, c.loop-count-test.false)) c.cursor.ensures
+    all_asked c.loop-count.invariant.law c.loop-count.invariant.so_far c.cursor.result
+    (omega (arith, c.loop-count-test.false)) c.cursor.ensures
 
 pub place_after-requires-clause-told : goal.place_after-requires-clause-told
 place_after-requires-clause-told g c = λ some none.
-    let walk = walk_stopped g.F.RowFormat.numbers c.args.walk.now.file c.args.walk.now.begun c.loop-count.walk
-    c.loop-count.count c.loop-count.used
-    c.args.rows.now c.loop-count.rows c.args.out.now c.loop-count.out c.loop-count.invariant.law
-    c.loop-count.invariant.so_far
-    c.args.walk.now c.in-Err.stop c.put_next.new.walk c.put_next.new.out c.cursor-cursor.result refl refl
-    c.in-Err.ensures.put in
     let so_far = c.loop-count.invariant.so_far in
+    let walk = walk_stopped c.loop-count.invariant.law so_far c.args.walk.now c.in-Err.stop c.put_next.new.walk
+    c.put_next.new.out c.cursor-cursor.result refl refl c.in-Err.ensures.put in
     let room = c.put_next.ensures.room (c.in-Err.is ∙ ap Err none) in
-    after_of c.loop-count.walk.file c.put_next.new.walk.file c.loop-count.walk.begun c.put_next.new.walk.begun
-    c.cursor-cursor.result
-    c.loop-count.count c.place_before.new.place c.place_before.new.runs (so_far.same_file ∙ sym walk.same_file)
-    (so_far.same_begun ∙ sym walk.same_begun) (c.place_before.ensures.told some (omega (arith, room)))
+    after_of c.cursor-cursor.result c.loop-count.count c.place_before.new.place c.place_before.new.runs
+    (so_far.same_file ∙ sym walk.same_file) (so_far.same_begun ∙ sym walk.same_begun)
+    (c.place_before.ensures.told some (omega (arith, room)))
 
 pub returns-in-Err-clause-place : goal.returns-in-Err-clause-place
 returns-in-Err-clause-place g c =
-    let walk = walk_stopped g.F.RowFormat.numbers c.args.walk.now.file c.args.walk.now.begun c.loop-count.walk
-    c.loop-count.count c.loop-count.used
-    c.args.rows.now c.loop-count.rows c.args.out.now c.loop-count.out c.loop-count.invariant.law
-    c.loop-count.invariant.so_far
-    c.args.walk.now c.in-Err.stop c.put_next.new.walk c.put_next.new.out c.cursor-cursor.result refl refl
-    c.in-Err.ensures.put in
-    let kept = kept_on c.args.runs.now c.loop-count.runs c.place_before.new.runs c.loop-count.invariant.kept
-    c.place_before.ensures.kept in (
-      kept_on c.args.runs.now c.place_before.new.runs c.place_after.new.runs kept c.place_after.ensures.0,
+    let walk = walk_stopped c.loop-count.invariant.law c.loop-count.invariant.so_far c.args.walk.now c.in-Err.stop
+    c.put_next.new.walk c.put_next.new.out c.cursor-cursor.result refl refl c.in-Err.ensures.put in (
+      kept_on _ _ _ (kept_on _ _ _ c.loop-count.invariant.kept c.place_before.ensures.kept) c.place_after.ensures.0,
       (λ none. c.place_after.ensures.1 none ∙ c.place_before.ensures.no_runs none ∙ c.loop-count.invariant.runs none),
-      after_of c.put_next.new.walk.file c.args.walk.now.file c.put_next.new.walk.begun c.args.walk.now.begun
-          c.cursor-cursor.result
-          c.loop-count.count c.place_after.new.place c.place_after.new.runs walk.same_file walk.same_begun
-          c.place_after.ensures.2,
+      after_of c.cursor-cursor.result c.loop-count.count c.place_after.new.place c.place_after.new.runs walk.same_file
+          walk.same_begun c.place_after.ensures.2,
     )
 
 pub returns-clause-place : goal.returns-clause-place
 returns-clause-place g c =
     let so_far = c.loop-count.invariant.so_far in (
-      kept_on c.args.runs.now c.loop-count.runs c.place_after-2.new.runs c.loop-count.invariant.kept
-          c.place_after-2.ensures.0,
+      kept_on _ _ _ c.loop-count.invariant.kept c.place_after-2.ensures.0,
       (λ none. c.place_after-2.ensures.1 none ∙ c.loop-count.invariant.runs none),
-      after_of c.loop-count.walk.file c.args.walk.now.file c.loop-count.walk.begun c.args.walk.now.begun c.cursor.result
-          c.loop-count.count c.place_after-2.new.place c.place_after-2.new.runs so_far.same_file so_far.same_begun
-          c.place_after-2.ensures.2,
+      after_of c.cursor.result c.loop-count.count c.place_after-2.new.place c.place_after-2.new.runs so_far.same_file
+          so_far.same_begun c.place_after-2.ensures.2,
     )

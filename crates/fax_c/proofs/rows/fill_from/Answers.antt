@@ -16,10 +16,8 @@ returns-in_default g c =
       within,
       record { cursor = at; count = 0; used = 0; stop = stop },
       refused_at_once g.F.RowFormat.numbers c.args.file.now (place_begun place runs) at c.args.rows.now c.args.out.now
-          begins stop
-          c.beginnings_have_one_tail.ensures (λ page. takes_runs c.args.file.now place runs c.in_default.ensures
-          (rw c.cursor-cursor.ensures at page))
-          c.stop_at_refusal-stop.ensures,
+          begins stop c.beginnings_have_one_tail.ensures (λ page. takes_runs c.args.file.now place runs
+          c.in_default.ensures (rw c.cursor-cursor.ensures at page)) c.stop_at_refusal-stop.ensures,
       ((refl, refl), (λ none. refl), stays c.args.file.now place runs at (c.in_default.ensures, within)),
       rw c.nothing-in_default.ensures at c.tell-in_default.ensures,
     )

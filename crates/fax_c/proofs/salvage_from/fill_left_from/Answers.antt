@@ -1,5 +1,6 @@
 use Rattle.std.proofs.Common.{arith, refl}
-use Rattle.fax_c.proofs.SalvagedFromLemmas.{ended, found_few, is_done, not_false, not_true}
+use Rattle.fax_c.proofs.SalvagedFromLemmas.{ended, found_few, is_done}
+use Rattle.std.proofs.lemmas.Bool.{not-false, not-true}
 use Rattle.fax_c.proofs.SalvagedFromLemmas.{nothing_written, one_more}
 use Rattle.fax_c.proofs.salvage_from.fill_left_from.Goals as goal
 
@@ -11,40 +12,27 @@ loop-left-init c =
 pub returns-then-not-ahead : goal.returns-then-not-ahead
 returns-then-not-ahead c =
     let room = c.loop-left-test.ensures.room refl in
-    ended c.args.left.now c.args.page c.args.row c.args.stride c.args.out.now c.args.lost.now c.loop-left.left
-    c.next_found-ahead.new.left c.loop-left.row c.loop-left.count c.loop-left.used c.loop-left.stretches
-    c.loop-left.out c.loop-left.lost c.loop-left.invariant c.next_found-ahead.result c.next_found-ahead.ensures
-    c.loop-left.auto.lost (omega (arith, room.1, c.loop-left.auto.lost)) c.put_stretch-stretches.result
-    c.put_stretch-stretches.new.lost c.put_stretch-stretches.ensures (not_true _ c.if-not-ahead.true)
+    ended c.loop-left.invariant c.next_found-ahead.ensures c.loop-left.auto.lost
+    (omega (arith, room.1, c.loop-left.auto.lost)) c.put_stretch-stretches.result c.put_stretch-stretches.new.lost
+    c.put_stretch-stretches.ensures (not-true _ c.if-not-ahead.true)
     (rw (c.loop-left.auto.out, c.loop-left.auto.lost) at room)
 
 pub overflow_add-count : goal.overflow_add-count
 overflow_add-count c =
     let so_far = c.loop-left.invariant in
-    omega (
-      arith,
-      so_far.count_is,
-      found_few so_far.over,
-      so_far.passes.next,
-      so_far.passes.within,
-      c.requires.few,
-    )
+    omega (arith, so_far.count_is, found_few so_far.over, so_far.passes.next, so_far.passes.within, c.requires.few)
 
 pub loop-left-preserved : goal.loop-left-preserved
 loop-left-preserved c =
     let room = c.loop-left-test.ensures.room refl in
     let width = rw c.row.ensures.pels at c.row.ensures.width in
-    one_more c.args.left.now c.args.page c.args.row c.args.stride c.args.out.now c.args.lost.now c.loop-left.left
-    c.next_found-ahead.new.left c.loop-left.row c.loop-left.count c.loop-left.used c.loop-left.stretches
-    c.loop-left.out c.loop-left.lost c.loop-left.invariant c.next_found-ahead.result c.next_found-ahead.ensures
-    c.loop-left.auto.lost (omega (arith, room.1, c.loop-left.auto.lost)) c.put_stretch-stretches.result
-    c.put_stretch-stretches.new.lost c.put_stretch-stretches.ensures (not_false _ c.if-not-ahead.false) width
+    one_more c.loop-left.invariant c.next_found-ahead.ensures c.loop-left.auto.lost
+    (omega (arith, room.1, c.loop-left.auto.lost)) c.put_stretch-stretches.result c.put_stretch-stretches.new.lost
+    c.put_stretch-stretches.ensures (not-false _ c.if-not-ahead.false) width
     c.requires.short c.loop-left.auto.out c.put_in_stride-used.result c.put_in_stride-used.new.out
     (rw c.row.ensures.pels at c.put_in_stride-used.ensures)
 
 pub returns : goal.returns
 returns c =
-    is_done c.args.left.now c.args.page c.args.row c.args.stride c.args.out.now c.args.lost.now c.loop-left.left
-    c.loop-left.row c.loop-left.count c.loop-left.used c.loop-left.stretches c.loop-left.out c.loop-left.lost
-    c.loop-left.invariant c.requires.room
+    is_done c.loop-left.invariant c.requires.room
     (rw (c.loop-left.auto.out, c.loop-left.auto.lost) at c.loop-left-test.ensures.full refl)

@@ -6,18 +6,12 @@ loop-part-init c = none_lost c.args.left.now c.args.page c.args.row c.requires.d
 
 pub returns-in-Found : goal.returns-in-Found
 returns-in-Found c =
-    let next = rw c.in-Found.is at c.in-Some.ensures in
-    found_ahead c.args.left.now c.args.page c.args.row c.loop-part.left c.next_part.new.self c.loop-part.due
-    c.loop-part.lost c.loop-part.invariant next
+    found_ahead c.loop-part.invariant (rw c.in-Found.is at c.in-Some.ensures)
 
 pub loop-part-preserved : goal.loop-part-preserved
 loop-part-preserved c =
     let next = rw c.in-Lost.is at c.in-Some.ensures in
-    rw c.longer.ensures
-    (more_lost c.args.left.now c.args.page c.args.row c.loop-part.left c.next_part.new.self c.loop-part.due
-    c.loop-part.lost c.loop-part.invariant c.in-Lost.rows c.in-Lost.cause next)
+    rw c.longer.ensures (more_lost c.loop-part.invariant c.in-Lost.rows c.in-Lost.cause next)
 
 pub returns : goal.returns
-returns c =
-    none_ahead c.args.left.now c.args.page c.args.row c.loop-part.left c.next_part.new.self c.loop-part.due
-    c.loop-part.lost c.loop-part.invariant c.in_default.ensures
+returns c = none_ahead c.loop-part.invariant c.in_default.ensures

@@ -1,5 +1,4 @@
-use Rattle.std.proofs.Common.{◌∙◌, List, ℕ, ap, inl, inr, refl, subst}
-use Rattle.fax_walk.specs.views.RowsLeft.{LeftOf, AreLeftOf, of_page}
+use Rattle.std.proofs.Common.{◌∙◌, ap, inl, inr, refl}
 use Rattle.fax_c.specs.Forms.{form_numbers}
 use Rattle.fax_c.proofs.salvaged_raster.faxpages_salvage.Goals as goal
 
@@ -9,7 +8,7 @@ returns-in-Ok-rows c =
     let there = c.in-Ok.ensures.ok in
     let start = c.in-Ok-rows.ensures in
     let (rows, are, count, written) = c.fill_left.ensures in
-    let of_its = subst (λ (its : LeftOf). AreLeftOf its rows) start.its_is are in (
+    let of_its = rw start.its_is at are in (
       c.fill_left.result,
       c.tell-in-Ok-rows.ensures,
       inl (
@@ -19,7 +18,7 @@ returns-in-Ok-rows c =
         inl (
           rw c.form-its.ensures.form at c.if-not-holds_rows.ensures.some refl,
           rows,
-          subst (λ (file : List ℕ). AreLeftOf (of_page file here) rows) there.file_is of_its,
+          rw there.file_is at of_its,
           count ∙ start.rows_are,
           written,
         ),
@@ -36,11 +35,7 @@ returns-in-Err-rows c = (
     c.of.ensures ∙ ap form_numbers c.form-its.ensures.form,
     inr (
       refl,
-      refl,
-      inr (
-        c.nothing-in-Err-rows.ensures,
-        rw c.form-its.ensures.form at c.if-not-holds_rows.ensures.some refl,
-      ),
+      inr (c.nothing-in-Err-rows.ensures, rw c.form-its.ensures.form at c.if-not-holds_rows.ensures.some refl),
     ),
   ),
 )

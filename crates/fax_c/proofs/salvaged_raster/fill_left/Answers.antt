@@ -1,7 +1,6 @@
-use Rattle.std.proofs.Common.{◌≡◌, ◌≤◌, ◌∙◌, List, ap, arith, length, sym}
+use Rattle.std.proofs.Common.{◌≤◌, ◌∙◌, arith, length}
 use Rattle.std.proofs.lemmas.List.{length-replicate}
 use Rattle.fax_rows.specs.Coded.{packed_len}
-use Rattle.fax_rows.specs.Rows.{Colour}
 use Rattle.fax_c.proofs.SalvagedLemmas.{all_written, found_more, lost_more, none_yet, room, within_next}
 use Rattle.fax_c.proofs.salvaged_raster.fill_left.Goals as goal
 
@@ -17,61 +16,36 @@ loop-part-init c =
 
 pub loop-part-preserved-in-Found : goal.loop-part-preserved-in-Found
 loop-part-preserved-in-Found c =
-    let left = c.args.left.now in
-    let new = c.next_part.new.self in
     let so_far = c.loop-part.invariant.so_far in
     let next = rw c.in-Found.is at c.in-Some.ensures in
-    let width : length new.last ≡ left.width =
-    ap (λ (l : List Colour). length l) (sym c.row.ensures.pels) ∙ c.row.ensures.width ∙ next.same_width
-    ∙ so_far.same_width in
-    let short : packed_len (length new.last) ≤ c.args.stride = rw width c.requires.short in
+    let short : packed_len (length c.next_part.new.self.last) ≤ c.args.stride =
+    rw (← c.row.ensures.pels, c.row.ensures.width, next.same_width, so_far.same_width) c.requires.short in
     record {
       all = c.loop-part.invariant.all;
-      so_far = found_more left c.loop-part.invariant.all c.args.page c.args.stride c.args.out.now c.args.lost.now
-          c.loop-part.left
-          new c.loop-part.row c.loop-part.at c.loop-part.count c.loop-part.ended c.loop-part.out c.loop-part.lost so_far
-          c.loop-part.auto.lost next short c.put_in_stride-at.result c.put_stretch-count.result
+      so_far = found_more so_far c.loop-part.auto.lost next short c.put_in_stride-at.result c.put_stretch-count.result
           c.put_in_stride-at.new.out c.put_stretch-count.new.lost
           (rw c.row.ensures.pels at c.put_in_stride-at.ensures) c.put_stretch-count.ensures;
     }
 
 pub put_lost-at-requires : goal.put_lost-at-requires
 put_lost-at-requires c =
-    let left = c.args.left.now in
     let so_far = c.loop-part.invariant.so_far in
     let next = rw c.in-Lost.is at c.in-Some.ensures in
-    let few = within_next left c.loop-part.invariant.all c.args.page c.args.stride c.args.out.now c.args.lost.now
-    c.loop-part.left
-    c.next_part.new.self c.loop-part.row c.loop-part.at c.loop-part.count c.loop-part.ended c.loop-part.out
-    c.loop-part.lost so_far c.loop-part.auto.lost _ c.in-Lost.rows next.passes.1 (length-replicate c.in-Lost.rows _) in
-    let fits = room left c.loop-part.invariant.all c.args.page c.args.stride c.args.out.now c.args.lost.now
-    c.loop-part.left
-    c.next_part.new.self c.loop-part.row c.loop-part.at c.loop-part.count c.loop-part.ended c.loop-part.out
-    c.loop-part.lost so_far c.loop-part.auto.lost c.in-Lost.rows few c.requires.room in
+    let few = within_next so_far _ c.in-Lost.rows next.passes.1 (length-replicate c.in-Lost.rows _) in
+    let fits = room so_far c.in-Lost.rows few c.requires.room in
     record { room = omega (arith, fits, c.loop-part.auto.out) }
 
 pub loop-part-preserved : goal.loop-part-preserved
 loop-part-preserved c =
-    let left = c.args.left.now in
-    let so_far = c.loop-part.invariant.so_far in
     let next = rw c.in-Lost.is at c.in-Some.ensures in
     record {
       all = c.loop-part.invariant.all;
-      so_far = rw c.longer.ensures
-          (lost_more left c.loop-part.invariant.all c.args.page c.args.stride c.args.out.now c.args.lost.now
-          c.loop-part.left
-          c.next_part.new.self c.loop-part.row c.loop-part.at c.loop-part.count c.loop-part.ended c.loop-part.out
-          c.loop-part.lost so_far c.loop-part.auto.lost c.in-Lost.rows c.in-Lost.cause next c.put_lost-at.result
-          c.put_lost-at.new.out c.put_lost-at.ensures);
+      so_far = rw c.longer.ensures (lost_more c.loop-part.invariant.so_far c.loop-part.auto.lost c.in-Lost.rows
+          c.in-Lost.cause next c.put_lost-at.result c.put_lost-at.new.out c.put_lost-at.ensures);
     }
 
 pub returns : goal.returns
 returns c =
-    let left = c.args.left.now in
-    let so_far = c.loop-part.invariant.so_far in
-    let len : length c.put_stretch-used.new.lost ≡ length c.args.lost.now =
-    c.put_stretch-used.auto.lost ∙ c.loop-part.auto.lost in
-    all_written left c.loop-part.invariant.all c.args.page c.args.stride c.args.out.now c.args.lost.now c.loop-part.left
-    c.next_part.new.self c.loop-part.row c.loop-part.at c.loop-part.count c.loop-part.ended c.loop-part.out
-    c.loop-part.lost so_far c.loop-part.auto.lost c.in_default.ensures c.put_stretch-used.result
+    let len = c.put_stretch-used.auto.lost ∙ c.loop-part.auto.lost in
+    all_written c.loop-part.invariant.so_far c.loop-part.auto.lost c.in_default.ensures c.put_stretch-used.result
     c.put_stretch-used.new.lost c.put_stretch-used.ensures c.stop_after.result (rw len at c.stop_after.ensures)

@@ -1,4 +1,4 @@
-use Rattle.fax_c.proofs.TotalLemmas.{adds_to_pages}
+use Rattle.fax_c.proofs.PagesEndedLemmas.{adds_to_pages}
 use Rattle.fax_c.proofs.writing.faxpages_add_page.Goals as goal
 
 pub returns-clause-pages : goal.returns-clause-pages

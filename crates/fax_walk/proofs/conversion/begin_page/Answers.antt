@@ -6,4 +6,4 @@ begin-requires-clause-due c =
     let (part, is) = c.requires.due in
     let due = is.due in
     let written = due.put.none (omega (arith, due.count, c.if-last-gt0.false)) in
-    (part.at, record { options_are = due.options_are; fewer = due.fewer; written = written })
+    (part.at, record { options_are = due.options_are; written = written })

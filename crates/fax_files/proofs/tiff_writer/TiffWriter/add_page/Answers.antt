@@ -1,4 +1,4 @@
-use Rattle.std.proofs.Common.{◌≡◌, ◌++◌, length, refl, sym, ◌∙◌, arith}
+use Rattle.std.proofs.Common.{◌≡◌, ◌++◌, [], ◌∷◌, length, refl, sym, ◌∙◌, arith}
 use Rattle.std.proofs.lemmas.List.{length-append}
 use Rattle.std.specs.Prelude.{Result, OnOk, false}
 use Rattle.std.specs.Result.{is_err}
@@ -6,6 +6,7 @@ use Rattle.fax_files.specs.code.PageParts.{joined_strips}
 use Rattle.fax_files.specs.views.Writing.{contents}
 use Rattle.fax_files.proofs.TiffWriterLemmas.{too_long, size, added_bytes, is_short, new_link, not_too_large}
 use Rattle.fax_files.proofs.TiffWriterLemmas.{still_writing}
+use Rattle.fax_files.proofs.PageByPageLemmas.{page_added}
 use Rattle.fax_files.proofs.tiff_writer.TiffWriter.add_page.Goals as goal
 
 OnOk-at_not_err : {A E : Type 0} {P : Type 0} (r : Result A E) → is_err r ≡ false → OnOk r P → P
@@ -102,11 +103,27 @@ invariant_of-self-2 c =
     c.self.inside.added
     c.in-Some.end c.args.form.now c.args.strips.now c.self.invariant.link_inside c.requires.limits c.requires.exchanged
     c.requires.strips end _ laid _ _ tail now_is in
+    let link = new_link c.self.inside.bytes.items c.self.inside.link c.self.inside.total c.self.inside.added
+    c.in-Some.end c.args.form.now
+    c.args.strips.now c.self.invariant.link_inside c.requires.limits c.requires.exchanged c.requires.strips end _ laid
+    in
+    let still =
     still_writing c.self.inside.bytes.items c.self.inside.link c.self.inside.total c.self.inside.added c.in-Some.end
     c.args.form.now
     c.args.strips.now c.self.invariant.link_inside c.requires.limits c.requires.exchanged c.requires.strips end _ laid _
     bytes
-    (omega (arith, c.page_end-page_end.ensures, c.from.ensures, c.if-page_end-from.false))
+    (omega (arith, c.page_end-page_end.ensures, c.from.ensures, c.if-page_end-from.false)) in
+    record {
+      pages = c.self.invariant.pages ++ record {
+        form = c.args.form.now;
+        strips = contents c.args.strips.now;
+      } ∷ [];
+      added = rw (bytes, link) (page_added c.self.inside.total c.self.invariant.pages _ c.args.form.now
+          c.args.strips.now c.self.invariant.added);
+      link_inside = still.0;
+      header = omega (arith, c.self.invariant.header, still.2);
+      limit = still.1;
+    }
 
 pub returns-clause-ok : goal.returns-clause-ok
 returns-clause-ok c =

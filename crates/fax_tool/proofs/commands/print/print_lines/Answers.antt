@@ -18,9 +18,7 @@ returns-in_err-write_where_long-clause-err g c =
 pub loop-left-preserved : goal.loop-left-preserved
 loop-left-preserved g c =
     let put = rw c.in-Ok-None.field-0-is at c.in-Ok-None.ensures.put in
-    let sent = part_sent c.loop-left.invariant.one c.loop-left.invariant.some
-    (g.W.Sink.written c.write_where_long.new.out)
-    c.write_where_long.new.text c.in_ok-write_where_long.ensures.ok in
+    let sent = part_sent c.loop-left.invariant.one c.loop-left.invariant.some c.in_ok-write_where_long.ensures.ok in
     record {
       one = c.loop-left.invariant.one;
       some = one_more c.loop-left.invariant.one sent (g.L.Lines.tail c.put_next.new.self)
@@ -33,9 +31,7 @@ loop-left-preserved g c =
 pub returns-in_err-write_out-in-Ok-Some-clause-err : goal.returns-in_err-write_out-in-Ok-Some-clause-err
 returns-in_err-write_out-in-Ok-Some-clause-err g c =
     let put = rw c.in-Ok-Some.field-0-is at c.in-Ok-Some.ensures.put in
-    let sent = part_sent c.loop-left.invariant.one c.loop-left.invariant.some
-    (g.W.Sink.written c.write_where_long.new.out)
-    c.write_where_long.new.text c.in_ok-write_where_long.ensures.ok in
+    let sent = part_sent c.loop-left.invariant.one c.loop-left.invariant.some c.in_ok-write_where_long.ensures.ok in
     passed_up c.from_residual-in_err-write_out-in-Ok-Some.result _ _
     c.from_residual-in_err-write_out-in-Ok-Some.ensures.1
     (stopped_for_write c.loop-left.invariant.one sent (g.L.Lines.begun c.args.lines.now) _ _ _
@@ -43,10 +39,8 @@ returns-in_err-write_out-in-Ok-Some-clause-err g c =
 
 pub returns-in-Err-clause-err : goal.returns-in-Err-clause-err
 returns-in-Err-clause-err g c =
-    let sent = part_sent c.loop-left.invariant.one c.loop-left.invariant.some
-    (g.W.Sink.written c.write_where_long.new.out)
-    c.write_where_long.new.text c.in_ok-write_where_long.ensures.ok in
+    let sent = part_sent c.loop-left.invariant.one c.loop-left.invariant.some c.in_ok-write_where_long.ensures.ok in
     stopped_for_memory c.loop-left.invariant.one sent (g.L.Lines.begun c.args.lines.now)
     (g.L.Lines.begun c.loop-left.lines) c.cursor-cursor.result _ c.as_bytes.result.now c.deref.result.now _ _
-    c.loop-left.invariant.begun
-    c.cursor-cursor.ensures (c.as_bytes.ensures ∙ c.in-Err.ensures.put) (search rules) c.stop_for_memory.ensures
+    c.loop-left.invariant.begun c.cursor-cursor.ensures (c.as_bytes.ensures ∙ c.in-Err.ensures.put) (search rules)
+    c.stop_for_memory.ensures

@@ -12,8 +12,7 @@ returns-in_err-write_where_long-clause-err g c =
 pub loop-text-preserved : goal.loop-text-preserved
 loop-text-preserved g c =
     let put = rw c.in-Ok-true.field-0-test at c.in-Ok-true.ensures.put in
-    let sent = part_sent c.loop-text.invariant.one c.loop-text.invariant.some
-    (g.W.Sink.written c.write_where_long.new.out) c.write_where_long.new.text c.in_ok-write_where_long.ensures.ok in
+    let sent = part_sent c.loop-text.invariant.one c.loop-text.invariant.some c.in_ok-write_where_long.ensures.ok in
     record {
       one = c.loop-text.invariant.one;
       some = one_more c.loop-text.invariant.one sent (g.R.Remains.are c.put_next.new.self)
@@ -25,14 +24,12 @@ loop-text-preserved g c =
 pub returns-in-Ok-false-clause-err : goal.returns-in-Ok-false-clause-err
 returns-in-Ok-false-clause-err g c =
     let put = rw c.in-Ok-false.field-0-test at c.in-Ok-false.ensures.put in
-    let sent = part_sent c.loop-text.invariant.one c.loop-text.invariant.some
-    (g.W.Sink.written c.write_where_long.new.out) c.write_where_long.new.text c.in_ok-write_where_long.ensures.ok in
+    let sent = part_sent c.loop-text.invariant.one c.loop-text.invariant.some c.in_ok-write_where_long.ensures.ok in
     stopped_if_refused c.loop-text.invariant.one sent _ _ c.write_out.result (rw put.3 at c.write_out.ensures.err)
 
 pub returns-in_err-write_out-in-Err-clause-err : goal.returns-in_err-write_out-in-Err-clause-err
 returns-in_err-write_out-in-Err-clause-err g c =
-    let sent = part_sent c.loop-text.invariant.one c.loop-text.invariant.some
-    (g.W.Sink.written c.write_where_long.new.out) c.write_where_long.new.text c.in_ok-write_where_long.ensures.ok in
+    let sent = part_sent c.loop-text.invariant.one c.loop-text.invariant.some c.in_ok-write_where_long.ensures.ok in
     passed_up c.from_residual-in_err-write_out-in-Err.result _ _
     c.from_residual-in_err-write_out-in-Err.ensures.1
     (stopped_for_write c.loop-text.invariant.one sent _ _ _
@@ -40,7 +37,6 @@ returns-in_err-write_out-in-Err-clause-err g c =
 
 pub returns-in-Err-clause-err : goal.returns-in-Err-clause-err
 returns-in-Err-clause-err g c =
-    let sent = part_sent c.loop-text.invariant.one c.loop-text.invariant.some
-    (g.W.Sink.written c.write_where_long.new.out) c.write_where_long.new.text c.in_ok-write_where_long.ensures.ok in
+    let sent = part_sent c.loop-text.invariant.one c.loop-text.invariant.some c.in_ok-write_where_long.ensures.ok in
     stopped_for_memory c.loop-text.invariant.one sent _ _ c.in_ok-write_out-in-Err.ensures.worked
     (rw c.in-Err.ensures.put at c.in_ok-write_out-in-Err.ensures.ok)

@@ -32,5 +32,5 @@ returns c = λ part written all.
     let there : c.in-File.open ≡ Some c.in-Some.page = cc (c.take.ensures.value, c.in-Some.is) in
     let has = rw (c.in-File.is, there) at written.has in
     let large = rw c.deref.ensures.value at c.in-Err-OutputTooLarge.ensures.too_large in
-    page_too_large part c.in-File.field-0 c.in-File.writer c.in-Some.page has all
+    page_too_large part c.in-File.field-0 c.in-File.writer c.in-Some.page has all c.totals_are_told.ensures
     (large.0 (cc c.in-Err-OutputTooLarge.field-0-is))

@@ -1,14 +1,11 @@
-use Rattle.std.proofs.Common.{◌≡◌}
-use Rattle.fax_walk.specs.code.SalvageFile.{IsInFile, chain_measure}
+use Rattle.fax_walk.specs.code.SalvageFile.{chain_measure}
+use Rattle.fax_walk.proofs.SalvageFileLemmas.{IsSalvaging}
 use Rattle.fax_walk.proofs.salvage.Salvage.next_item.Given as goal
 
 abbrev pub invariant-pages : goal.invariant-pages
-invariant-pages l = record {
-  same_file : l.self-inside.file.now ≡ l.fn.self.file;
-  same_given : l.self-inside.given ≡ l.fn.self.given;
-  sound : IsInFile l.self-inside.file.now l.self-inside.chain l.self-inside.page l.self-inside.given
-      l.self-inside.whole;
-}
+invariant-pages l =
+    IsSalvaging l.fn.self l.self-inside.file.now l.self-inside.chain l.self-inside.page l.self-inside.given
+    l.self-inside.whole
 
 abbrev pub decreases-pages : goal.decreases-pages
 decreases-pages l = chain_measure l.self-inside.chain

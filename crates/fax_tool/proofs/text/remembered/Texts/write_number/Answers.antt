@@ -11,12 +11,8 @@ pub write_any-requires : goal.write_any-requires
 write_any-requires c = omega (arith, c.requires, length_long c.args.number (omega arith))
 
 pub returns-then-place-ge-NUMBERS-clause-within : goal.returns-then-place-ge-NUMBERS-clause-within
-returns-then-place-ge-NUMBERS-clause-within c = omega (
-  arith,
-  c.write_any.ensures.end,
-  length_long c.args.number
-      (omega arith),
-)
+returns-then-place-ge-NUMBERS-clause-within c =
+    omega (arith, c.write_any.ensures.end, length_long c.args.number (omega arith))
 
 pub returns-in-Some-clause-within : goal.returns-in-Some-clause-within
 returns-in-Some-clause-within c =

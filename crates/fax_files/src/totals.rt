@@ -1,0 +1,43 @@
+//! How many pages a file has that is written page by page, told in each of them.
+ghost use Rattle.std.specs.Prelude.{◌≡◌, ℕ, ◌+◌, ◌≤◌, ◌++◌, length, take, drop};
+ghost use Rattle.fax_files.specs.Layout.{two};
+ghost use Rattle.fax_files.specs.views.Writing as Spec;
+
+use crate::Endian;
+use crate::numbers::File;
+use crate::written::TO_LINK;
+use byteorder::{ByteOrder, LittleEndian};
+
+/// Where the link of the page stands to whose directory a link leads.
+fn next_link(file: &[u8], link: usize) -> usize
+    requires { link + 4 ≤ length file.now }
+    ensures { result ≡ Spec.next_link file.now link }
+{
+    let file = File {
+        bytes: file,
+        endian: Endian::Little,
+    };
+    file.u32_at(link) as usize + TO_LINK as usize
+}
+
+/// Writes a number of two bytes at a place.
+fn set_two(file: &mut [u8], place: usize, n: u16)
+    requires { place + 2 ≤ length file.old }
+    ensures { file.new ≡ take place file.old ++ two n ++ drop (place + 2) file.old }
+{
+    LittleEndian::write_u16(&mut file[place..place + 2], n);
+}
+
+/// Tells each page of a file how many there are. TIFF 6.0, PageNumber: the second number, 0 where
+/// it is not known.
+pub fn put_totals(file: &mut [u8], pages: u16)
+    requires header { 8 ≤ length file.old }
+    requires pages { (last : ℕ) × Spec.ArePagesAfter file.old pages 4 last }
+    ensures { file.new ≡ Spec.with_totals pages pages 4 file.old }
+{
+    let mut link = 4;
+    for _ in 0..pages {
+        link = next_link(file, link);
+        set_two(file, link - 2, pages);
+    }
+}

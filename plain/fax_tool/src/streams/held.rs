@@ -1,0 +1,87 @@
+//! Bytes of a source that are held, in room that is used again.
+
+use kit_std::prelude::Vec;
+
+use crate::refusal::Refusal;
+use crate::streams::Source;
+use crate::streams::transfer::{Interruptions, MOST_INPUT, zero_bytes};
+use kit_std::alloc::Global;
+use kit_std::marker::Model;
+
+/// Bytes of a source that are held, and how many were taken in all, at most 268,435,456.
+pub(crate) struct Held {
+    /// The bytes stand at its front.
+    room: Vec<u8>,
+    len: usize,
+    taken: usize,
+}
+
+impl Model for Held {}
+
+impl Held {
+    /// No bytes, and room for so many.
+    // requires { 0 < room }
+    pub(crate) fn new(alloc: Global, room: usize) -> Result<Self, Refusal> {
+        Ok(Held {
+            room: zero_bytes(alloc, room)?,
+            len: 0,
+            taken: 0,
+        })
+    }
+
+    /// The bytes.
+    pub(crate) fn bytes(&self) -> &[u8] {
+        &self.room[..self.len]
+    }
+
+    /// Drops so many bytes from the front.
+    // requires { count ≤ length self.old.bytes }
+    pub(crate) fn drop_front(&mut self, count: usize) {
+        // Where nothing is dropped nothing is moved.
+        if count == 0 {
+            return;
+        }
+        self.room.copy_within(count..self.len, 0);
+        self.len -= count;
+    }
+
+    /// Takes bytes until the room is full, which is made twice as much where it is full already, or
+    /// none is left, and answers whether none is.
+    ///
+    /// # Errors
+    ///
+    /// `Memory` where a growth was refused; `Read` where a read failed, 1,024 were interrupted, or
+    /// the source has too many bytes.
+    // requires counts { R.counts input.old ≡ counted interruptions.old }
+    // requires taken { R.taken input.old ≡ self.old.taken }
+    pub(crate) fn fill<R: Source>(
+        &mut self,
+        input: &mut R,
+        interruptions: &mut Interruptions,
+    ) -> Result<bool, Refusal> {
+        interruptions.are_few();
+        let len = self.len;
+        if len == self.room.len() && self.room.resize(2 * len, 0).is_err() {
+            return Err(Refusal::Memory);
+        }
+        while self.len < self.room.len() {
+            interruptions.are_few();
+            match input.take(&mut self.room[self.len..]) {
+                Ok(0) => return Ok(true),
+                Ok(count) => {
+                    if count > MOST_INPUT - self.taken {
+                        return Err(Refusal::Read);
+                    }
+                    self.len += count;
+                    self.taken += count;
+                }
+                Err(fault) => {
+                    if !interruptions.allow(fault) {
+                        return Err(Refusal::Read);
+                    }
+                }
+            }
+        }
+        Ok(false)
+    }
+}

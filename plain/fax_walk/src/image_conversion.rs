@@ -1,0 +1,107 @@
+//! Raw PBM that is converted as its bytes come.
+
+use crate::options::{ConvertFault, Options};
+use crate::output::Output;
+use crate::parts::Parts;
+use crate::sheet::Sheet;
+use fax_bits::Memory;
+use fax_files::{PbmFault, PbmImage, PbmReader};
+use fax_rows::Row;
+use kit_std::alloc::Global;
+
+/// Converts an image. Where the output is too large, its rows are not looked at.
+// requires { (at : Progress) × IsPageDue options.now output.old at }
+fn convert_image(
+    alloc: Global,
+    image: &PbmImage,
+    options: &Options,
+    output: &mut Output,
+) -> Result<(), Memory> {
+    fax_rows::laws::packing_undoes_unpacking();
+    output.begin(alloc, options, &Sheet::of_image(image))?;
+    if let Output::TooLarge = output {
+        return Ok(());
+    }
+    let mut row = Row::white(alloc, image.width)?;
+    for i in 0..image.rows {
+        row.set_packed(image.row(i));
+        output.put_row(&row)?;
+    }
+    output.end()
+}
+
+/// Raw PBM that is converted as its bytes come: whole images are taken and forgotten, and what they
+/// become is held.
+pub struct ImageConversion {
+    alloc: Global,
+    options: Options,
+    output: Output,
+    /// How many images were taken.
+    images: u64,
+}
+
+impl ImageConversion {
+    /// Before the first image.
+    ///
+    /// # Errors
+    ///
+    /// `Memory` where a growth was refused.
+    pub fn new(alloc: Global, options: Options) -> Result<Self, Memory> {
+        Ok(ImageConversion {
+            alloc,
+            options,
+            output: Output::new(alloc, &options)?,
+            images: 0,
+        })
+    }
+
+    /// Takes the images that stand whole at the start of the bytes, and answers how many bytes they
+    /// have: what is left is nothing, or begins with no whole image.
+    ///
+    /// # Errors
+    ///
+    /// `Memory` where a growth was refused.
+    // requires { (before : List ℕ)
+    //     × IsConverting before self.old.options self.old.images self.old.output
+    //     × (length before + length bytes.now < 2 ^ 64) }
+    pub fn take_images(&mut self, bytes: &[u8]) -> Result<usize, Memory> {
+        let (taken, _) = self.take_whole(bytes)?;
+        Ok(taken)
+    }
+
+    /// Takes the images that stand whole at the start of the bytes, and answers how many bytes they
+    /// have, and the fault of the image after them, if bytes are left.
+    // requires { (before : List ℕ)
+    //     × IsConverting before self.old.options self.old.images self.old.output
+    //     × (length before + length bytes.now < 2 ^ 64) }
+    fn take_whole(&mut self, bytes: &[u8]) -> Result<(usize, Option<PbmFault>), Memory> {
+        let mut reader = PbmReader::new(bytes);
+        loop {
+            match reader.next_image() {
+                Ok(Some(image)) => {
+                    convert_image(self.alloc, &image, &self.options, &mut self.output)?;
+                    self.images += 1;
+                }
+                Ok(None) => return Ok((bytes.len(), None)),
+                Err(fault) => return Ok((bytes.len() - reader.left().len(), Some(fault))),
+            }
+        }
+    }
+
+    /// What all bytes become, of which these are the last.
+    ///
+    /// # Errors
+    ///
+    /// The first fault of an image; else `OutputTooLarge`. `Memory` where a growth was refused.
+    // requires { (before : List ℕ) × IsConverting before self.options self.images self.output
+    //     × (length before + length rest.now < 2 ^ 64) }
+    pub fn finish(mut self, rest: &[u8]) -> Result<Parts, ConvertFault> {
+        match self.take_whole(rest)? {
+            (_, None) => self.output.finish(self.alloc),
+            (_, Some(fault)) => Err(ConvertFault::Pbm {
+                image: self.images,
+                fault,
+            }),
+        }
+    }
+}
