@@ -43,9 +43,10 @@ FAINT = """(() => {
 
 
 def opened(browser: Browser) -> None:
+    """The sample is opened, read to its end and shown: the page shows what has changed a little later."""
     browser.run("while (app.fax) app.close()")
     browser.choose("#choose", SAMPLE)
-    browser.until('app.fax && app.fax.state === "done" && app.view.fax === app.fax && app.view.form')
+    browser.until('app.fax && app.fax.state === "done" && !app.isDue && app.view.fax === app.fax && app.view.form')
     browser.run("document.activeElement.blur()")
 
 
