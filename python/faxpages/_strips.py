@@ -180,7 +180,8 @@ class StripReader:
     feed takes bytes; an iteration gives the rows that are whole by then and were not given before; close says that no
     more bytes come. An iteration raises the fault of the row that is due. If that row is cut, an iteration before close
     ends there, since more bytes may come; after close it raises DataEnds. A row of more than 4,096 bytes that come in
-    pieces of less than a 256th of it may be given so many bytes later. width, coding, order and rows are as for strip.
+    pieces of less than a 256th of it may be given so many bytes later, and so may the rows after it; where no such bytes
+    come, it is given after close. width, coding, order and rows are as for strip.
 
     >>> data = faxpages.encode_strip(faxpages.open("samples/three-mmr-rows.tif")[0], coding="mr", order=2)
     >>> reader, found = faxpages.StripReader(width=8, coding="mr", order=2), []

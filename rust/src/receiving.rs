@@ -3,7 +3,7 @@
 use crate::error::{fault_of, Error};
 use crate::format::Format;
 use crate::rows::{Row, RowFormat, RowRuns};
-use crate::strip::{Ended, Reading};
+use crate::strip::{Ended, Reading, MOST_BYTES};
 use crate::{Coding, StripForm};
 use std::mem;
 
@@ -17,7 +17,8 @@ const FILL: usize = 2;
 /// Reads a strip that comes in pieces, as a server receives it.
 ///
 /// A row is handed out as soon as its last byte was fed. If it has more than 4,096 bytes, and they come in pieces of
-/// less than a 256th of it, it may be handed out so many bytes later.
+/// less than a 256th of it, it may be handed out so many bytes later, and so may the rows after it; where no such bytes
+/// come, it is handed out after [`StripReader::close`].
 ///
 /// ```
 /// use faxpages::{Coding, StripForm, StripReader};
@@ -182,10 +183,17 @@ impl StripReader {
 
     /// Reads rows of what was fed.
     fn read_more(&mut self) {
-        let seen = self.seen.unwrap_or(self.fed.len());
+        let seen = self.seen.unwrap_or(self.fed.len().min(MOST_BYTES));
         match self.reading.read(&self.fed[..seen], !self.is_closed || seen < self.fed.len()) {
             Ok(Ended::GoesOn) => self.seen = Some(seen),
-            Ok(Ended::Awaits) => self.drop_read(seen),
+            Ok(Ended::Awaits) => {
+                let waiting = self.fed.len();
+                self.drop_read(seen);
+                // No strip has a row of more bytes.
+                if seen < waiting && self.fed.len() == waiting {
+                    self.end(Some(self.reading.form.invalid(waiting).into()));
+                }
+            }
             Ok(Ended::Rows) => self.end(None),
             Ok(Ended::Fault(fault)) => self.end(Some(fault_of(&fault))),
             Err(error) => self.end(Some(error)),

@@ -61,8 +61,17 @@ impl StripForm {
         self.given(self.rows.map_or(0, |rows| if rows == 0 { u32::MAX } else { rows }))
     }
 
+    /// Refuses what no strip of so many bytes has.
+    fn refuse_invalid(&self, bytes: usize) -> Result<(), Error> {
+        let StripForm { width, rows, coding, aligned, .. } = *self;
+        if invalid_rows(width, rows.unwrap_or(1), coding, aligned).is_some() || bytes > MOST_BYTES {
+            return Err(self.invalid(bytes).into());
+        }
+        Ok(())
+    }
+
     /// What of a strip of so many bytes is out of range.
-    fn invalid(&self, bytes: usize) -> Invalid {
+    pub(crate) fn invalid(&self, bytes: usize) -> Invalid {
         let too_long = (bytes > MOST_BYTES).then_some(Invalid::StripBytes(bytes));
         let rows = self.rows.unwrap_or(MOST_ROWS);
         invalid_rows(self.width, rows, self.coding, self.aligned).or(too_long).unwrap_or(Invalid::Unknown)
@@ -138,6 +147,8 @@ impl Reading {
         if self.of_file {
             return Ok(Ended::GoesOn);
         }
+        // Before memory is taken for rows of any width.
+        self.form.refuse_invalid(strip.len())?;
         // A row has at least one bit.
         let bits = strip.len().saturating_mul(8).saturating_sub(self.place.bits as usize) + 1;
         let most = bits.min(rows.saturating_sub(first) as usize).max(1);
@@ -243,10 +254,8 @@ impl<'a> Strip<'a> {
     /// # Ok::<(), faxpages::Error>(())
     /// ```
     pub fn salvaged(&self) -> Result<Salvaged, Error> {
-        let StripForm { width, rows, coding, aligned, .. } = self.form;
-        if invalid_rows(width, rows.unwrap_or(1), coding, aligned).is_some() || self.bytes.len() > MOST_BYTES {
-            return Err(self.form.invalid(self.bytes.len()).into());
-        }
+        self.form.refuse_invalid(self.bytes.len())?;
+        let StripForm { width, rows, .. } = self.form;
         let form = self.form.given(rows.unwrap_or(0));
         let call = &mut |out: &mut [u8], stride, lost: &mut [calls::FaxLost], told: &mut calls::FaxTold| {
             calls::faxpages_salvage_strip(self.bytes, &form, out, stride, lost, told)
@@ -507,7 +516,8 @@ fn coded(
 
 #[cfg(test)]
 mod tests {
-    use super::{calls, code_strip, Coding, Ended, FillOrder, Reading, Row, RowChanges, RowRuns, StripFile, StripForm};
+    use super::{calls, code_strip, Coding, Ended, Error, FillOrder, Invalid, Reading, Row, RowChanges, RowRuns};
+    use super::{StripFile, StripForm};
     use crate::format::Format;
     use crate::strip_file::LEAST;
 
@@ -586,5 +596,13 @@ mod tests {
             assert_eq!(none, 0);
         }
         assert!(counts[0] + 100 > counts[1] && ends.len() > 9, "{counts:?}, {ends:?}");
+    }
+
+    #[test]
+    fn no_memory_is_taken_for_rows_of_a_width_that_none_has() {
+        let mut reading = Reading::new(StripForm::new(u32::MAX, Coding::Mmr));
+        let refused = reading.read(&[0x80], false).err();
+        assert_eq!(refused, Some(Error::Invalid(Invalid::Width(u32::MAX))));
+        assert_eq!(reading.out.capacity(), 0);
     }
 }

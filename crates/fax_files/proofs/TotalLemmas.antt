@@ -249,6 +249,14 @@ module _ (writing : Writing) (is : IsWriting writing) where
       let count : writing.added ≡ length pages = ap (λ (w : Writing). w.added) added in
       (told_of writing.added pages added).1 ∙ ap (λ n. (with_pages empty_file n 0 pages).bytes) count
 
+  -- and where all were added, the file stays as it is
+  pub stays : writing.added ≡ writing.total
+      → with_totals writing.added writing.added 4 writing.written.bytes ≡ writing.written.bytes
+  stays all =
+      (told_of writing.added is.pages is.added).1
+      ∙ ap (λ n. (with_pages empty_file n 0 is.pages).bytes) all
+      ∙ sym (ap (λ (w : Writing). w.written.bytes) is.added)
+
 -- one of the pages that are left
 pub one_left : (count i : ℕ) → i < count → count - i ≡ suc (count - (i + 1))
 one_left count i fewer = omega (arith, fewer)

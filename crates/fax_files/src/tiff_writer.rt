@@ -90,7 +90,7 @@ pub fn write_page(
 }
 
 /// Writes a TIFF file page by page. Contracts see its bytes, the place of its last link, of how
-/// many pages it is to be, and how many were added.
+/// many pages it is to be at most, and how many were added.
 #[derive(Drop)]
 pub struct TiffWriter {
     alloc: Global,
@@ -126,7 +126,7 @@ impl TiffWriter {
     ghost use Rattle.fax_files.specs.views.PagesSoFar.{HasAdded};
     ghost use Rattle.fax_files.specs.views.Writing.{empty_file};
 
-    /// A file of this many pages, before the first is added.
+    /// A file of at most this many pages, before the first is added.
     ///
     /// # Errors
     ///
@@ -204,10 +204,12 @@ impl TiffWriter {
     }
 
     /// The bytes of the file of the pages that were added, each of which says how many these are,
-    /// whatever number of pages the file was begun for.
+    /// whatever number of pages the file was begun for. Where none was added it is the header
+    /// alone, which is no TIFF file.
     pub fn finish(self) -> Vec<u8>
-        ensures { (pages : List WrittenPage) → HasAdded self.total pages self
+        ensures file { (pages : List WrittenPage) → HasAdded self.total pages self
             → result.items ≡ file_of pages }
+        ensures all { self.added ≡ self.total → result.items ≡ self.written.bytes }
     {
         let mut bytes = self.bytes;
         put_totals(&mut bytes, self.added);

@@ -28,8 +28,9 @@ fn set_two(file: &mut [u8], place: usize, n: u16)
     LittleEndian::write_u16(&mut file[place..place + 2], n);
 }
 
-/// Tells each page of a file how many there are. TIFF 6.0, PageNumber: the second number, 0 where
-/// it is not known.
+/// Tells each page of a file how many there are. The file is little-endian, as `TiffWriter` and
+/// `write_page` write it, and has so many pages, each after the offset that leads to its directory.
+/// TIFF 6.0, PageNumber: the second number, 0 where it is not known.
 pub fn put_totals(file: &mut [u8], pages: u16)
     requires header { 8 ≤ length file.old }
     requires pages { (last : ℕ) × Spec.ArePagesAfter file.old pages 4 last }

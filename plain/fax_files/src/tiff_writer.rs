@@ -76,7 +76,7 @@ pub fn write_page(
 }
 
 /// Writes a TIFF file page by page. Contracts see its bytes, the place of its last link, of how
-/// many pages it is to be, and how many were added.
+/// many pages it is to be at most, and how many were added.
 pub struct TiffWriter {
     alloc: Global,
     bytes: Vec<u8>,
@@ -89,7 +89,7 @@ pub struct TiffWriter {
 impl Model for TiffWriter {}
 
 impl TiffWriter {
-    /// A file of this many pages, before the first is added.
+    /// A file of at most this many pages, before the first is added.
     ///
     /// # Errors
     ///
@@ -158,7 +158,8 @@ impl TiffWriter {
     }
 
     /// The bytes of the file of the pages that were added, each of which says how many these are,
-    /// whatever number of pages the file was begun for.
+    /// whatever number of pages the file was begun for. Where none was added it is the header
+    /// alone, which is no TIFF file.
     pub fn finish(self) -> Vec<u8> {
         let mut bytes = self.bytes;
         put_totals(&mut bytes, self.added);

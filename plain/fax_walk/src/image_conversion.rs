@@ -56,11 +56,13 @@ impl ImageConversion {
     }
 
     /// Takes the images that stand whole at the start of the bytes, and answers how many bytes they
-    /// have: what is left is nothing, or begins with no whole image.
+    /// have: what is left is nothing, or begins with no whole image. All bytes that are given are
+    /// fewer than 2^64.
     ///
     /// # Errors
     ///
-    /// `Memory` where a growth was refused.
+    /// `Memory` where a growth was refused. Some of the images may have been taken then: the
+    /// conversion can only be dropped.
     // requires { (before : List ℕ)
     //     × IsConverting before self.old.options self.old.images self.old.output
     //     × (length before + length bytes.now < 2 ^ 64) }
@@ -88,7 +90,8 @@ impl ImageConversion {
         }
     }
 
-    /// What all bytes become, of which these are the last.
+    /// What all bytes become, of which these are the last, where they begin with `P4`: of others,
+    /// and of none, nothing is promised. All bytes that are given are fewer than 2^64.
     ///
     /// # Errors
     ///

@@ -177,7 +177,7 @@ pub record IsPutTo (output : Output) (part : Part) : Type 0 where
   pub some : 0 < length part.rows → length part.rows < part.sheet.rows → IsPartWritten output part
   pub all : length part.rows ≡ part.sheet.rows → IsWrittenTo output (after part)
 
--- row number r of a page can be put after the others, and the page is due
+-- row number r of a page can be put after the others, by these options
 pub record IsRowDue (options : Options) (output : Output) (r : ℕ) (row : List Colour)
     (part : Part) : Type 0 where
   pub options_are : part.at.options ≡ options

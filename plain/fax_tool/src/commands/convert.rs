@@ -58,8 +58,8 @@ fn give_parts<W: Sink>(out: &mut W, block: &[u8], output: &Parts) -> Result<(), 
     Ok(())
 }
 
-/// What the input becomes by the options. Raw PBM is converted as its bytes come, and only what it
-/// becomes is held; a TIFF file is read whole.
+/// What the input becomes by the options. Raw PBM is converted as its bytes come, of which whole
+/// images are not held; any other input is read whole.
 // requires counts { R.counts input.old ≡ no_faults }
 // requires taken { R.taken input.old ≡ 0 }
 fn read_conversion<R: Source>(

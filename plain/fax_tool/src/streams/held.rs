@@ -45,13 +45,14 @@ impl Held {
         self.len -= count;
     }
 
-    /// Takes bytes until the room is full, which is made twice as much where it is full already, or
-    /// none is left, and answers whether none is.
+    /// Takes bytes until the room is full or none is left, and answers whether it saw that none is.
+    /// Room that is full already is made twice as much before, but never of more bytes than tell
+    /// that there are too many.
     ///
     /// # Errors
     ///
     /// `Memory` where a growth was refused; `Read` where a read failed, 1,024 were interrupted, or
-    /// the source has too many bytes.
+    /// the source has more than 268,435,456 bytes.
     // requires counts { R.counts input.old ≡ counted interruptions.old }
     // requires taken { R.taken input.old ≡ self.old.taken }
     pub(crate) fn fill<R: Source>(
@@ -61,7 +62,8 @@ impl Held {
     ) -> Result<bool, Refusal> {
         interruptions.are_few();
         let len = self.len;
-        if len == self.room.len() && self.room.resize(2 * len, 0).is_err() {
+        let most = (2 * len).min(MOST_INPUT + 1);
+        if len == self.room.len() && self.room.resize(most, 0).is_err() {
             return Err(Refusal::Memory);
         }
         while self.len < self.room.len() {

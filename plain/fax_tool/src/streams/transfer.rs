@@ -12,11 +12,12 @@ use kit_std::marker::Model;
 /// The most bytes of an input: 256 MiB.
 pub(crate) const MOST_INPUT: usize = MAX_FILE as usize;
 
-/// How many bytes are read at a time.
+/// For how many bytes of an input there is room at first; of one that is read whole as many are
+/// read at a time.
 pub(crate) const CHUNK: usize = 65_536;
 
-/// For how many bytes of an input there is room before the first of them is read: where it has no
-/// more, none is copied as its room grows.
+/// For how many bytes there is room at first in a file that is read whole: where it has no more,
+/// none is copied as its room grows.
 const FIRST_ROOM: usize = 4 * CHUNK;
 
 /// How many interrupted calls of a stream are made again.
