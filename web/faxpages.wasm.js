@@ -1,7 +1,7 @@
 // The library in WebAssembly, as tools/build-web makes it: change nothing here.
 // version 1.10.0
 // rustc 1.96.0
-// sources ff8e828469fa4cf21ab68add08d1421ea41230a9c80b375f6dbab7d14fff5220
+// sources 1788d6e7648487973df861df99651de5bec995bbdea917eb084010bf97560494
 // module e4f319c509ebd49b6cb19ea6f151fe187608377fc2ca2c3482fd9dc67b87b9b1
 "use strict";
 const FAXPAGES_WASM = `

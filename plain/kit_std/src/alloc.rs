@@ -26,6 +26,12 @@ impl<T> Vec<T> {
         self.0.try_reserve(more).map_err(|_| AllocError)
     }
 
+    /// The same, and for no more where that can be.
+    #[inline]
+    pub fn reserve_exact(&mut self, more: usize) -> Result<(), AllocError> {
+        self.0.try_reserve_exact(more).map_err(|_| AllocError)
+    }
+
     /// Appends an item.
     #[inline]
     pub fn push(&mut self, item: T) -> Result<(), AllocError> {

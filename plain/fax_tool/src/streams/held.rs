@@ -62,9 +62,12 @@ impl Held {
     ) -> Result<bool, Refusal> {
         interruptions.are_few();
         let len = self.len;
-        let most = (2 * len).min(MOST_INPUT + 1);
-        if len == self.room.len() && self.room.resize(most, 0).is_err() {
-            return Err(Refusal::Memory);
+        if len == self.room.len() {
+            let most = (2 * len).min(MOST_INPUT + 1);
+            self.room
+                .reserve_exact(most - len)
+                .map_err(|_| Refusal::Memory)?;
+            self.room.resize(most, 0).map_err(|_| Refusal::Memory)?;
         }
         while self.len < self.room.len() {
             interruptions.are_few();
