@@ -53,7 +53,7 @@ NamesNote number old len new =
 
 -- the version, and its number
 abbrev pub version : List ℕ
-version = codes "1.10.0"
+version = codes "1.10.1"
 
 abbrev pub version_number : ℕ
-version_number = 11000
+version_number = 11001

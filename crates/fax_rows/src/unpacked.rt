@@ -111,8 +111,8 @@ fn places_of_words(bytes: &[u8], places: &mut [u32], words: u32) -> (usize, Colo
         (64 * words) result.1 }
     ensures same_len { length places.new ≡ length places.old }
 {
-    // A bit of a word that is not the one before it is a change. After a white word the white ones
-    // that follow are gone past by eights.
+    // A bit of a word that is not the one before it is a change. At the row's beginning, and after
+    // a white word, the white ones that follow are gone past: by eights, and then one by one.
     let mut end = 1;
     let mut before = 0;
     let mut k = past_white(bytes, 0, words);

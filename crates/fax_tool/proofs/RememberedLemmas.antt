@@ -1,6 +1,7 @@
 -- Texts of numbers that are remembered.
 use Rattle.std.proofs.lemmas.Grind.{common_steps}
-use Rattle.std.proofs.Common.{◌≡◌, ℕ, zero, suc, ◌+◌, ◌*◌, ◌<◌, ◌≤◌, ◌⊎◌, List, [], ◌∷◌, ◌++◌, length, set, take}
+use Rattle.std.proofs.Common.{◌≡◌, ℕ, zero, suc, ◌+◌, ◌*◌, ◌/◌, ◌%◌, ◌<◌, ◌≤◌, ◌⊎◌, List, [], ◌∷◌}
+use Rattle.std.proofs.Common.{◌++◌, length, set, take}
 use Rattle.std.proofs.Common.{replicate, inl, inr, refl}
 use Rattle.std.proofs.Common.{Some, arith}
 use Rattle.std.specs.Prelude.{slice_get, slice_set}
@@ -29,14 +30,21 @@ numbers_put texts number new are is = λ n kept made.
       | inr there ↦ are n kept (there, made.1)
     ]
 
--- a text is made of two numbers
-pub pairs_put : (texts : List ShortText) (first second : ℕ) (new : ShortText) → second < 64 → ArePairs texts
-    → IsText (and_number first ++ and_number second) new → ArePairs (slice_set texts (64 * first + second) new)
-pairs_put texts first second new small are is = λ f s kept low made.
-    elim (put_at texts (64 * first + second) (64 * f + s) new kept made.0) [
+-- the text at a place is that of the place's two numbers
+pub pair_made : (texts : List ShortText) (place : ℕ) (kept : ShortText) → ArePairs texts → IsMadeAt texts place kept
+    → IsText (and_number (place / 64) ++ and_number (place % 64)) kept
+pair_made texts place kept are made =
+    let same : 64 * (place / 64) + place % 64 ≡ place = omega arith in
+    are (place / 64) (place % 64) kept (omega arith) (rw same made)
+
+-- a text is made of a place's two numbers
+pub pairs_put : (texts : List ShortText) (place : ℕ) (new : ShortText) → ArePairs texts
+    → IsText (and_number (place / 64) ++ and_number (place % 64)) new → ArePairs (slice_set texts place new)
+pairs_put texts place new are is = λ f s kept low made.
+    elim (put_at texts place (64 * f + s) new kept made.0) [
       | inl (same, kept_is) ↦
-          let firsts : f ≡ first = omega (arith, same, small, low) in
-          let seconds : s ≡ second = omega (arith, same, small, low) in
+          let firsts : f ≡ place / 64 = omega (arith, same, low) in
+          let seconds : s ≡ place % 64 = omega (arith, same, low) in
           rw (firsts, seconds, kept_is) is
       | inr there ↦ are f s kept low (there, made.1)
     ]

@@ -8,6 +8,10 @@ pub next_run : (text more runs left : List ℕ) (run : ℕ) → runs ≡ run ∷
     → more ++ flat_map and_number left ≡ text ++ flat_map and_number runs
 next_run text more runs left run first is = grind (arith, append_assoc)
 
+-- two texts, one after the other
+pub two_written : (s₀ s₁ s₂ a b : List ℕ) → s₁ ≡ s₀ ++ a → s₂ ≡ s₁ ++ b → s₂ ≡ s₀ ++ (a ++ b)
+two_written s₀ s₁ s₂ a b one two = grind (arith, append_assoc)
+
 -- eight numbers, two by two
 pub eight_written : (s₀ s₁ s₂ s₃ s₄ xs : List ℕ) → length xs ≡ 8
     → s₁ ≡ s₀ ++ (and_number (get_or xs 0 0) ++ and_number (get_or xs 1 0))

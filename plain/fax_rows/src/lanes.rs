@@ -1,10 +1,11 @@
-//! The first pel of packed bytes that is not of a colour, found in lanes.
+//! The first pel of packed bytes that is not of a colour, and whether bytes are white, found in
+//! lanes.
 
 use fax_bits::Colour;
 use fax_bits::laws::bits_stand_by_place;
 use kit_std::simd::prelude::*;
 
-/// How many bytes are looked at together.
+/// How many bytes are looked at together for the first that is another one.
 const LANES: usize = 16;
 
 /// The byte of eight pels of the colour.

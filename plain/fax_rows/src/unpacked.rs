@@ -74,8 +74,8 @@ fn past_white(bytes: &[u8], from: u32, words: u32) -> u32 {
 // requires room { 64 * words + 4 ≤ length places.old }
 // requires first { slice_index places.old 0 ≡ 0 }
 fn places_of_words(bytes: &[u8], places: &mut [u32], words: u32) -> (usize, Colour) {
-    // A bit of a word that is not the one before it is a change. After a white word the white ones
-    // that follow are gone past by eights.
+    // A bit of a word that is not the one before it is a change. At the row's beginning, and after
+    // a white word, the white ones that follow are gone past: by eights, and then one by one.
     let mut end = 1;
     let mut before = 0;
     let mut k = past_white(bytes, 0, words);

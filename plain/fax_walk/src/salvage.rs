@@ -180,8 +180,9 @@ impl<'a> Salvage<'a> {
         }
     }
 
-    /// Whether nothing of the file is lost, once all was handed out: then its rows end properly.
-    /// Before that, whether nothing of the pages that were left is lost.
+    /// Whether it is seen that nothing of the file is lost, once all was handed out: then its rows
+    /// end properly. Before that, whether it is seen so of the pages that were left. `false` says
+    /// nothing: what is lost was handed out.
     pub fn is_whole(&self) -> bool {
         self.whole
     }

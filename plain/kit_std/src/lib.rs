@@ -43,7 +43,7 @@ pub mod simd {
 
     /// The kinds of lanes, by their names.
     pub mod prelude {
-        pub use crate::lanes::{u32x4, u32x8, u8x16, u8x4, u8x64, u8x8};
+        pub use crate::lanes::{u16x4, u16x8, u32x4, u32x8, u8x16, u8x4, u8x64, u8x8};
     }
 }
 

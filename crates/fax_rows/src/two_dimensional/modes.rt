@@ -148,7 +148,8 @@ pub(super) fn pass<const CHOICE: bool>(
 }
 
 /// Goes on by a mode, after its code; where a1 is under b1 it reads more such modes too (T.4,
-/// section 4.2.1.3.3). Runs that no look-up finds are due.
+/// section 4.2.1.3.3). Both runs of horizontal mode are due. `SEVERAL` parts the copies of several
+/// callers.
 #[inline(always)]
 pub(super) fn by_mode<const CHOICE: bool, const SEVERAL: bool>(
     source: &mut BitSource,
@@ -173,8 +174,36 @@ pub(super) fn by_mode<const CHOICE: bool, const SEVERAL: bool>(
         ModeCode::Vertical(0) => Ok(under_several(source, reference, places, at)),
         ModeCode::Vertical(d) => Ok(vertical::<CHOICE>(reference, places, at, d)?),
         ModeCode::Pass => Ok(pass::<CHOICE>(reference, places, at)?),
-        ModeCode::Horizontal => horizontal::<CHOICE, SEVERAL>(source, reference, places, at),
+        ModeCode::Horizontal => Err(Unread::Due(None)),
         ModeCode::Extension => Err(Unread::Stopped(RowStop::Fault(RowFault::Extension))),
+    }
+}
+
+/// What `by_mode` does, with the runs of horizontal mode by look-ups. Those that no look-up finds
+/// are due.
+#[inline(always)]
+fn by_mode_and_runs<const CHOICE: bool, const SEVERAL: bool>(
+    source: &mut BitSource,
+    reference: PlacedRow,
+    places: &mut [u32],
+    at: PlacedReached,
+    mode: ModeCode,
+) -> Result<PlacedReached, Unread<Option<u32>>>
+    requires inside { IsReadInside reference places.old at }
+    ensures read { (b : List Bool) → Takes modes b mode source.old.left
+        → IfOk result (λ next. IsReadOn CHOICE reference.entry places.old places.new at next
+        b source.new.left) }
+    ensures stop { (b : List Bool) → Takes modes b mode source.old.left
+        → IfErr result (λ unread. IsUnreadFor (IsStepStop CHOICE reference.entry places.old at b)
+        (λ first. (places.new ≡ places.old)
+        × IsDueAt reference.entry places.old at b (Runs first) source.new.left) unread) }
+    ensures room { OnErr result (HasRoom reference.entry.width places.new) }
+    ensures same_end { KeepsEnd source.old source.new }
+    ensures no_longer { OnOk result (length source.new.left ≤ length source.old.left) }
+{
+    match mode {
+        ModeCode::Horizontal => horizontal::<CHOICE, SEVERAL>(source, reference, places, at),
+        _ => by_mode::<CHOICE, SEVERAL>(source, reference, places, at, mode),
     }
 }
 
@@ -205,7 +234,7 @@ fn next_steps<const CHOICE: bool, const SEVERAL: bool>(
     let Some(mode) = source.mode() else {
         return Err(Unread::Due(Due::Mode));
     };
-    match by_mode::<CHOICE, SEVERAL>(source, reference, places, at, mode) {
+    match by_mode_and_runs::<CHOICE, SEVERAL>(source, reference, places, at, mode) {
         Ok(next) => Ok(next),
         Err(Unread::Due(first)) => Err(Unread::Due(Due::Runs(first))),
         Err(Unread::Stopped(stop)) => Err(Unread::Stopped(stop)),

@@ -1,5 +1,6 @@
 -- Texts of numbers that are remembered.
-use Rattle.std.specs.Prelude.{◌≡◌, ℕ, ◌+◌, ◌*◌, ◌<◌, ◌≤◌, List, ◌++◌, length, take, Some, slice_get}
+use Rattle.std.specs.Prelude.{◌≡◌, ℕ, ◌+◌, ◌*◌, ◌<◌, ◌≤◌, List, ◌++◌, length, take, Some}
+use Rattle.std.specs.Prelude.{slice_get, slice_index}
 use Rattle.fax_tool.specs.Text.{and_number}
 use Rattle.fax_tool.specs.declared.text.remembered.ShortText.{ShortText}
 
@@ -18,6 +19,20 @@ IsMadeAt texts place kept = (slice_get texts place ≡ Some kept) × (0 < kept.l
 abbrev pub AreNumbers : List ShortText → Type 0
 AreNumbers texts = (number : ℕ) (kept : ShortText) → IsMadeAt texts number kept
     → IsText (and_number number) kept
+
+-- eight numbers are below a limit
+abbrev pub AreBelow : ℕ → List ℕ → Type 0
+AreBelow limit numbers = (i : ℕ) → i < 8 → slice_index numbers i < limit
+
+-- the text of two numbers below 64 stands at this place
+abbrev pub IsPlaceOf : ℕ → ℕ → ℕ → Type 0
+IsPlaceOf first second place = (first < 64) × (second < 64) × (place ≡ 64 * first + second)
+
+-- the texts of eight numbers, two by two, stand at these places
+abbrev pub ArePlacesOf : List ℕ → List ℕ → Type 0
+ArePlacesOf numbers places = (i : ℕ) → i < 4
+    → IsPlaceOf (slice_index numbers (2 * i)) (slice_index numbers (2 * i + 1))
+    (slice_index places i)
 
 -- the texts that are made are those of two numbers, at 64 times the first and the second
 abbrev pub ArePairs : List ShortText → Type 0

@@ -1,21 +1,22 @@
 //! Texts of numbers, each after a blank, which `itoa` makes once and which are then remembered.
-ghost use Rattle.std.specs.Prelude.{◌≡◌, ◌+◌, ◌<◌, ◌≤◌, ◌++◌, length, take};
-ghost use Rattle.std.specs.Prelude.{IfSome};
+ghost use Rattle.std.specs.Prelude.{◌≡◌, ℕ, ◌+◌, ◌<◌, ◌≤◌, ◌++◌, length, take};
+ghost use Rattle.std.specs.Prelude.{IfSome, IsTrue};
 ghost use Rattle.fax_tool.specs.Text.{and_number};
-ghost use Rattle.fax_tool.specs.code.Remembered.{IsMadeAt, IsText};
+ghost use Rattle.fax_tool.specs.code.Remembered.{AreBelow, ArePlacesOf, IsMadeAt, IsPlaceOf, IsText};
 
 use crate::text::collected::write_bytes;
 use itoa::Buffer;
 use std::marker::Model;
+use std::simd::prelude::*;
 
 /// How many bytes a text that is remembered has room for.
 const ROOM: usize = 8;
 
 /// The texts of the numbers below this one are remembered.
-const NUMBERS: usize = 2_048;
+pub const NUMBERS: u16 = 2_048;
 
 /// The texts of two numbers below this one, one after the other, are remembered together.
-const PAIRED: u32 = 64;
+pub const PAIRED: u16 = 64;
 
 /// How many texts of two numbers there are.
 const PAIRS: usize = 4_096;
@@ -37,7 +38,7 @@ const NOT_MADE: ShortText = ShortText {
 #[derive(Drop)]
 pub struct Texts {
     /// By the number.
-    ones: [ShortText; NUMBERS],
+    ones: [ShortText; NUMBERS as usize],
     /// By `PAIRED` times the first number and the second.
     pairs: [ShortText; PAIRS],
 }
@@ -55,12 +56,11 @@ impl Model for Texts {
 /// The text at a place, if it is made.
 #[inline(always)]
 fn made_at(texts: &[ShortText], place: usize) -> Option<ShortText>
+    requires { place < length texts.now }
     ensures { IfSome result (IsMadeAt texts.now place) }
 {
-    match texts.get(place) {
-        Some(text) if text.len > 0 => Some(*text),
-        _ => None,
-    }
+    let text = texts[place];
+    if text.len > 0 { Some(text) } else { None }
 }
 
 /// Writes a blank and a number at a place, and answers where they end.
@@ -102,6 +102,29 @@ fn pair_text(first: u32, second: u32) -> ShortText
     ShortText { bytes, len }
 }
 
+/// Whether eight numbers are all below a limit.
+#[inline(always)]
+pub fn are_below(numbers: [u16; 8], limit: u16) -> bool
+    ensures { IsTrue result → AreBelow limit numbers }
+{
+    u16x8::from_array(numbers)
+        .simd_ge(u16x8::splat(limit))
+        .to_bitmask()
+        == 0
+}
+
+/// The places of the texts of eight numbers below `PAIRED`, two by two.
+#[inline(always)]
+pub fn pair_places(numbers: [u16; 8]) -> [u16; 4]
+    requires { AreBelow 64 numbers }
+    ensures { ArePlacesOf numbers result }
+{
+    let lanes = u16x8::from_array(numbers);
+    let firsts = lanes.swizzle([0, 2, 4, 6]);
+    let seconds = lanes.swizzle([1, 3, 5, 7]);
+    (firsts * u16x4::splat(PAIRED) + seconds).to_array()
+}
+
 /// Writes a text at a place, and answers where it ends. The bytes after it, up to eight from its
 /// beginning on, are written over.
 #[inline(always)]
@@ -121,9 +144,29 @@ impl Texts {
     /// None is made yet.
     pub fn new() -> Self {
         Texts {
-            ones: [NOT_MADE; NUMBERS],
+            ones: [NOT_MADE; NUMBERS as usize],
             pairs: [NOT_MADE; PAIRS],
         }
+    }
+
+    /// Writes a blank and a number below `NUMBERS` at a place, and answers where they end. Eight
+    /// bytes from there on may be written over.
+    #[inline(always)]
+    pub fn write_remembered(&mut self, bytes: &mut [u8], at: usize, number: u16) -> usize
+        requires below { number < 2048 }
+        requires room { at + 8 ≤ length bytes.old }
+        ensures written { take result bytes.new ≡ take at bytes.old ++ and_number number }
+        ensures end { result ≡ at + length (and_number number) }
+        ensures within { result ≤ at + 6 }
+        ensures same_len { length bytes.new ≡ length bytes.old }
+    {
+        let place = usize::from(number);
+        if let Some(text) = made_at(&self.ones, place) {
+            return put_short(bytes, at, text);
+        }
+        let text = number_text(u32::from(number));
+        self.ones[place] = text;
+        put_short(bytes, at, text)
     }
 
     /// Writes a blank and a number at a place, and answers where they end. Eleven bytes from there
@@ -136,39 +179,30 @@ impl Texts {
         ensures within { result ≤ at + 11 }
         ensures same_len { length bytes.new ≡ length bytes.old }
     {
-        let place = number as usize;
-        if place >= NUMBERS {
+        if number >= u32::from(NUMBERS) {
             return write_any(bytes, at, number);
         }
-        if let Some(text) = made_at(&self.ones, place) {
-            return put_short(bytes, at, text);
-        }
-        let text = number_text(number);
-        self.ones[place] = text;
-        put_short(bytes, at, text)
+        self.write_remembered(bytes, at, number as u16)
     }
 
-    /// Writes two short numbers at a place, each after a blank, and answers where they end.
-    /// Twenty-two bytes from there on may be written over.
+    /// Writes two numbers below `PAIRED` at a place, each after a blank, and answers where they
+    /// end: those whose text stands at this place among the texts of two numbers. Eight bytes from
+    /// there on may be written over.
     #[inline(always)]
-    pub fn write_pair(&mut self, bytes: &mut [u8], at: usize, first: u16, second: u16) -> usize
-        requires { at + 22 ≤ length bytes.old }
-        ensures written { take result bytes.new
+    pub fn write_pair(&mut self, bytes: &mut [u8], at: usize, place: u16) -> usize
+        requires place { place < 4096 }
+        requires room { at + 8 ≤ length bytes.old }
+        ensures written { (first second : ℕ) → IsPlaceOf first second place
+            → take result bytes.new
             ≡ take at bytes.old ++ (and_number first ++ and_number second) }
-        ensures within { result ≤ at + 12 }
+        ensures within { result ≤ at + 8 }
         ensures same_len { length bytes.new ≡ length bytes.old }
     {
-        let (first, second) = (u32::from(first), u32::from(second));
-        if first >= PAIRED || second >= PAIRED {
-            let end = self.write_number(bytes, at, first);
-            return self.write_number(bytes, end, second);
-        }
-        let place = (PAIRED * first + second) as usize;
-        if let Some(text) = made_at(&self.pairs, place) {
+        if let Some(text) = made_at(&self.pairs, usize::from(place)) {
             return put_short(bytes, at, text);
         }
-        let text = pair_text(first, second);
-        self.pairs[place] = text;
+        let text = pair_text(u32::from(place / PAIRED), u32::from(place % PAIRED));
+        self.pairs[usize::from(place)] = text;
         put_short(bytes, at, text)
     }
 }

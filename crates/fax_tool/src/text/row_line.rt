@@ -1,10 +1,12 @@
 //! The line of a row.
-ghost use Rattle.std.specs.Prelude.{◌≡◌, ◌+◌, ◌*◌, ◌≤◌, ◌++◌, OnErr, OnOk, flat_map, length, take};
+ghost use Rattle.std.specs.Prelude.{◌≡◌, ◌+◌, ◌*◌, ◌≤◌, ◌++◌, IfNone, IfSome, OnErr, OnOk};
+ghost use Rattle.std.specs.Prelude.{flat_map, length, take};
 ghost use Rattle.fax_rows.specs.Rows.{runs_of};
 ghost use Rattle.fax_tool.specs.Text.{and_number, row_line_of};
+ghost use Rattle.fax_tool.specs.code.Remembered.{AreBelow};
 
 use crate::text::collected::{Collected, make_room};
-use crate::text::remembered::Texts;
+use crate::text::remembered::{NUMBERS, PAIRED, Texts, are_below, pair_places};
 use fax_bits::Memory;
 use fax_rows::{LongestRuns, Row};
 use fax_walk::Place;
@@ -30,18 +32,60 @@ fn write_rest(bytes: &mut [u8], at: usize, texts: &mut Texts, mut runs: LongestR
     end
 }
 
-/// Writes eight numbers at a place, each after a blank, and answers where they end.
+/// Writes eight numbers below `PAIRED` at a place, each after a blank, and answers where they end.
 #[inline(always)]
-fn write_eight(bytes: &mut [u8], at: usize, texts: &mut Texts, numbers: [u16; 8]) -> usize
-    requires { at + 64 ≤ length bytes.old }
+fn write_pairs(bytes: &mut [u8], at: usize, texts: &mut Texts, numbers: [u16; 8]) -> usize
+    requires below { AreBelow 64 numbers }
+    requires room { at + 64 ≤ length bytes.old }
     ensures written { take result bytes.new ≡ take at bytes.old ++ flat_map and_number numbers }
     ensures within { result ≤ at + 48 }
     ensures same_len { length bytes.new ≡ length bytes.old }
 {
-    let two = texts.write_pair(bytes, at, numbers[0], numbers[1]);
-    let four = texts.write_pair(bytes, two, numbers[2], numbers[3]);
-    let six = texts.write_pair(bytes, four, numbers[4], numbers[5]);
-    texts.write_pair(bytes, six, numbers[6], numbers[7])
+    let places = pair_places(numbers);
+    let two = texts.write_pair(bytes, at, places[0]);
+    let four = texts.write_pair(bytes, two, places[1]);
+    let six = texts.write_pair(bytes, four, places[2]);
+    texts.write_pair(bytes, six, places[3])
+}
+
+/// Writes eight numbers below `NUMBERS` at a place, each after a blank, and answers where they end.
+#[inline(always)]
+fn write_singly(bytes: &mut [u8], at: usize, texts: &mut Texts, numbers: [u16; 8]) -> usize
+    requires below { AreBelow 2048 numbers }
+    requires room { at + 64 ≤ length bytes.old }
+    ensures written { take result bytes.new ≡ take at bytes.old ++ flat_map and_number numbers }
+    ensures within { result ≤ at + 48 }
+    ensures same_len { length bytes.new ≡ length bytes.old }
+{
+    let one = texts.write_remembered(bytes, at, numbers[0]);
+    let two = texts.write_remembered(bytes, one, numbers[1]);
+    let three = texts.write_remembered(bytes, two, numbers[2]);
+    let four = texts.write_remembered(bytes, three, numbers[3]);
+    let five = texts.write_remembered(bytes, four, numbers[4]);
+    let six = texts.write_remembered(bytes, five, numbers[5]);
+    let seven = texts.write_remembered(bytes, six, numbers[6]);
+    texts.write_remembered(bytes, seven, numbers[7])
+}
+
+/// Writes eight numbers at a place, each after a blank, and answers where they end: two by two,
+/// where all of them are short. `None` where one of them is long, and then nothing is written.
+#[inline(always)]
+fn write_eight(bytes: &mut [u8], at: usize, texts: &mut Texts, numbers: [u16; 8]) -> Option<usize>
+    requires { at + 64 ≤ length bytes.old }
+    ensures written { IfSome result (λ end. take end bytes.new
+        ≡ take at bytes.old ++ flat_map and_number numbers) }
+    ensures within { IfSome result (λ end. end ≤ at + 48) }
+    ensures none { IfNone result (bytes.new ≡ bytes.old) }
+    ensures same_len { length bytes.new ≡ length bytes.old }
+{
+    // All eight are looked at together: a branch for each pair of them is less often foretold.
+    if are_below(numbers, PAIRED) {
+        Some(write_pairs(bytes, at, texts, numbers))
+    } else if are_below(numbers, NUMBERS) {
+        Some(write_singly(bytes, at, texts, numbers))
+    } else {
+        None
+    }
 }
 
 /// Writes the runs of a row at a place, each after a blank, and answers where they end.
@@ -55,7 +99,10 @@ fn write_runs(bytes: &mut [u8], at: usize, texts: &mut Texts, row: &Row) -> usiz
     let mut end = at;
     let mut runs = LongestRuns::of_row(row);
     while let Some(eight) = runs.eight_ahead() {
-        end = write_eight(bytes, end, texts, eight);
+        let Some(next) = write_eight(bytes, end, texts, eight) else {
+            break;
+        };
+        end = next;
         runs.skip(8);
     }
     write_rest(bytes, end, texts, runs)

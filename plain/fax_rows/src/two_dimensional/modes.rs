@@ -94,7 +94,8 @@ pub(super) fn pass<const CHOICE: bool>(
 }
 
 /// Goes on by a mode, after its code; where a1 is under b1 it reads more such modes too (T.4,
-/// section 4.2.1.3.3). Runs that no look-up finds are due.
+/// section 4.2.1.3.3). Both runs of horizontal mode are due. `SEVERAL` parts the copies of several
+/// callers.
 #[inline(always)]
 // requires inside { IsReadInside reference places.old at }
 pub(super) fn by_mode<const CHOICE: bool, const SEVERAL: bool>(
@@ -108,8 +109,25 @@ pub(super) fn by_mode<const CHOICE: bool, const SEVERAL: bool>(
         ModeCode::Vertical(0) => Ok(under_several(source, reference, places, at)),
         ModeCode::Vertical(d) => Ok(vertical::<CHOICE>(reference, places, at, d)?),
         ModeCode::Pass => Ok(pass::<CHOICE>(reference, places, at)?),
-        ModeCode::Horizontal => horizontal::<CHOICE, SEVERAL>(source, reference, places, at),
+        ModeCode::Horizontal => Err(Unread::Due(None)),
         ModeCode::Extension => Err(Unread::Stopped(RowStop::Fault(RowFault::Extension))),
+    }
+}
+
+/// What `by_mode` does, with the runs of horizontal mode by look-ups. Those that no look-up finds
+/// are due.
+#[inline(always)]
+// requires inside { IsReadInside reference places.old at }
+fn by_mode_and_runs<const CHOICE: bool, const SEVERAL: bool>(
+    source: &mut BitSource,
+    reference: PlacedRow,
+    places: &mut [u32],
+    at: PlacedReached,
+    mode: ModeCode,
+) -> Result<PlacedReached, Unread<Option<u32>>> {
+    match mode {
+        ModeCode::Horizontal => horizontal::<CHOICE, SEVERAL>(source, reference, places, at),
+        _ => by_mode::<CHOICE, SEVERAL>(source, reference, places, at, mode),
     }
 }
 
@@ -130,7 +148,7 @@ fn next_steps<const CHOICE: bool, const SEVERAL: bool>(
     let Some(mode) = source.mode() else {
         return Err(Unread::Due(Due::Mode));
     };
-    match by_mode::<CHOICE, SEVERAL>(source, reference, places, at, mode) {
+    match by_mode_and_runs::<CHOICE, SEVERAL>(source, reference, places, at, mode) {
         Ok(next) => Ok(next),
         Err(Unread::Due(first)) => Err(Unread::Due(Due::Runs(first))),
         Err(Unread::Stopped(stop)) => Err(Unread::Stopped(stop)),

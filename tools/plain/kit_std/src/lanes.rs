@@ -7,9 +7,9 @@ use crate::portable::{differences, differing, less, sums, widened};
 #[cfg(all(feature = "sse2", target_arch = "x86_64"))]
 use crate::sse2::{differences, differing, less, sums, widened};
 use std::array;
-use std::ops::{Add, BitAnd, BitOr, Shl, Shr, Sub};
+use std::ops::{Add, BitAnd, BitOr, Mul, Shl, Shr, Sub};
 
-/// So many numbers, on which one operation works at a time. Sums and differences wrap.
+/// So many numbers, on which one operation works at a time. Sums, differences and products wrap.
 #[derive(Clone, Copy)]
 pub struct Simd<T, const N: usize>([T; N]);
 
@@ -21,6 +21,10 @@ pub type u8x8 = Simd<u8, 8>;
 pub type u8x16 = Simd<u8, 16>;
 #[allow(non_camel_case_types)]
 pub type u8x64 = Simd<u8, 64>;
+#[allow(non_camel_case_types)]
+pub type u16x4 = Simd<u16, 4>;
+#[allow(non_camel_case_types)]
+pub type u16x8 = Simd<u16, 8>;
 #[allow(non_camel_case_types)]
 pub type u32x4 = Simd<u32, 4>;
 #[allow(non_camel_case_types)]
@@ -56,6 +60,16 @@ impl Simd<u8, 64> {
                 (Ok(one), Ok(other)) => bits << 16 | differing(one, other),
                 _ => unreachable!(),
             }
+        }))
+    }
+}
+
+impl Simd<u16, 8> {
+    /// Which lanes are not less than those of another.
+    #[inline(always)]
+    pub fn simd_ge(self, other: Self) -> Mask {
+        Mask((0..8).fold(0, |bits, lane| {
+            bits | u64::from(self.0[lane] >= other.0[lane]) << lane
         }))
     }
 }
@@ -138,6 +152,12 @@ impl<T: Copy, const N: usize> Simd<T, N> {
         Simd(T::cast_all(self.0))
     }
 
+    /// The lanes at these places.
+    #[inline(always)]
+    pub fn swizzle<const M: usize>(self, places: [usize; M]) -> Simd<T, M> {
+        Simd(places.map(|place| self.0[place]))
+    }
+
     /// The lanes at these places, where those of `other` come after these.
     #[inline(always)]
     pub fn shuffle(self, other: Self, places: [usize; N]) -> Self {
@@ -172,7 +192,9 @@ operators!(
     BitAnd bitand u8: |a, b| a & b,
     BitOr bitor u8: |a, b| a | b,
     Shl shl u8: |a, b| a << b,
-    Shr shr u8: |a, b| a >> b
+    Shr shr u8: |a, b| a >> b,
+    Mul mul u16: |a, b| a.wrapping_mul(b),
+    Add add u16: |a, b| a.wrapping_add(b)
 );
 
 /// Eight lanes, of which an operation makes four at a time.

@@ -4,13 +4,6 @@ use Rattle.fax_bits.specs.Bits.{bits}
 use Rattle.fax_rows.proofs.WhiteWordLemmas.{white_on}
 use Rattle.fax_rows.proofs.unpacked.past_eights.Goals as goal
 
-pub loop-k-init : goal.loop-k-init
-loop-k-init c = record {
-  from = omega arith;
-  within = c.requires.within;
-  white = λ i more less. absurd (omega arith);
-}
-
 pub loop-k-preserved : goal.loop-k-preserved
 loop-k-preserved c =
     let b = bits MsbFirst c.args.bytes.now in

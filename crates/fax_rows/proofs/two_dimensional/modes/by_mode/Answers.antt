@@ -1,7 +1,6 @@
 use Rattle.std.proofs.Common.{◌≡◌, pos, rules}
 use Prim.{search}
-use Rattle.fax_rows.proofs.ChosenStepLemmas.{map_ok}
-use Rattle.fax_rows.proofs.ReadOnLemmas.{asked_or_not, vertical_read, pass_read, pair_read}
+use Rattle.fax_rows.proofs.ReadOnLemmas.{asked_or_not, vertical_read, pass_read}
 use Rattle.fax_rows.proofs.two_dimensional.modes.by_mode.Goals as goal
 
 pub returns-in-Vertical-eq0-clause-read : goal.returns-in-Vertical-eq0-clause-read
@@ -18,8 +17,3 @@ pub returns-in_ok-pass-in-Pass-clause-read : goal.returns-in_ok-pass-in-Pass-cla
 returns-in_ok-pass-in-Pass-clause-read g c b taken =
     let next = c.in_ok-pass-in-Pass.ensures in
     pass_read c.requires.inside (rw c.in-Pass.is at taken) next.ok next.so_far next.inside
-
-pub returns-in-Horizontal-clause-read : goal.returns-in-Horizontal-clause-read
-returns-in-Horizontal-clause-read g c b taken =
-    let takes = rw c.in-Horizontal.is at taken in
-    map_ok c.horizontal.result c.horizontal.ensures.read (λ next read. pair_read c.requires.inside takes read)
