@@ -18,6 +18,17 @@ HEAD = [f"{'ratios:':19}{'to libtiff, by seconds':34}{'to libtiff, by instructio
         f"{'jobs':11} count " + f" worst {'page':11} {'job':9} mean " * len(KINDS)]
 
 
+# By how much the two least times of a run differ at most, where the least is believed.
+SETTLED = 1.01
+
+
+def is_settled(times: List[float]) -> bool:
+    """Whether the least of a run's times came twice, as nearly as it matters: one that came once may be of a moment that
+    was less slow than others, and no more."""
+    least = sorted(times)[:2]
+    return len(least) == 2 and least[1] <= SETTLED * least[0]
+
+
 class Line(NamedTuple):
     """A line of the table: the page, the job, and its numbers as they are printed."""
 

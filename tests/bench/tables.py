@@ -55,6 +55,13 @@ def counts_once(_: str) -> None:
     raise AssertionError("a page and job counted twice")
 
 
+def settles(_: str) -> None:
+    """A least time is believed if it came twice, as nearly as it matters."""
+    assert summary.is_settled([1.5, 1.0, 2.0, 1.005])
+    assert not summary.is_settled([1.5, 1.0, 2.0, 1.02, 1.02])
+    assert not summary.is_settled([1.0])
+
+
 def each_job_has_a_group(_: str) -> None:
     groups = {"rows mmr": "rows", "check mh": "check", "mr-pbm": "to PBM", "mh-mmr": "conversions",
               "pbm-mh": "from PBM", "one-mmr": "one image"}
