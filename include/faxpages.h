@@ -41,8 +41,8 @@
 #include <stdint.h>
 
 /* The version of this header, as text and as a number; faxpages_version tells the library's. */
-#define FAXPAGES_VERSION "1.10.1"
-#define FAXPAGES_VERSION_NUMBER 11001
+#define FAXPAGES_VERSION "1.10.2"
+#define FAXPAGES_VERSION_NUMBER 11002
 
 #ifdef __cplusplus
 extern "C" {

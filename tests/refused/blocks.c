@@ -184,6 +184,16 @@ static int refuses_sizes(void) {
     return 1;
 }
 
+/* Whether a block that begins small grows where it stands, so that no byte of it is copied. */
+static int grows_in_place(void) {
+    no_growth_in_place = 0;
+    void *block = large_malloc(MB / 4);
+    for (size_t size = MB / 2; size <= 64 * MB; size *= 2)
+        if (large_realloc(block, size) != block) return 0;
+    large_free(block);
+    return 1;
+}
+
 int main(void) {
     unsigned long runs = 0;
     for (unsigned long plan = 0; plan < 12; plan++) {
@@ -191,7 +201,7 @@ int main(void) {
         no_growth_in_place = plan >> 1 & 1;
         runs += in_turn(plan, 1) + in_turn(plan, 1ul << 40);
     }
-    if (!refuses_sizes()) return 1;
+    if (!refuses_sizes() || !grows_in_place()) return 1;
     printf("%lu\n", runs);
     return 0;
 }

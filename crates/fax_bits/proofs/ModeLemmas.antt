@@ -3,7 +3,7 @@ use Rattle.std.proofs.Common.{◌≡◌, List, ◌++◌, Bool, ℕ, zero, suc, �
 use Rattle.std.proofs.Common.{unsigned_abs, get_or}
 use Rattle.std.proofs.lemmas.Grind.{common_steps}
 use Rattle.std.proofs.Common.{map, to_z, of_z, w8, w32, refl, ap, sym, ◌∙◌, arith}
-use Rattle.std.specs.Prelude.{Option, None, Some, slice_get, nat_abs, ◌+ℤ◌}
+use Rattle.std.specs.Prelude.{Option, None, Some, slice_get, nat_abs, ◌+ℤ◌, ◌<ℤ◌, ◌⊎◌}
 use Rattle.fax_bits.specs.declared.indexes.TheConstants.{MODE_PLACES, VERTICAL_MODES}
 use Rattle.fax_bits.specs.declared.put.TheConstants.{VERTICAL_CODES}
 use Rattle.std.proofs.lemmas.List.{get_or-map}
@@ -103,12 +103,14 @@ shifts_are = refl
 
 -- the code at a place begins thirteen bits, if it is one of a vertical mode
 vertical_begins : (number place : ℕ) (found : Option (CodeEntry ModeCode)) → place ≡ place_of modes 13 number
-    → slice_get modes place ≡ found → 0 < len_at found
+    → slice_get modes place ≡ found → (0 < len_at found) ⊎ (shift_at found <ℤ pos 0)
     → HasCodeAhead modes (code_bits 13 number) (len_at found) (Vertical (shift_at found))
 vertical_begins number place found place_is is some = grind (arith, found_at_place)
 
 -- a vertical mode that the arrays have begins thirteen bits
-pub vertical_is_ahead : (number : ℕ) → number < 2 ^ 13 → 0 < get_or VERTICAL_MODES.lens (number / 2 ^ 6) 0
+pub vertical_is_ahead : (number : ℕ) → number < 2 ^ 13
+    → (0 < get_or VERTICAL_MODES.lens (number / 2 ^ 6) 0)
+    ⊎ (read_shift (get_or VERTICAL_MODES.shifts (number / 2 ^ 6) (pos 0)) <ℤ pos 0)
     → HasCodeAhead modes (code_bits 13 number) (get_or VERTICAL_MODES.lens (number / 2 ^ 6) 0)
     (Vertical (read_shift (get_or VERTICAL_MODES.shifts (number / 2 ^ 6) (pos 0))))
 vertical_is_ahead number within some =
@@ -123,4 +125,5 @@ vertical_is_ahead number within some =
     ∙ ap (λ xs. get_or xs at (pos 0)) shifts_are
     ∙ get_or-map (λ place. shift_at (slice_get modes place)) MODE_PLACES at 0 (pos 0) short in
     rw (len, shift)
-    (vertical_begins number (get_or MODE_PLACES at 0) _ (mode_place number within) refl (omega (arith, len, some)))
+    (vertical_begins number (get_or MODE_PLACES at 0) _ (mode_place number within) refl
+    (rw (len, shift) at some))

@@ -1,6 +1,6 @@
 -- A row that is read on by one mode.
-use Rattle.std.proofs.Common.{rules, ◌≡◌, ℕ, ◌<◌, ◌≤◌, List, Bool, true, ℤ, refl}
-use Rattle.std.specs.Prelude.{IsTrue}
+use Rattle.std.proofs.Common.{rules, ◌≡◌, ℕ, ◌<◌, ◌≤◌, List, Bool, true, ℤ, refl, Result, Ok, Err}
+use Rattle.std.specs.Prelude.{IsTrue, IfOk}
 use Rattle.fax_bits.specs.declared.mode_codes.ModeCode.TheVariants.{Pass, Horizontal, Vertical}
 use Rattle.fax_bits.specs.Codes.{Takes}
 use Rattle.fax_bits.specs.Tables.{modes}
@@ -23,14 +23,13 @@ asked_or_not read = record { steps = read.steps; chosen = λ asked. read.chosen 
 
 module _ {choice : Bool} {reference : PlacedRow} {places new : List ℕ} {at next : PlacedReached}
     (here : IsReadInside reference places at) where
-  pub vertical_read : {b : List Bool} {d distance : ℤ} {rest : List Bool} → Takes modes b (Vertical d) rest
-      → distance ≡ d
-      → IsVerticalStep (placed_pels reference) (placed_position reference.width places at) distance
+  pub vertical_read : {b : List Bool} {d : ℤ} {rest : List Bool} → Takes modes b (Vertical d) rest
+      → IsVerticalStep (placed_pels reference) (placed_position reference.width places at) d
       (placed_position reference.width new next) → IsReadTo reference new next
       → (IsTrue choice → reached_pel next.reached ≤ b2_from (placed_pels reference)
       (placed_position reference.width places at))
       → IsReadOn choice reference places new at next b rest
-  vertical_read taken same step so_far left = search (rules, vertical_goes_on, chosen_goes_on, vertical_chosen_as)
+  vertical_read taken step so_far left = search (rules, vertical_goes_on, chosen_goes_on, vertical_chosen_as)
 
   pub pass_read : {b rest : List Bool} → Takes modes b Pass rest
       → placed_position reference.width new next ≡ coloured_up_to (placed_position reference.width places at)
@@ -47,3 +46,15 @@ module _ {choice : Bool} {reference : PlacedRow} {places new : List ℕ} {at nex
     chosen = λ asked. chosen_goes_on here b _ rest (pair_chosen here taken (read.chosen asked));
     so_far = read.so_far;
   }
+
+-- of a step that is found
+pub vertical_found : {E : Type 0} (choice : Bool) {reference : PlacedRow} {places : List ℕ} (new : List ℕ)
+    {at : PlacedReached} {b : List Bool} {d : ℤ} {rest : List Bool} (found : Result PlacedReached E)
+    → IsReadInside reference places at → Takes modes b (Vertical d) rest
+    → IfOk found (λ next. IsVerticalStep (placed_pels reference) (placed_position reference.width places at) d
+    (placed_position reference.width new next)) → IfOk found (IsReadTo reference new)
+    → IfOk found (λ next. IsTrue choice → reached_pel next.reached ≤ b2_from (placed_pels reference)
+    (placed_position reference.width places at))
+    → IfOk found (λ next. IsReadOn choice reference places new at next b rest)
+vertical_found choice new (Ok next) here taken step so_far left = vertical_read here taken step so_far left
+vertical_found choice new (Err _) here taken step so_far left = search rules

@@ -99,10 +99,11 @@ impl<'a> BitSource<'a> {
         Some(pels)
     }
 
-    /// Reads a mode by one look-up at most (T.4, table 4). Where it finds none, the source is as it
-    /// was.
+    /// Reads a mode by one look-up at most (T.4, table 4). Vertical modes are looked for first, or
+    /// with `SELDOM_VERTICAL` last, but for the one that a loaded bit tells. Where it finds none,
+    /// the source is as it was.
     #[inline(always)]
-    pub fn mode(&mut self) -> Option<ModeCode> {
+    pub fn mode<const SELDOM_VERTICAL: bool>(&mut self) -> Option<ModeCode> {
         // One loaded bit alone tells that a1 is under b1, as it is in most modes of a page. Where
         // no look-up finds the mode, as near the end of the bytes, the caller reads it by
         // `read_code`.
@@ -111,7 +112,9 @@ impl<'a> BitSource<'a> {
             return Some(ModeCode::Vertical(0));
         }
         self.window = self.window.loaded(self.bytes, self.order)?;
-        let (len, mode) = find_mode(self.window.number(LOOKED_AT) >> AFTER_CODE)?;
+        let (len, mode) = find_mode::<SELDOM_VERTICAL>(
+            self.window.number(LOOKED_AT) >> AFTER_CODE,
+        )?;
         self.window = self.window.after(len);
         Some(mode)
     }

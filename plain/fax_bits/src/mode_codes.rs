@@ -70,24 +70,42 @@ impl CodeTable for Modes {
     }
 }
 
-/// The length and the meaning of the code of a mode that begins thirteen bits. Vertical modes,
-/// which most are, take one look-up; of the extension it says nothing.
+/// The length and the meaning of the code of a vertical mode that begins thirteen bits.
 #[inline(always)]
 // requires { bits < 2 ^ LONGEST_CODE }
-pub(crate) fn find_mode(bits: u32) -> Option<(u32, ModeCode)> {
-    // Vertical modes are found by one look-up of seven bits, pass and horizontal mode by their
-    // first four: three of four modes of a dithered page are vertical ones, which nine compares in
-    // turn had to part. `crates/fax_bits/make-indexes` prints the arrays, and a computed proof ties
+fn find_vertical(bits: u32) -> Option<(u32, ModeCode)> {
+    // One look-up of seven bits, where nine compares in turn had to part the modes of a dithered
+    // page. In most of them a1 is left of b1, which says alone that there is a code: the sign is
+    // asked for anyway. `crates/fax_bits/make-indexes` prints the arrays, and a computed proof ties
     // them to `MODES`.
     let at = (bits >> 6) as usize;
-    let len = VERTICAL_MODES.lens[at];
-    if len > 0 {
-        let mode = ModeCode::Vertical(VERTICAL_MODES.shifts[at]);
-        return Some((u32::from(len), mode));
+    let (len, shift) = (VERTICAL_MODES.lens[at], VERTICAL_MODES.shifts[at]);
+    let found = (u32::from(len), ModeCode::Vertical(shift));
+    if shift < 0 {
+        return Some(found);
     }
+    if len > 0 { Some(found) } else { None }
+}
+
+/// The length and the meaning of the code of pass or horizontal mode that begins thirteen bits.
+#[inline(always)]
+// requires { bits < 2 ^ LONGEST_CODE }
+fn find_pass_or_horizontal(bits: u32) -> Option<(u32, ModeCode)> {
     match bits >> (LONGEST_CODE - 4) {
         0b0001 => Some((4, ModeCode::Pass)),
         0b0010 | 0b0011 => Some((3, ModeCode::Horizontal)),
         _ => None,
+    }
+}
+
+/// The length and the meaning of the code of a mode that begins thirteen bits; of the extension it
+/// says nothing. Vertical modes are looked for first, or with `SELDOM_VERTICAL` last.
+#[inline(always)]
+// requires { bits < 2 ^ LONGEST_CODE }
+pub(crate) fn find_mode<const SELDOM_VERTICAL: bool>(bits: u32) -> Option<(u32, ModeCode)> {
+    if SELDOM_VERTICAL {
+        find_pass_or_horizontal(bits).or_else(|| find_vertical(bits))
+    } else {
+        find_vertical(bits).or_else(|| find_pass_or_horizontal(bits))
     }
 }

@@ -5,10 +5,10 @@ use crate::caller_text::put_text;
 /// The version as a number: ten thousand times the first part, a hundred times the second, and the
 /// third.
 pub fn faxpages_version() -> u32 {
-    11_001
+    11_002
 }
 
 /// Writes the version where it has room, and answers how many bytes it has.
 pub fn faxpages_version_text(text: &mut [u8]) -> usize {
-    put_text(b"1.10.1", text)
+    put_text(b"1.10.2", text)
 }

@@ -72,7 +72,7 @@ fn last_mode(source: &mut BitSource) -> Result<ModeCode, CodeFault>
     ensures same_end { KeepsEnd source.old source.new }
     ensures shorter { OnOk result (length source.new.left < length source.old.left) }
 {
-    if let Some(mode) = source.mode() {
+    if let Some(mode) = source.mode::<false>() {
         return Ok(mode);
     }
     read_code::<Modes>(source)

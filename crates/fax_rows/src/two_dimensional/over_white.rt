@@ -105,7 +105,7 @@ fn by_codes<const CHOICE: bool>(
     ensures shorter { IsSome result → length source.new.left < length source.old.left }
 {
     let mut ahead = source.again();
-    let step = match ahead.mode()? {
+    let step = match ahead.mode::<true>()? {
         ModeCode::Vertical(0) => StepOverWhite::End,
         ModeCode::Horizontal => {
             let Ok(runs) = run_by_run::<CHOICE, true>(&mut ahead, Colour::White, width, first_pel)

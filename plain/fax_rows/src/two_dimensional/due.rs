@@ -45,7 +45,7 @@ impl Pause {
 
 /// Reads a mode by a look-up, or else by its table.
 fn last_mode(source: &mut BitSource) -> Result<ModeCode, CodeFault> {
-    if let Some(mode) = source.mode() {
+    if let Some(mode) = source.mode::<false>() {
         return Ok(mode);
     }
     read_code::<Modes>(source)

@@ -6,7 +6,7 @@ use super::copied::under_several;
 use super::due::Pause;
 use super::horizontal_runs::{Due, RowStop, TwoRuns, Unread, two_runs};
 use super::several::several;
-use super::steps::{PlacedReached, after_runs, left_of_b1, right_of_b1, under_b1, under_b2};
+use super::steps::{PlacedReached, after_runs, left_of_b1, right_of_b1, under_b2};
 use crate::RowFault;
 use crate::placed_rows::PlacedRow;
 use crate::turns::colour_after;
@@ -49,23 +49,25 @@ fn horizontal<const CHOICE: bool, const SEVERAL: bool>(
     }
 }
 
-/// Vertical mode: goes on to a1, which is `d` pels right of b1, where the colour changes (T.4,
-/// section 4.2.1.3.2). Vertical mode always is T.4's choice where a1 is not right of b1 (T.4,
-/// section 4.2.1.3.3).
+/// Vertical mode, after its code: goes on to a1, which is `d` pels right of b1, where the colour
+/// changes; where a1 is under b1 it reads more such modes too (T.4, section 4.2.1.3.2). Vertical
+/// mode always is T.4's choice where a1 is not right of b1 (T.4, section 4.2.1.3.3).
 #[inline(always)]
 // requires inside { IsReadInside reference places.old at }
-pub(super) fn vertical<const CHOICE: bool>(
+fn vertical<const CHOICE: bool>(
+    source: &mut BitSource,
     reference: PlacedRow,
     places: &mut [u32],
     at: PlacedReached,
     d: i8,
 ) -> Result<PlacedReached, RowStop> {
+    // Most a1s of a dithered page are left of b1, and are asked for first.
     let out = RowStop::Fault(RowFault::OutOfRow);
     if d < 0 {
         return left_of_b1(reference, places, at, d).ok_or(out);
     }
     if d == 0 {
-        return Ok(under_b1(reference, places, at));
+        return Ok(under_several(source, reference, places, at));
     }
     let next = right_of_b1(reference, places, at, d).ok_or(out)?;
     let chosen = chooses_a1::<CHOICE>(reference, at, next);
@@ -106,28 +108,10 @@ pub(super) fn by_mode<const CHOICE: bool, const SEVERAL: bool>(
     mode: ModeCode,
 ) -> Result<PlacedReached, Unread<Option<u32>>> {
     match mode {
-        ModeCode::Vertical(0) => Ok(under_several(source, reference, places, at)),
-        ModeCode::Vertical(d) => Ok(vertical::<CHOICE>(reference, places, at, d)?),
+        ModeCode::Vertical(d) => Ok(vertical::<CHOICE>(source, reference, places, at, d)?),
         ModeCode::Pass => Ok(pass::<CHOICE>(reference, places, at)?),
         ModeCode::Horizontal => Err(Unread::Due(None)),
         ModeCode::Extension => Err(Unread::Stopped(RowStop::Fault(RowFault::Extension))),
-    }
-}
-
-/// What `by_mode` does, with the runs of horizontal mode by look-ups. Those that no look-up finds
-/// are due.
-#[inline(always)]
-// requires inside { IsReadInside reference places.old at }
-fn by_mode_and_runs<const CHOICE: bool, const SEVERAL: bool>(
-    source: &mut BitSource,
-    reference: PlacedRow,
-    places: &mut [u32],
-    at: PlacedReached,
-    mode: ModeCode,
-) -> Result<PlacedReached, Unread<Option<u32>>> {
-    match mode {
-        ModeCode::Horizontal => horizontal::<CHOICE, SEVERAL>(source, reference, places, at),
-        _ => by_mode::<CHOICE, SEVERAL>(source, reference, places, at, mode),
     }
 }
 
@@ -145,10 +129,15 @@ fn next_steps<const CHOICE: bool, const SEVERAL: bool>(
     if let Some(next) = several::<SEVERAL>(source, reference, places, at) {
         return Ok(next);
     }
-    let Some(mode) = source.mode() else {
+    // What is not read there is mostly pass or horizontal mode.
+    let Some(mode) = source.mode::<SEVERAL>() else {
         return Err(Unread::Due(Due::Mode));
     };
-    match by_mode_and_runs::<CHOICE, SEVERAL>(source, reference, places, at, mode) {
+    let read = match mode {
+        ModeCode::Horizontal => horizontal::<CHOICE, SEVERAL>(source, reference, places, at),
+        _ => by_mode::<CHOICE, SEVERAL>(source, reference, places, at, mode),
+    };
+    match read {
         Ok(next) => Ok(next),
         Err(Unread::Due(first)) => Err(Unread::Due(Due::Runs(first))),
         Err(Unread::Stopped(stop)) => Err(Unread::Stopped(stop)),

@@ -77,7 +77,7 @@ fn by_codes<const CHOICE: bool>(
     width: u32,
 ) -> Option<StepOverWhite> {
     let mut ahead = source.again();
-    let step = match ahead.mode()? {
+    let step = match ahead.mode::<true>()? {
         ModeCode::Vertical(0) => StepOverWhite::End,
         ModeCode::Horizontal => {
             let Ok(runs) = run_by_run::<CHOICE, true>(&mut ahead, Colour::White, width, first_pel)

@@ -9,13 +9,13 @@ use Rattle.fax_bits.proofs.AheadLemmas.{after_ahead, begun_short, looked_up, one
 use Rattle.fax_bits.proofs.source.BitSource.mode.Goals as goal
 
 pub invariant_of-self : goal.invariant_of-self
-invariant_of-self c =
+invariant_of-self g c =
     let after = c.after-self-inside in
     after_ahead c.self.inside.order c.self.inside.bytes.now c.self.inside.window after.result 1 c.self.invariant
     (after.ensures.ahead c.self.inside.order c.self.inside.bytes.now) after.ensures.count after.ensures.at
 
 pub returns-then-begins_with_one : goal.returns-then-begins_with_one
-returns-then-begins_with_one c =
+returns-then-begins_with_one g c =
     let order = c.self.inside.order in
     let bytes = c.self.inside.bytes.now in
     let is =
@@ -31,7 +31,7 @@ returns-then-begins_with_one c =
     }
 
 pub after-self-inside-requires-2 : goal.after-self-inside-requires-2
-after-self-inside-requires-2 c =
+after-self-inside-requires-2 g c =
     let begun = begins_more _ c.number.result c.in_ok-len.len c.in_ok-len.mode
     (code_begins modes (code_bits 13 (c.number.result / 2 ^ 19)) c.in_ok-len.len c.in_ok-len.mode modes_has_short_codes
     c.in_ok-len.ensures) in
@@ -39,7 +39,7 @@ after-self-inside-requires-2 c =
     record { loaded = omega (arith, short, c.in_ok-self-inside.ensures.many); short = omega (arith, short) }
 
 pub returns : goal.returns
-returns c =
+returns g c =
     let w = c.in_ok-self-inside in
     let after = c.after-self-inside-2 in
     let begun = begins_more _ c.number.result c.in_ok-len.len c.in_ok-len.mode

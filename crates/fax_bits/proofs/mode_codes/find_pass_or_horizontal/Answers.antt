@@ -1,11 +1,8 @@
 use Rattle.std.proofs.Common.{◌≡◌, ◌/◌, ◌^◌, refl, arith}
 use Rattle.fax_bits.specs.Tables.{modes}
 use Rattle.fax_bits.specs.declared.mode_codes.ModeCode.TheVariants.{Pass, Horizontal}
-use Rattle.fax_bits.proofs.ModeLemmas.{mode_begins, vertical_is_ahead}
-use Rattle.fax_bits.proofs.mode_codes.find_mode.Goals as goal
-
-pub returns-then-len-gt0 : goal.returns-then-len-gt0
-returns-then-len-gt0 c = rw c.from.ensures (vertical_is_ahead c.args.bits c.requires c.if-len-gt0.true)
+use Rattle.fax_bits.proofs.ModeLemmas.{mode_begins}
+use Rattle.fax_bits.proofs.mode_codes.find_pass_or_horizontal.Goals as goal
 
 pub returns-in-1 : goal.returns-in-1
 unfolding modes
