@@ -54,10 +54,11 @@ static void *keep(struct slot *slot, char *begin, size_t size) {
     return begin;
 }
 
-/* How many bytes it is from begin to the end of the huge page in which a block of this size ends. Where no address space
- * has so many, the system refuses what comes out. */
+/* How many bytes it is from begin to the end of the huge page in which a block of this size ends. 0 where there is no
+ * such size; the system refuses that. */
 static size_t to_huge_page(const char *begin, size_t size) {
-    uintptr_t last = (uintptr_t)begin + (size ? size : 1) - 1;
+    if (size > PTRDIFF_MAX) return 0;
+    uintptr_t last = (uintptr_t)begin + (size ? size - 1 : 0);
     return (last | (HUGE_PAGE - 1)) + 1 - (uintptr_t)begin;
 }
 

@@ -175,9 +175,9 @@ static unsigned long in_turn(unsigned long plan, unsigned long many) {
     return turn;
 }
 
-/* Whether sizes that no system has are refused, of new blocks and of one that is there. */
-static int refuses_sizes(void) {
-    void *block = large_malloc(MB);
+/* Whether sizes that no system has are refused, of new blocks and of one that is there, which began with this size. */
+static int refuses_sizes(size_t first) {
+    void *block = large_malloc(first);
     for (size_t size = SIZE_MAX; size > SIZE_MAX / 4; size -= SIZE_MAX / 16)
         if (large_malloc(size) || large_realloc(block, size)) return 0;
     large_free(block);
@@ -201,7 +201,7 @@ int main(void) {
         no_growth_in_place = plan >> 1 & 1;
         runs += in_turn(plan, 1) + in_turn(plan, 1ul << 40);
     }
-    if (!refuses_sizes() || !grows_in_place()) return 1;
+    if (!refuses_sizes(MB / 4) || !refuses_sizes(MB) || !grows_in_place()) return 1;
     printf("%lu\n", runs);
     return 0;
 }
