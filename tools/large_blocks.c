@@ -39,7 +39,7 @@ static struct slot *slot_that_begins(const void *begin) {
     return NULL;
 }
 
-/* NULL for a small block, as nearly each is that does not begin a page of memory. */
+/* NULL for a small block. A large one begins a page of memory, as hardly any small one does. */
 static struct slot *slot_of(const void *block) {
     return block && (uintptr_t)block % SMALL_PAGE == 0 ? slot_that_begins(block) : NULL;
 }

@@ -1,5 +1,5 @@
 //! `check`: what is worth a note in a file.
-ghost use Rattle.std.specs.Prelude.{◌≡◌, ◌≤◌, ◌+◌, ◌++◌, IfErr, IfOk};
+ghost use Rattle.std.specs.Prelude.{◌≡◌, ◌≤◌, ◌+◌, ◌++◌, IfErr, IfOk, OnOk, string_bytes};
 ghost use Rattle.arrayvec.specs.ArrayString.{array_string_len};
 ghost use Rattle.fax_tool.specs.ReportText as Text;
 ghost use Rattle.fax_tool.specs.code.Outcome as Outcome;
@@ -11,7 +11,6 @@ ghost use Rattle.fax_tool.specs.declared.words.Command.TheVariants.{Check};
 use crate::refusal::Refusal;
 use crate::streams::transfer::{Interruptions, give_all, read_whole};
 use crate::streams::{Sink, Source};
-use crate::text::collected::Collected;
 use crate::text::fault::{ErrorLine, row_fault_line};
 use crate::text::push_number;
 use arrayvec::ArrayString;
@@ -67,15 +66,22 @@ fn counts_line(pages: u64, rows: u64) -> ReportLine
     line
 }
 
-/// The text of a report: its notes, line by line, and its counts.
-fn report_text(alloc: Global, report: &Report) -> Result<Collected, Memory>
-    ensures { IfOk result (λ text. text ≡ Parts.report_output report.now) }
+/// Appends a line.
+fn put(text: &mut String, line: ReportLine) -> Result<(), Memory>
+    ensures { OnOk result (string_bytes text.new ≡ string_bytes text.old ++ line.bytes) }
 {
-    let mut text = Collected::new(alloc);
+    text.push_str(line.as_str()).map_err(|_| Memory)
+}
+
+/// The text of a report: its notes, line by line, and its counts.
+fn report_text(alloc: Global, report: &Report) -> Result<String, Memory>
+    ensures { IfOk result (λ text. string_bytes text ≡ Parts.report_output report.now) }
+{
+    let mut text = String::new(alloc);
     for note in &report.notes {
-        text.put(note_line(*note).as_str())?;
+        put(&mut text, note_line(*note))?;
     }
-    text.put(counts_line(report.pages, report.rows).as_str())?;
+    put(&mut text, counts_line(report.pages, report.rows))?;
     Ok(text)
 }
 

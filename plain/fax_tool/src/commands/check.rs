@@ -1,9 +1,10 @@
 //! `check`: what is worth a note in a file.
 
+use kit_std::prelude::String;
+
 use crate::refusal::Refusal;
 use crate::streams::transfer::{Interruptions, give_all, read_whole};
 use crate::streams::{Sink, Source};
-use crate::text::collected::Collected;
 use crate::text::fault::{ErrorLine, row_fault_line};
 use crate::text::push_number;
 use arrayvec::ArrayString;
@@ -51,13 +52,18 @@ fn counts_line(pages: u64, rows: u64) -> ReportLine {
     line
 }
 
+/// Appends a line.
+fn put(text: &mut String, line: ReportLine) -> Result<(), Memory> {
+    text.push_str(line.as_str()).map_err(|_| Memory)
+}
+
 /// The text of a report: its notes, line by line, and its counts.
-fn report_text(alloc: Global, report: &Report) -> Result<Collected, Memory> {
-    let mut text = Collected::new(alloc);
+fn report_text(alloc: Global, report: &Report) -> Result<String, Memory> {
+    let mut text = String::new(alloc);
     for note in &report.notes {
-        text.put(note_line(*note).as_str())?;
+        put(&mut text, note_line(*note))?;
     }
-    text.put(counts_line(report.pages, report.rows).as_str())?;
+    put(&mut text, counts_line(report.pages, report.rows))?;
     Ok(text)
 }
 

@@ -18,7 +18,7 @@ returns-in_err-give_all-clause-err g c =
     (check_stopped (g.R.Source.left c.args.input.now) c.in_ok-file.file.items c.in_ok-file.ensures.whole _ _
     c.in_ok-file.ensures.read
     (g.W.Sink.written c.args.out.now) _ _ c.in_ok-report.report is c.as_bytes.result.now
-    (c.as_bytes.ensures ∙ c.in_ok-text.ensures) _
+    (c.as_bytes.ensures.value ∙ c.in_ok-text.ensures) _
     c.in_err-give_all.ensures.err)
 
 pub returns-clause-ok : goal.returns-clause-ok
@@ -27,5 +27,5 @@ returns-clause-ok g c =
     checked (g.R.Source.left c.args.input.now) c.in_ok-file.file.items c.in_ok-file.ensures.whole _ _
     c.in_ok-file.ensures.read
     (g.W.Sink.written c.args.out.now) _ _ c.in_ok-report.report is c.as_bytes.result.now
-    (c.as_bytes.ensures ∙ c.in_ok-text.ensures) _
+    (c.as_bytes.ensures.value ∙ c.in_ok-text.ensures) _
     c.in_ok-give_all.ensures.ok c.in_ok-give_all.ensures.worked c.fault_line.ensures.error c.fault_line.ensures.status
