@@ -133,12 +133,19 @@ fn run_within(colour: &str, bits: &str, most: &str) -> Result<String, WrongLine>
     }
 }
 
-/// The mode that one look-up reads, and the place then.
+/// The mode that one look-up reads, and the place then; or both answers, where it matters which
+/// modes are looked for first.
 fn looked_up_mode(bits: &str) -> Result<String, WrongLine> {
     let bytes = words::bytes(bits)?;
     let mut source = BitSource::new(&bytes, FillOrder::MsbFirst);
-    let mode = source.mode();
-    Ok(format!("{mode:?} {}", source.place()))
+    let mut other = BitSource::new(&bytes, FillOrder::MsbFirst);
+    let answer = format!("{:?} {}", source.mode::<false>(), source.place());
+    let other_answer = format!("{:?} {}", other.mode::<true>(), other.place());
+    if answer == other_answer {
+        Ok(answer)
+    } else {
+        Ok(format!("{answer} or {other_answer}"))
+    }
 }
 
 /// How many vertical modes one look-up reads, how many pels right of the pel three left of b1 a1 is
@@ -164,7 +171,7 @@ fn past_ones(bits: &str, most: &str) -> Result<String, WrongLine> {
     if most > 32 {
         return Err(WrongLine::OutOfLimits);
     }
-    let _mode = source.mode();
+    let _mode = source.mode::<false>();
     let ones = source.ones();
     let count = source.past_ones(most);
     Ok(format!("{ones} {count} {}", source.place()))
