@@ -5,6 +5,29 @@ trap 'rm -rf -- "$room"' EXIT
 passed=0
 failed=0
 
+# What a file says, or of a long one its beginning and its end, where the reason is: ten lines of each, with 400 letters a
+# line.
+shown() {
+    local lines
+    lines=$(wc -l <"$1")
+    if [ "$lines" -le 20 ]; then
+        cut -c -400 -- "$1"
+    else
+        { head -n 10 -- "$1" && printf '.. and %s lines more ..\n' $((lines - 20)) && tail -n 10 -- "$1"; } | cut -c -400
+    fi
+}
+
+# The same of a file that may be one long line: 600 bytes of its beginning, and of its end.
+shown_bytes() {
+    local bytes
+    bytes=$(wc -c <"$1")
+    if [ "$bytes" -le 1200 ]; then
+        cat -- "$1"
+    else
+        head -c 600 -- "$1" && printf '\n.. and %s bytes more ..\n' $((bytes - 1200)) && tail -c 600 -- "$1"
+    fi
+}
+
 # A claim is true where its command ends with status 0; what it says is shown where it is not.
 claim() {
     local name=$1
@@ -14,7 +37,7 @@ claim() {
     else
         failed=$((failed + 1))
         printf 'FAILED: %s\n' "$name"
-        head -n 10 -- "$room/said"
+        shown "$room/said"
     fi
 }
 
@@ -30,7 +53,8 @@ answers() {
     "$@" >"$room/output" 2>"$room/error" </dev/null
     got=$?
     printf 'status %s, output and error stream:\n' "$got"
-    head -c 600 -- "$room/output" "$room/error"
+    shown_bytes "$room/output"
+    shown_bytes "$room/error"
     [ "$got" = "$status" ] && printf -- "$output" | cmp -s - "$room/output" &&
         printf -- "$error" | cmp -s - "$room/error"
 }

@@ -6,6 +6,7 @@ import os
 import shutil
 import subprocess
 
+from tests.finding import shown
 from tests.printing import made, server
 from tests.printing.server import Bus, Printer, Server, Told
 
@@ -82,7 +83,7 @@ class Room:
     def claim(self, name: str, got: object, wanted: object = True) -> None:
         self.counts[got == wanted] += 1
         if got != wanted:
-            print(f"FAILED: {name}: {str(got)[:400]}, wanted {str(wanted)[:400]}".encode(errors="replace").decode())
+            print(f"FAILED: {name}: {shown(got, 400)}, wanted {shown(wanted, 400)}".encode(errors="replace").decode())
 
     def says(self, told: Told, wanted: str) -> bool:
         """Whether a job's message begins so. CUPS keeps the first error alone: where a printer was slow to answer that
