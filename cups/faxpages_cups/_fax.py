@@ -32,6 +32,8 @@ _NUMBER = re.compile(r"\+?(?:\([0-9]+\) ?)?[0-9]+(?:[ ./-]?[0-9]+)*")
 _UUID = re.compile(r"urn:uuid:([0-9A-Fa-f]{8}(?:-[0-9A-Fa-f]{4}){3}-[0-9A-Fa-f]{12})")
 # Where the scripts of the recipes are, where they are not on the PATH.
 _PLACES = "/usr/share/faxpages/recipes:/usr/local/share/faxpages/recipes:/usr/local/bin"
+# The programs that are called, and the packages that have them.
+_PACKAGES = {"faxpages-from-pdf": "faxpages", "pdfinfo": "poppler-utils", "sendfax": "hylafax-client"}
 
 
 class Form(NamedTuple):
@@ -131,7 +133,7 @@ def program(name: str) -> str:
         path = os.path.join(folder, name)
         if folder.startswith("/") and os.path.isfile(path) and os.access(path, os.X_OK):
             return path
-    raise Refused(f"there is no {name}")
+    raise Refused(f"there is no {name}: the package {_PACKAGES[name]} has it")
 
 
 def run(words: List[str], seconds: int, what: str, room: Optional[str] = None) -> str:

@@ -205,7 +205,7 @@ def become(name: str, file: IO[bytes], job: Job, copies: str, options: str) -> N
     """Runs a filter of CUPS over a file, in place of this one."""
     path = os.path.join(os.environ.get("CUPS_SERVERBIN", "/usr/lib/cups"), "filter", name)
     if not os.access(path, os.X_OK):
-        raise Refused(f"there is no {path}, which is needed for this file")
+        raise Refused(f"there is no {path}, which is needed for this file: the package cups-filters has it")
     file.flush()
     file.seek(0)
     os.dup2(file.fileno(), 0)

@@ -198,7 +198,7 @@ def compare_without_the_program(room: Room) -> Iterator[Claim]:
     os.symlink(f"{SCRIPTS}/faxpages-compare", room("alone/faxpages-compare"))
     for words in (["sent.tif", "sent.tif"], ["sent.tif", "received.tif"]):
         ran = room.bash('PATH=$PWD/alone; "$@"', "faxpages-compare", *words)
-        yield f"no program: {words}", ran, (3, b"", "faxpages-compare: faxpages: it is not on the PATH\n")
+        yield f"no program: {words}", ran, (3, b"", "faxpages-compare: faxpages is not on the PATH: the package faxpages has it\n")
     shutil.rmtree(room("alone"))
 
 

@@ -1,0 +1,41 @@
+# shellcheck shell=sh
+# For the other scripts here: which program is missing that one of them calls, and why a file cannot be read.
+
+# Debian's package of a program, or the one of ours.
+package_of() {
+    case $1 in
+    faxpages | faxpages-*) echo faxpages ;;
+    pamarith | pamdepth | pamfile | pgmmake | pngtopnm | pnmpad | pnmtopng | pnmtotiff | ppmtopgm | rgb3toppm) echo netpbm ;;
+    tiff2pdf | tiffcp | tiffset) echo libtiff-tools ;;
+    pdfimages | pdfinfo | pdftoppm) echo poppler-utils ;;
+    python3) echo python3 ;;
+    awk) echo mawk ;;
+    cmp) echo diffutils ;;
+    find) echo findutils ;;
+    flock) echo util-linux ;;
+    grep | sed) echo "$1" ;;
+    iconv) echo libc-bin ;;
+    *) echo coreutils ;; # and the rest that the scripts call
+    esac
+}
+
+# Names the first of these programs that is not there, and the package that has it; fails where all are there.
+#   missing PROGRAM..
+missing() {
+    for wanted; do
+        if ! command -v "$wanted" >/dev/null; then
+            printf '%s is not on the PATH: the package %s has it\n' "$wanted" "$(package_of "$wanted")"
+            return
+        fi
+    done
+    return 1
+}
+
+# Why a file cannot be read, in the system's words.
+reason() {
+    if [ -e "$1" ] && [ ! -f "$1" ]; then
+        echo 'not a regular file'
+    else
+        { cat <"$1" >/dev/null; } 2>&1 | sed -n '$s/.*: //p'
+    fi
+}
