@@ -10,7 +10,6 @@ from typing import Dict, Iterator, List, NamedTuple, Tuple
 
 from tests import TOP, Claim
 from tests.convert import files
-from tests.finding import found
 from tests.recipes.recipes import SCRIPTS
 from tests.recipes.room import Room, Tests
 
@@ -22,6 +21,8 @@ EARLY = {"readlink"}
 ELSEWHERE = {"python3"}
 # Shells, which have the same path everywhere.
 SHELLS = {"sh", "bash", "dash", "rbash"}
+# A link, in whose place a copy is made; a file that is opened, of which `reason` is asked next; numbers of a cut file.
+SAID_ELSEWHERE = r"! ln |\{ true <|^od -A n "
 NOTING = """#!/bin/sh
 echo {name} >>"$CALLED"
 exec {path} "$@"
@@ -155,9 +156,10 @@ def without_python(room: Room, _: str) -> Iterator[Claim]:
 def status_of(call: Call, program: str) -> int:
     """The status that a script has without a program. Where what it calls lacks something a mail is sent without its PDF."""
     with open(f"{SCRIPTS}/faxpages-mail", encoding="utf-8") as file:
-        own = found(r"lacking=\$\(missing ([^)]*)\) \|\|", file.read())[1].split()
-    own += [*EARLY, *(["tiff2pdf"] if "good.tif" in call.words else [])]
-    return 1 if call.script == "faxpages-mail" and program not in own else call.status
+        own = " ".join(re.findall(r"lacking=\$\(missing ([^)]*)\) \|\|", file.read())).split()
+    own += EARLY
+    is_damaged = call.script == "faxpages-mail" and "good.tif" not in call.words
+    return 1 if is_damaged and (program not in own or program == "tiff2pdf") else call.status
 
 
 def names(said: str, program: str) -> bool:
@@ -179,8 +181,18 @@ def package_of(program: str) -> str:
     return "no package"
 
 
+def nothing_is_hidden(_: Room, __: str) -> Iterator[Claim]:
+    """No script throws away what a program says, but where another way is tried, or the reason is asked for after it."""
+    for folder in (SCRIPTS, f"{TOP}/cups"):
+        for name in sorted(it for it in os.listdir(folder) if os.path.isfile(f"{folder}/{it}")):
+            with open(f"{folder}/{name}", encoding="utf-8") as file:
+                hidden = [line.strip() for line in file if "2>/dev/null" in line]
+            yield f"{name}: what is thrown away", [line for line in hidden if not re.search(SAID_ELSEWHERE, line)], []
+
+
 EXTRA: Tests = {
     "The scripts without each program that they call": (
         ["dpkg", "pnmtopng", "tiffcp", "tiff2pdf", "pdftoppm", "pdfimages"], without_each),
+    "The scripts, and what programs say": ([], nothing_is_hidden),
     "The scripts without the system's Python": (["unshare", PYTHON, "tiff2pdf"], without_python),
 }  # fmt: skip
