@@ -195,6 +195,16 @@ def lists_are_divided() -> Iterator[Tuple[str, bool]]:
         yield f"bench/numbers.txt: list of {pages} pages, {page}: {ratio}", abs(ours / its / float(ratio) - 1) < 0.02
 
 
+def archive_has_its_versions() -> Iterator[Tuple[str, bool]]:
+    """Each section of ARCHIVE.md with a table of what was measured, or of what follows, begins with the version."""
+    for section in read("docs", "ARCHIVE.md").split("\n## ")[1:]:
+        heading, _, text = section.partition("\n")
+        before, table, _ = text.partition("\n|")
+        if table and re.search(r"(?m)^\|.*(?:\| Seconds \||\| From \|)", text):
+            said = re.search(r"(?i)\bwith version \d+\.\d+\.\d+", before)
+            yield f"docs/ARCHIVE.md, {heading}: the version is said", said is not None
+
+
 def claims() -> Iterator[Tuple[str, bool]]:
     """Nothing but what was measured stands in the documents and in the picture."""
     first = FIRST.fullmatch(numbers().splitlines()[0])
@@ -209,6 +219,7 @@ def claims() -> Iterator[Tuple[str, bool]]:
         versions == [first[1]])
     yield from summary_is_of_the_lines()
     yield from lists_are_divided()
+    yield from archive_has_its_versions()
     drawn = read("docs", "speed.svg")
     title, ratios = picture()
     yield f"docs/speed.svg has the title {title}", title in re.sub(r"<[^>]*>", "", drawn)
