@@ -212,7 +212,8 @@ def claims() -> Iterator[Tuple[str, bool]]:
         first is not None and (float(first[3]) >= 1) == (first[4] is not None))
     for pattern, made, name in PARTS:
         stands = pattern.findall(read(*name))
-        yield f"{'/'.join(name)} has this of bench/numbers.txt: {made()[:150]}", [it[1] for it in stands] == [made()]
+        yield (f"{'/'.join(name)} has this of bench/numbers.txt, or else tests/documents/run --write writes it: {made()[:150]}",
+               [it[1] for it in stands] == [made()])
     part = read("README.md").partition("\n## Speed\n")[2].partition("\n## ")[0]
     versions = re.findall(r"\b\d+\.\d+\.\d+\b", part)
     yield f"README.md, Speed, names only the version that was measured: {versions}", first is not None and (
