@@ -190,9 +190,18 @@ def nothing_is_hidden(_: Room, __: str) -> Iterator[Claim]:
             yield f"{name}: what is thrown away", [line for line in hidden if not re.search(SAID_ELSEWHERE, line)], []
 
 
+def nothing_to_compare(room: Room, _: str) -> Iterator[Claim]:
+    """Where the rows of both faxes do not come, as where /dev/fd is missing, it is said, and at once."""
+    lay_out(room)
+    room.tool("paste", "#!/bin/sh\nexit 1\n")
+    ran = room.bash("ulimit -v 1000000; exec timeout 60 faxpages-compare good.tif other.tif")
+    yield "no rows come", ran, (3, b"", "faxpages-compare: good.tif: its rows cannot be compared\n")
+
+
 EXTRA: Tests = {
     "The scripts without each program that they call": (
         ["dpkg", "pnmtopng", "tiffcp", "tiff2pdf", "pdftoppm", "pdfimages"], without_each),
     "The scripts, and what programs say": ([], nothing_is_hidden),
+    "Two faxes of which no rows come": (["tiff2pdf", "timeout"], nothing_to_compare),
     "The scripts without the system's Python": (["unshare", PYTHON, "tiff2pdf"], without_python),
 }  # fmt: skip
