@@ -36,6 +36,8 @@ reason() {
     if [ -e "$1" ] && [ ! -f "$1" ]; then
         echo 'not a regular file'
     else
-        { cat <"$1" >/dev/null; } 2>&1 | sed -n '$s/.*: //p'
+        # By cat, since shells have other words; and by a name that is no option.
+        case $1 in /*) set -- "$1" ;; *) set -- "./$1" ;; esac
+        { cat "$1" >/dev/null; } 2>&1 | sed -n '$s/.*: //p'
     fi
 }

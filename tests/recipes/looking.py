@@ -196,6 +196,7 @@ def compare_without_the_program(room: Room) -> Iterator[Claim]:
     """Where there is no program two faxes are neither the same nor different."""
     os.mkdir(room("alone"))
     os.symlink(f"{SCRIPTS}/faxpages-compare", room("alone/faxpages-compare"))
+    os.symlink(shutil.which("readlink") or "", room("alone/readlink"))
     for words in (["sent.tif", "sent.tif"], ["sent.tif", "received.tif"]):
         ran = room.bash('PATH=$PWD/alone; "$@"', "faxpages-compare", *words)
         yield f"no program: {words}", ran, (3, b"", "faxpages-compare: faxpages is not on the PATH: the package faxpages has it\n")
